@@ -1,0 +1,4 @@
+pub mod Block
+pub mod Memory
+pub mod Name
+pub mod Outside

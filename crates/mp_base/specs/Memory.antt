@@ -1,0 +1,17 @@
+-- What the source, the sink and the clock in memory tell.
+use Rattle.std.specs.Prelude.{ℕ, cond, List, Option, Some, None, drop}
+use Rattle.mp_base.specs.declared.source.MemSource.{MemSource}
+use Rattle.mp_base.specs.declared.sink.MemSink.{MemSink}
+use Rattle.mp_base.specs.declared.clock.MemClock.{MemClock}
+
+-- the bytes that it has yet to give
+abbrev pub source_rest : MemSource → List ℕ
+source_rest s = drop s.at s.bytes.items
+
+-- the bytes that it took
+abbrev pub sink_bytes : MemSink → List ℕ
+sink_bytes s = s.taken.items
+
+-- the seconds that it gave, while it tells
+abbrev pub clock_seconds : MemClock → Option (List ℕ)
+clock_seconds c = cond c.tells (Some c.gave.items) None

@@ -1,0 +1,59 @@
+//! The time.
+ghost use Rattle.std.specs.Prelude.{◌≡◌, ℕ, List, [], ◌∷◌, ◌++◌, Option, Some};
+ghost use Rattle.mp_base.specs.Outside.{Taken};
+
+use std::alloc::Global;
+
+/// A clock that is asked for the second.
+pub trait Clock {
+    /// The seconds that it gave, where it tells.
+    ghost gave: { Self → Option (List ℕ) };
+
+    /// The second now. It may be before an earlier answer.
+    fn now(&mut self) -> u64
+        ensures { Taken (gave self.old) (gave self.new) (result ∷ []) };
+}
+
+/// A clock in memory, which stands still until it is set.
+#[derive(Drop)]
+pub struct MemClock {
+    second: u64,
+    gave: Vec<u64>,
+    tells: bool,
+}
+
+impl MemClock {
+    ghost use Rattle.mp_base.specs.Memory.{clock_seconds};
+
+    /// A clock that stands at this second.
+    pub fn new(alloc: Global, second: u64) -> MemClock
+        ensures { clock_seconds result ≡ Some [] }
+    {
+        MemClock {
+            second,
+            gave: Vec::new(alloc),
+            tells: true,
+        }
+    }
+
+    /// From now on it stands at this second.
+    pub fn set(&mut self, second: u64)
+        ensures { clock_seconds self.new ≡ clock_seconds self.old }
+    {
+        self.second = second;
+    }
+}
+
+impl Clock for MemClock {
+    ghost use Rattle.mp_base.specs.Memory.{clock_seconds};
+
+    ghost gave = { clock_seconds };
+
+    // Where its list finds no memory it stops telling, for good.
+    fn now(&mut self) -> u64 {
+        if self.tells && self.gave.push(self.second).is_err() {
+            self.tells = false;
+        }
+        self.second
+    }
+}

@@ -1,0 +1,107 @@
+//! What a line may be refused for. A refusal holds no memory, so each call can give one.
+ghost use Rattle.std.specs.Prelude.{◌≡◌, ◌==◌, ◌<◌, ◌∷◌, ◌++◌, [], length};
+
+use crate::{Group, Guid};
+use std::marker::Model;
+
+/// Why a line was refused; the number beside each is the one in its reply (docs/FORMATS.md, "Replies").
+#[derive(Drop)]
+pub enum Refusal {
+    /// 3: the address isn't below the volume's number of blocks, or BLOCKS of `create` isn't 1 to this limit.
+    BadAddress {
+        limit: u64,
+    },
+    /// 15: no leaf of the top has the bytes of this key, each by what was seen of it.
+    Exhausted {
+        level: u32,
+        index: u64,
+        leaves: SeenLeaves,
+    },
+    /// 16: no leaf of this top could be written for the group, after so many failed calls.
+    Suspended {
+        group: Group,
+        top: Guid,
+        faults: u64,
+    },
+    /// 19: there was no memory.
+    Memory,
+    /// 40: this form of line, or this case of it, isn't built yet.
+    NotBuilt,
+}
+
+/// What a read saw of a leaf whose copy didn't serve.
+#[derive(Clone, Copy, Debug, PartialEq, Eq)]
+pub enum Seen {
+    /// It is away or faulted, and wasn't asked.
+    Unreadable,
+    /// Its read failed.
+    Failed,
+    /// It answered other bytes than the block's.
+    Mismatch,
+}
+
+/// A leaf by its member number, and what was seen of it.
+#[derive(Clone, Copy, Debug, PartialEq, Eq)]
+pub struct LeafSeen {
+    pub member: Guid,
+    pub seen: Seen,
+}
+
+/// The leaves of one top in tree order, each with what was seen of it: at most 32.
+#[derive(Drop)]
+pub struct SeenLeaves {
+    leaves: [LeafSeen; 32],
+    len: usize,
+}
+
+impl Model for SeenLeaves {
+    ghost use Rattle.std.specs.Prelude.{◌≡◌, ◌≤◌, List, length, take};
+    ghost use Rattle.mp_base.specs.declared.refusal.LeafSeen.{LeafSeen};
+
+    ghost Value = { List LeafSeen };
+
+    ghost view = { λ s. take s.len s.leaves };
+
+    ghost invariant = { λ s. (s.len ≤ 32) × (length s.leaves ≡ 32) };
+}
+
+impl SeenLeaves {
+    pub fn new() -> SeenLeaves
+        ensures { result ≡ [] }
+    {
+        let none = LeafSeen {
+            member: Guid(0),
+            seen: Seen::Unreadable,
+        };
+        SeenLeaves {
+            leaves: [none; 32],
+            len: 0,
+        }
+    }
+
+    pub fn push(&mut self, leaf: LeafSeen)
+        requires { length self.old < 32 }
+        ensures { self.new ≡ self.old ++ leaf ∷ [] }
+    {
+        self.leaves[self.len] = leaf;
+        self.len += 1;
+    }
+
+    pub fn len(&self) -> usize
+        ensures { result ≡ length self.now }
+    {
+        self.len
+    }
+
+    pub fn is_empty(&self) -> bool
+        ensures { result ≡ (length self.now == 0) }
+    {
+        self.len == 0
+    }
+
+    pub fn as_slice(&self) -> &[LeafSeen]
+        ensures { result.now ≡ self.now }
+    {
+        &self.leaves[..self.len]
+    }
+}
