@@ -1,0 +1,5 @@
+pub mod Absent
+pub mod Asks
+pub mod Calls
+pub mod Disk
+pub mod Story
