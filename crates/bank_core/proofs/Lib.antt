@@ -1,1 +1,3 @@
 pub mod Composing
+pub mod Sectors
+pub mod Parting

@@ -1,0 +1,4 @@
+mod Lists
+mod ReadSteps
+mod Representing
+mod Tries

@@ -1,0 +1,12 @@
+pub mod Clash
+pub mod Copies
+pub mod Done
+pub mod Keeping
+pub mod Outside
+pub mod Pointers
+pub mod Reading
+pub mod Sectors
+pub mod State
+pub mod Syncing
+pub mod Tries
+pub mod Writing

@@ -1,0 +1,10 @@
+//! One pool: a volume of blocks on a mirror of devices (docs/MODEL.md, "A pool").
+#![tactic(auto)]
+
+mod leaf;
+mod pool;
+mod read;
+mod write;
+
+pub use leaf::Leaf;
+pub use pool::{MOST_BLOCKS, Pool};
