@@ -76,3 +76,13 @@ pub part_one : {A : Type 0} {old new : Option Story} {f g : ℕ → ℕ} (call :
 part_one {old = old} {new = new} {f = f} {g = g} call r is counts cause tells =
     let one = one_made old new f g call (call_caused call r f g is counts cause) tells in
     record { made = record { call = call; damage = one.damage } ∷ []; calls = one.made; part = one_part (ask_of call) call one.damage (fault_in r) refl is }
+
+-- one call that answered Ok
+pub part_ok : {old new : Option Story} {f g : ℕ → ℕ} (call : Call) → fault_of call ≡ None → ((d : ℕ) → f d ≤ g d) → Tells old new call
+    → MakesPart (ask_of call ∷ []) old new f g None
+part_ok {old} {new} {f} {g} call is counts tells = part_one {A = Unit {0}} call (Ok tt) is counts tt tells
+
+-- one call that failed
+pub part_failed : {old new : Option Story} {f g : ℕ → ℕ} (call : Call) (fault : Fault) → fault_of call ≡ Some fault → ((d : ℕ) → f d ≤ g d)
+    → Rose (f (device_of call)) (g (device_of call)) → Tells old new call → MakesPart (ask_of call ∷ []) old new f g (Some fault)
+part_failed {old} {new} {f} {g} call fault is counts cause tells = part_one {A = Unit {0}} call (Err fault) is counts cause tells

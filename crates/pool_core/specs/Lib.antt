@@ -1,4 +1,5 @@
 pub mod Clash
+pub mod Committing
 pub mod Copies
 pub mod Done
 pub mod Keeping
