@@ -1,6 +1,6 @@
 -- Reading a line from left to right: a function on lists, which answers what the line asks, or none.
-use Rattle.std.specs.Prelude.{◌≡◌, ℕ, Bool, ◌==◌, ◌&&◌, nat_lt, nat_le, not, List, length, slice_index, codes, Option, Some, None, option_map, Result, Ok, Err, if◌then◌else◌}
-use Rattle.std.specs.List.{list_all, before_first, after_first, position_or_len}
+use Rattle.std.specs.Prelude.{◌≡◌, ℕ, ◌+◌, Bool, ◌==◌, ◌&&◌, ◌||◌, nat_le, not, List, length, take, drop, slice_index, codes, Option, Some, None, option_map, Result, Ok, Err, if◌then◌else◌}
+use Rattle.std.specs.List.{list_all, position}
 use Rattle.std.specs.Result.{result_ok}
 use Rattle.std.specs.Str.{bytes_eq}
 use Rattle.std.specs.Str.Parse.{digits_value}
@@ -28,10 +28,7 @@ is_space b = b == 32
 
 -- the word before the first space, and the text behind that space
 unfoldable pub cut_word : List ℕ → Option (List ℕ × List ℕ)
-cut_word text =
-    if nat_lt (position_or_len is_space text) (length text)
-    then Some (before_first is_space text, after_first is_space text)
-    else None
+cut_word text = option_map (λ at. (take at text, drop (at + 1) text)) (position is_space text)
 
 -- the text behind a word that has to come first
 unfoldable pub after_word : List ℕ → List ℕ → Option (List ℕ)
@@ -49,7 +46,7 @@ is_digit b = nat_le 48 b && nat_le b 57
 abbrev pub is_number : List ℕ → Bool
 is_number text =
     nat_le 1 (length text) && (nat_le (length text) 19
-    && (list_all is_digit text && not ((slice_index text 0 == 48) && nat_lt 1 (length text))))
+    && (list_all is_digit text && ((length text == 1) || not (slice_index text 0 == 48))))
 
 unfoldable pub number_of : List ℕ → Option ℕ
 number_of text = if is_number text then Some (digits_value 10 text) else None
@@ -57,12 +54,14 @@ number_of text = if is_number text then Some (digits_value 10 text) else None
 abbrev pub is_capital : ℕ → Bool
 is_capital b = nat_le 65 b && nat_le b 90
 
--- the block that begins with 1 to 4,096 pairs of digits
+-- 1 to 4,096 pairs by their length, with no capital letter
+abbrev pub may_be_pairs : List ℕ → Bool
+may_be_pairs text =
+    nat_le 1 (length text) && (nat_le (length text) 8192 && list_all (λ b. not (is_capital b)) text)
+
+-- the block that begins with these pairs of digits
 unfoldable pub pairs_of : List ℕ → Option (List ℕ)
-pairs_of text =
-    if nat_le 1 (length text) && (nat_le (length text) 8192 && list_all (λ b. not (is_capital b)) text)
-    then option_map padded (result_ok (decode_of text))
-    else None
+pairs_of text = if may_be_pairs text then option_map padded (result_ok (decode_of text)) else None
 
 unfoldable pub data_of : List ℕ → Option (List ℕ)
 data_of text = if bytes_eq text (codes "-") then Some zero_block else pairs_of text

@@ -1,8 +1,11 @@
 //! The wire: what a line asks, and the text of a reply (docs/FORMATS.md, "Lines" and "Replies").
 #![tactic(auto)]
 
+mod line;
 mod reply;
 mod request;
+mod words;
 
+pub use line::read_line;
 pub use reply::{NamedLeaf, NamedLeaves, Reply};
 pub use request::{LineFault, Request};

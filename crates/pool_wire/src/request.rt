@@ -1,5 +1,8 @@
 //! What a line asks.
-use mp_base::{Block, Name};
+ghost use Rattle.std.specs.Prelude.{◌≡◌};
+ghost use Rattle.pool_wire.specs.declared.request.LineFault.TheVariants.{Memory};
+
+use mp_base::{Block, MemFault, Name};
 
 /// What a line asks (docs/FORMATS.md, "Lines").
 #[derive(Drop)]
@@ -37,4 +40,12 @@ pub enum LineFault {
     Bad,
     /// There was no memory for what it asks.
     Memory,
+}
+
+impl From<MemFault> for LineFault {
+    ghost from_gives = { λ _ fault. fault ≡ Memory };
+
+    fn from(_: MemFault) -> LineFault {
+        LineFault::Memory
+    }
 }
