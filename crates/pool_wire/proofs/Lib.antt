@@ -1,1 +1,5 @@
+pub mod Cuts
+pub mod Numbers
 pub mod Tokens
+pub mod Pairs
+pub mod Forms
