@@ -1,14 +1,16 @@
 -- Laws of lines: what is read is in the grammar, and what is in the grammar is read.
-use Rattle.std.proofs.Common.{◌≡◌, ℕ, zero, suc, Bool, true, false, ◌⊎◌, inl, inr, List, [], ◌∷◌, ◌++◌, length, Option, Some, None, refl, sym, ap, ◌∙◌, arith}
-use Rattle.std.specs.Prelude.{◌==◌, codes, IsTrue}
+use Rattle.std.proofs.Common.{◌≡◌, ℕ, true, false, inl, inr, List, [], ◌∷◌, ◌++◌, length, Some, None, Result, Ok, Err, refl, sym, ap, ◌∙◌, arith}
+use Rattle.std.specs.Prelude.{◌==◌, codes, IfOk, IsErrOf, IsTrue}
 use Rattle.std.specs.Str.{bytes_eq}
 use Rattle.std.proofs.lemmas.Bool.{eqb-true, ne_eqb}
 use Rattle.std.proofs.lemmas.Option.{same_Some}
 use Rattle.mp_base.specs.Name.{is_name}
 use Rattle.pool_wire.specs.declared.request.Request.{Request}
 use Rattle.pool_wire.specs.declared.request.Request.TheVariants.{Nothing, Create, Write, Read, Sync}
+use Rattle.pool_wire.specs.declared.request.LineFault.{LineFault}
+use Rattle.pool_wire.specs.declared.request.LineFault.TheVariants.{Bad, Memory}
 use Rattle.pool_wire.specs.Grammar.{Asks}
-use Rattle.pool_wire.specs.Reading.{after_word, create_of, cut_word, data_of, name_of, number_of, read_of, request_of, sync_of, verb_of, write_of, ◌>>=◌}
+use Rattle.pool_wire.specs.Reading.{Gives, after_word, create_of, cut_word, data_of, name_of, number_of, read_of, request_of, sync_of, verb_of, write_of}
 use Rattle.pool_wire.specs.Words.{IsData, IsNumber}
 use Rattle.pool_wire.proofs.Cuts.{after_found, bind_some, chosen, cut_again, cut_found, is_plain, mirror_again, name_again, name_found, name_plain, same_bytes}
 use Rattle.pool_wire.proofs.Numbers.{number_again, number_found, number_plain}
@@ -87,7 +89,7 @@ create_found text r e =
       one.0,
       two.0,
       ap (λ t. codes "create " ++ t) (n.1 ∙ ap (λ t. name.0 ++ (32 ∷ t)) (rest
-      ∙ ap (λ t. behind.0.0 ++ (32 ∷ t)) (mirror ∙ ap (λ t. codes "mirror " ++ t) names))),
+          ∙ ap (λ t. behind.0.0 ++ (32 ∷ t)) (mirror ∙ ap (λ t. codes "mirror " ++ t) names))),
     )
 
 verb_found : (verb text : List ℕ) (r : Request) → verb_of verb text ≡ Some r → Asks (verb ++ 32 ∷ text) r
@@ -96,15 +98,15 @@ verb_found verb text r e =
     elim (chosen (bytes_eq verb (codes "create")) (create_of text) _ _ e) [
       | inl c ↦ rw (same_bytes verb (codes "create") c.0) (create_found text r c.1)
       | inr n1 ↦ elim (chosen (bytes_eq verb (codes "write")) (write_of text) _ _ n1.1) [
-          | inl w ↦ rw (same_bytes verb (codes "write") w.0) (write_found text r w.1)
-          | inr n2 ↦ elim (chosen (bytes_eq verb (codes "read")) (read_of text) _ _ n2.1) [
-              | inl d ↦ rw (same_bytes verb (codes "read") d.0) (read_found text r d.1)
-              | inr n3 ↦ elim (chosen (bytes_eq verb (codes "sync")) (sync_of text) None _ n3.1) [
-                  | inl s ↦ rw (same_bytes verb (codes "sync") s.0) (sync_found text r s.1)
-                  | inr n4 ↦ cc n4.1
-                ]
-            ]
+        | inl w ↦ rw (same_bytes verb (codes "write") w.0) (write_found text r w.1)
+        | inr n2 ↦ elim (chosen (bytes_eq verb (codes "read")) (read_of text) _ _ n2.1) [
+          | inl d ↦ rw (same_bytes verb (codes "read") d.0) (read_found text r d.1)
+          | inr n3 ↦ elim (chosen (bytes_eq verb (codes "sync")) (sync_of text) None _ n3.1) [
+            | inl s ↦ rw (same_bytes verb (codes "sync") s.0) (sync_found text r s.1)
+            | inr n4 ↦ cc n4.1
+          ]
         ]
+      ]
     ]
 
 -- a line with a byte is not empty
@@ -185,3 +187,22 @@ request_again line (Sync pool) a =
 -- a line asks one thing at most
 pub one_request : (line : List ℕ) (a b : Request) → Asks line a → Asks line b → a ≡ b
 one_request line a b h i = same_Some _ _ (sym (request_again line a h) ∙ request_again line b i)
+
+-- ---- what a reader returned
+
+pub line_found : (line : List ℕ) (result : Result Request LineFault) → Gives (λ r. r) result (request_of line) → IfOk result (Asks line)
+line_found line (Ok r) gives = request_found line r gives
+line_found line (Err e) gives = tt
+
+pub line_only : (line : List ℕ) (result : Result Request LineFault) → Gives (λ r. r) result (request_of line)
+    → (request : Request) → Asks line request → Gives (λ r. r) result (Some request)
+line_only line result gives request asks = rw (← request_again line request asks) gives
+
+pub line_bad : (line : List ℕ) (result : Result Request LineFault) → Gives (λ r. r) result (request_of line)
+    → IsErrOf result Bad → (request : Request) → ¬ (Asks line request)
+line_bad line result gives bad request asks = bad_gives result request bad (line_only line result gives request asks)
+  where
+    bad_gives : (result : Result Request LineFault) (request : Request) → IsErrOf result Bad → Gives (λ r. r) result (Some request) → ⊥
+    bad_gives (Ok r) request bad gives = cc bad
+    bad_gives (Err Bad) request bad gives = cc gives
+    bad_gives (Err Memory) request bad gives = cc bad

@@ -6,6 +6,6 @@ mod reply;
 mod request;
 mod words;
 
-pub use line::read_line;
+pub use line::{asks_one_thing, read_line};
 pub use reply::{NamedLeaf, NamedLeaves, Reply};
 pub use request::{LineFault, Request};

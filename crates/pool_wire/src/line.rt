@@ -1,17 +1,35 @@
 //! Lines, read from left to right.
-ghost use Rattle.std.specs.Prelude.{codes, IfOk};
+ghost use Rattle.std.specs.Prelude.{◌≡◌, ℕ, List, IfOk, IsErrOf, codes};
 ghost use Rattle.pool_wire.specs.Reading.{Gives, after_word, create_of, read_of, request_of, sync_of, verb_of, write_of};
 ghost use Rattle.pool_wire.specs.Grammar.{Asks};
+ghost use Rattle.pool_wire.specs.declared.request.Request.{Request};
 
 use crate::words::{cut_word, read_data, read_name, read_number};
 use crate::{LineFault, Request};
 use std::alloc::Global;
 
-/// What the line asks, which is the line's text without the byte 10 that ends it (docs/FORMATS.md,
-/// "Lines"). `Bad` is for a line outside the grammar alone.
-#[tactic(auto, unfolding(crate::specs::Reading::request_of))]
+/// What the line asks; the byte 10 that ends it is no part of it (docs/FORMATS.md, "Lines").
 pub fn read_line(alloc: Global, line: &[u8]) -> Result<Request, LineFault>
+    // What is read is in the grammar.
+    ensures found { IfOk result (Asks line.now) }
+    // What is in the grammar is read, unless memory runs out.
+    ensures only { (request : Request) → Asks line.now request → Gives (λ r. r) result (Some request) }
+    // A bad line asks nothing.
+    ensures bad { IsErrOf result LineFault.Bad → (request : Request) → ¬ (Asks line.now request) }
+    // What a line asks is a function of the line.
     ensures exact { Gives (λ request. request) result (request_of line.now) }
+{
+    read_request(alloc, line)
+}
+
+/// No line asks two things.
+pub fn asks_one_thing()
+    ensures { (line : List ℕ) (a b : Request) → Asks line a → Asks line b → a ≡ b }
+{}
+
+#[tactic(auto, unfolding(crate::specs::Reading::request_of))]
+fn read_request(alloc: Global, line: &[u8]) -> Result<Request, LineFault>
+    ensures { Gives (λ request. request) result (request_of line.now) }
 {
     if line.is_empty() {
         return Ok(Request::Nothing);
