@@ -3,3 +3,4 @@ pub mod Numbers
 pub mod Tokens
 pub mod Pairs
 pub mod Forms
+pub mod Texts

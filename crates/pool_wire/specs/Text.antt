@@ -24,15 +24,19 @@ abbrev pub leaf_text : LeafSeen → List ℕ
 leaf_text leaf = decimal leaf.member.0 ++ (codes "=" ++ seen_text leaf.seen)
 
 -- `no 15 exhausted LEVEL INDEX LEAVES`
-abbrev pub exhausted_text : ℕ → ℕ → List (List ℕ) → List ℕ
+abbrev pub exhausted_text : ℕ → ℕ → List ℕ → List ℕ
 exhausted_text level index leaves =
-    codes "no 15 exhausted " ++ (decimal level ++ (32 ∷ (decimal index ++ (32 ∷ with_commas leaves))))
+    codes "no 15 exhausted " ++ (decimal level ++ (32 ∷ (decimal index ++ (32 ∷ leaves))))
+
+-- `no 16 suspended GROUP TOP FAULTS`
+abbrev pub suspended_text : ℕ → ℕ → ℕ → List ℕ
+suspended_text group top faults =
+    codes "no 16 suspended " ++ (decimal group ++ (32 ∷ (decimal top ++ (32 ∷ decimal faults))))
 
 abbrev pub refusal_text : Refusal → List ℕ
 refusal_text (refusals.BadAddress limit) = codes "no 3 address " ++ decimal limit
-refusal_text (refusals.Exhausted level index leaves) = exhausted_text level index (map leaf_text leaves)
-refusal_text (refusals.Suspended group top faults) =
-    codes "no 16 suspended " ++ (decimal group.0 ++ (32 ∷ (decimal top.0 ++ (32 ∷ decimal faults))))
+refusal_text (refusals.Exhausted level index leaves) = exhausted_text level index (with_commas (map leaf_text leaves))
+refusal_text (refusals.Suspended group top faults) = suspended_text group.0 top.0 faults
 refusal_text refusals.Memory = codes "no 19 memory"
 refusal_text refusals.NotBuilt = codes "no 40 notbuilt"
 
@@ -41,4 +45,4 @@ text_of Done = codes "ok"
 text_of (Committed group) = codes "ok " ++ decimal group.0
 text_of (Data block) = codes "ok " ++ block_text block
 text_of (Refused refusal) = refusal_text refusal
-text_of (Exhausted level index leaves) = exhausted_text level index (map named_leaf_text leaves)
+text_of (Exhausted level index leaves) = exhausted_text level index (with_commas (map named_leaf_text leaves))

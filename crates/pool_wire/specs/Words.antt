@@ -22,14 +22,22 @@ IsPairs text block =
 abbrev pub IsData : List ℕ → List ℕ → Type 0
 IsData text block = ((text ≡ codes "-") × (block ≡ zero_block)) ⊎ IsPairs text block
 
+abbrev pub is_zero : ℕ → Bool
+is_zero b = b == 0
+
 -- without the zero bytes at the end
 abbrev pub trimmed : List ℕ → List ℕ
 trimmed [] = []
-trimmed (b ∷ bs) = if list_all (λ c. c == 0) (b ∷ bs) then [] else b ∷ trimmed bs
+trimmed (b ∷ bs) = if list_all is_zero (b ∷ bs) then [] else b ∷ trimmed bs
 
--- a block in the fewest digits, `-` where it has none but zeros
+-- bytes in hexadecimal digits, `-` where there are none
+abbrev pub digits_text : List ℕ → List ℕ
+digits_text [] = codes "-"
+digits_text (b ∷ bs) = encode_lower (b ∷ bs)
+
+-- a block without the zero bytes at its end
 abbrev pub block_text : List ℕ → List ℕ
-block_text block = if list_all (λ b. b == 0) block then codes "-" else encode_lower (trimmed block)
+block_text block = digits_text (trimmed block)
 
 -- texts with one comma between two
 abbrev pub with_commas : List (List ℕ) → List ℕ

@@ -4,8 +4,10 @@
 mod line;
 mod reply;
 mod request;
+mod text;
 mod words;
 
 pub use line::{asks_one_thing, read_line};
 pub use reply::{NamedLeaf, NamedLeaves, Reply};
 pub use request::{LineFault, Request};
+pub use text::write_reply;
