@@ -1,4 +1,5 @@
--- The grammar of lines: what a whole line asks. A line has no word for it that asks nothing here.
+-- The grammar of lines: `Asks line request` says that the line, as a whole, asks for the request. A line
+-- that asks for none is a bad one.
 use Rattle.std.specs.Prelude.{◌≡◌, ℕ, ◌⊎◌, List, [], ◌∷◌, ◌++◌, codes, IsTrue}
 use Rattle.mp_base.specs.Name.{is_name}
 use Rattle.pool_wire.specs.Words.{IsNumber, IsData}
@@ -9,7 +10,7 @@ use Rattle.pool_wire.specs.declared.request.Request.TheVariants.{Nothing, Create
 abbrev pub IsRemark : List ℕ → Type 0
 IsRemark line = (line ≡ []) ⊎ ((rest : List ℕ) × (line ≡ codes "#" ++ rest))
 
--- What a line asks: its words have one space between two, and nothing else stands in the line.
+-- The words of each form, with one space between two and nothing else in the line.
 abbrev pub Asks : List ℕ → Request → Type 0
 Asks line Nothing = IsRemark line
 Asks line (Create pool blocks first second) =

@@ -11,3 +11,6 @@ pub use line::{asks_one_thing, read_line};
 pub use reply::{NamedLeaf, NamedLeaves, Reply};
 pub use request::{LineFault, Request};
 pub use text::write_reply;
+
+#[cfg(test)]
+mod tests;

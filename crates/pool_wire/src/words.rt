@@ -1,5 +1,5 @@
 //! The words of a line.
-ghost use Rattle.std.specs.Prelude.{◌≡◌, ◌<◌, ◌≤◌, length, not, IsTrue, IfSome};
+ghost use Rattle.std.specs.Prelude.{◌≡◌, ◌<◌, ◌≤◌, length, not, IsTrue, IfErr, IfSome};
 ghost use Rattle.std.specs.List.{list_all, position};
 ghost use Rattle.std.specs.Str.Parse.{digits_value};
 ghost use Rattle.pool_wire.specs.Reading.{Gives, cut_word, data_of, is_capital, is_digit, is_number, is_space, may_be_pairs, name_of, number_of, pairs_of};
@@ -12,7 +12,8 @@ use std::alloc::Global;
 /// The word before the first space, and the text behind that space.
 #[tactic(auto, unfolding(crate::specs::Reading::cut_word))]
 pub fn cut_word(text: &[u8]) -> Result<(&[u8], &[u8]), LineFault>
-    ensures { Gives (λ cut. (cut.0.now, cut.1.now)) result (cut_word text.now) }
+    ensures gives { Gives (λ cut. (cut.0.now, cut.1.now)) result (cut_word text.now) }
+    ensures bad { IfErr result (λ fault. fault ≡ LineFault.Bad) }
 {
     match first_space(text) {
         Some(at) => Ok((&text[..at], &text[at + 1..])),
@@ -40,7 +41,8 @@ pub fn read_name(alloc: Global, text: &[u8]) -> Result<Name, LineFault>
 
 #[tactic(auto, unfolding(crate::specs::Reading::number_of))]
 pub fn read_number(text: &[u8]) -> Result<u64, LineFault>
-    ensures { Gives (λ n. n) result (number_of text.now) }
+    ensures gives { Gives (λ n. n) result (number_of text.now) }
+    ensures bad { IfErr result (λ fault. fault ≡ LineFault.Bad) }
 {
     if !is_number(text) {
         return Err(LineFault::Bad);
