@@ -1,1 +1,8 @@
+pub mod Added
+pub mod Adding
 pub mod Composing
+pub mod Finding
+pub mod Names
+pub mod Sectors
+pub mod Shown
+pub mod Telling
