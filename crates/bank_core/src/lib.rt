@@ -3,5 +3,15 @@
 #![tactic(auto)]
 
 mod bank;
+mod call;
+mod device;
+mod memory;
+mod moment;
+mod piece;
+mod view;
 
 pub use bank::{Bank, Fault, FindFault, SECTOR_BYTES};
+pub use call::{CallKind, Damage, MemCall};
+pub use device::MOST_SECTORS;
+pub use memory::MemBank;
+pub use moment::ImageChoice;

@@ -17,7 +17,7 @@ use Rattle.bank_core.specs.Calls.{Made}
 use Rattle.bank_core.specs.Disk.{Call, Read, Noted, sectors_in}
 use Rattle.bank_core.specs.Story.{Story}
 use Rattle.bank_core.proofs.Composing.{made_none, made_more}
-use Rattle.bank_core.proofs.Sectors.{block_sectors}
+use Rattle.bank_core.proofs.Blocks.{block_sectors}
 use Rattle.pool_core.specs.declared.leaf.Leaf.{Leaf}
 use Rattle.pool_core.specs.declared.pool.Pointer.{Pointer}
 use Rattle.pool_core.specs.declared.pool.Pool.{Pool}

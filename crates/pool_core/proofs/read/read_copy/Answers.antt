@@ -1,5 +1,5 @@
 use Rattle.std.proofs.Common.{rules, sym}
-use Rattle.bank_core.proofs.Sectors.{block_whole, block_inside}
+use Rattle.bank_core.proofs.Blocks.{block_whole, block_inside}
 use Rattle.pool_core.proofs.Tries.{tries_copy, failed_copy, other_copy, good_copy, differs, same_sum}
 use Rattle.pool_core.proofs.read.read_copy.Goals as goal
 

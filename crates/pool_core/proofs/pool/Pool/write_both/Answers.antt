@@ -1,5 +1,5 @@
 use Rattle.std.proofs.Common.{List, [], ◌∷◌, Some, None, Ok, Err, refl}
-use Rattle.bank_core.proofs.Sectors.{block_whole, block_inside}
+use Rattle.bank_core.proofs.Blocks.{block_whole, block_inside}
 use Rattle.std.proofs.lemmas.Result.{err_from_is_err_and}
 use Rattle.bank_core.specs.declared.bank.Fault.{Fault}
 use Rattle.bank_core.specs.Asks.{Writes}
