@@ -3,6 +3,7 @@ pub mod Committing
 pub mod Copies
 pub mod Done
 pub mod Keeping
+pub mod Naming
 pub mod Outside
 pub mod Pointers
 pub mod Reading

@@ -1,6 +1,7 @@
 //! One pool: a volume of blocks on a mirror of devices (docs/MODEL.md, "A pool").
 #![tactic(auto)]
 
+mod accessors;
 mod commit;
 mod leaf;
 mod pool;

@@ -1,0 +1,75 @@
+-- What a run did with its input, its output and its bank.
+use Rattle.std.specs.Prelude.{◌≡◌, ◌⊎◌, ℕ, ◌<◌, List, [], ◌∷◌, ◌++◌, map, take, length, Option, Some, None}
+use Rattle.mp_base.specs.Outside.{Rose, Given, Taken}
+use Rattle.bank_core.specs.Calls.{Made}
+use Rattle.bank_core.specs.Disk.{Noted}
+use Rattle.bank_core.specs.Story.{Story}
+use Rattle.pool_wire.specs.Reading.{request_of}
+use Rattle.pool_wire.specs.declared.request.Request.{Request}
+use Rattle.pool_wire.specs.declared.reply.Reply.{Reply}
+use Rattle.host_front.specs.declared.device.HostDevice.{HostDevice}
+use Rattle.host_front.specs.declared.host.Host.{Host}
+use Rattle.host_front.specs.declared.status.Status.{Status}
+use Rattle.host_front.specs.declared.status.Status.TheVariants as statuses
+use Rattle.host_front.specs.FixedHost.{host_devices}
+use Rattle.host_front.specs.Lines.{lines_of, Ends, AreShort, longest}
+use Rattle.host_front.specs.Machine.{HostState, Entry, Step, Replay, started, texts}
+use Rattle.host_front.specs.Standing.{Stands, AreLookedUp}
+
+-- One line was answered: it is a step, with the calls that it made.
+pub record Answers (h : HostState) (asked : Option Request) (old new : Option Story) (before after : ℕ → ℕ) (host : Host) (reply : Reply) : Type 0 where
+  pub entry : Entry
+  pub made : List Noted
+  pub next : HostState
+  pub asked_is : entry.asked ≡ asked
+  pub reply_is : entry.reply ≡ reply
+  pub calls : Made old new before after made
+  pub stands : Stands host next
+  pub step : Step h entry made next
+
+-- Lines were answered, one after another, and these bytes written: a front of their reply lines.
+pub record Handles (h : HostState) (lines : List (List ℕ)) (old new : Option Story) (before after : ℕ → ℕ) (sink sink' : Option (List ℕ))
+    (next : HostState) (entries : List Entry) (bytes : List ℕ) : Type 0 where
+  pub calls : List Noted
+  pub asked : map (λ entry. entry.asked) entries ≡ map request_of lines
+  pub replay : Replay h entries calls next
+  pub made : Made old new before after calls
+  pub written : Taken sink sink' bytes
+
+-- The lines that were answered, by the status with which the run ended: `text` is what the input gave,
+-- `left` what it has left, where it tells.
+abbrev pub IsUpTo : Status → List ℕ → Option (List ℕ) → List (List ℕ) → Type 0
+-- all lines, up to the input's end
+IsUpTo statuses.Done text left lines = ((rest : List ℕ) → left ≡ Some rest → rest ≡ []) × (lines_of text ≡ lines)
+-- every line that ended in the bytes given
+IsUpTo statuses.SourceFault text left lines = (waiting : List ℕ) × Ends [] text lines waiting
+-- the first lines
+IsUpTo statuses.SinkFault text left lines = (rest : List ℕ) → left ≡ Some rest → (more : List (List ℕ)) × (lines_of (text ++ rest) ≡ lines ++ more)
+IsUpTo statuses.Memory text left lines = (rest : List ℕ) → left ≡ Some rest → (more : List (List ℕ)) × (lines_of (text ++ rest) ≡ lines ++ more)
+-- all lines before one that is too long
+IsUpTo statuses.LineTooLong text left lines = (rest : List ℕ) → left ≡ Some rest
+    → (long : List ℕ) × (more : List (List ℕ)) × (lines_of (text ++ rest) ≡ lines ++ long ∷ more) × (longest < length long)
+IsUpTo statuses.Usage text left lines = ⊥
+
+-- The bytes that were written: all reply lines, but for a sink fault or want of memory a front of them.
+abbrev pub IsWritten : Status → List ℕ → List ℕ → Type 0
+IsWritten statuses.Done all bytes = bytes ≡ all
+IsWritten statuses.SourceFault all bytes = bytes ≡ all
+IsWritten statuses.LineTooLong all bytes = bytes ≡ all
+IsWritten statuses.SinkFault all bytes = (k : ℕ) × (bytes ≡ take k all)
+IsWritten statuses.Memory all bytes = (k : ℕ) × (bytes ≡ take k all)
+IsWritten statuses.Usage all bytes = ⊥
+
+-- A run of the machine: one history, whose requests are those of the input's lines, whose entries are
+-- steps one after another, whose device calls are the bank's, and whose replies are what was written.
+pub record Ran (status : Status) (table : List HostDevice) (old new : Option Story) (before after : ℕ → ℕ) (left left' sink sink' : Option (List ℕ)) : Type 0 where
+  pub text : List ℕ
+  pub lines : List (List ℕ)
+  pub entries : List Entry
+  pub state : HostState
+  pub bytes : List ℕ
+  pub given : Given left left' text
+  pub up_to : IsUpTo status text left' lines
+  pub short : AreShort lines
+  pub handles : Handles (started table) lines old new before after sink sink' state entries bytes
+  pub is_written : IsWritten status (texts entries) bytes

@@ -1,0 +1,52 @@
+-- What a host keeps of its abstract state.
+use Rattle.std.specs.Prelude.{◌≡◌, ◌⊎◌, ℕ, ◌≤◌, List, [], ◌∷◌, Bool, Option, Some, None}
+use Rattle.mp_base.specs.Outside.{Rose}
+use Rattle.bank_core.specs.Absent.{IsAbsent}
+use Rattle.pool_core.specs.declared.leaf.Leaf.{Leaf}
+use Rattle.pool_core.specs.declared.pool.Pool.{Pool}
+use Rattle.pool_core.specs.Keeping.{Represents, IsSeated, leaves_of}
+use Rattle.pool_core.specs.State.{PoolState}
+use Rattle.host_front.specs.declared.device.HostDevice.{HostDevice}
+use Rattle.host_front.specs.declared.host.Host.{Host}
+use Rattle.host_front.specs.Machine.{HostState}
+
+-- the pool, so far as there is one
+abbrev pub PoolStands : Option Pool → Option PoolState → Type 0
+PoolStands None None = Unit {0}
+PoolStands (Some pool) (Some s) = Represents pool s
+PoolStands None (Some s) = ⊥
+PoolStands (Some pool) None = ⊥
+
+-- The host stands for this abstract state.
+pub record Stands (host : Host) (h : HostState) : Type 0 where
+  pub table : h.table ≡ host.table.items
+  pub pool : PoolStands host.pool h.pool
+
+-- each device that was found is the bank's, of the size that the table has
+abbrev pub AreSized : (ℕ → ℕ) → List HostDevice → Type 0
+AreSized size [] = Unit {0}
+AreSized size (device ∷ table) = ((dev : ℕ) → device.dev ≡ Some dev → size dev ≡ device.sectors) × AreSized size table
+
+abbrev pub PoolIsSeated : (ℕ → ℕ) → Option Pool → Type 0
+PoolIsSeated size None = Unit {0}
+PoolIsSeated size (Some pool) = IsSeated size (leaves_of pool)
+
+-- The host's devices are a bank's of these sizes.
+pub record HostIsSeated (size : ℕ → ℕ) (host : Host) : Type 0 where
+  pub table : AreSized size host.table.items
+  pub pool : PoolIsSeated size host.pool
+
+-- A device of the table was looked up: it has this number and size, or its look-up found nothing, or failed.
+pub record IsLookedUp (number_of : List ℕ → Option ℕ) (size : ℕ → ℕ) (names : Option (List (List ℕ))) (before after : ℕ)
+    (named : List ℕ × Bool) (device : HostDevice) : Type 0 where
+  pub name : device.name ≡ named.0
+  pub spare : device.spare ≡ named.1
+  pub found : (dev : ℕ) → device.dev ≡ Some dev → (number_of named.0 ≡ Some dev) × (size dev ≡ device.sectors)
+  pub absent : device.dev ≡ None → IsAbsent names named.0 ⊎ Rose before after
+
+-- The table has just these devices, each as its look-up in this run found it.
+abbrev pub AreLookedUp : (List ℕ → Option ℕ) → (ℕ → ℕ) → Option (List (List ℕ)) → (before after : ℕ) → List (List ℕ × Bool) → List HostDevice → Type 0
+AreLookedUp number_of size names before after [] table = table ≡ []
+AreLookedUp number_of size names before after (named ∷ more) [] = ⊥
+AreLookedUp number_of size names before after (named ∷ more) (device ∷ table) =
+    IsLookedUp number_of size names before after named device × AreLookedUp number_of size names before after more table

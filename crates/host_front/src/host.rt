@@ -1,0 +1,79 @@
+//! A host: its devices, and the pool, once one was made. It answers lines.
+ghost use Rattle.std.specs.Prelude.{◌≡◌, ℕ, List, Option};
+
+use crate::HostDevice;
+use bank_core::Bank;
+use mp_base::Refusal;
+use pool_core::Pool;
+use pool_wire::{LineFault, Reply, Request, read_line};
+use std::alloc::Global;
+
+/// A host, which answers lines one after another.
+#[derive(Drop)]
+pub struct Host {
+    pub(crate) alloc: Global,
+    pub(crate) table: Vec<HostDevice>,
+    pub(crate) pool: Option<Pool>,
+}
+
+impl Host {
+    ghost use Rattle.std.specs.Prelude.{Some};
+    ghost use Rattle.pool_wire.specs.Reading.{request_of};
+    ghost use Rattle.host_front.specs.Machine.{HostState, started};
+    ghost use Rattle.host_front.specs.Standing.{Stands, HostIsSeated};
+    ghost use Rattle.host_front.specs.Session.{Answers};
+
+    /// A host of these devices, with no pool.
+    pub fn new(alloc: Global, table: Vec<HostDevice>) -> Host
+        ensures { Stands result (started table.items) }
+    {
+        Host {
+            alloc,
+            table,
+            pool: None,
+        }
+    }
+
+    /// Answers a line. A line outside the grammar is refused as not built.
+    pub fn answer<B: Bank>(&mut self, bank: &mut B, line: &[u8]) -> Reply
+        requires seated { HostIsSeated (B.size bank.old) self.old }
+        ensures size { (d : ℕ) → B.size bank.new d ≡ B.size bank.old d }
+        ensures numbers { (name : List ℕ) → B.number_of bank.new name ≡ B.number_of bank.old name }
+        ensures seated { HostIsSeated (B.size bank.new) self.new }
+        ensures answers { (h : HostState) → Stands self.old h → Answers h (request_of line.now)
+            (B.told bank.old) (B.told bank.new) (B.faults bank.old) (B.faults bank.new) self.new result }
+    {
+        match read_line(self.alloc, line) {
+            Ok(request) => self.request(bank, &request),
+            Err(LineFault::Bad) => Reply::Refused(Refusal::NotBuilt),
+            Err(LineFault::Memory) => Reply::Refused(Refusal::Memory),
+        }
+    }
+
+    /// Answers a request.
+    pub fn request<B: Bank>(&mut self, bank: &mut B, request: &Request) -> Reply
+        requires seated { HostIsSeated (B.size bank.old) self.old }
+        ensures size { (d : ℕ) → B.size bank.new d ≡ B.size bank.old d }
+        ensures numbers { (name : List ℕ) → B.number_of bank.new name ≡ B.number_of bank.old name }
+        ensures seated { HostIsSeated (B.size bank.new) self.new }
+        ensures answers { (h : HostState) → Stands self.old h → Answers h (Some request.now)
+            (B.told bank.old) (B.told bank.new) (B.faults bank.old) (B.faults bank.new) self.new result }
+    {
+        match request {
+            Request::Nothing => Reply::Done,
+            Request::Create {
+                pool,
+                blocks,
+                first,
+                second,
+            } => self.create(pool, *blocks, first, second),
+            Request::Write {
+                pool,
+                address,
+                block,
+            } => self.write(pool, *address, block),
+            Request::Read { pool, address } => self.read(bank, pool, *address),
+            Request::Sync { pool } => self.sync(bank, pool),
+        }
+    }
+}
