@@ -1,0 +1,10 @@
+pub mod Added
+pub mod Adding
+pub mod Blocks
+pub mod Composing
+pub mod Finding
+pub mod Names
+pub mod Parting
+pub mod Sectors
+pub mod Shown
+pub mod Telling

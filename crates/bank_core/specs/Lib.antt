@@ -1,0 +1,9 @@
+pub mod Absent
+pub mod Asks
+pub mod Calls
+pub mod Disk
+pub mod MemBank
+pub mod Memory
+pub mod Parts
+pub mod Story
+pub mod View

@@ -1,0 +1,369 @@
+//! A bank in memory, which tells what its devices hold, and whose calls fail as they are planned to.
+ghost use Rattle.std.specs.Prelude.{◌≡◌, ℕ, ◌+◌, ◌<◌, ◌≤◌, ◌++◌, [], ◌∷◌, length, true, slice_index, Some, None, IfOk, OnOk, OnErr};
+ghost use Rattle.std.specs.List.{list_all};
+ghost use Rattle.mp_base.specs.Outside.{Rose};
+ghost use Rattle.bank_core.specs.Disk.{sectors_in};
+ghost use Rattle.bank_core.specs.Memory.{is_inside, size_in, number_in, names_in, story_in, call_as, AnswersThere, found_in, clean_sector, image_sector, zero_sector};
+ghost use Rattle.bank_core.specs.Story.{Tells, fault_in};
+ghost use Rattle.bank_core.specs.View.{ShowsClean};
+
+use crate::bank::{Bank, Fault, FindFault};
+use crate::call::{CallKind, Damage, MemCall};
+use crate::device::{MOST_SECTORS, MemDevice};
+use crate::moment::{Moment, Showing, show_from};
+use mp_base::{MemFault, Name};
+use std::alloc::Global;
+
+/// The most devices of a bank.
+pub const MOST_DEVICES: usize = 64;
+
+/// The calls on a device at the places `from..=to` of the list fail.
+#[derive(Clone, Copy)]
+struct PlannedFault {
+    dev: u32,
+    from: u64,
+    to: u64,
+    fault: Fault,
+}
+
+/// This damage comes with the call at this place of the list.
+#[derive(Clone, Copy)]
+struct PlannedDamage {
+    place: u64,
+    damage: Damage,
+}
+
+/// A bank in memory of at most 64 devices, each with a name, and numbered from 0 in the order in which
+/// they were added. It keeps a list of its calls, and finds each sector by going through the list.
+///
+/// It tells its story until memory for the list is refused. That call fails, and from then on the bank
+/// tells nothing.
+#[derive(Drop)]
+pub struct MemBank {
+    alloc: Global,
+    devices: Vec<MemDevice>,
+    calls: Vec<MemCall>,
+    faults: [u64; 64],
+    tells: bool,
+    failing: Vec<PlannedFault>,
+    hurting: Vec<PlannedDamage>,
+    ghost few: { length devices.items ≤ 64 },
+    ghost inside: { list_all (is_inside (size_in devices.items)) calls.items ≡ true },
+}
+
+impl MemBank {
+    ghost use Rattle.bank_core.specs.MemBank.{bank_size, bank_names, bank_devices, bank_calls, bank_told, bank_faults, IsUnchanged, IsAdded};
+
+    /// A bank of no devices.
+    pub fn new(alloc: Global) -> MemBank
+        ensures names { bank_names result ≡ [] }
+        ensures calls { bank_calls result ≡ 0 }
+        ensures told { bank_told result ≡ Some (story_in [] []) }
+    {
+        MemBank {
+            alloc,
+            devices: Vec::new(alloc),
+            calls: Vec::new(alloc),
+            faults: [0; 64],
+            tells: true,
+            failing: Vec::new(alloc),
+            hurting: Vec::new(alloc),
+        }
+    }
+
+    /// How many devices it has.
+    pub fn device_count(&self) -> usize
+        ensures { result ≡ bank_devices self.now }
+    {
+        self.devices.len()
+    }
+
+    /// How many calls were made.
+    pub fn place(&self) -> u64
+        ensures { result ≡ bank_calls self.now }
+    {
+        self.calls.len() as u64
+    }
+
+    /// Adds a device of zeros. Devices are added before the first call. A look-up of a name that two
+    /// devices have finds the first one.
+    pub fn add(&mut self, name: Name, sectors: u64) -> Result<(), MemFault>
+        requires room { bank_devices self.old < 64 }
+        requires early { bank_calls self.old ≡ 0 }
+        requires some { 0 < sectors }
+        requires most { sectors ≤ MOST_SECTORS }
+        ensures ok { OnOk result (IsAdded self.old self.new name sectors (λ s. clean_sector zero_sector)) }
+        ensures err { OnErr result (IsUnchanged self.old self.new) }
+    {
+        let first = Vec::new(self.alloc);
+        let damage = Vec::new(self.alloc);
+        self.add_image(name, sectors, first, damage)
+    }
+
+    /// Adds a device that begins with these bytes, and has zeros at each sector that they don't fill.
+    /// What of the damage lies on it is there from the start.
+    pub fn add_image(
+        &mut self,
+        name: Name,
+        sectors: u64,
+        first: Vec<u8>,
+        damage: Vec<Damage>,
+    ) -> Result<(), MemFault>
+        requires room { bank_devices self.old < 64 }
+        requires early { bank_calls self.old ≡ 0 }
+        requires some { 0 < sectors }
+        requires most { sectors ≤ MOST_SECTORS }
+        ensures ok { OnOk result (IsAdded self.old self.new name sectors
+            (image_sector sectors first.items damage.items (bank_devices self.old))) }
+        ensures err { OnErr result (IsUnchanged self.old self.new) }
+    {
+        self.push_device(MemDevice {
+            name,
+            sectors,
+            first,
+            damage,
+        })
+    }
+
+    fn push_device(&mut self, device: MemDevice) -> Result<(), MemFault>
+        requires room { bank_devices self.old < 64 }
+        requires early { bank_calls self.old ≡ 0 }
+        ensures ok { OnOk result (IsAdded self.old self.new device.name device.sectors
+            (image_sector device.sectors device.first.items device.damage.items (bank_devices self.old))) }
+        ensures err { OnErr result (IsUnchanged self.old self.new) }
+    {
+        self.devices.push(device)?;
+        Ok(())
+    }
+
+    /// From now on the calls on a device at the places `from..=to` of the list fail. Places are counted
+    /// from 0 over all devices. Of two plans for a call the one that was made first holds.
+    pub fn fail(&mut self, dev: u32, from: u64, to: u64, fault: Fault) -> Result<(), MemFault>
+        ensures { IsUnchanged self.old self.new }
+    {
+        self.failing.push(PlannedFault {
+            dev,
+            from,
+            to,
+            fault,
+        })?;
+        Ok(())
+    }
+
+    /// With the call at this place of the list, and before its effect, the damage comes. Damage that
+    /// lies beyond its device's end is none.
+    pub fn damage(&mut self, place: u64, damage: Damage) -> Result<(), MemFault>
+        ensures { IsUnchanged self.old self.new }
+    {
+        self.hurting.push(PlannedDamage { place, damage })?;
+        Ok(())
+    }
+
+    /// What is planned for the next call on a device.
+    fn planned_fault(&self, dev: u32) -> Option<Fault> {
+        let place = self.place();
+        self.failing
+            .iter()
+            .find(|x| x.dev == dev && x.from <= place && place <= x.to)
+            .map(|x| x.fault)
+    }
+
+    /// The damage that comes with the next call.
+    fn planned_damage(&self) -> Result<Vec<Damage>, MemFault> {
+        let place = self.place();
+        let mut damage = Vec::new(self.alloc);
+        for x in &self.hurting {
+            if x.place == place {
+                damage.push(x.damage)?;
+            }
+        }
+        Ok(damage)
+    }
+
+    /// A call that gives no bytes, as it is planned.
+    fn coming(&self, kind: CallKind, dev: u32, at: u64, bytes: &[u8]) -> Result<MemCall, MemFault>
+        ensures kind { IfOk result (λ call. call.kind ≡ kind) }
+        ensures dev { IfOk result (λ call. call.dev ≡ dev) }
+        ensures at { IfOk result (λ call. call.at ≡ at) }
+        ensures bytes { IfOk result (λ call. call.bytes.items ≡ bytes.now) }
+    {
+        Ok(MemCall {
+            kind,
+            dev,
+            at,
+            bytes: Vec::from_slice(self.alloc, bytes)?,
+            fault: self.planned_fault(dev),
+            damage: self.planned_damage()?,
+        })
+    }
+
+    /// A read as it is planned, with the bytes that it gives.
+    fn coming_read(&self, dev: u32, at: u64, out: &mut [u8]) -> Result<MemCall, MemFault>
+        requires device { 0 < bank_size self.now dev }
+        requires inside { at + sectors_in out.old ≤ bank_size self.now dev }
+        ensures kind { IfOk result (λ call. call.kind ≡ CallKind.Read) }
+        ensures dev { IfOk result (λ call. call.dev ≡ dev) }
+        ensures at { IfOk result (λ call. call.at ≡ at) }
+        ensures bytes { IfOk result (λ call. call.bytes.items ≡ out.new) }
+        ensures answers { IfOk result (λ call. AnswersThere self.now.devices.items self.now.calls.items call) }
+    {
+        let fault = self.planned_fault(dev);
+        let damage = self.planned_damage()?;
+        self.show_unless(fault, dev, at, &damage, out);
+        let bytes = Vec::from_slice(self.alloc, out)?;
+        Ok(MemCall {
+            kind: CallKind::Read,
+            dev,
+            at,
+            bytes,
+            fault,
+            damage,
+        })
+    }
+
+    /// Shows what a read gives, unless it is planned to fail.
+    fn show_unless(
+        &self,
+        fault: Option<Fault>,
+        dev: u32,
+        at: u64,
+        damage: &[Damage],
+        out: &mut [u8],
+    )
+        requires device { 0 < bank_size self.now dev }
+        requires inside { at + sectors_in out.old ≤ bank_size self.now dev }
+        ensures { fault ≡ None → ShowsClean (λ i. found_in self.now.devices.items self.now.calls.items damage.now dev (at + i))
+            (sectors_in out.new) out.new }
+    {
+        if fault.is_some() {
+            return;
+        }
+        let moment = Moment {
+            device: &self.devices[dev as usize],
+            dev,
+            calls: &self.calls,
+            damage,
+        };
+        show_from(moment, at, Showing::Read, out);
+    }
+
+    /// Raises the count of faults of a device.
+    fn count(&mut self, dev: u32)
+        requires { dev < 64 }
+        ensures devices { self.new.devices ≡ self.old.devices }
+        ensures calls { self.new.calls ≡ self.old.calls }
+        ensures tells { self.new.tells ≡ self.old.tells }
+        ensures counts { (d : ℕ) → bank_faults self.old d ≤ bank_faults self.new d }
+        ensures rose { Rose (bank_faults self.old dev) (bank_faults self.new dev) }
+    {
+        self.faults[dev as usize] = self.faults[dev as usize].saturating_add(1);
+    }
+
+    /// Puts a call into the list.
+    fn keep(&mut self, call: MemCall) -> Result<(), MemFault>
+        requires { call.at + sectors_in call.bytes.items ≤ bank_size self.old call.dev }
+        ensures devices { self.new.devices ≡ self.old.devices }
+        ensures faults { self.new.faults ≡ self.old.faults }
+        ensures tells { self.new.tells ≡ self.old.tells }
+        ensures ok { OnOk result (self.new.calls.items ≡ self.old.calls.items ++ call ∷ []) }
+        ensures err { OnErr result (self.new.calls.items ≡ self.old.calls.items) }
+    {
+        self.calls.push(call)?;
+        Ok(())
+    }
+
+    /// Stops telling, since the list has no memory for a call, which fails.
+    fn lose(&mut self, dev: u32) -> Result<(), Fault>
+        requires { dev < 64 }
+        ensures failed { result ≡ Err Fault.Failed }
+        ensures devices { self.new.devices ≡ self.old.devices }
+        ensures told { bank_told self.new ≡ None }
+        ensures counts { (d : ℕ) → bank_faults self.old d ≤ bank_faults self.new d }
+        ensures rose { Rose (bank_faults self.old dev) (bank_faults self.new dev) }
+    {
+        self.tells = false;
+        self.count(dev);
+        Err(Fault::Failed)
+    }
+
+    /// Makes a call, whose answer it holds.
+    fn note(&mut self, call: MemCall) -> Result<(), Fault>
+        requires device { 0 < bank_size self.old call.dev }
+        requires inside { call.at + sectors_in call.bytes.items ≤ bank_size self.old call.dev }
+        requires answers { AnswersThere self.old.devices.items self.old.calls.items call }
+        ensures devices { self.new.devices ≡ self.old.devices }
+        ensures counts { (d : ℕ) → bank_faults self.old d ≤ bank_faults self.new d }
+        ensures cause { OnErr result (Rose (bank_faults self.old call.dev) (bank_faults self.new call.dev)) }
+        ensures told { Tells (bank_told self.old) (bank_told self.new)
+            (call_as call.kind call.dev call.at call.bytes.items (fault_in result)) }
+    {
+        let dev = call.dev;
+        let fault = call.fault;
+        if self.keep(call).is_err() {
+            return self.lose(dev);
+        }
+        match fault {
+            None => Ok(()),
+            Some(fault) => {
+                self.count(dev);
+                Err(fault)
+            }
+        }
+    }
+}
+
+impl Bank for MemBank {
+    ghost use Rattle.std.specs.Prelude.{Some};
+    ghost use Rattle.bank_core.specs.MemBank.{bank_size, bank_number, bank_names, bank_faults, bank_told};
+
+    ghost size = { bank_size };
+
+    ghost number_of = { bank_number };
+
+    ghost names = { λ bank. Some (bank_names bank) };
+
+    ghost faults = { bank_faults };
+
+    ghost lookup_faults = { λ bank. 0 };
+
+    ghost told = { bank_told };
+
+    fn find(&mut self, name: &Name) -> Result<Option<u32>, FindFault> {
+        Ok(place_of(&self.devices, name).map(|place| place as u32))
+    }
+
+    fn sectors(&self, dev: u32) -> u64 {
+        match self.devices.get(dev as usize) {
+            Some(device) => device.sectors,
+            None => 0,
+        }
+    }
+
+    fn read(&mut self, dev: u32, at: u64, out: &mut [u8]) -> Result<(), Fault> {
+        match self.coming_read(dev, at, out) {
+            Ok(call) => self.note(call),
+            Err(_) => self.lose(dev),
+        }
+    }
+
+    fn write(&mut self, dev: u32, at: u64, bytes: &[u8]) -> Result<(), Fault> {
+        match self.coming(CallKind::Write, dev, at, bytes) {
+            Ok(call) => self.note(call),
+            Err(_) => self.lose(dev),
+        }
+    }
+
+    fn flush(&mut self, dev: u32) -> Result<(), Fault> {
+        match self.coming(CallKind::Flush, dev, 0, &[]) {
+            Ok(call) => self.note(call),
+            Err(_) => self.lose(dev),
+        }
+    }
+}
+
+/// The place of the first device of this name.
+fn place_of(devices: &[MemDevice], name: &Name) -> Option<usize>
+    ensures { result ≡ number_in devices.now name.now }
+{
+    devices.iter().position(|device| device.name == *name)
+}
