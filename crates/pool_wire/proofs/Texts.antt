@@ -1,11 +1,12 @@
 -- The texts of replies, in terms of lists.
-use Rattle.std.proofs.Common.{◌≡◌, ℕ, zero, suc, ◌+◌, ◌<◌, true, false, List, [], ◌∷◌, ◌++◌, length, take, get_or, refl, sym, ◌∙◌, arith, add-one, append_assoc}
-use Rattle.std.specs.Prelude.{◌==◌, map, if◌then◌else◌}
+use Rattle.std.proofs.Common.{◌≡◌, ℕ, zero, suc, ◌+◌, ◌-◌, ◌<◌, ◌≤◌, true, false, inl, inr, List, replicate, [], ◌∷◌, ◌++◌, length, take, get_or, refl, sym, ap, ◌∙◌, arith, add-one, append_assoc}
+use Rattle.std.specs.Prelude.{◌==◌, map, nat_lt, if◌then◌else◌}
 use Rattle.std.specs.List.{list_all}
-use Rattle.std.proofs.lemmas.Bool.{and_from, ne_eqb}
+use Rattle.std.proofs.lemmas.Bool.{and_from, and_parts, cases_Bool, eqb-true, ne_eqb}
 use Rattle.std.proofs.lemmas.List.{take_more, map-append, length-map, length-take}
 use Rattle.std.proofs.lemmas.List.Folds.{list_all_at}
-use Rattle.pool_wire.specs.Words.{is_zero, trimmed, with_commas}
+use Rattle.mp_base.specs.Block.{block_bytes, padded, zero_block, zeros}
+use Rattle.pool_wire.specs.Words.{IsData, are_bytes, block_text, digits_text, is_zero, trimmed, with_commas}
 
 -- ---- zeros at the end
 
@@ -59,3 +60,56 @@ commas_more f xs i d x text comma within item text_is comma_is =
 pub exhausted_joined : (front level index leaves text : List ℕ) → text ≡ (front ++ (level ++ (32 ∷ (index ++ 32 ∷ [])))) ++ leaves
     → text ≡ front ++ (level ++ (32 ∷ (index ++ (32 ∷ leaves))))
 exhausted_joined front level index leaves text e = e ∙ simp append_assoc
+
+-- ---- what is told of a block is DATA
+
+zeros_are : (bytes : List ℕ) → list_all is_zero bytes ≡ true → replicate (length bytes) 0 ≡ bytes
+zeros_are [] h = refl
+zeros_are (b ∷ bs) h =
+    let parts = and_parts (is_zero b) (list_all is_zero bs) h in
+    let zero_byte : b ≡ 0 = eqb-true b 0 parts.0 in
+    rw (zero_byte, zeros_are bs parts.1) refl
+
+-- what was cut off was zeros
+restored : (bytes : List ℕ) → trimmed bytes ++ replicate (length bytes - length (trimmed bytes)) 0 ≡ bytes
+restored [] = refl
+restored (b ∷ bs) =
+    elim (cases_Bool (list_all is_zero (b ∷ bs))) [
+      | inl all ↦
+          let whole : length (b ∷ bs) - 0 ≡ length (b ∷ bs) = omega arith in
+          rw (all, whole) (zeros_are (b ∷ bs) all)
+      | inr mixed ↦
+          let less : length (b ∷ bs) - length (b ∷ trimmed bs) ≡ length bs - length (trimmed bs) = omega arith in
+          rw (mixed, less, restored bs) refl
+    ]
+
+trimmed_fits : (bytes : List ℕ) → length (trimmed bytes) ≤ length bytes
+trimmed_fits [] = omega arith
+trimmed_fits (b ∷ bs) =
+    elim (cases_Bool (list_all is_zero (b ∷ bs))) [
+      | inl all ↦ rw all (omega arith)
+      | inr mixed ↦ rw mixed (omega (arith, trimmed_fits bs))
+    ]
+
+trimmed_bytes : (bytes : List ℕ) → are_bytes bytes ≡ true → are_bytes (trimmed bytes) ≡ true
+trimmed_bytes [] h = refl
+trimmed_bytes (b ∷ bs) h =
+    elim (cases_Bool (list_all is_zero (b ∷ bs))) [
+      | inl all ↦ rw all refl
+      | inr mixed ↦
+          let parts = and_parts (nat_lt b 256) (are_bytes bs) h in
+          rw mixed (and_from _ _ parts.0 (trimmed_bytes bs parts.1))
+    ]
+
+told : (block text : List ℕ) → text ++ replicate (length block - length text) 0 ≡ block → length text ≤ length block
+    → are_bytes text ≡ true → length block ≡ 4096 → IsData (digits_text text) block
+unfolding padded zero_block zeros block_bytes
+told block [] back fits bytes long =
+    let whole : length block - 0 ≡ 4096 = omega arith in
+    inl (refl, sym back ∙ ap (λ n. replicate n 0) whole)
+told block (b ∷ bs) back fits bytes long =
+    let rest : length block - length (b ∷ bs) ≡ 4096 - length (b ∷ bs) = ap (λ n. n - length (b ∷ bs)) long in
+    inr (b ∷ bs, omega arith, omega arith, bytes, refl, sym back ∙ ap (λ n. (b ∷ bs) ++ replicate n 0) rest)
+
+pub told_again : (block : List ℕ) → length block ≡ 4096 → are_bytes block ≡ true → IsData (block_text block) block
+told_again block long bytes = told block (trimmed block) (restored block) (trimmed_fits block) (trimmed_bytes block bytes) long

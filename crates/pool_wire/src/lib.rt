@@ -10,7 +10,7 @@ mod words;
 pub use line::{asks_one_thing, read_line};
 pub use reply::{NamedLeaf, NamedLeaves, Reply};
 pub use request::{LineFault, Request};
-pub use text::write_reply;
+pub use text::{told_block_is_data, write_reply};
 
 #[cfg(test)]
 mod tests;

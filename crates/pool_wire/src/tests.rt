@@ -148,7 +148,10 @@ fn replies_have_their_texts(rt: HostRuntime) -> Result<(), Fail> {
             b"no 16 suspended 2 1 1".as_slice(),
         ),
         (Reply::Refused(Refusal::Memory), b"no 19 memory".as_slice()),
-        (Reply::Refused(Refusal::NotBuilt), b"no 40 notbuilt".as_slice()),
+        (
+            Reply::Refused(Refusal::NotBuilt),
+            b"no 40 notbuilt".as_slice(),
+        ),
     ] {
         let text = write_reply(alloc, &reply).ok().ok_or("there is memory")?;
         assert_eq!(rt; text.as_slice(), want);

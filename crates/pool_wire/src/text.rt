@@ -1,8 +1,8 @@
 //! The texts of replies.
-ghost use Rattle.std.specs.Prelude.{◌≡◌, ℕ, ◌<◌, true, false, [], ◌∷◌, ◌++◌, map, decimal, codes, length, slice_index, IfOk, OnOk, IfNone, IfSome, if◌then◌else◌, ◌==◌};
+ghost use Rattle.std.specs.Prelude.{◌≡◌, ℕ, ◌<◌, true, false, List, [], ◌∷◌, ◌++◌, map, decimal, codes, length, slice_index, IfOk, OnOk, IfNone, IfSome, if◌then◌else◌, ◌==◌};
 ghost use Rattle.std.specs.List.{list_all};
 ghost use Rattle.pool_wire.specs.Text.{exhausted_text, leaf_text, named_leaf_text, refusal_text, seen_text, suspended_text, text_of};
-ghost use Rattle.pool_wire.specs.Words.{block_text, digits_text, is_zero, trimmed, with_commas};
+ghost use Rattle.pool_wire.specs.Words.{IsData, are_bytes, block_text, digits_text, is_zero, trimmed, with_commas};
 
 use crate::{NamedLeaf, Reply};
 use mp_base::{Block, Group, Guid, LeafSeen, MemFault, Refusal, Seen};
@@ -27,6 +27,11 @@ pub fn write_reply(alloc: Global, reply: &Reply) -> Result<Vec<u8>, MemFault>
         }
     }
 }
+
+/// What a reply tells of a block, a line may ask to write: it is DATA of that same block.
+pub fn told_block_is_data()
+    ensures { (block : List ℕ) → length block ≡ 4096 → are_bytes block ≡ true → IsData (block_text block) block }
+{}
 
 fn write_committed(alloc: Global, group: Group) -> Result<Vec<u8>, MemFault>
     ensures { IfOk result (λ bytes. bytes.items ≡ codes "ok " ++ decimal group.0) }
