@@ -1,6 +1,10 @@
 pub mod Codes
+pub mod Feeding
 pub mod FixedHost
 pub mod Lines
 pub mod Machine
+pub mod Making
+pub mod Replying
 pub mod Session
 pub mod Standing
+pub mod Writing

@@ -47,13 +47,14 @@ abbrev pub reply_of : {A : Type 0} → (A → Reply) → Result A Refusal → Re
 reply_of shows (Ok x) = shows x
 reply_of shows (Err refusal) = replies.Refused refusal
 
--- the number of the device of this name, where it was found, is no spare device and has the labels' room
+-- the device's number, where it was found, is no spare device and has the labels' room
+abbrev pub usable : HostDevice → Option ℕ
+usable device = if not device.spare && nat_le 320 device.sectors then device.dev else None
+
+-- the number of the device of this name that may become a member
 abbrev pub member_of : List ℕ → List HostDevice → Option ℕ
 member_of name [] = None
-member_of name (device ∷ table) =
-    if bytes_eq device.name name
-    then (if not device.spare && nat_le 320 device.sectors then device.dev else None)
-    else member_of name table
+member_of name (device ∷ table) = if bytes_eq device.name name then usable device else member_of name table
 
 -- the two members of a new mirror, numbered from 2 on behind the mirror itself
 abbrev pub members : List ℕ → List ℕ → Option ℕ → Option ℕ → Option (List Leaf)
@@ -71,9 +72,12 @@ abbrev pub create_with : HostState → List ℕ → ℕ → Option (List Leaf) �
 create_with h name blocks None = (h, replies.Refused refusals.NotBuilt)
 create_with h name blocks (Some leaves) = (with_pool h (created name blocks leaves), replies.Committed (record { 0 = 1 }))
 
+abbrev pub is_bad_size : ℕ → Bool
+is_bad_size blocks = (blocks == 0) || nat_lt 262144 blocks
+
 abbrev pub create_answer : HostState → List ℕ → ℕ → List ℕ → List ℕ → HostState × Reply
 create_answer h name blocks first second =
-    if (blocks == 0) || nat_lt 262144 blocks then (h, replies.Refused (refusals.BadAddress 262144))
+    if is_bad_size blocks then (h, replies.Refused (refusals.BadAddress 262144))
     else if may_create h.pool blocks first second
     then create_with h name blocks (members first second (member_of first h.table) (member_of second h.table))
     else (h, replies.Refused refusals.NotBuilt)

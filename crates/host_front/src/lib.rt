@@ -1,9 +1,17 @@
 //! The front: a script's bytes in, its replies' bytes out (docs/MODEL.md, "A run").
 #![tactic(auto)]
 
+mod create;
 mod device;
 mod host;
+mod input;
+mod output;
+mod read;
+mod reading;
 mod status;
+mod stop;
+mod sync;
+mod write;
 
 pub use device::HostDevice;
 pub use host::Host;
