@@ -4,10 +4,13 @@
 
 mod bank;
 mod call;
+mod crash;
 mod device;
 mod memory;
 mod moment;
+mod noting;
 mod piece;
+mod plan;
 mod view;
 
 pub use bank::{Bank, Fault, FindFault, SECTOR_BYTES};
