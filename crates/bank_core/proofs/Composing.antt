@@ -1,6 +1,6 @@
 -- Calls one after another.
 use mathlib.Core.Path.{fun_ext}
-use Rattle.std.proofs.Common.{◌≡◌, ℕ, ◌≤◌, List, [], ◌∷◌, ◌++◌, Option, Some, None, Result, Ok, Err, refl, sym, ◌∙◌, ap, arith, append_assoc, append-nil, subst, Bool, false}
+use Rattle.std.proofs.Common.{◌≡◌, ℕ, ◌≤◌, List, [], ◌∷◌, ◌++◌, Option, Some, None, Result, Ok, Err, OnErr, refl, sym, ◌∙◌, ap, arith, append_assoc, append-nil, subst, Bool, false}
 use Rattle.bank_core.specs.declared.bank.Fault.{Fault}
 use Rattle.mp_base.specs.Outside.{Rose}
 use Rattle.bank_core.specs.Disk.{Sector, Sectors, Call, Noted, run, replay, AllAnswer, Answers, as_found}
@@ -21,6 +21,9 @@ answer_more (noted ∷ first) second sectors a b = (a.0, answer_more first secon
 
 none_some : (story : Story) → None ≡ Some story → ⊥
 none_some story e = cc
+
+none_fault : (fault : Fault) → None ≡ Some fault → ⊥
+none_fault fault e = cc
 
 same_some : (a b : Story) → Some a ≡ Some b → a ≡ b
 same_some a b e = cc
@@ -91,34 +94,31 @@ made_from old old' new f f' g made e le m = record {
   told = λ story' is. rw e (m.told story' is);
 }
 
--- One call was made.
+-- One call was made, with some damage.
 pub record MadeOne (old new : Option Story) (before after : ℕ → ℕ) (call : Call) : Type 0 where
-  pub noted : Noted
-  pub is : noted.call ≡ call
-  pub made : Made old new before after (noted ∷ [])
+  pub damage : ℕ → ℕ → Bool
+  pub made : Made old new before after (record { call = call; damage = damage } ∷ [])
 
 no_damage : ℕ → ℕ → Bool
 no_damage d s = false
 
-one_caused : (noted : Noted) (call : Call) (f g : ℕ → ℕ) → noted.call ≡ call → IsCaused call f g → AllCaused (noted ∷ []) f g
-one_caused noted call f g e c = (g, rw e c, λ d. omega arith)
+one_caused : (noted : Noted) (f g : ℕ → ℕ) → IsCaused noted.call f g → AllCaused (noted ∷ []) f g
+one_caused noted f g c = (g, c, λ d. omega arith)
 
 -- from what the bank tells: nothing, or this story
 one_made_at : (old new : Option Story) (f g : ℕ → ℕ) (call : Call) → IsCaused call f g → Tells old new call
     → (told : Option Story) → new ≡ told → MadeOne old new f g call
 one_made_at old new f g call c tells None e = record {
-  noted = record { call = call; damage = no_damage };
-  is = refl;
+  damage = no_damage;
   made = record {
-    caused = one_caused (record { call = call; damage = no_damage }) call f g refl c;
+    caused = one_caused (record { call = call; damage = no_damage }) f g c;
     told = λ story' told. absurd (none_some story' (sym e ∙ told));
   };
 }
 one_made_at old new f g call c tells (Some story) e = record {
-  noted = record { call = call; damage = (tells.by story e).0 };
-  is = refl;
+  damage = (tells.by story e).0;
   made = record {
-    caused = one_caused (record { call = call; damage = (tells.by story e).0 }) call f g refl c;
+    caused = one_caused (record { call = call; damage = (tells.by story e).0 }) f g c;
     told = λ story' told. subst (Continues old (record { call = call; damage = (tells.by story e).0 } ∷ []))
         (same_some story story' (sym e ∙ told)) (tells.by story e).1;
   };
@@ -126,3 +126,9 @@ one_made_at old new f g call c tells (Some story) e = record {
 
 pub one_made : (old new : Option Story) (f g : ℕ → ℕ) (call : Call) → IsCaused call f g → Tells old new call → MadeOne old new f g call
 one_made old new f g call c tells = one_made_at old new f g call c tells new refl
+
+-- what a bank's clauses on counts say of a call
+pub call_caused : {A : Type 0} (call : Call) (r : Result A Fault) (f g : ℕ → ℕ) → fault_of call ≡ fault_in r
+    → ((d : ℕ) → f d ≤ g d) → OnErr r (Rose (f (device_of call)) (g (device_of call))) → IsCaused call f g
+call_caused call (Ok x) f g e counts cause = record { counts = counts; cause = λ fault is. absurd (none_fault fault (sym e ∙ is)) }
+call_caused call (Err fault) f g e counts cause = record { counts = counts; cause = λ _ _. cause }

@@ -1,9 +1,11 @@
 pub mod Added
 pub mod Adding
+pub mod Blocks
 pub mod Composing
 pub mod Crashing
 pub mod Finding
 pub mod Names
+pub mod Parting
 pub mod Sectors
 pub mod Shown
 pub mod Telling

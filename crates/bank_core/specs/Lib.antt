@@ -4,5 +4,6 @@ pub mod Calls
 pub mod Disk
 pub mod MemBank
 pub mod Memory
+pub mod Parts
 pub mod Story
 pub mod View

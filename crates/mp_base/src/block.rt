@@ -34,6 +34,16 @@ impl Block {
         Block { bytes }
     }
 
+    /// A copy of a block's bytes.
+    pub fn from_slice(alloc: Global, bytes: &[u8]) -> Result<Block, MemFault>
+        requires { length bytes.now ≡ 4096 }
+        ensures { IfOk result (λ block. block ≡ bytes.now) }
+    {
+        Ok(Block {
+            bytes: Vec::from_slice(alloc, bytes)?,
+        })
+    }
+
     /// The block that begins with these bytes and goes on with zeros.
     pub fn padded(alloc: Global, bytes: &[u8]) -> Result<Block, MemFault>
         requires { length bytes.now ≤ 4096 }

@@ -1,0 +1,7 @@
+mod Commits
+mod Lists
+mod ReadSteps
+mod Representing
+mod Tries
+mod SyncEnds
+mod SyncSteps

@@ -1,0 +1,25 @@
+-- Two different byte strings with one sum: the only way in which wrong bytes may pass for a block.
+use Rattle.std.specs.Prelude.{◌≡◌, ◌≢◌, ℕ, List, [], ◌∷◌, ◌⊎◌, Option, None, Some}
+use Rattle.sha2.specs.Sha256.{sha256}
+use Rattle.bank_core.specs.Disk.{Call, Read, Write, Flush, Admit, Eject, Noted}
+
+-- the call is a read that answered Ok with these bytes
+abbrev pub Gave : Call → List ℕ → Type 0
+Gave (Read dev at bytes None) found = found ≡ bytes
+Gave (Read dev at bytes (Some fault)) found = ⊥
+Gave (Write dev at bytes fault) found = ⊥
+Gave (Flush dev fault) found = ⊥
+Gave (Admit dev holds) found = ⊥
+Gave (Eject dev) found = ⊥
+
+-- one of these calls is
+abbrev pub IsFound : List Noted → List ℕ → Type 0
+IsFound [] found = ⊥
+IsFound (noted ∷ more) found = Gave noted.call found ⊎ IsFound more found
+
+-- A read found other bytes than this block, with the block's sum.
+pub record Clash (calls : List Noted) (block : List ℕ) : Type 0 where
+  pub found : List ℕ
+  pub read : IsFound calls found
+  pub differs : found ≢ block
+  pub same_sum : sha256 found ≡ sha256 block

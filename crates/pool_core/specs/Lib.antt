@@ -1,0 +1,13 @@
+pub mod Clash
+pub mod Committing
+pub mod Copies
+pub mod Done
+pub mod Keeping
+pub mod Outside
+pub mod Pointers
+pub mod Reading
+pub mod Sectors
+pub mod State
+pub mod Syncing
+pub mod Tries
+pub mod Writing

@@ -1,0 +1,92 @@
+-- A read: what was written since the last commit, else the copies of the committed block in tree order.
+use Rattle.std.specs.Prelude.{◌≡◌, ℕ, ◌+◌, ◌<◌, Bool, true, false, if◌then◌else◌, nat_lt, List, [], ◌∷◌, Option, Some, None, Result, Ok, Err}
+use Rattle.mp_base.specs.Block.{zero_block}
+use Rattle.mp_base.specs.declared.refusal.LeafSeen.{LeafSeen}
+use Rattle.mp_base.specs.declared.refusal.Seen.{Seen}
+use Rattle.mp_base.specs.declared.refusal.Seen.TheVariants as seen
+use Rattle.mp_base.specs.declared.refusal.Refusal.{Refusal}
+use Rattle.mp_base.specs.declared.refusal.Refusal.TheVariants as refusals
+use Rattle.bank_core.specs.Asks.{Ask, Reads}
+use Rattle.pool_core.specs.declared.leaf.Leaf.{Leaf}
+use Rattle.pool_core.specs.State.{Version, PoolState, data_start}
+use Rattle.pool_core.specs.Outside.{Trouble, Failed, Gone, Wrong}
+
+abbrev pub seen_as : Trouble → Seen
+seen_as Failed = seen.Failed
+seen_as Gone = seen.Failed
+seen_as Wrong = seen.Mismatch
+
+-- the leaves are asked in order, up to the first whose copy met no trouble
+abbrev pub asks_to : ℕ → List Leaf → List (Option Trouble) → List Ask
+asks_to at [] outside = []
+asks_to at (leaf ∷ leaves) [] = Reads leaf.dev at 1 ∷ []
+asks_to at (leaf ∷ leaves) (None ∷ outside) = Reads leaf.dev at 1 ∷ []
+asks_to at (leaf ∷ leaves) (Some trouble ∷ outside) = Reads leaf.dev at 1 ∷ asks_to at leaves outside
+
+-- some leaf's copy met none
+abbrev pub is_served : List Leaf → List (Option Trouble) → Bool
+is_served [] outside = false
+is_served (leaf ∷ leaves) [] = false
+is_served (leaf ∷ leaves) (None ∷ outside) = true
+is_served (leaf ∷ leaves) (Some trouble ∷ outside) = is_served leaves outside
+
+-- what each leaf showed, where none served
+abbrev pub shown : List Leaf → List (Option Trouble) → List LeafSeen
+shown [] outside = []
+shown (leaf ∷ leaves) [] = []
+shown (leaf ∷ leaves) (None ∷ outside) = []
+shown (leaf ∷ leaves) (Some trouble ∷ outside) = record { member = leaf.member; seen = seen_as trouble } ∷ shown leaves outside
+
+-- Where a block is found: in memory, where it was written since the last commit; nowhere, where nothing
+-- was ever committed; else in its copies.
+pub data Source : Type 0 where
+  Memory : (block : List ℕ) → Source
+  Hole : Source
+  Copies : (version : Version) → Source
+
+abbrev pub source_of : Option (List ℕ) → Option Version → Source
+source_of (Some block) committed = Memory block
+source_of None None = Hole
+source_of None (Some version) = Copies version
+
+abbrev pub source_at : PoolState → ℕ → Source
+source_at s a = source_of (s.writes a) (s.committed a)
+
+-- the block itself
+abbrev pub block_from : Source → List ℕ
+block_from (Memory block) = block
+block_from Hole = zero_block
+block_from (Copies version) = version.block
+
+-- the block that a read of this address should give
+abbrev pub wanted : PoolState → ℕ → List ℕ
+wanted s a = block_from (source_at s a)
+
+-- the device calls for it: only copies need some
+abbrev pub asks_from : Source → List Leaf → List (Option Trouble) → List Ask
+asks_from (Memory block) leaves outside = []
+asks_from Hole leaves outside = []
+asks_from (Copies version) leaves outside = asks_to (data_start + version.sector) leaves outside
+
+abbrev pub read_asks : PoolState → ℕ → List (Option Trouble) → List Ask
+read_asks s a outside = if nat_lt a s.blocks then asks_from (source_at s a) s.leaves outside else []
+
+-- a copy that served gives the block, else each leaf is named with what it showed
+abbrev pub copies_give : Bool → ℕ → List ℕ → List LeafSeen → Result (List ℕ) Refusal
+copies_give true a block leaves = Ok block
+copies_give false a block leaves = Err (refusals.Exhausted 0 a leaves)
+
+abbrev pub answer_from : Source → ℕ → List Leaf → List (Option Trouble) → Result (List ℕ) Refusal
+answer_from (Memory block) a leaves outside = Ok block
+answer_from Hole a leaves outside = Ok zero_block
+answer_from (Copies version) a leaves outside = copies_give (is_served leaves outside) a version.block (shown leaves outside)
+
+-- The answer to a read: the block, or why there is none.
+abbrev pub read_answer : PoolState → ℕ → List (Option Trouble) → Result (List ℕ) Refusal
+read_answer s a outside =
+    if nat_lt a s.blocks then answer_from (source_at s a) a s.leaves outside else Err (refusals.BadAddress s.blocks)
+
+-- a call's result and what it left in the buffer, as an answer
+abbrev pub answered : {E : Type 0} → List ℕ → Result (Unit {0}) E → Result (List ℕ) E
+answered out (Ok done) = Ok out
+answered out (Err refusal) = Err refusal

@@ -1,0 +1,6 @@
+pub mod Cuts
+pub mod Numbers
+pub mod Tokens
+pub mod Pairs
+pub mod Forms
+pub mod Texts

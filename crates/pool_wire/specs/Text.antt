@@ -1,0 +1,48 @@
+-- The texts of replies, without the byte 10 that ends each.
+use Rattle.std.specs.Prelude.{ℕ, List, ◌∷◌, ◌++◌, map, decimal, codes}
+use Rattle.mp_base.specs.declared.refusal.Refusal.{Refusal}
+use Rattle.mp_base.specs.declared.refusal.Refusal.TheVariants as refusals
+use Rattle.mp_base.specs.declared.refusal.LeafSeen.{LeafSeen}
+use Rattle.mp_base.specs.declared.refusal.Seen.{Seen}
+use Rattle.mp_base.specs.declared.refusal.Seen.TheVariants.{Unreadable, Failed, Mismatch}
+use Rattle.pool_wire.specs.Words.{block_text, with_commas}
+use Rattle.pool_wire.specs.declared.reply.NamedLeaf.{NamedLeaf}
+use Rattle.pool_wire.specs.declared.reply.Reply.{Reply}
+use Rattle.pool_wire.specs.declared.reply.Reply.TheVariants.{Done, Committed, Data, Refused, Exhausted}
+
+abbrev pub seen_text : Seen → List ℕ
+seen_text Unreadable = codes "unreadable"
+seen_text Failed = codes "failed"
+seen_text Mismatch = codes "mismatch"
+
+-- `NAME=SEEN`
+abbrev pub named_leaf_text : NamedLeaf → List ℕ
+named_leaf_text leaf = leaf.name ++ (codes "=" ++ seen_text leaf.seen)
+
+-- the same where the leaf's name isn't known: its member number
+abbrev pub leaf_text : LeafSeen → List ℕ
+leaf_text leaf = decimal leaf.member.0 ++ (codes "=" ++ seen_text leaf.seen)
+
+-- `no 15 exhausted LEVEL INDEX LEAVES`
+abbrev pub exhausted_text : ℕ → ℕ → List ℕ → List ℕ
+exhausted_text level index leaves =
+    codes "no 15 exhausted " ++ (decimal level ++ (32 ∷ (decimal index ++ (32 ∷ leaves))))
+
+-- `no 16 suspended GROUP TOP FAULTS`
+abbrev pub suspended_text : ℕ → ℕ → ℕ → List ℕ
+suspended_text group top faults =
+    codes "no 16 suspended " ++ (decimal group ++ (32 ∷ (decimal top ++ (32 ∷ decimal faults))))
+
+abbrev pub refusal_text : Refusal → List ℕ
+refusal_text (refusals.BadAddress limit) = codes "no 3 address " ++ decimal limit
+refusal_text (refusals.Exhausted level index leaves) = exhausted_text level index (with_commas (map leaf_text leaves))
+refusal_text (refusals.Suspended group top faults) = suspended_text group.0 top.0 faults
+refusal_text refusals.Memory = codes "no 19 memory"
+refusal_text refusals.NotBuilt = codes "no 40 notbuilt"
+
+abbrev pub text_of : Reply → List ℕ
+text_of Done = codes "ok"
+text_of (Committed group) = codes "ok " ++ decimal group.0
+text_of (Data block) = codes "ok " ++ block_text block
+text_of (Refused refusal) = refusal_text refusal
+text_of (Exhausted level index leaves) = exhausted_text level index (with_commas (map named_leaf_text leaves))

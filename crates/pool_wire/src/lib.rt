@@ -1,0 +1,16 @@
+//! The wire: what a line asks, and the text of a reply (docs/FORMATS.md, "Lines" and "Replies").
+#![tactic(auto)]
+
+mod line;
+mod reply;
+mod request;
+mod text;
+mod words;
+
+pub use line::{asks_one_thing, read_line};
+pub use reply::{NamedLeaf, NamedLeaves, Reply};
+pub use request::{LineFault, Request};
+pub use text::write_reply;
+
+#[cfg(test)]
+mod tests;

@@ -1,0 +1,51 @@
+//! What a line asks.
+ghost use Rattle.std.specs.Prelude.{◌≡◌};
+ghost use Rattle.pool_wire.specs.declared.request.LineFault.TheVariants.{Memory};
+
+use mp_base::{Block, MemFault, Name};
+
+/// What a line asks (docs/FORMATS.md, "Lines").
+#[derive(Drop)]
+pub enum Request {
+    /// An empty line, or one that begins with `#`.
+    Nothing,
+    /// `create POOL BLOCKS mirror DEV DEV`: a pool of that many blocks, on a mirror of two devices.
+    Create {
+        pool: Name,
+        blocks: u64,
+        first: Name,
+        second: Name,
+    },
+    /// `write POOL ADDR DATA`
+    Write {
+        pool: Name,
+        address: u64,
+        block: Block,
+    },
+    /// `read POOL ADDR`
+    Read {
+        pool: Name,
+        address: u64,
+    },
+    /// `sync POOL`
+    Sync {
+        pool: Name,
+    },
+}
+
+/// Why a line asks nothing that could be read.
+#[derive(Clone, Copy, Debug, PartialEq, Eq)]
+pub enum LineFault {
+    /// The line has none of the forms that are built.
+    Bad,
+    /// There was no memory for what it asks.
+    Memory,
+}
+
+impl From<MemFault> for LineFault {
+    ghost from_gives = { λ _ fault. fault ≡ Memory };
+
+    fn from(_: MemFault) -> LineFault {
+        LineFault::Memory
+    }
+}

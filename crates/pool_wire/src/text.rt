@@ -1,0 +1,169 @@
+//! The texts of replies.
+ghost use Rattle.std.specs.Prelude.{◌≡◌, ℕ, ◌<◌, true, false, [], ◌∷◌, ◌++◌, map, decimal, codes, length, slice_index, IfOk, OnOk, IfNone, IfSome, if◌then◌else◌, ◌==◌};
+ghost use Rattle.std.specs.List.{list_all};
+ghost use Rattle.pool_wire.specs.Text.{exhausted_text, leaf_text, named_leaf_text, refusal_text, seen_text, suspended_text, text_of};
+ghost use Rattle.pool_wire.specs.Words.{block_text, digits_text, is_zero, trimmed, with_commas};
+
+use crate::{NamedLeaf, Reply};
+use mp_base::{Block, Group, Guid, LeafSeen, MemFault, Refusal, Seen};
+use std::alloc::Global;
+
+/// The text of the reply, without the byte 10 that ends it (docs/FORMATS.md, "Replies").
+pub fn write_reply(alloc: Global, reply: &Reply) -> Result<Vec<u8>, MemFault>
+    ensures { IfOk result (λ bytes. bytes.items ≡ text_of reply.now) }
+{
+    match reply {
+        Reply::Done => Ok(Vec::from_slice(alloc, b"ok")?),
+        Reply::Committed(group) => write_committed(alloc, *group),
+        Reply::Data(block) => write_block(alloc, block),
+        Reply::Refused(refusal) => write_refusal(alloc, refusal),
+        Reply::Exhausted {
+            level,
+            index,
+            leaves,
+        } => {
+            let leaves = write_named_leaves(alloc, leaves.as_slice())?;
+            write_exhausted(alloc, *level, *index, &leaves)
+        }
+    }
+}
+
+fn write_committed(alloc: Global, group: Group) -> Result<Vec<u8>, MemFault>
+    ensures { IfOk result (λ bytes. bytes.items ≡ codes "ok " ++ decimal group.0) }
+{
+    let number = group.0;
+    Ok(format!(in alloc; "ok {number}")?.into_bytes())
+}
+
+/// The block in hexadecimal digits without the zero bytes at its end, `-` where it has none but zeros.
+fn write_block(alloc: Global, block: &Block) -> Result<Vec<u8>, MemFault>
+    ensures { IfOk result (λ bytes. bytes.items ≡ codes "ok " ++ block_text block.now) }
+{
+    write_digits(alloc, trimmed(block.as_bytes()))
+}
+
+fn write_digits(alloc: Global, bytes: &[u8]) -> Result<Vec<u8>, MemFault>
+    ensures { IfOk result (λ text. text.items ≡ codes "ok " ++ digits_text bytes.now) }
+{
+    if bytes.is_empty() {
+        return Ok(Vec::from_slice(alloc, b"ok -")?);
+    }
+    let digits = hex::encode(alloc, bytes)?;
+    Ok(format!(in alloc; "ok {digits}")?.into_bytes())
+}
+
+/// The bytes without the zeros at their end.
+fn trimmed(bytes: &[u8]) -> &[u8]
+    ensures { result.now ≡ trimmed bytes.now }
+{
+    match last_byte(bytes) {
+        Some(last) => &bytes[..last + 1],
+        None => &bytes[..0],
+    }
+}
+
+/// The place of the last byte that isn't 0.
+fn last_byte(bytes: &[u8]) -> Option<usize>
+    ensures none { IfNone result ((k : ℕ) → k < length bytes.now → is_zero (slice_index bytes.now k) ≡ true) }
+    ensures within { IfSome result (λ at. at < length bytes.now) }
+    ensures some { IfSome result (λ at. is_zero (slice_index bytes.now at) ≡ false) }
+    ensures behind { IfSome result (λ at. (k : ℕ) → at < k → k < length bytes.now → is_zero (slice_index bytes.now k) ≡ true) }
+{
+    bytes.iter().rposition(|b| *b != 0)
+}
+
+fn write_refusal(alloc: Global, refusal: &Refusal) -> Result<Vec<u8>, MemFault>
+    ensures { IfOk result (λ bytes. bytes.items ≡ refusal_text refusal.now) }
+{
+    match refusal {
+        Refusal::BadAddress { limit } => Ok(format!(in alloc;
+            "no 3 address {limit}"
+        )?.into_bytes()),
+        Refusal::Exhausted {
+            level,
+            index,
+            leaves,
+        } => {
+            let leaves = write_leaves(alloc, leaves.as_slice())?;
+            write_exhausted(alloc, *level, *index, &leaves)
+        }
+        Refusal::Suspended { group, top, faults } => write_suspended(alloc, *group, *top, *faults),
+        Refusal::Memory => Ok(Vec::from_slice(alloc, b"no 19 memory")?),
+        Refusal::NotBuilt => Ok(Vec::from_slice(alloc, b"no 40 notbuilt")?),
+    }
+}
+
+fn write_suspended(alloc: Global, group: Group, top: Guid, faults: u64) -> Result<Vec<u8>, MemFault>
+    ensures { IfOk result (λ bytes. bytes.items ≡ suspended_text group.0 top.0 faults) }
+{
+    let group = group.0;
+    let top = top.0;
+    Ok(format!(in alloc; "no 16 suspended {group} {top} {faults}")?.into_bytes())
+}
+
+fn write_exhausted(
+    alloc: Global,
+    level: u32,
+    index: u64,
+    leaves: &[u8],
+) -> Result<Vec<u8>, MemFault>
+    ensures { IfOk result (λ bytes. bytes.items ≡ exhausted_text level index leaves.now) }
+{
+    let mut text = format!(in alloc; "no 15 exhausted {level} {index} ")?.into_bytes();
+    text.extend_from_slice(leaves)?;
+    Ok(text)
+}
+
+fn write_named_leaves(alloc: Global, leaves: &[NamedLeaf]) -> Result<Vec<u8>, MemFault>
+    ensures { IfOk result (λ bytes. bytes.items ≡ with_commas (map named_leaf_text leaves.now)) }
+{
+    let mut text = Vec::new(alloc);
+    for (at, leaf) in leaves.iter().enumerate() {
+        push_comma(&mut text, at)?;
+        push_leaf(&mut text, leaf.name.as_bytes(), leaf.seen)?;
+    }
+    Ok(text)
+}
+
+/// The leaves by their member numbers.
+fn write_leaves(alloc: Global, leaves: &[LeafSeen]) -> Result<Vec<u8>, MemFault>
+    ensures { IfOk result (λ bytes. bytes.items ≡ with_commas (map leaf_text leaves.now)) }
+{
+    let mut text = Vec::new(alloc);
+    for (at, leaf) in leaves.iter().enumerate() {
+        push_comma(&mut text, at)?;
+        let member = leaf.member.0;
+        let name = format!(in alloc; "{member}")?;
+        push_leaf(&mut text, name.as_bytes(), leaf.seen)?;
+    }
+    Ok(text)
+}
+
+/// Puts a comma before the leaf at this place, unless it is the first.
+fn push_comma(text: &mut Vec<u8>, at: usize) -> Result<(), MemFault>
+    ensures { OnOk result (text.new.items ≡ (if at == 0 then text.old.items else text.old.items ++ 44 ∷ [])) }
+{
+    if at > 0 {
+        text.push(b',')?;
+    }
+    Ok(())
+}
+
+fn push_leaf(text: &mut Vec<u8>, name: &[u8], seen: Seen) -> Result<(), MemFault>
+    ensures { OnOk result (text.new.items ≡ text.old.items ++ (name.now ++ (codes "=" ++ seen_text seen))) }
+{
+    text.extend_from_slice(name)?;
+    text.push(b'=')?;
+    text.extend_from_slice(seen_word(seen))?;
+    Ok(())
+}
+
+fn seen_word(seen: Seen) -> &'static [u8]
+    ensures { result.now ≡ seen_text seen }
+{
+    match seen {
+        Seen::Unreadable => b"unreadable",
+        Seen::Failed => b"failed",
+        Seen::Mismatch => b"mismatch",
+    }
+}
