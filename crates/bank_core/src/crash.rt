@@ -44,6 +44,7 @@ impl MemBank {
     ) -> Result<MemBank, MemFault>
         requires { moment ≤ bank_calls self.now }
         ensures names { IfOk result (λ bank. bank_names bank ≡ bank_names self.now) }
+        ensures numbers { IfOk result (λ bank. (name : List ℕ) → bank_number bank name ≡ bank_number self.now name) }
         ensures sizes { IfOk result (λ bank. (d : ℕ) → bank_size bank d ≡ bank_size self.now d) }
         ensures calls { IfOk result (λ bank. bank_calls bank ≡ 0) }
         ensures told { IfOk result (λ bank. (story : Story) → bank_told self.now ≡ Some story

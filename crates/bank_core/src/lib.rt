@@ -11,6 +11,8 @@ mod moment;
 mod noting;
 mod piece;
 mod plan;
+#[cfg(test)]
+mod tests;
 mod view;
 
 pub use bank::{Bank, Fault, FindFault, SECTOR_BYTES};

@@ -36,7 +36,7 @@ pub struct MemBank {
 }
 
 impl MemBank {
-    ghost use Rattle.bank_core.specs.MemBank.{bank_size, bank_names, bank_devices, bank_calls, bank_told, bank_faults, IsUnchanged, IsAdded};
+    ghost use Rattle.bank_core.specs.MemBank.{bank_size, bank_names, bank_devices, bank_calls, call_list, bank_told, bank_faults, IsUnchanged, IsAdded};
 
     /// A bank of no devices.
     pub fn new(alloc: Global) -> MemBank
@@ -77,6 +77,21 @@ impl MemBank {
         ensures { result ≡ bank_calls self.now }
     {
         self.calls.len() as u64
+    }
+
+    /// The calls that were made, the oldest first.
+    pub fn calls(&self) -> &[MemCall]
+        ensures { result.now ≡ call_list self.now }
+    {
+        &self.calls
+    }
+
+    /// How often a call on the device of this number failed.
+    pub fn fault_count(&self, dev: u32) -> u64
+        requires { dev < 64 }
+        ensures { result ≡ bank_faults self.now dev }
+    {
+        self.faults[dev as usize]
     }
 
     /// Adds a device of zeros. Devices are added before the first call. A look-up of a name that two

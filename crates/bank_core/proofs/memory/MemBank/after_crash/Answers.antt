@@ -1,6 +1,13 @@
 use Rattle.std.proofs.Common.{rules, ap, ◌∙◌, length, take}
+use Rattle.bank_core.specs.Memory.{names_in}
 use Rattle.bank_core.proofs.Crashing.{same_sizes, is_crashed, left_from}
+use Rattle.bank_core.proofs.Names.{same_numbers}
 use Rattle.bank_core.proofs.memory.MemBank.after_crash.Goals as goal
+
+pub returns-clause-numbers : goal.returns-clause-numbers
+returns-clause-numbers c = λ name.
+    same_numbers c.of.result.devices.items c.args.self.now.devices.items name
+    (ap names_in c.of.ensures.devices ∙ c.in_ok-devices.ensures.names ∙ ap names_in c.deref-2.ensures.value)
 
 pub returns-clause-sizes : goal.returns-clause-sizes
 returns-clause-sizes c =
