@@ -2,6 +2,7 @@ pub mod Added
 pub mod Adding
 pub mod Blocks
 pub mod Composing
+pub mod Crashing
 pub mod Finding
 pub mod Names
 pub mod Parting
