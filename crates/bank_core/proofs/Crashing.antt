@@ -84,15 +84,18 @@ story_is : (tells : Bool) (one story : Story) → cond tells (Some one) None ≡
 story_is true one story e = cc
 story_is false one story e = cc
 
-pub shown_at_moment : (devices : List MemDevice) (calls calls' : List MemCall) (device : MemDevice) (d at k n : ℕ) (bytes : List ℕ) (tells : Bool) (story : Story)
+-- What a buffer shows of each sector behind a front of the calls, it shows of the sectors at that moment.
+pub shown_at_moment : (P : Sector → List ℕ → Type 0) (devices : List MemDevice) (calls calls' : List MemCall) (device : MemDevice)
+    (d at k n : ℕ) (bytes : List ℕ) (tells : Bool) (story : Story)
     → calls' ≡ take k calls → slice_get devices d ≡ Some device → at + n ≤ size_in devices d
-    → ShowsClean (λ i. sector_then device calls' [] d (at + i)) n bytes
+    → ((i : ℕ) → i < n → P (sector_then device calls' [] d (at + i)) (sector_of i bytes))
     → cond tells (Some (story_in devices calls)) None ≡ Some story
-    → ShowsClean (λ i. at_moment story k d (at + i)) n bytes
-shown_at_moment devices calls calls' device d at k n bytes tells story front is inside shows told =
+    → (i : ℕ) → i < n → P (at_moment story k d (at + i)) (sector_of i bytes)
+shown_at_moment P devices calls calls' device d at k n bytes tells story front is inside shows told =
     let most : at + n ≤ device.sectors = subst (λ o. at + n ≤ sectors_of o) is inside in
-    subst (λ s. ShowsClean (λ i. at_moment s k d (at + i)) n bytes) (story_is tells (story_in devices calls) story told)
-    (λ i lt. rw (moment_inside devices calls device d (at + i) k is (omega arith)) (subst (λ list. ShowsClean (λ j. sector_then device list [] d (at + j)) n bytes) front shows i lt))
+    subst (λ s. (i : ℕ) → i < n → P (at_moment s k d (at + i)) (sector_of i bytes)) (story_is tells (story_in devices calls) story told)
+    (λ i lt. subst (λ x. P x (sector_of i bytes)) (sym (moment_inside devices calls device d (at + i) k is (omega arith)))
+    (subst (λ list. P (sector_then device list [] d (at + i)) (sector_of i bytes)) front (shows i lt)))
 
 -- Beyond the end of its device a sector never changes, since each call lies inside.
 misses_if : (t : Bool) (dev d at n s : ℕ) → (dev == d) ≡ t → (dev ≡ d → at + n ≤ s) → ((dev == d) && covers at n s) ≡ false

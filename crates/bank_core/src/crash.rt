@@ -4,6 +4,7 @@ ghost use Rattle.bank_core.specs.Disk.{sectors_in, sector_size};
 ghost use Rattle.bank_core.specs.MemBank.{bank_size, bank_names, bank_number, bank_calls, bank_told};
 ghost use Rattle.bank_core.specs.Memory.{sector_then, is_damaged, names_in, size_in, IsLeft, AreLeft};
 ghost use Rattle.bank_core.specs.Story.{at_moment, Story, IsCrashed};
+ghost use Rattle.bank_core.specs.Image.{ShowsChosen};
 ghost use Rattle.bank_core.specs.View.{ShowsClean};
 
 use crate::bank::SECTOR_BYTES;
@@ -22,8 +23,10 @@ impl MemBank {
         requires past { moment ≤ bank_calls self.now }
         requires device { 0 < bank_size self.now dev }
         requires inside { at + sectors_in out.old ≤ bank_size self.now dev }
-        ensures { (story : Story) → bank_told self.now ≡ Some story
+        ensures clean { (story : Story) → bank_told self.now ≡ Some story
             → ShowsClean (λ i. at_moment story moment dev (at + i)) (sectors_in out.new) out.new }
+        ensures chosen { (story : Story) → bank_told self.now ≡ Some story
+            → ShowsChosen choice (λ i. at_moment story moment dev (at + i)) (sectors_in out.new) out.new }
     {
         let moment = Moment {
             device: &self.devices[dev as usize],
