@@ -1,17 +1,8 @@
 -- What a buffer shows by choice.
-use Rattle.std.proofs.Common.{◌≡◌, ◌≢◌, ℕ, ◌+◌, List, arith, sym, ap, ◌∙◌, subst, below_more}
+use Rattle.std.proofs.Common.{◌≡◌, ◌≢◌, ℕ, ◌+◌, List, arith, sym, subst, below_more}
 use Rattle.bank_core.specs.declared.moment.ImageChoice.{ImageChoice}
-use Rattle.bank_core.specs.declared.moment.ImageChoice.TheVariants as choice
-use Rattle.bank_core.specs.Disk.{Sector, IsClean, sector_of}
-use Rattle.bank_core.specs.Image.{IsChosen, ShowsChosen, last_bytes}
-
--- what stands at a clean sector is what each choice names
-pub clean_chosen : (how : ImageChoice) (x : Sector) (bytes : List ℕ) → IsClean x → bytes ≡ x.stable → IsChosen how x bytes
-clean_chosen choice.Old x bytes clean e = e
-clean_chosen choice.New x bytes clean e = e ∙ sym (ap (λ pending. last_bytes pending x.stable) clean.still)
-clean_chosen choice.Zeros x bytes clean e = λ no. absurd (no clean)
-clean_chosen (choice.Noise seed) x bytes clean e = tt
-clean_chosen (choice.Mixed seed) x bytes clean e = tt
+use Rattle.bank_core.specs.Disk.{Sector, sector_of}
+use Rattle.bank_core.specs.Image.{IsChosen, ShowsChosen}
 
 -- one more sector is shown
 pub chosen_more : (how : ImageChoice) (sectors : ℕ → Sector) (old new : List ℕ) (i : ℕ) → ShowsChosen how sectors i old

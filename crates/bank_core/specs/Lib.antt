@@ -3,6 +3,7 @@ pub mod Asks
 pub mod Calls
 pub mod Disk
 pub mod Image
+pub mod Left
 pub mod MemBank
 pub mod Memory
 pub mod Parts
