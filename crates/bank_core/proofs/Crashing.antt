@@ -12,12 +12,16 @@ use Rattle.bank_core.specs.declared.call.CallKind.TheVariants as kind
 use Rattle.bank_core.specs.declared.call.Damage.{Damage}
 use Rattle.bank_core.specs.declared.call.MemCall.{MemCall}
 use Rattle.bank_core.specs.declared.device.MemDevice.{MemDevice}
+use Rattle.bank_core.specs.declared.moment.ImageChoice.{ImageChoice}
 use Rattle.bank_core.specs.declared.view.View.{View}
 use Rattle.bank_core.specs.Disk.{Sector, sector_size, Nothing, IsClean, after_call, after_flush, covers, effect, hurt, replay, sectors_in, sector_of}
-use Rattle.bank_core.specs.Memory.{AreLeft, IsLeft, call_as, call_of, first_sector, is_damaged, is_inside, noted_alone, noted_in, sector_then, sectors_of, size_in, story_in, zero_sector, image_sector, clean_sector, names_in}
+use Rattle.bank_core.specs.Image.{IsChosen, ShowsChosen}
+use Rattle.bank_core.specs.Left.{AreLeft, IsLeft}
+use Rattle.bank_core.specs.Memory.{call_as, call_of, first_sector, is_damaged, is_inside, noted_alone, noted_in, sector_then, sectors_of, size_in, story_in, zero_sector, image_sector, clean_sector, names_in}
 use Rattle.bank_core.specs.Story.{Story, IsCrashed, at_moment}
 use Rattle.bank_core.specs.View.{ShowsClean, view_of}
 use Rattle.bank_core.proofs.Adding.{get_front, get_last}
+use Rattle.bank_core.proofs.Names.{has_place}
 use Rattle.bank_core.proofs.Finding.{replay_inside, is_lower}
 
 -- one more sector, damaged or not
@@ -84,15 +88,18 @@ story_is : (tells : Bool) (one story : Story) → cond tells (Some one) None ≡
 story_is true one story e = cc
 story_is false one story e = cc
 
-pub shown_at_moment : (devices : List MemDevice) (calls calls' : List MemCall) (device : MemDevice) (d at k n : ℕ) (bytes : List ℕ) (tells : Bool) (story : Story)
+-- What a buffer shows of each sector behind a front of the calls, it shows of the sectors at that moment.
+pub shown_at_moment : (P : Sector → List ℕ → Type 0) (devices : List MemDevice) (calls calls' : List MemCall) (device : MemDevice)
+    (d at k n : ℕ) (bytes : List ℕ) (tells : Bool) (story : Story)
     → calls' ≡ take k calls → slice_get devices d ≡ Some device → at + n ≤ size_in devices d
-    → ShowsClean (λ i. sector_then device calls' [] d (at + i)) n bytes
+    → ((i : ℕ) → i < n → P (sector_then device calls' [] d (at + i)) (sector_of i bytes))
     → cond tells (Some (story_in devices calls)) None ≡ Some story
-    → ShowsClean (λ i. at_moment story k d (at + i)) n bytes
-shown_at_moment devices calls calls' device d at k n bytes tells story front is inside shows told =
+    → (i : ℕ) → i < n → P (at_moment story k d (at + i)) (sector_of i bytes)
+shown_at_moment P devices calls calls' device d at k n bytes tells story front is inside shows told =
     let most : at + n ≤ device.sectors = subst (λ o. at + n ≤ sectors_of o) is inside in
-    subst (λ s. ShowsClean (λ i. at_moment s k d (at + i)) n bytes) (story_is tells (story_in devices calls) story told)
-    (λ i lt. rw (moment_inside devices calls device d (at + i) k is (omega arith)) (subst (λ list. ShowsClean (λ j. sector_then device list [] d (at + j)) n bytes) front shows i lt))
+    subst (λ s. (i : ℕ) → i < n → P (at_moment s k d (at + i)) (sector_of i bytes)) (story_is tells (story_in devices calls) story told)
+    (λ i lt. subst (λ x. P x (sector_of i bytes)) (sym (moment_inside devices calls device d (at + i) k is (omega arith)))
+    (subst (λ list. P (sector_then device list [] d (at + i)) (sector_of i bytes)) front (shows i lt)))
 
 -- Beyond the end of its device a sector never changes, since each call lies inside.
 misses_if : (t : Bool) (dev d at n s : ℕ) → (dev == d) ≡ t → (dev ≡ d → at + n ≤ s) → ((dev == d) && covers at n s) ≡ false
@@ -184,11 +191,11 @@ image_within sectors first damages d s low filled =
     ∙ ap (λ t. record { stable = cond t (sector_of s first) zero_sector; pending = Nothing; damaged = is_damaged damages d s })
     (is_lower s (sectors_in first) filled)
 
-left_within : (devices : List MemDevice) (calls : List MemCall) (k d s : ℕ) (device x : MemDevice)
-    → slice_get devices d ≡ Some device → IsLeft (sector_then device (take k calls) [] d) d device.sectors x → s < device.sectors
+left_within : (how : ImageChoice) (devices : List MemDevice) (calls : List MemCall) (k d s : ℕ) (device x : MemDevice)
+    → slice_get devices d ≡ Some device → IsLeft how (sector_then device (take k calls) [] d) d device.sectors x → s < device.sectors
     → Agrees (first_sector (Some x) d s) (at_moment (story_in devices calls) k d s)
 unfolding Agrees
-left_within devices calls k d s device x is left lt =
+left_within how devices calls k d s device x is left lt =
     let low : s < x.sectors = subst (λ n. s < n) (sym left.size) lt in
     let filled : s < sectors_in x.first.items = subst (λ n. s < n) (sym left.filled) lt in
     agrees_by _ _ _ _ (image_within x.sectors x.first.items x.damage.items d s low filled) (moment_inside devices calls device d s k is lt)
@@ -210,22 +217,22 @@ left_none_there devices calls left k d s inside is none =
     let end : size_in devices d ≤ s = subst (λ o. sectors_of o ≤ s) (sym is) (omega arith) in
     alike_agree _ _ (ap (λ o. first_sector o d s) none ∙ sym (moment_beyond devices calls k d s inside end ∙ ap (λ o. first_sector o d s) is))
 
-left_there : (devices : List MemDevice) (calls : List MemCall) (k d s : ℕ) (device x : MemDevice)
-    → list_all (is_inside (size_in devices)) calls ≡ true → slice_get devices d ≡ Some device → IsLeft (sector_then device (take k calls) [] d) d device.sectors x
+left_there : (how : ImageChoice) (devices : List MemDevice) (calls : List MemCall) (k d s : ℕ) (device x : MemDevice)
+    → list_all (is_inside (size_in devices)) calls ≡ true → slice_get devices d ≡ Some device → IsLeft how (sector_then device (take k calls) [] d) d device.sectors x
     → Agrees (first_sector (Some x) d s) (at_moment (story_in devices calls) k d s)
-left_there devices calls k d s device x inside is left =
+left_there how devices calls k d s device x inside is left =
     ⊎_elim {A = s < device.sectors} {B = device.sectors ≤ s}
-    (left_within devices calls k d s device x is left)
+    (left_within how devices calls k d s device x is left)
     (left_beyond devices calls k d s device x inside is left.size)
     (cases_lt s device.sectors)
 
-left_agrees : (devices : List MemDevice) (calls : List MemCall) (left : List MemDevice) (k : ℕ)
-    → list_all (is_inside (size_in devices)) calls ≡ true → length left ≡ length devices → AreLeft devices (take k calls) left (length devices)
+left_agrees : (how : ImageChoice) (devices : List MemDevice) (calls : List MemCall) (left : List MemDevice) (k : ℕ)
+    → list_all (is_inside (size_in devices)) calls ≡ true → length left ≡ length devices → AreLeft how devices (take k calls) left (length devices)
     → (d s : ℕ) → Agrees (first_sector (slice_get left d) d s) (at_moment (story_in devices calls) k d s)
-left_agrees devices calls left k inside count are d s =
+left_agrees how devices calls left k inside count are d s =
     ⊎_elim {A = d < length devices} {B = length devices ≤ d}
     (λ lt. let found = are d lt in
-    agrees_by _ _ _ _ (ap (λ o. first_sector o d s) found.3) refl (left_there devices calls k d s found.0 found.1 inside found.2 found.4))
+    agrees_by _ _ _ _ (ap (λ o. first_sector o d s) found.3) refl (left_there how devices calls k d s found.0 found.1 inside found.2 found.4))
     (λ past. left_none_there devices calls left k d s inside (slice_get_past devices d past) (slice_get_past left d (subst (λ n. n ≤ d) (sym count) past)))
     (cases_lt d (length devices))
 
@@ -246,31 +253,31 @@ begins_again devices calls left k agrees = record {
 }
 
 -- The bank of what is left tells a story that goes on from the crash.
-pub is_crashed : (devices : List MemDevice) (calls : List MemCall) (left : List MemDevice) (k : ℕ) (tells : Bool) (story : Story) (new : Option Story)
-    → list_all (is_inside (size_in devices)) calls ≡ true → length left ≡ length devices → AreLeft devices (take k calls) left (length devices)
+pub is_crashed : (how : ImageChoice) (devices : List MemDevice) (calls : List MemCall) (left : List MemDevice) (k : ℕ) (tells : Bool) (story : Story) (new : Option Story)
+    → list_all (is_inside (size_in devices)) calls ≡ true → length left ≡ length devices → AreLeft how devices (take k calls) left (length devices)
     → new ≡ Some (story_in left []) → cond tells (Some (story_in devices calls)) None ≡ Some story → IsCrashed story k new
-is_crashed devices calls left k tells story new inside count are e told =
+is_crashed how devices calls left k tells story new inside count are e told =
     rw e (subst (λ s. IsCrashed s k (Some (story_in left []))) (story_is tells (story_in devices calls) story told)
-    (begins_again devices calls left k (left_agrees devices calls left k inside count are)))
+    (begins_again devices calls left k (left_agrees how devices calls left k inside count are)))
 
-pub same_sizes : (devices : List MemDevice) (calls : List MemCall) (left : List MemDevice)
-    → length left ≡ length devices → AreLeft devices calls left (length devices) → (d : ℕ) → size_in left d ≡ size_in devices d
-same_sizes devices calls left count are d =
+pub same_sizes : (how : ImageChoice) (devices : List MemDevice) (calls : List MemCall) (left : List MemDevice)
+    → length left ≡ length devices → AreLeft how devices calls left (length devices) → (d : ℕ) → size_in left d ≡ size_in devices d
+same_sizes how devices calls left count are d =
     ⊎_elim {A = d < length devices} {B = length devices ≤ d}
     (λ lt. let found = are d lt in ap sectors_of found.3 ∙ found.4.size ∙ sym (ap sectors_of found.2))
     (λ past. ap sectors_of (slice_get_past left d (subst (λ n. n ≤ d) (sym count) past)) ∙ sym (ap sectors_of (slice_get_past devices d past)))
     (cases_lt d (length devices))
 
 -- One more device is left.
-pub left_none : (devices : List MemDevice) (calls : List MemCall) (left : List MemDevice) → AreLeft devices calls left 0
-left_none devices calls left = λ k lt. absurd (omega arith)
+pub left_none : (how : ImageChoice) (devices : List MemDevice) (calls : List MemCall) (left : List MemDevice) → AreLeft how devices calls left 0
+left_none how devices calls left = λ k lt. absurd (omega arith)
 
-pub left_more : (devices : List MemDevice) (calls : List MemCall) (left left' : List MemDevice) (device x : MemDevice) (i : ℕ)
+pub left_more : (how : ImageChoice) (devices : List MemDevice) (calls : List MemCall) (left left' : List MemDevice) (device x : MemDevice) (i : ℕ)
     → left' ≡ left ++ x ∷ [] → length left ≡ i → slice_get devices i ≡ Some device
-    → AreLeft devices calls left i → IsLeft (sector_then device calls [] i) i device.sectors x → AreLeft devices calls left' (i + 1)
-left_more devices calls left left' device x i grown count is before one =
+    → AreLeft how devices calls left i → IsLeft how (sector_then device calls [] i) i device.sectors x → AreLeft how devices calls left' (i + 1)
+left_more how devices calls left left' device x i grown count is before one =
     below_more (λ k. (device : MemDevice) × (y : MemDevice) × (slice_get devices k ≡ Some device) × (slice_get left' k ≡ Some y)
-    × IsLeft (sector_then device calls [] k) k device.sectors y) i
+    × IsLeft how (sector_then device calls [] k) k device.sectors y) i
     (λ k lt. let found = before k lt in
     (found.0, found.1, found.2, ap (λ list. slice_get list k) grown ∙ get_front left x k (subst (λ n. k < n) (sym count) lt) ∙ found.3, found.4))
     (device, x, is, ap (λ list. slice_get list i) grown ∙ subst (λ n. slice_get (left ++ x ∷ []) n ≡ Some x) count (get_last left x), one)
@@ -295,16 +302,49 @@ image_is at n m bytes e shows s lt clean =
     let same : 0 + s ≡ s = omega arith in
     subst (λ j. sector_of s bytes ≡ (at j).stable) same (shows s (subst (λ k. s < k) (sym e) lt) (subst (λ j. IsClean (at j)) (sym same) clean))
 
-pub bytes_left : (at : ℕ → Sector) (m len : ℕ) (out rest : List ℕ) → length out ≡ m * 4096 → len ≡ m * 4096
-    → ShowsClean (λ i. at (0 + i)) (sectors_in out) out
-    → (sectors_in (take len (out ++ rest)) ≡ m) × ((s : ℕ) → s < m → IsClean (at s) → sector_of s (take len (out ++ rest)) ≡ (at s).stable)
-bytes_left at m len out rest long n shows =
-    let whole : take len (out ++ rest) ≡ out = take_at out rest len (long ∙ sym n) in
-    (ap sectors_in whole ∙ filled_is out m long, λ s lt clean. ap (sector_of s) whole ∙ image_is at (sectors_in out) m out (filled_is out m long) shows s lt clean)
+chosen_is : (how : ImageChoice) (at : ℕ → Sector) (n m : ℕ) (bytes : List ℕ) → n ≡ m → ShowsChosen how (λ i. at (0 + i)) n bytes
+    → (s : ℕ) → s < m → IsChosen how (at s) (sector_of s bytes)
+chosen_is how at n m bytes e shows s lt =
+    let same : 0 + s ≡ s = omega arith in
+    subst (λ j. IsChosen how (at j) (sector_of s bytes)) same (shows s (subst (λ k. s < k) (sym e) lt))
 
-pub left_from : (devices devices' : List MemDevice) (calls calls' : List MemCall) (left left' : List MemDevice) (k : ℕ)
+pub bytes_left : (how : ImageChoice) (at : ℕ → Sector) (m len : ℕ) (out rest : List ℕ) → length out ≡ m * 4096 → len ≡ m * 4096
+    → ShowsClean (λ i. at (0 + i)) (sectors_in out) out → ShowsChosen how (λ i. at (0 + i)) (sectors_in out) out
+    → (sectors_in (take len (out ++ rest)) ≡ m) × ((s : ℕ) → s < m → IsClean (at s) → sector_of s (take len (out ++ rest)) ≡ (at s).stable)
+    × ((s : ℕ) → s < m → IsChosen how (at s) (sector_of s (take len (out ++ rest))))
+bytes_left how at m len out rest long n shows chosen =
+    let whole : take len (out ++ rest) ≡ out = take_at out rest len (long ∙ sym n) in (
+      ap sectors_in whole ∙ filled_is out m long,
+      λ s lt clean. ap (sector_of s) whole ∙ image_is at (sectors_in out) m out (filled_is out m long) shows s lt clean,
+      λ s lt. subst (λ bytes. IsChosen how (at s) (sector_of s bytes)) (sym whole) (chosen_is how at (sectors_in out) m out (filled_is out m long) chosen s lt),
+    )
+
+pub left_from : (how : ImageChoice) (devices devices' : List MemDevice) (calls calls' : List MemCall) (left left' : List MemDevice) (k : ℕ)
     → devices' ≡ devices → calls' ≡ calls → left' ≡ left
-    → AreLeft devices' (take k calls') left (length devices') → AreLeft devices (take k calls) left' (length devices)
-left_from devices devices' calls calls' left left' k d c l are =
-    subst (λ ds. AreLeft ds (take k calls) left' (length ds)) d
-    (subst (λ cs. AreLeft devices' (take k cs) left' (length devices')) c (subst (λ x. AreLeft devices' (take k calls') x (length devices')) (sym l) are))
+    → AreLeft how devices' (take k calls') left (length devices') → AreLeft how devices (take k calls) left' (length devices)
+left_from how devices devices' calls calls' left left' k d c l are =
+    subst (λ ds. AreLeft how ds (take k calls) left' (length ds)) d
+    (subst (λ cs. AreLeft how devices' (take k cs) left' (length devices')) c (subst (λ x. AreLeft how devices' (take k calls') x (length devices')) (sym l) are))
+
+-- What is stable on a device that is used again is what the choice names.
+chosen_there : (how : ImageChoice) (devices : List MemDevice) (calls : List MemCall) (k d s : ℕ) (device x : MemDevice)
+    → slice_get devices d ≡ Some device → IsLeft how (sector_then device (take k calls) [] d) d device.sectors x → s < device.sectors
+    → IsChosen how (at_moment (story_in devices calls) k d s) (first_sector (Some x) d s).stable
+chosen_there how devices calls k d s device x is left lt =
+    let low : s < x.sectors = subst (λ n. s < n) (sym left.size) lt in
+    let filled : s < sectors_in x.first.items = subst (λ n. s < n) (sym left.filled) lt in
+    subst (λ then. IsChosen how then (first_sector (Some x) d s).stable) (sym (moment_inside devices calls device d s k is lt))
+    (subst (λ now. IsChosen how (sector_then device (take k calls) [] d s) now.stable)
+    (sym (image_within x.sectors x.first.items x.damage.items d s low filled)) (left.chosen s lt))
+
+pub is_chosen : (how : ImageChoice) (devices : List MemDevice) (calls : List MemCall) (left : List MemDevice) (k : ℕ) (tells : Bool) (story begun : Story) (new : Option Story)
+    → AreLeft how devices (take k calls) left (length devices) → new ≡ Some (story_in left [])
+    → cond tells (Some (story_in devices calls)) None ≡ Some story → new ≡ Some begun
+    → (d s : ℕ) → s < size_in devices d → IsChosen how (at_moment story k d s) (begun.start d s).stable
+is_chosen how devices calls left k tells story begun new are e told told' d s lt =
+    let found = are d (has_place devices d (omega arith)) in
+    let low : s < found.0.sectors = subst (λ o. s < sectors_of o) found.2 lt in
+    subst (λ first. IsChosen how (at_moment story k d s) (first.start d s).stable) (story_is true (story_in left []) begun (sym e ∙ told'))
+    (subst (λ then. IsChosen how (at_moment then k d s) (first_sector (slice_get left d) d s).stable) (story_is tells (story_in devices calls) story told)
+    (subst (λ o. IsChosen how (at_moment (story_in devices calls) k d s) (first_sector o d s).stable) (sym found.3)
+    (chosen_there how devices calls k d s found.0 found.1 found.2 found.4 low)))

@@ -1,6 +1,7 @@
 pub mod Added
 pub mod Adding
 pub mod Blocks
+pub mod Choosing
 pub mod Composing
 pub mod Crashing
 pub mod Finding

@@ -1,5 +1,5 @@
 -- What the bank in memory holds and tells: its devices' first sectors, and its list of calls.
-use Rattle.std.specs.Prelude.{◌≡◌, ◌<◌, ℕ, ◌+◌, ◌-◌, Bool, false, cond, ◌==◌, ◌&&◌, nat_le, nat_lt, List, map, Option, Some, None, position, slice_get, replicate, is_none, []}
+use Rattle.std.specs.Prelude.{ℕ, ◌+◌, ◌-◌, Bool, false, cond, ◌==◌, ◌&&◌, nat_le, nat_lt, List, map, Option, Some, None, position, slice_get, replicate, is_none}
 use Rattle.std.specs.List.{list_any}
 use Rattle.std.specs.Str.{bytes_eq}
 use Rattle.bank_core.specs.declared.bank.Fault.{Fault}
@@ -8,7 +8,7 @@ use Rattle.bank_core.specs.declared.call.CallKind.TheVariants as kind
 use Rattle.bank_core.specs.declared.call.Damage.{Damage}
 use Rattle.bank_core.specs.declared.call.MemCall.{MemCall}
 use Rattle.bank_core.specs.declared.device.MemDevice.{MemDevice}
-use Rattle.bank_core.specs.Disk.{Sector, Sectors, Call, Read, Write, Flush, Nothing, Noted, sector_size, sectors_in, sector_of, covers, after_write, after_flush, hurt, replay, Answers, IsClean}
+use Rattle.bank_core.specs.Disk.{Sector, Sectors, Call, Read, Write, Flush, Nothing, Noted, sector_size, sectors_in, sector_of, covers, after_write, after_flush, hurt, replay, Answers}
 use Rattle.bank_core.specs.Story.{Story, now}
 
 -- a sector of zeros
@@ -106,17 +106,3 @@ sector_then device calls damages d s =
 -- the sectors with those of another device, under this number
 abbrev pub with_device : Sectors → ℕ → (ℕ → Sector) → Sectors
 with_device sectors number device = λ d s. cond (d == number) (device s) (sectors d s)
-
--- The device as one that is used again after a crash: its bytes are an image of these sectors, and what
--- was damaged still is.
-pub record IsLeft (at : ℕ → Sector) (number sectors : ℕ) (device : MemDevice) : Type 0 where
-  pub size : device.sectors ≡ sectors
-  pub filled : sectors_in device.first.items ≡ sectors
-  pub image : (s : ℕ) → s < sectors → IsClean (at s) → sector_of s device.first.items ≡ (at s).stable
-  pub damaged : (s : ℕ) → s < sectors → is_damaged device.damage.items number s ≡ (at s).damaged
-
--- The first n of these devices are what a crash behind these calls leaves of the others.
-abbrev pub AreLeft : List MemDevice → List MemCall → List MemDevice → ℕ → Type 0
-AreLeft devices calls left n = (k : ℕ) → k < n → (device : MemDevice) × (x : MemDevice)
-    × (slice_get devices k ≡ Some device) × (slice_get left k ≡ Some x)
-    × IsLeft (sector_then device calls [] k) k device.sectors x

@@ -2,8 +2,10 @@
 ghost use Rattle.std.specs.Prelude.{◌≡◌, ℕ, ◌+◌, ◌<◌, ◌≤◌, ◌||◌, ◌&&◌, ◌==◌, List, [], Some, IfOk, OnOk, length, map, take, slice_get};
 ghost use Rattle.bank_core.specs.Disk.{sectors_in, sector_size};
 ghost use Rattle.bank_core.specs.MemBank.{bank_size, bank_names, bank_number, bank_calls, bank_told};
-ghost use Rattle.bank_core.specs.Memory.{sector_then, is_damaged, names_in, size_in, IsLeft, AreLeft};
+ghost use Rattle.bank_core.specs.Memory.{sector_then, is_damaged, names_in, size_in};
 ghost use Rattle.bank_core.specs.Story.{at_moment, Story, IsCrashed};
+ghost use Rattle.bank_core.specs.Image.{IsChosen, ShowsChosen};
+ghost use Rattle.bank_core.specs.Left.{IsLeft, AreLeft};
 ghost use Rattle.bank_core.specs.View.{ShowsClean};
 
 use crate::bank::SECTOR_BYTES;
@@ -22,8 +24,10 @@ impl MemBank {
         requires past { moment ≤ bank_calls self.now }
         requires device { 0 < bank_size self.now dev }
         requires inside { at + sectors_in out.old ≤ bank_size self.now dev }
-        ensures { (story : Story) → bank_told self.now ≡ Some story
+        ensures clean { (story : Story) → bank_told self.now ≡ Some story
             → ShowsClean (λ i. at_moment story moment dev (at + i)) (sectors_in out.new) out.new }
+        ensures chosen { (story : Story) → bank_told self.now ≡ Some story
+            → ShowsChosen choice (λ i. at_moment story moment dev (at + i)) (sectors_in out.new) out.new }
     {
         let moment = Moment {
             device: &self.devices[dev as usize],
@@ -49,6 +53,8 @@ impl MemBank {
         ensures calls { IfOk result (λ bank. bank_calls bank ≡ 0) }
         ensures told { IfOk result (λ bank. (story : Story) → bank_told self.now ≡ Some story
             → IsCrashed story moment (bank_told bank)) }
+        ensures chosen { IfOk result (λ bank. (story begun : Story) → bank_told self.now ≡ Some story → bank_told bank ≡ Some begun
+            → (d s : ℕ) → s < bank_size self.now d → IsChosen choice (at_moment story moment d s) (begun.start d s).stable) }
     {
         let calls = &self.calls[..moment as usize];
         let devices = devices_left(alloc, &self.devices, calls, choice)?;
@@ -66,7 +72,7 @@ fn devices_left(
     requires { length devices.now ≤ 64 }
     ensures names { IfOk result (λ left. names_in left.items ≡ names_in devices.now) }
     ensures count { IfOk result (λ left. length left.items ≡ length devices.now) }
-    ensures left { IfOk result (λ left. AreLeft devices.now calls.now left.items (length devices.now)) }
+    ensures left { IfOk result (λ left. AreLeft choice devices.now calls.now left.items (length devices.now)) }
 {
     let mut left = Vec::new(alloc);
     for (i, device) in devices.iter().enumerate() {
@@ -85,7 +91,7 @@ fn devices_left(
 #[tactic(auto, unfolding(crate::specs::Disk::sector_size))]
 fn device_left(alloc: Global, moment: Moment, choice: ImageChoice) -> Result<MemDevice, MemFault>
     ensures name { IfOk result (λ left. left.name ≡ moment.entry.device.now.name) }
-    ensures left { IfOk result (λ left. IsLeft
+    ensures left { IfOk result (λ left. IsLeft choice
         (sector_then moment.entry.device.now moment.entry.calls.now moment.entry.damage.now moment.entry.dev)
         moment.entry.dev moment.entry.device.now.sectors left) }
 {
