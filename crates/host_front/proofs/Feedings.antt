@@ -124,7 +124,7 @@ lines_on : (waiting first between second rest : List ℕ) (lines : List (List �
 lines_on waiting first between second rest lines ends = ap (λ bytes. lines_of (waiting ++ bytes)) (append_assoc first second rest) ∙ ends.each (second ++ rest)
 
 -- a front of the second text, behind all of the first
-texts_front : (entries more : List Entry) (kept : ℕ) → texts entries ++ take kept (texts more) ≡ take (length (texts entries) + kept) (texts (entries ++ more))
+pub texts_front : (entries more : List Entry) (kept : ℕ) → texts entries ++ take kept (texts more) ≡ take (length (texts entries) + kept) (texts (entries ++ more))
 texts_front entries more kept = sym (ap (take (length (texts entries) + kept)) (sym (texts_more entries more)) ∙ take-append-add (texts entries) (texts more) kept)
 
 module _ (h : HostState) (old mid new : Option Story) (f g k : ℕ → ℕ) (sink sink' sink'' : Option (List ℕ)) (host : Host) (waiting first between second : List ℕ)

@@ -31,6 +31,7 @@ pub(crate) fn handle_line<B: Bank, W: Sink>(
     requires seated { HostIsSeated (B.size bank.old) host.old }
     ensures size { (d : ℕ) → B.size bank.new d ≡ B.size bank.old d }
     ensures numbers { (name : List ℕ) → B.number_of bank.new name ≡ B.number_of bank.old name }
+    ensures lookups { B.lookup_faults bank.new ≡ B.lookup_faults bank.old }
     ensures seated { HostIsSeated (B.size bank.new) host.new }
     ensures handles { OnOk result ((h : HostState) → Stands host.old h → HandlesLine h line.now (B.told bank.old) (B.told bank.new)
         (B.faults bank.old) (B.faults bank.new) (W.contents output.old) (W.contents output.new) host.new) }
@@ -73,6 +74,7 @@ fn take_byte<B: Bank, W: Sink>(
     requires fits { length waiting.old.items ≤ longest }
     ensures size { (d : ℕ) → B.size bank.new d ≡ B.size bank.old d }
     ensures numbers { (name : List ℕ) → B.number_of bank.new name ≡ B.number_of bank.old name }
+    ensures lookups { B.lookup_faults bank.new ≡ B.lookup_faults bank.old }
     ensures seated { HostIsSeated (B.size bank.new) host.new }
     ensures feeds { OnOk result ((h : HostState) → Stands host.old h → Feeds h waiting.old.items (b ∷ []) waiting.new.items (B.told bank.old) (B.told bank.new)
         (B.faults bank.old) (B.faults bank.new) (W.contents output.old) (W.contents output.new) host.new) }
@@ -107,6 +109,7 @@ fn end_line<B: Bank, W: Sink>(
     requires fits { length waiting.old.items ≤ longest }
     ensures size { (d : ℕ) → B.size bank.new d ≡ B.size bank.old d }
     ensures numbers { (name : List ℕ) → B.number_of bank.new name ≡ B.number_of bank.old name }
+    ensures lookups { B.lookup_faults bank.new ≡ B.lookup_faults bank.old }
     ensures seated { HostIsSeated (B.size bank.new) host.new }
     ensures feeds { OnOk result ((h : HostState) → Stands host.old h → Feeds h waiting.old.items (10 ∷ []) waiting.new.items (B.told bank.old) (B.told bank.new)
         (B.faults bank.old) (B.faults bank.new) (W.contents output.old) (W.contents output.new) host.new) }
@@ -138,6 +141,7 @@ pub(crate) fn feed<B: Bank, W: Sink>(
     requires fits { length waiting.old.items ≤ longest }
     ensures size { (d : ℕ) → B.size bank.new d ≡ B.size bank.old d }
     ensures numbers { (name : List ℕ) → B.number_of bank.new name ≡ B.number_of bank.old name }
+    ensures lookups { B.lookup_faults bank.new ≡ B.lookup_faults bank.old }
     ensures seated { HostIsSeated (B.size bank.new) host.new }
     ensures feeds { OnOk result ((h : HostState) → Stands host.old h → Feeds h waiting.old.items piece.now waiting.new.items (B.told bank.old) (B.told bank.new)
         (B.faults bank.old) (B.faults bank.new) (W.contents output.old) (W.contents output.new) host.new) }

@@ -3,16 +3,20 @@
 
 mod create;
 mod device;
+mod entry;
+mod found;
 mod host;
 mod input;
 mod output;
 mod read;
 mod reading;
+mod script;
 mod status;
 mod stop;
 mod sync;
 mod write;
 
 pub use device::HostDevice;
+pub use entry::run;
 pub use host::Host;
 pub use status::Status;

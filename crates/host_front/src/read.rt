@@ -18,6 +18,7 @@ impl Host {
         requires seated { HostIsSeated (B.size bank.old) self.now }
         ensures size { (d : ℕ) → B.size bank.new d ≡ B.size bank.old d }
         ensures numbers { (name : List ℕ) → B.number_of bank.new name ≡ B.number_of bank.old name }
+        ensures lookups { B.lookup_faults bank.new ≡ B.lookup_faults bank.old }
         ensures answers { (h : HostState) → Stands self.now h → Answers h (Some (Read name.now address))
             (B.told bank.old) (B.told bank.new) (B.faults bank.old) (B.faults bank.new) self.now result }
     {

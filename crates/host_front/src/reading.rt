@@ -16,6 +16,7 @@ pub(crate) fn read_from<B: Bank>(alloc: Global, pool: &Pool, bank: &mut B, addre
     requires seated { IsSeated (B.size bank.old) (leaves_of pool.now) }
     ensures size { (d : ℕ) → B.size bank.new d ≡ B.size bank.old d }
     ensures numbers { (name : List ℕ) → B.number_of bank.new name ≡ B.number_of bank.old name }
+    ensures lookups { B.lookup_faults bank.new ≡ B.lookup_faults bank.old }
     ensures replies { (s : PoolState) → Represents pool.now s
         → Replies s address (B.told bank.old) (B.told bank.new) (B.faults bank.old) (B.faults bank.new) result }
 {

@@ -8,6 +8,7 @@ pub loop-b-init : goal.loop-b-init
 loop-b-init g c = record {
   size = search rules;
   numbers = search rules;
+  lookups = search rules;
   seated = c.requires.seated;
   feeds = λ h stands. feeds_none c.args.waiting.now.items c.requires.open_line c.requires.fits stands;
   open_line = c.requires.open_line;
@@ -31,6 +32,7 @@ pub loop-b-preserved : goal.loop-b-preserved
 loop-b-preserved g c = record {
   size = λ d. c.in-Ok.ensures.size d ∙ c.loop-b.invariant.size d;
   numbers = λ name. c.in-Ok.ensures.numbers name ∙ c.loop-b.invariant.numbers name;
+  lookups = c.in-Ok.ensures.lookups ∙ c.loop-b.invariant.lookups;
   seated = c.in-Ok.ensures.seated;
   feeds = λ h stands.
       let a = c.loop-b.invariant.feeds h stands in

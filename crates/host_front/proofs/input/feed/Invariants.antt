@@ -9,6 +9,7 @@ abbrev pub invariant-loop-b : goal.invariant-loop-b
 invariant-loop-b g l = record {
   size : (d : ℕ) → g.B.Bank.size l.bank d ≡ g.B.Bank.size l.initial.bank d;
   numbers : (name : List ℕ) → g.B.Bank.number_of l.bank name ≡ g.B.Bank.number_of l.initial.bank name;
+  lookups : g.B.Bank.lookup_faults l.bank ≡ g.B.Bank.lookup_faults l.initial.bank;
   seated : HostIsSeated (g.B.Bank.size l.bank) l.host;
   feeds : (h : HostState) → Stands l.initial.host h → Feeds h l.initial.waiting.items (take l.b-index l.piece) l.waiting.items
       (g.B.Bank.told l.initial.bank) (g.B.Bank.told l.bank) (g.B.Bank.faults l.initial.bank) (g.B.Bank.faults l.bank)
