@@ -1,5 +1,5 @@
 -- What the bank in memory tells.
-use Rattle.std.specs.Prelude.{◌≡◌, ℕ, ◌<◌, cond, List, [], ◌∷◌, ◌++◌, length, Option, Some, None, slice_index}
+use Rattle.std.specs.Prelude.{◌≡◌, ℕ, ◌+◌, ◌<◌, cond, List, [], ◌∷◌, ◌++◌, length, Option, Some, None, slice_index}
 use Rattle.bank_core.specs.declared.call.MemCall.{MemCall}
 use Rattle.bank_core.specs.declared.memory.MemBank.{MemBank}
 use Rattle.bank_core.specs.Memory.{size_in, number_in, names_in, story_in, with_device}
@@ -42,6 +42,7 @@ pub record IsUnchanged (old new : MemBank) : Type 0 where
 
 -- This device was added behind the others, before the first call. Each name and each number stays.
 pub record IsAdded (old new : MemBank) (name : List ℕ) (sectors : ℕ) (device : ℕ → Sector) : Type 0 where
+  pub devices : bank_devices new ≡ bank_devices old + 1
   pub names : bank_names new ≡ bank_names old ++ name ∷ []
   pub size : bank_size new (bank_devices old) ≡ sectors
   pub sizes : (d : ℕ) → d < bank_devices old → bank_size new d ≡ bank_size old d

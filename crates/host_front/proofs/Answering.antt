@@ -1,11 +1,9 @@
 -- Lines that were answered, against the abstract machine.
-use Rattle.std.proofs.Common.{◌≡◌, ℕ, Bool, true, false, cond, List, [], ◌∷◌, ◌++◌, map, Option, Some, None, Result, Ok, Err, refl, inl, inr, ◌⊎◌, sym, ◌∙◌, ap, subst}
+use Rattle.std.proofs.Common.{◌≡◌, ℕ, true, false, List, [], Option, Some, None, Result, Err, refl, inl, inr, ◌⊎◌, sym, ◌∙◌, ap, subst}
 use Rattle.std.specs.Str.{bytes_eq}
 use Rattle.mp_base.specs.declared.number.Group.{Group}
 use Rattle.mp_base.specs.declared.refusal.Refusal.{Refusal}
 use Rattle.mp_base.specs.declared.refusal.Refusal.TheVariants as refusals
-use Rattle.bank_core.specs.Asks.{asks_of}
-use Rattle.bank_core.specs.Calls.{Made}
 use Rattle.bank_core.specs.Disk.{Noted}
 use Rattle.bank_core.specs.Story.{Story}
 use Rattle.bank_core.proofs.Composing.{made_none}
@@ -15,14 +13,14 @@ use Rattle.pool_wire.specs.declared.request.Request.{Request}
 use Rattle.pool_wire.specs.declared.request.Request.TheVariants as requests
 use Rattle.pool_core.specs.declared.pool.Pool.{Pool}
 use Rattle.pool_core.specs.Clash.{Clash}
-use Rattle.pool_core.specs.Done.{IsRead, Syncs, sync_answer, sync_asks}
+use Rattle.pool_core.specs.Done.{IsRead, Syncs}
 use Rattle.pool_core.specs.Keeping.{Represents}
 use Rattle.pool_core.specs.Outside.{troubles}
-use Rattle.pool_core.specs.Reading.{wanted, read_asks, read_answer}
+use Rattle.pool_core.specs.Reading.{wanted}
 use Rattle.pool_core.specs.State.{PoolState}
 use Rattle.pool_core.specs.Writing.{Puts, put_answer}
 use Rattle.host_front.specs.declared.host.Host.{Host}
-use Rattle.host_front.specs.Machine.{HostState, Entry, Step, IsAnswered, WantsMemory, Clashes, AreReads, answer, line_asks, line_wants, with_pool, named_pool, write_answer, sync_line_answer, sync_line_asks, read_line_answer, read_line_asks, read_reply, reply_of, wanted_of}
+use Rattle.host_front.specs.Machine.{HostState, Step, AreReads, answer, line_asks, with_pool, named_pool, read_reply, reply_of}
 use Rattle.host_front.specs.Replying.{Replies}
 use Rattle.host_front.specs.Session.{Answers}
 use Rattle.host_front.specs.Standing.{Stands, PoolStands}

@@ -1,15 +1,13 @@
 -- Pieces of the input, one after another.
-use Rattle.std.proofs.Common.{◌≡◌, ◌≢◌, ℕ, ◌+◌, ◌<◌, ◌≤◌, ◌==◌, Bool, true, false, List, [], ◌∷◌, ◌++◌, take, drop, get_or, length, Option, Some, Result, Ok, Err, refl, sym, ◌∙◌, ap, append_assoc, append-nil, arith, length-append, subst}
-use Rattle.std.proofs.lemmas.Grind.{flat_map-append}
+use Rattle.std.proofs.Common.{◌≡◌, ◌≢◌, ℕ, ◌+◌, ◌<◌, ◌≤◌, ◌==◌, false, List, [], ◌∷◌, ◌++◌, take, drop, get_or, length, Option, refl, sym, ◌∙◌, ap, append_assoc, arith, length-append, subst}
 use Rattle.std.proofs.Math.Seq.{take-append-add}
 use Rattle.std.proofs.lemmas.List.{take_more, take-append-drop}
 use Rattle.bank_core.specs.Story.{Story}
-use Rattle.pool_wire.specs.Text.{text_of}
 use Rattle.host_front.specs.declared.host.Host.{Host}
 use Rattle.host_front.specs.declared.stop.Stop.{Stop}
 use Rattle.host_front.specs.declared.stop.Stop.TheVariants as stops
 use Rattle.host_front.specs.Feeding.{Feeds, Breaks, Overflows, StopsBy, HandlesLine, BreaksLine}
-use Rattle.host_front.specs.Lines.{lines_of, newline, Ends, IsOpen, AreShort, longest}
+use Rattle.host_front.specs.Lines.{lines_of, newline, Ends, IsOpen, longest}
 use Rattle.host_front.specs.Machine.{HostState, Entry, texts}
 use Rattle.host_front.specs.Session.{Handles}
 use Rattle.host_front.specs.Standing.{Stands}

@@ -1,10 +1,8 @@
 -- Lines handled one after another.
-use Rattle.std.proofs.Common.{◌≡◌, ℕ, ◌≤◌, List, [], ◌∷◌, ◌++◌, map, take, length, Option, Some, refl, sym, ◌∙◌, ap, append_assoc, append-nil, subst}
+use Rattle.std.proofs.Common.{◌≡◌, ℕ, List, [], ◌∷◌, ◌++◌, map, take, Option, refl, sym, ◌∙◌, ap, append_assoc, append-nil, subst}
 use Rattle.std.proofs.lemmas.List.{map-append}
 use Rattle.std.proofs.lemmas.Grind.{flat_map-append}
-use Rattle.std.proofs.Math.Seq.{take-append-add}
 use Rattle.mp_base.specs.Outside.{Taken}
-use Rattle.bank_core.specs.Calls.{Made}
 use Rattle.bank_core.specs.Disk.{Noted}
 use Rattle.bank_core.specs.Story.{Story}
 use Rattle.bank_core.proofs.Composing.{made_none, made_more}
@@ -12,15 +10,10 @@ use Rattle.pool_wire.specs.Reading.{request_of}
 use Rattle.pool_wire.specs.Text.{text_of}
 use Rattle.pool_wire.specs.declared.reply.Reply.{Reply}
 use Rattle.host_front.specs.declared.host.Host.{Host}
-use Rattle.host_front.specs.declared.stop.Stop.{Stop}
-use Rattle.host_front.specs.declared.stop.Stop.TheVariants as stops
-use Rattle.host_front.specs.Feeding.{Feeds, Breaks, Overflows, StopsBy, HandlesLine, BreaksLine}
-use Rattle.host_front.specs.Lines.{lines_of, newline, Ends, IsOpen, AreShort, longest}
+use Rattle.host_front.specs.Feeding.{HandlesLine, BreaksLine}
 use Rattle.host_front.specs.Machine.{HostState, Entry, Step, Replay, texts}
 use Rattle.host_front.specs.Session.{Answers, Handles}
-use Rattle.host_front.specs.Standing.{Stands}
 use Rattle.host_front.specs.Writing.{WritesFront}
-use Rattle.host_front.proofs.LineEnds.{newline_ends, byte_waits, ends_none, ends_more, short_more, overflow}
 use Rattle.host_front.proofs.Taking.{taken_none, taken_more}
 
 replay_none : (h : HostState) → Replay h [] [] h

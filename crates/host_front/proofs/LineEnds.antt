@@ -1,5 +1,5 @@
 -- How lines end, byte by byte and piece by piece.
-use Rattle.std.proofs.Common.{◌≡◌, ℕ, ◌<◌, ◌≤◌, ◌==◌, Bool, true, false, cond, List, [], ◌∷◌, ◌++◌, length, length-append, refl, sym, ◌∙◌, ap, append_assoc, append-nil, arith, subst}
+use Rattle.std.proofs.Common.{◌≡◌, ℕ, ◌<◌, ◌≤◌, ◌==◌, false, List, [], ◌∷◌, ◌++◌, length, length-append, refl, sym, ◌∙◌, ap, append_assoc, arith}
 use Rattle.host_front.specs.Lines.{newline, with_first, lines_of, IsOpen, Ends, AreShort, longest}
 
 -- a byte in front of what a text's lines are, where it ends none

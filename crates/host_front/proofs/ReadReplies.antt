@@ -1,5 +1,5 @@
 -- Reads, as replies and as steps of the machine.
-use Rattle.std.proofs.Common.{◌≡◌, ℕ, ◌+◌, List, [], ◌∷◌, map, Option, Some, None, Result, Ok, Err, refl, inl, inr, ◌⊎◌, sym, ◌∙◌, ap, subst, Bool, true, false, nat_lt, cond}
+use Rattle.std.proofs.Common.{◌≡◌, ℕ, ◌+◌, List, [], ◌∷◌, Option, Some, None, Result, Ok, Err, refl, inl, inr, ◌⊎◌, sym, subst, Bool, true, false, nat_lt, cond}
 use Rattle.mp_base.specs.declared.refusal.Refusal.{Refusal}
 use Rattle.mp_base.specs.declared.refusal.Refusal.TheVariants as refusals
 use Rattle.bank_core.specs.Asks.{Ask, Reads as ReadAsk, Writes, Flushes, Admits, Ejects, ask_of, asks_of}
@@ -7,21 +7,16 @@ use Rattle.bank_core.specs.Disk.{Call, Read, Write, Flush, Admit, Eject, Noted}
 use Rattle.bank_core.specs.Story.{Story}
 use Rattle.pool_wire.specs.declared.reply.Reply.{Reply}
 use Rattle.pool_wire.specs.declared.reply.Reply.TheVariants as replies
-use Rattle.pool_wire.specs.declared.request.Request.TheVariants as requests
 use Rattle.pool_core.specs.declared.leaf.Leaf.{Leaf}
 use Rattle.pool_core.specs.declared.pool.Pool.{Pool}
 use Rattle.pool_core.specs.Clash.{Clash}
 use Rattle.pool_core.specs.Done.{IsRead, Reads}
 use Rattle.pool_core.specs.Keeping.{Represents, leaves_of}
 use Rattle.pool_core.specs.Outside.{Trouble, troubles}
-use Rattle.pool_core.specs.Reading.{Source, Memory, Hole, Copies, source_at, asks_from, asks_to, wanted, read_asks}
+use Rattle.pool_core.specs.Reading.{Source, Memory, Hole, Copies, source_at, asks_from, asks_to, wanted}
 use Rattle.pool_core.specs.State.{PoolState, data_start}
-use Rattle.host_front.specs.declared.host.Host.{Host}
 use Rattle.host_front.specs.Machine.{HostState, AreReads, read_reply}
 use Rattle.host_front.specs.Replying.{IsReadRefused, Replies}
-use Rattle.host_front.specs.Session.{Answers}
-use Rattle.host_front.specs.Standing.{Stands}
-use Rattle.host_front.proofs.Answering.{IsNamed}
 
 abbrev AsksRead : Ask → Type 0
 AsksRead (ReadAsk dev at sectors) = Unit {0}

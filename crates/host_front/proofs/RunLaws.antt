@@ -1,6 +1,5 @@
 -- The whole run, over the bank as it was before the look-ups.
-use Rattle.std.proofs.Common.{◌≡◌, ℕ, ◌<◌, ◌≤◌, List, [], ◌∷◌, Bool, true, false, Option, Some, None, refl, sym, ◌∙◌, ap, subst, arith}
-use Rattle.mp_base.specs.Outside.{Given, Taken}
+use Rattle.std.proofs.Common.{◌≡◌, ℕ, ◌≤◌, List, Option, sym, ◌∙◌, subst, arith}
 use Rattle.bank_core.specs.Story.{Story}
 use Rattle.bank_core.proofs.Composing.{made_from}
 use Rattle.host_front.specs.declared.device.HostDevice.{HostDevice}

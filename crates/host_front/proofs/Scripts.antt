@@ -1,5 +1,5 @@
 -- A run, from its beginning to its end.
-use Rattle.std.proofs.Common.{◌≡◌, ℕ, ◌+◌, ◌<◌, ◌≤◌, List, [], ◌∷◌, ◌++◌, take, length, Option, Some, refl, sym, ◌∙◌, ap, append_assoc, append-nil, arith, subst, inl, inr, ◌⊎◌}
+use Rattle.std.proofs.Common.{◌≡◌, ℕ, ◌+◌, ◌<◌, List, [], ◌∷◌, ◌++◌, take, length, Option, Some, refl, sym, ◌∙◌, ap, append_assoc, append-nil, arith, subst, inl, inr}
 use Rattle.mp_base.specs.Outside.{Given}
 use Rattle.bank_core.specs.Story.{Story}
 use Rattle.host_front.specs.declared.host.Host.{Host}
@@ -7,11 +7,11 @@ use Rattle.host_front.specs.declared.status.Status.{Status}
 use Rattle.host_front.specs.declared.status.Status.TheVariants as statuses
 use Rattle.host_front.specs.declared.stop.Stop.{Stop}
 use Rattle.host_front.specs.declared.stop.Stop.TheVariants as stops
-use Rattle.host_front.specs.Feeding.{Feeds, Breaks, Overflows, StopsBy, HandlesLine, BreaksLine}
-use Rattle.host_front.specs.Finishing.{Finishes, Finished, BrokeOff, NothingWaits}
-use Rattle.host_front.specs.Lines.{lines_of, IsOpen, AreShort, longest}
-use Rattle.host_front.specs.Machine.{HostState, Entry, texts}
-use Rattle.host_front.specs.Session.{Handles, Ran, IsUpTo, IsWritten}
+use Rattle.host_front.specs.Feeding.{Feeds, Breaks, Overflows, StopsBy, BreaksLine}
+use Rattle.host_front.specs.Finishing.{Finishes, Finished}
+use Rattle.host_front.specs.Lines.{lines_of}
+use Rattle.host_front.specs.Machine.{HostState, texts}
+use Rattle.host_front.specs.Session.{Handles, Ran}
 use Rattle.host_front.specs.SoFar.{SoFar, status_of}
 use Rattle.host_front.specs.Standing.{Stands}
 use Rattle.host_front.proofs.Feedings.{feeds_none, feeds_more, stops_more, texts_front}

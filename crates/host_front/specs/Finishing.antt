@@ -9,7 +9,6 @@ use Rattle.host_front.specs.declared.host.Host.{Host}
 use Rattle.host_front.specs.Feeding.{HandlesLine, BreaksLine}
 use Rattle.host_front.specs.Machine.{HostState}
 use Rattle.host_front.specs.SoFar.{status_of}
-use Rattle.host_front.specs.Standing.{Stands}
 
 -- nothing waits, or what waits was answered
 pub record Finished (h : HostState) (waiting : List ℕ) (old new : Option Story) (before after : ℕ → ℕ) (sink sink' : Option (List ℕ)) : Type 0 where

@@ -1,5 +1,5 @@
 -- A read of a pool, as a reply.
-use Rattle.std.specs.Prelude.{◌≡◌, ◌⊎◌, ℕ, List, Option, Result, Ok, Err}
+use Rattle.std.specs.Prelude.{◌≡◌, ◌⊎◌, ℕ, List, Option, Result, Err}
 use Rattle.mp_base.specs.declared.refusal.Refusal.{Refusal}
 use Rattle.mp_base.specs.declared.refusal.Refusal.TheVariants as refusals
 use Rattle.bank_core.specs.Calls.{Made}

@@ -1,6 +1,6 @@
 -- What a run did with its input, its output and its bank.
-use Rattle.std.specs.Prelude.{◌≡◌, ◌⊎◌, ℕ, ◌<◌, List, [], ◌∷◌, ◌++◌, map, take, length, Option, Some, None}
-use Rattle.mp_base.specs.Outside.{Rose, Given, Taken}
+use Rattle.std.specs.Prelude.{◌≡◌, ℕ, ◌<◌, List, [], ◌∷◌, ◌++◌, map, take, length, Option, Some}
+use Rattle.mp_base.specs.Outside.{Given, Taken}
 use Rattle.bank_core.specs.Calls.{Made}
 use Rattle.bank_core.specs.Disk.{Noted}
 use Rattle.bank_core.specs.Story.{Story}

@@ -12,7 +12,7 @@ use mp_base::{MemFault, Name, NameFault};
 use std::alloc::Global;
 
 /// How many devices the host has, as long as no host file names them.
-const HOST_DEVICES: usize = 7;
+pub const HOST_DEVICES: usize = 7;
 
 // Looks every device of the host up.
 pub(crate) fn find_devices<B: Bank>(
@@ -88,8 +88,8 @@ fn sectors<B: Bank>(bank: &B, found: Option<u32>) -> u64
     }
 }
 
-// The name of a device of the host, and whether it is a spare device.
-fn host_device(i: usize) -> (&'static [u8], bool)
+/// The name of a device of the host, and whether it is a spare device.
+pub fn host_device(i: usize) -> (&'static [u8], bool)
     requires { i < 7 }
     ensures is { slice_get host_devices i ≡ Some (result.0.now, result.1) }
     ensures name { IsTrue (is_name result.0.now) }

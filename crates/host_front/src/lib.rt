@@ -18,5 +18,6 @@ mod write;
 
 pub use device::HostDevice;
 pub use entry::run;
+pub use found::{HOST_DEVICES, host_device};
 pub use host::Host;
 pub use status::Status;

@@ -1,4 +1,4 @@
-use Rattle.std.proofs.Common.{◌≡◌, ◌⊎◌, ◌↔◌, ℕ, List, map, true, false, refl, sym, ◌∙◌, ap, inl, inr}
+use Rattle.std.proofs.Common.{◌≡◌, true, false, sym, ◌∙◌, inl}
 use Rattle.host_front.specs.Machine.{started}
 use Rattle.host_front.proofs.RunLaws.{ran_some, ran_script}
 use Rattle.host_front.proofs.entry.run.Goals as goal

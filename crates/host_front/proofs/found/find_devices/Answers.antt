@@ -1,4 +1,4 @@
-use Rattle.std.proofs.Common.{◌≡◌, ℕ, ◌≤◌, ◌∙◌, arith}
+use Rattle.std.proofs.Common.{ℕ, ◌≤◌, ◌∙◌, arith}
 use Rattle.host_front.proofs.FoundDevices.{found_next}
 use Rattle.host_front.proofs.found.find_devices.Goals as goal
 

@@ -1,4 +1,4 @@
-use Rattle.std.proofs.Common.{◌≡◌, ℕ, ◌≤◌, List, take}
+use Rattle.std.proofs.Common.{◌≡◌, ℕ, ◌≤◌, take}
 use Rattle.host_front.specs.FixedHost.{host_devices}
 use Rattle.host_front.specs.Standing.{AreLookedUp}
 use Rattle.host_front.proofs.found.find_devices.Given as goal

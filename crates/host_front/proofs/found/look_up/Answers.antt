@@ -1,4 +1,4 @@
-use Rattle.std.proofs.Common.{◌≡◌, ℕ, ◌∙◌, refl, sym, ap}
+use Rattle.std.proofs.Common.{refl, sym}
 use Rattle.host_front.proofs.found.look_up.Goals as goal
 
 pub returns-clause-looked_up : goal.returns-clause-looked_up

@@ -1,4 +1,4 @@
-use Rattle.std.proofs.Common.{rules, arith, ℕ, ◌+◌, ◌≤◌, ◌∙◌, List, [], ◌∷◌, ◌++◌, take, drop, get_or, subst}
+use Rattle.std.proofs.Common.{rules, arith, ℕ, ◌+◌, ◌∙◌, List, [], ◌∷◌, ◌++◌, take, drop, get_or, subst}
 use Rattle.std.proofs.lemmas.List.{take_more}
 use Rattle.host_front.specs.Feeding.{StopsBy}
 use Rattle.host_front.proofs.Feedings.{feeds_none, feeds_more, stops_more, stops_within, piece_split}

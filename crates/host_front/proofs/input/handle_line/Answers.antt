@@ -1,4 +1,4 @@
-use Rattle.host_front.proofs.Handling.{line_handled, line_broken, line_unwritten}
+use Rattle.host_front.proofs.Handling.{line_unwritten}
 use Rattle.host_front.proofs.input.handle_line.Goals as goal
 
 pub returns-in-Err-clause-breaks : goal.returns-in-Err-clause-breaks

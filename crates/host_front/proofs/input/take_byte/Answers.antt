@@ -1,4 +1,4 @@
-use Rattle.std.proofs.Common.{rules, arith, List, [], ◌∷◌}
+use Rattle.std.proofs.Common.{rules, arith, [], ◌∷◌}
 use Rattle.host_front.proofs.Feedings.{byte_feeds, byte_breaks, byte_overflows}
 use Rattle.host_front.proofs.LineEnds.{open_more}
 use Rattle.host_front.proofs.input.take_byte.Goals as goal

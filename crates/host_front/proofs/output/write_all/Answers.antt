@@ -1,5 +1,5 @@
 use Rattle.std.proofs.Common.{arith}
-use Rattle.std.proofs.lemmas.Result.{on_err_weaker, err_from_is_err_and}
+use Rattle.std.proofs.lemmas.Result.{err_from_is_err_and}
 use Rattle.host_front.proofs.Taking.{writes_more, writes_front}
 use Rattle.host_front.proofs.output.write_all.Goals as goal
 

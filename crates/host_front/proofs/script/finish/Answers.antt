@@ -1,4 +1,4 @@
-use Rattle.std.proofs.Common.{refl, inl, inr, rules, arith}
+use Rattle.std.proofs.Common.{refl, inl, inr, rules}
 use Rattle.host_front.proofs.script.finish.Goals as goal
 
 pub returns-in-Ok-clause-ends : goal.returns-in-Ok-clause-ends

@@ -1,4 +1,4 @@
-use Rattle.std.proofs.Common.{rules, arith, ◌∙◌, List, [], take}
+use Rattle.std.proofs.Common.{rules, arith, ◌∙◌, take}
 use Rattle.host_front.proofs.Scripts.{so_far_none, so_far_more, stop_ran, finish_ran}
 use Rattle.host_front.proofs.script.script.Goals as goal
 

@@ -1,4 +1,4 @@
-use Rattle.std.proofs.Common.{refl, Some, None}
+use Rattle.std.proofs.Common.{refl, None}
 use Rattle.pool_wire.specs.Reading.{request_of}
 use Rattle.host_front.proofs.Answering.{answers_quiet, answers_memory}
 use Rattle.host_front.proofs.host.Host.answer.Goals as goal

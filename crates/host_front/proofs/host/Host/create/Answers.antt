@@ -1,6 +1,5 @@
-use Rattle.std.proofs.Common.{refl, Some, sym, rules}
+use Rattle.std.proofs.Common.{refl, Some}
 use Rattle.pool_wire.specs.declared.request.Request.TheVariants as requests
-use Rattle.pool_core.specs.State.{created}
 use Rattle.host_front.proofs.Answering.{answers_quiet, answers_memory, stands_with}
 use Rattle.host_front.proofs.Creating.{member_sized, new_seated}
 use Rattle.host_front.proofs.host.Host.create.Goals as goal
