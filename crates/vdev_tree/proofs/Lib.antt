@@ -1,0 +1,4 @@
+pub mod Copies
+pub mod Folds
+pub mod Forms
+pub mod Steps
