@@ -6,6 +6,8 @@ mod logs;
 mod rule;
 #[cfg(test)]
 mod tests;
+mod widening;
 
 pub use logs::{Extent, LogKind, logs_of};
 pub use rule::{ROOT, required};
+pub use widening::{RANGES, fit};

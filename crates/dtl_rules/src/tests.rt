@@ -1,5 +1,5 @@
 //! The rules on trees that are built by hand.
-use crate::{Extent, LogKind, ROOT, logs_of, required};
+use crate::{Extent, LogKind, ROOT, fit, logs_of, required};
 use group_set::GroupSet;
 use mp_base::{Group, Guid, MemFault, Name};
 use std::alloc::Global;
@@ -158,5 +158,48 @@ fn the_logs_of_a_mirror(rt: HostRuntime) -> Result<(), Fail> {
     );
     let none = pair(alloc, State::Unavail, &[], State::Offline, &[])?;
     assert_eq!(rt; seen(alloc, &none, LogKind::Missing)?, [true; 5]);
+    Ok(())
+}
+
+/// The runs of this many groups, no two of which touch.
+fn scattered(alloc: Global, ranges: u32) -> Result<Vec<(u64, u64)>, MemFault> {
+    let mut runs = Vec::new(alloc);
+    for k in 0..ranges {
+        let group = u64::from(k) * 2 + 1;
+        runs.push((group, group))?;
+    }
+    Ok(runs)
+}
+
+/// How many ranges the logs of the mirror's leaves have.
+fn ranges(alloc: Global, top: &Top) -> Result<Vec<usize>, MemFault> {
+    let mut counts = Vec::new(alloc);
+    if let Vdev::Inner(inner) = &top.mirror {
+        for child in &inner.children {
+            if let Vdev::Leaf(leaf) = child {
+                counts.push(leaf.log.ranges())?;
+            }
+        }
+    }
+    Ok(counts)
+}
+
+#[test]
+fn the_largest_log_becomes_one_range(rt: HostRuntime) -> Result<(), Fail> {
+    let alloc = rt.alloc();
+    let up = State::Online;
+    let rows: [(u32, u32, [usize; 2]); 4] = [
+        (4000, 97, [1, 97]),
+        (97, 4000, [97, 1]),
+        (4000, 96, [4000, 96]),
+        (2100, 2100, [1, 2100]),
+    ];
+    for (a, b, left) in rows {
+        let a = scattered(alloc, a)?;
+        let b = scattered(alloc, b)?;
+        let mut tops = [pair(alloc, up, &a, up, &b)?];
+        fit(&mut tops);
+        assert_eq!(rt; ranges(alloc, &tops[0])?.as_slice(), left.as_slice());
+    }
     Ok(())
 }
