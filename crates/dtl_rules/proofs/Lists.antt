@@ -1,5 +1,5 @@
 -- A list in which one element after the other is replaced, seen by what each gives.
-use Rattle.std.proofs.Common.{◌≡◌, ℕ, ◌+◌, ◌<◌, ◌≤◌, List, [], ◌∷◌, ◌++◌, map, length, get_or, set, take, drop, take_all, refl, ap, sym, ◌∙◌, subst, arith, add-zero, append_assoc}
+use Rattle.std.proofs.Common.{◌≡◌, ℕ, ◌+◌, ◌<◌, ◌≤◌, List, [], ◌∷◌, ◌++◌, length, get_or, set, take, drop, take_all, ap, sym, ◌∙◌, arith, add-zero, append_assoc}
 use Rattle.std.specs.List.{flat_map}
 use Rattle.std.proofs.lemmas.List.{take_more, take_more_set, drop_more, drop-set-lt, drop-drop, take-append-drop, append-nil, get_or-drop}
 use Rattle.std.proofs.lemmas.List.Concat.{flat_map-append}

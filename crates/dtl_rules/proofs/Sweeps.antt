@@ -1,15 +1,14 @@
 -- The leaves under a vdev, child by child.
-use Rattle.std.proofs.Common.{◌≡◌, ℕ, ◌+◌, ◌<◌, ◌≤◌, Bool, true, false, cond, ◌&&◌, ◌||◌, ◌==◌, not, List, [], ◌∷◌, ◌++◌, map, length, get_or, take, drop, take_all, refl, ap, sym, ◌∙◌, subst, arith}
+use Rattle.std.proofs.Common.{◌≡◌, ℕ, ◌+◌, ◌<◌, ◌≤◌, Bool, ◌&&◌, ◌||◌, List, length, get_or, take, take_all, ap, sym, ◌∙◌}
 use Rattle.std.specs.List.{list_any, list_all, flat_map}
 use Rattle.vdev_tree.specs.declared.vdev.Vdev.{Vdev}
 use Rattle.vdev_tree.specs.declared.vdev.InnerVdev.{InnerVdev}
 use Rattle.vdev_tree.specs.declared.vdev.LeafVdev.{LeafVdev}
-use Rattle.vdev_tree.specs.declared.vdev.Vdev.TheVariants.{Leaf, Inner}
-use Rattle.vdev_tree.specs.Tree.{leaves, joined}
+use Rattle.vdev_tree.specs.declared.vdev.Vdev.TheVariants.{Inner}
+use Rattle.vdev_tree.specs.Tree.{leaves}
 use Rattle.std.proofs.lemmas.List.Folds.{list_any-append, list_all-append}
 use Rattle.vdev_tree.proofs.Steps.{leaves_more}
 use Rattle.vdev_tree.proofs.Folds.{leaves_leaf, leaves_inner, fold_leaf, fold_inner}
-use Rattle.dtl_rules.specs.Rules.{owes, is_out, outage_of, outage, partial_log, others, others_of_vdev, others_of_inner}
 
 -- what some leaf under the children so far owes, and under one more
 pub some_more : (p : LeafVdev → Bool) (vdevs : List Vdev) (i : ℕ) (child : Vdev) → i < length vdevs → child ≡ get_or vdevs i child

@@ -1,5 +1,5 @@
 -- What each top gives.
-use Rattle.std.proofs.Common.{◌≡◌, ℕ, List, [], ◌∷◌, map, refl, ap}
+use Rattle.std.proofs.Common.{◌≡◌, ℕ, List, [], ◌∷◌, refl, ap}
 use Rattle.std.specs.List.{flat_map}
 use Rattle.vdev_tree.specs.Tree.{leaves, marks, Mark}
 use Rattle.vdev_tree.specs.declared.top.Top.{Top}

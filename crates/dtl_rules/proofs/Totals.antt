@@ -1,21 +1,18 @@
 -- How many ranges the logs of some leaves have.
-use Rattle.std.proofs.Common.{◌≡◌, ◌≢◌, ℕ, ◌+◌, ◌-◌, ◌*◌, ◌<◌, ◌≤◌, min, max, Bool, true, false, not, ◌&&◌, ◌==◌, List, [], ◌∷◌, ◌++◌, length, get_or, take, drop, take_all, refl, ap, sym, ◌∙◌, arith, length-append}
-use Rattle.std.specs.List.{list_all, flat_map}
+use Rattle.std.proofs.Common.{◌≡◌, ◌≢◌, ℕ, ◌+◌, ◌*◌, ◌<◌, ◌≤◌, min, max, Bool, true, false, not, ◌&&◌, ◌==◌, List, [], ◌∷◌, ◌++◌, length, get_or, take, refl, ap, sym, ◌∙◌, arith, length-append}
+use Rattle.std.specs.List.{flat_map}
 use Rattle.std.proofs.lemmas.List.{take_more, append-nil}
 use Rattle.std.proofs.lemmas.List.Concat.{flat_map-append}
 use Rattle.std.proofs.lemmas.Bool.{false≢true, eq-eqb}
-use Rattle.std.proofs.lemmas.Bool.Decides.{nat_tests}
 use Rattle.vdev_tree.specs.declared.top.Top.{Top}
 use Rattle.vdev_tree.specs.declared.vdev.Vdev.{Vdev}
-use Rattle.vdev_tree.specs.declared.vdev.InnerVdev.{InnerVdev}
 use Rattle.vdev_tree.specs.declared.vdev.LeafVdev.{LeafVdev}
-use Rattle.vdev_tree.specs.declared.vdev.Vdev.TheVariants.{Leaf, Inner}
+use Rattle.vdev_tree.specs.declared.vdev.Vdev.TheVariants.{Leaf}
 use Rattle.vdev_tree.specs.Tree.{leaves}
 use Rattle.vdev_tree.proofs.Folds.{leaves_leaf}
 use Rattle.vdev_tree.proofs.Sizes.{top_size}
 use Rattle.vdev_tree.proofs.Steps.{leaves_more}
-use Rattle.dtl_rules.specs.Widening.{leaves_of, ranges_of, total_ranges, most_ranges, none_has, WidensFirst, WidensLeaf}
-use Rattle.dtl_rules.proofs.Sweeps.{leaves_all}
+use Rattle.dtl_rules.specs.Widening.{leaves_of, ranges_of, total_ranges, most_ranges, none_has, WidensFirst}
 
 pub total-append : (xs ys : List LeafVdev) → total_ranges (xs ++ ys) ≡ total_ranges xs + total_ranges ys
 total-append [] ys = omega arith

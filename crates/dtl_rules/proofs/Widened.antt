@@ -1,16 +1,14 @@
 -- One leaf of a tree that is widened.
-use Rattle.std.proofs.Common.{◌≡◌, ℕ, ◌+◌, ◌<◌, ◌≤◌, Bool, true, false, cond, not, ◌&&◌, ◌==◌, List, [], ◌∷◌, ◌++◌, map, length, get_or, set, take, drop, refl, ap, sym, ◌∙◌, subst, arith, append_assoc}
+use Rattle.std.proofs.Common.{◌≡◌, ℕ, ◌+◌, ◌<◌, Bool, true, false, not, ◌&&◌, ◌==◌, List, [], ◌∷◌, ◌++◌, map, length, get_or, set, take, drop, refl, ap, sym, ◌∙◌, subst, arith, append_assoc}
 use Rattle.std.specs.Bool.{OnTrue, OnFalse}
-use Rattle.std.specs.List.{list_all, flat_map}
-use Rattle.std.proofs.lemmas.Bool.{false≢true, eqb-true}
+use Rattle.std.specs.List.{flat_map}
+use Rattle.std.proofs.lemmas.Bool.{eqb-true}
 use Rattle.std.proofs.lemmas.List.Folds.{list_all-append}
-use Rattle.mp_base.specs.declared.number.Guid.{Guid}
-use Rattle.vdev_tree.specs.declared.vdev.Kind.{Kind}
 use Rattle.vdev_tree.specs.declared.vdev.Vdev.{Vdev}
 use Rattle.vdev_tree.specs.declared.vdev.InnerVdev.{InnerVdev}
 use Rattle.vdev_tree.specs.declared.vdev.LeafVdev.{LeafVdev}
 use Rattle.vdev_tree.specs.declared.vdev.Vdev.TheVariants.{Leaf, Inner}
-use Rattle.vdev_tree.specs.Tree.{leaves, is_top, is_mirror, form_of, form_over, Form, marks, Mark, opening, closing}
+use Rattle.vdev_tree.specs.Tree.{leaves, is_top, is_mirror, form_of, form_over, marks, opening, closing}
 use Rattle.vdev_tree.proofs.Folds.{leaves_leaf, leaves_inner, form_leaf, form_inner, marks_at_leaf, marks_inner}
 use Rattle.dtl_rules.specs.Widening.{form_alone, ranges_of, most_ranges, none_has, WidensFirst, WidensLeaf}
 use Rattle.dtl_rules.proofs.Totals.{some_has_most}

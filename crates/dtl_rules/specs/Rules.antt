@@ -2,7 +2,7 @@
 use Rattle.std.specs.Prelude.{◌≡◌, ℕ, ◌<◌, ◌≤◌, ◌^◌, ◌==◌, max, Bool, true, false, ◌||◌, not, cond, List, [], ◌∷◌}
 use Rattle.std.specs.List.{list_any, list_all}
 use Rattle.mp_base.specs.declared.number.Guid.{Guid}
-use Rattle.group_set.specs.Groups.{holds, run_count}
+use Rattle.group_set.specs.Groups.{holds}
 use Rattle.vdev_tree.specs.Leaf.{is_readable}
 use Rattle.vdev_tree.specs.Tree.{leaves, joined}
 use Rattle.vdev_tree.specs.declared.vdev.Vdev.{Vdev}
@@ -60,9 +60,17 @@ pub record LeastOut (some : List LeafVdev) (group : ℕ) : Type 0 where
   pub out : outage_of some group ≡ true
   pub least : (g : ℕ) → 1 ≤ g → g < group → outage_of some g ≡ false
 
--- a vdev is required where, without it, some group could be read from no leaf of its top
+-- some group, from 1 on, can be read from none of the leaves
+abbrev pub SomeOut : List LeafVdev → Type 0
+SomeOut some = (group : ℕ) × (1 ≤ group) × (outage_of some group ≡ true)
+
+-- the outage rule: a vdev is required where, without it, some group could be read from no leaf of its top
 abbrev pub IsRequired : Top → Guid → Type 0
-IsRequired top at = (group : ℕ) × LeastOut (rest_of top at) group
+IsRequired top at = SomeOut (rest_of top at)
+
+-- and it is needed for this group first
+abbrev pub LeastNeeded : Top → Guid → ℕ → Type 0
+LeastNeeded top at group = LeastOut (rest_of top at) group
 
 -- from one group on none before another is out for all the leaves. Where the two are one, that is
 pub record PassedTo (some : List LeafVdev) (from group : ℕ) : Type 0 where

@@ -1,5 +1,5 @@
 -- How the logs of a pool stay small.
-use Rattle.std.specs.Prelude.{◌≡◌, ℕ, ◌+◌, ◌<◌, ◌≤◌, min, max, Bool, true, not, ◌==◌, List, [], ◌∷◌, ◌++◌, map, sum_by}
+use Rattle.std.specs.Prelude.{◌≡◌, ℕ, ◌+◌, ◌<◌, ◌≤◌, min, max, Bool, true, not, ◌==◌, List, [], ◌∷◌, ◌++◌, map}
 use Rattle.std.specs.List.{list_all, flat_map}
 use Rattle.group_set.specs.Groups.{Groups, run_count, IsWidened}
 use Rattle.vdev_tree.specs.Tree.{leaves, marks, Mark, Form, form_of}

@@ -1,7 +1,7 @@
 //! The outage rule: which device may not go.
 ghost use Rattle.std.specs.Prelude.{◌≡◌, ℕ, ◌==◌, ◌≤◌, false, ◌∷◌, [], IfSome, IfNone, IsSomeAnd};
 ghost use Rattle.vdev_tree.specs.Tree.{guid_of};
-ghost use Rattle.dtl_rules.specs.Rules.{others, rest_of, outage_of, LeastOut, PassedTo};
+ghost use Rattle.dtl_rules.specs.Rules.{others, outage_of, LeastOut, SomeOut, LeastNeeded, IsRequired, PassedTo};
 
 use mp_base::{Group, Guid};
 use vdev_tree::{LeafVdev, Top, Vdev};
@@ -12,8 +12,8 @@ pub const ROOT: Guid = Guid(0);
 /// The least group that could be read from no leaf of the top if the vdev of this number were unreadable.
 /// Where there is such a group, the vdev is required: it may not be taken offline or detached.
 pub fn required(top: &Top, at: Guid) -> Option<Group>
-    ensures some { IfSome result (λ g. LeastOut (rest_of top.now at) g.0) }
-    ensures none { IfNone result ((g : ℕ) → 1 ≤ g → outage_of (rest_of top.now at) g ≡ false) }
+    ensures required { IfSome result (λ g. LeastNeeded top.now at g.0) }
+    ensures free { IfNone result (¬ IsRequired top.now at) }
     ensures root { at.0 ≡ 0 → IsSomeAnd result (λ g. g.0 ≡ 1) }
     ensures top { guid_of top.now.mirror ≡ at → IsSomeAnd result (λ g. g.0 ≡ 1) }
 {
@@ -35,7 +35,7 @@ fn is_at(number: Guid, at: Guid) -> bool
 /// The least group that is out for all leaves which are not under the vdev of this number.
 fn least_out(vdev: &Vdev, at: Guid) -> Option<Group>
     ensures some { IfSome result (λ g. LeastOut (others at.0 vdev.now) g.0) }
-    ensures none { IfNone result ((g : ℕ) → 1 ≤ g → outage_of (others at.0 vdev.now) g ≡ false) }
+    ensures none { IfNone result (¬ SomeOut (others at.0 vdev.now)) }
 {
     let mut group = 1;
     loop {

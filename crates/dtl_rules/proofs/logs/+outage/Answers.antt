@@ -1,7 +1,7 @@
 use Rattle.std.proofs.Common.{◌&&◌, take, arith, ap, ◌∙◌}
 use Rattle.std.specs.List.{flat_map}
 use Rattle.vdev_tree.specs.Tree.{leaves}
-use Rattle.dtl_rules.specs.Rules.{is_out, outage_of, outage}
+use Rattle.dtl_rules.specs.Rules.{is_out, outage_of}
 use Rattle.dtl_rules.specs.Logs.{in_extent}
 use Rattle.dtl_rules.proofs.Sweeps.{all_more, leaves_all}
 use Rattle.dtl_rules.proofs.logs.+outage.Goals as goal

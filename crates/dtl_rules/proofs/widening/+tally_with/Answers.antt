@@ -1,10 +1,5 @@
-use Rattle.std.proofs.Common.{◌≡◌, ℕ, ◌+◌, ◌-◌, ◌^◌, min, max, arith, ap, sym, ◌∙◌}
-use Rattle.vdev_tree.specs.Tree.{leaves}
-use Rattle.vdev_tree.specs.declared.vdev.Vdev.{Vdev}
-use Rattle.vdev_tree.specs.declared.vdev.Vdev.TheVariants.{Leaf}
-use Rattle.vdev_tree.specs.declared.vdev.LeafVdev.{LeafVdev}
-use Rattle.vdev_tree.proofs.Folds.{leaves_leaf}
-use Rattle.dtl_rules.specs.Widening.{ranges_of, total_ranges, most_ranges}
+use Rattle.std.proofs.Common.{arith, ap}
+use Rattle.dtl_rules.specs.Widening.{total_ranges, most_ranges}
 use Rattle.dtl_rules.proofs.Sweeps.{leaves_all}
 use Rattle.dtl_rules.proofs.Totals.{total_more, most_more, total_leaf, most_leaf}
 use Rattle.dtl_rules.proofs.widening.+tally_with.Goals as goal

@@ -1,4 +1,4 @@
-use Rattle.std.proofs.Common.{◌≡◌, ℕ, ◌≤◌, true, length, take, drop}
+use Rattle.std.proofs.Common.{◌≡◌, true, length, take, drop}
 use Rattle.std.specs.List.{flat_map}
 use Rattle.vdev_tree.specs.Tree.{leaves, marks}
 use Rattle.dtl_rules.specs.Widening.{none_has, form_alone}

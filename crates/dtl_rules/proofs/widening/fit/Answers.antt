@@ -1,6 +1,5 @@
-use Rattle.std.proofs.Common.{◌≡◌, ◌+◌, ◌<◌, refl, arith, subst, sym, ◌∙◌, List}
-use Rattle.vdev_tree.specs.declared.vdev.LeafVdev.{LeafVdev}
-use Rattle.dtl_rules.specs.Widening.{leaves_of, total_ranges, most_ranges, WidensFirst, Widenings, none, more}
+use Rattle.std.proofs.Common.{refl, arith, subst, ◌∙◌}
+use Rattle.dtl_rules.specs.Widening.{leaves_of, WidensFirst, none, more}
 use Rattle.dtl_rules.proofs.Totals.{fewer, total_of_few, leaves_of_few}
 use Rattle.dtl_rules.proofs.widening.fit.Goals as goal
 use Rattle.dtl_rules.proofs.widening.fit.Goals.{After-widen_largest}

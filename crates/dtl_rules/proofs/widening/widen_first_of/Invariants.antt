@@ -1,4 +1,4 @@
-use Rattle.std.proofs.Common.{◌≡◌, ℕ, true, take, drop}
+use Rattle.std.proofs.Common.{◌≡◌, true, take, drop}
 use Rattle.std.specs.List.{flat_map}
 use Rattle.dtl_rules.specs.Widening.{none_has}
 use Rattle.dtl_rules.proofs.Tops.{top_leaves, top_marks, top_sectors}
