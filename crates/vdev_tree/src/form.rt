@@ -79,8 +79,8 @@ impl Vdev {
     }
 }
 
-#[tactic(auto, using(crate::proofs::Forms::forms))]
 /// Whether these are the two leaves of a vdev that replaces.
+#[tactic(auto, using(crate::proofs::Forms::forms))]
 fn are_two_leaves(vdevs: &[Vdev]) -> bool
     ensures { result ≡ is_replacing (form_of_replacing (map form_of vdevs.now)) }
 {
@@ -99,8 +99,8 @@ fn all_may_be_mirrored(vdevs: &[Vdev]) -> bool
     vdevs.iter().all(|vdev| vdev.may_be_mirrored())
 }
 
-#[tactic(auto, using(crate::proofs::Forms::forms))]
 /// Whether these are a first child and one or two spare leaves.
+#[tactic(auto, using(crate::proofs::Forms::forms))]
 fn are_spared(vdevs: &[Vdev]) -> bool
     ensures { result ≡ is_spare (form_of_spare (map form_of vdevs.now)) }
 {
@@ -115,8 +115,8 @@ fn are_spared(vdevs: &[Vdev]) -> bool
     }
 }
 
-#[tactic(auto, using(crate::proofs::Forms::forms))]
 /// Whether these are 1 to 8 vdevs that a mirror may have.
+#[tactic(auto, using(crate::proofs::Forms::forms))]
 fn are_mirrored(vdevs: &[Vdev]) -> bool
     ensures { result ≡ is_mirror (form_of_mirror (map form_of vdevs.now)) }
 {
