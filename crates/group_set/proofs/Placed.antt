@@ -100,6 +100,28 @@ length-placed run [] = omega arith
 length-placed run (r ∷ runs) =
     omega (arith, length-placed-step (touches run r) r (placed (joined run r) runs) (placed run runs) (length runs) (length-placed (joined run r) runs) (length-placed run runs))
 
+true_or : (b c : Bool) → (b || c) ≡ true → b ≡ false → c ≡ true
+true_or true c h none = cc
+true_or false c h none = h
+
+not_near : (run r : Run) (h : ℕ) → run.low ≤ h + 1 → h ≤ run.high + 1 → touches run r ≡ false → spans r h ≡ false
+not_near run r h low high apart = grind (arith, nat_tests)
+
+length-near-step : (b : Bool) (run r : Run) (runs : List Run) (h : ℕ) → touches run r ≡ b → run.low ≤ h + 1 → h ≤ run.high + 1
+    → (spans r h || in_runs runs h) ≡ true → length (placed (joined run r) runs) ≤ length runs + 1
+    → (in_runs runs h ≡ true → length (placed run runs) ≤ length runs)
+    → length (cond b (placed (joined run r) runs) (r ∷ placed run runs)) ≤ length runs + 1
+length-near-step true run r runs h is low high held touching apart = touching
+length-near-step false run r runs h is low high held touching apart =
+    let rest = apart (true_or (spans r h) (in_runs runs h) held (not_near run r h low high is)) in
+    omega (arith, rest)
+
+-- next to a group that is there it only lengthens a run
+pub length-near : (run : Run) (runs : List Run) (h : ℕ) → run.low ≤ h + 1 → h ≤ run.high + 1 → in_runs runs h ≡ true → length (placed run runs) ≤ length runs
+length-near run [] h low high held = cc
+length-near run (r ∷ runs) h low high held =
+    omega (arith, length-near-step (touches run r) run r runs h refl low high held (length-placed (joined run r) runs) (length-near run runs h low high))
+
 cons_at : (runs : List Run) (i : ℕ) (d : Run) (run : Run) → i < length runs → placed run (drop i runs) ≡ placed run (get_or runs i d ∷ drop (i + 1) runs)
 cons_at runs i d run inside = ap (placed run) (drop_more runs i d inside)
 

@@ -1,5 +1,5 @@
 //! Runs of groups, and lists of them that neither overlap nor touch.
-ghost use Rattle.std.specs.Prelude.{◌≡◌, ℕ, ◌+◌, ◌<◌, ◌≤◌, ◌&&◌, ◌||◌, ◌∷◌, ◌++◌, [], Bool, length, vec_len, IfOk, OnOk, OnErr};
+ghost use Rattle.std.specs.Prelude.{◌≡◌, ℕ, ◌+◌, ◌<◌, ◌≤◌, ◌&&◌, ◌||◌, ◌∷◌, ◌++◌, [], true, Bool, length, vec_len, IfOk, OnOk, OnErr};
 ghost use Rattle.std.specs.Vec.{vec_capacity};
 ghost use Rattle.std.specs.List.{filter_map};
 ghost use Rattle.std.specs.Option.{option_to_list};
@@ -66,6 +66,7 @@ pub(crate) fn place(runs: &mut Vec<Run>, mut run: Run)
     ensures groups { (g : ℕ) → in_runs runs.new.items g ≡ (in_runs runs.old.items g || spans run g) }
     ensures apart { AreRuns runs.new.items }
     ensures len { vec_len runs.new ≤ vec_len runs.old + 1 }
+    ensures lengthens { (g : ℕ) → run.low ≤ g + 1 → g ≤ run.high + 1 → in_runs runs.old.items g ≡ true → vec_len runs.new ≤ vec_len runs.old }
     ensures capacity { vec_capacity runs.old ≤ vec_capacity runs.new }
 {
     let mut i = 0;

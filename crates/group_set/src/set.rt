@@ -130,6 +130,9 @@ impl GroupSet {
         requires room { 1 ≤ self.old.spare }
         ensures groups { (h : ℕ) → holds self.new h ≡ (holds self.old h || (g.0 == h)) }
         ensures ranges { run_count self.new ≤ run_count self.old + 1 }
+
+        // Next to a group that is there it only lengthens a run, which takes no room.
+        ensures lengthens { (h : ℕ) → g.0 ≤ h + 1 → h ≤ g.0 + 1 → holds self.old h ≡ true → run_count self.new ≤ run_count self.old }
         ensures room { KeepsRoom self.old self.new }
     {
         self.insert_range(g, g);
@@ -143,6 +146,9 @@ impl GroupSet {
         requires room { 1 ≤ self.old.spare }
         ensures groups { (h : ℕ) → holds self.new h ≡ (holds self.old h || between lo.0 hi.0 h) }
         ensures ranges { run_count self.new ≤ run_count self.old + 1 }
+
+        // Next to a group that is there they only lengthen runs, which takes no room.
+        ensures lengthens { (h : ℕ) → lo.0 ≤ h + 1 → h ≤ hi.0 + 1 → holds self.old h ≡ true → run_count self.new ≤ run_count self.old }
         ensures room { KeepsRoom self.old self.new }
     {
         let run = Run {
