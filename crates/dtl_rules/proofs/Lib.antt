@@ -1,0 +1,6 @@
+pub mod Lists
+pub mod Passing
+pub mod Sweeps
+pub mod Tops
+pub mod Totals
+pub mod Widened

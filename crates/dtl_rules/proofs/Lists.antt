@@ -1,0 +1,57 @@
+-- A list in which one element after the other is replaced, seen by what each gives.
+use Rattle.std.proofs.Common.{◌≡◌, ℕ, ◌+◌, ◌<◌, ◌≤◌, List, [], ◌∷◌, ◌++◌, length, get_or, set, take, drop, take_all, ap, sym, ◌∙◌, arith, add-zero, append_assoc}
+use Rattle.std.specs.List.{flat_map}
+use Rattle.std.proofs.lemmas.List.{take_more, take_more_set, drop_more, drop-set-lt, drop-drop, take-append-drop, append-nil, get_or-drop}
+use Rattle.std.proofs.lemmas.List.Concat.{flat_map-append}
+
+module _ (V X : Type 0) (f : V → List X) where
+  pub flat_more : (xs : List V) (i : ℕ) (d : V) → i < length xs → flat_map f (take (i + 1) xs) ≡ flat_map f (take i xs) ++ f (get_or xs i d)
+  flat_more xs i d inside =
+      ap (flat_map f) (take_more xs i d inside) ∙ flat_map-append f (take i xs) (get_or xs i d ∷ [])
+      ∙ ap (λ ys. flat_map f (take i xs) ++ ys) (append-nil (f (get_or xs i d)))
+
+  pub flat_split : (xs : List V) (i : ℕ) (d : V) → i < length xs
+      → flat_map f xs ≡ flat_map f (take i xs) ++ (f (get_or xs i d) ++ flat_map f (drop (i + 1) xs))
+  flat_split xs i d inside =
+      ap (flat_map f) (sym (take-append-drop i xs)) ∙ flat_map-append f (take i xs) (drop i xs)
+      ∙ ap (λ rest. flat_map f (take i xs) ++ flat_map f rest) (drop_more xs i d inside)
+
+  -- after a write at the place, the part before it and it
+  pub flat_more_set : (xs : List V) (i : ℕ) (v : V) → i < length xs → flat_map f (take (i + 1) (set xs i v)) ≡ flat_map f (take i xs) ++ f v
+  flat_more_set xs i v inside =
+      ap (flat_map f) (take_more_set xs i v inside) ∙ flat_map-append f (take i xs) (v ∷ []) ∙ ap (λ ys. flat_map f (take i xs) ++ ys) (append-nil (f v))
+
+  -- the whole after a write at the place
+  pub flat_set : (xs : List V) (i : ℕ) (v : V) → i < length xs
+      → flat_map f (set xs i v) ≡ flat_map f (take i xs) ++ (f v ++ flat_map f (drop (i + 1) xs))
+  flat_set xs i v inside =
+      ap (flat_map f) (sym (take-append-drop (i + 1) (set xs i v))) ∙ flat_map-append f (take (i + 1) (set xs i v)) (drop (i + 1) (set xs i v))
+      ∙ ap (λ ys. ys ++ flat_map f (drop (i + 1) (set xs i v))) (flat_more_set xs i v inside)
+      ∙ ap (λ rest. (flat_map f (take i xs) ++ f v) ++ flat_map f rest) (drop-set-lt (i + 1) xs i v (omega arith))
+      ∙ append_assoc (flat_map f (take i xs)) (f v) (flat_map f (drop (i + 1) xs))
+
+  -- what is written gives the same as what stood there in another list
+  pub same_more : (xs ys : List V) (i : ℕ) (v d : V) → i < length xs → i < length ys → flat_map f (take i xs) ≡ flat_map f (take i ys) → f v ≡ f (get_or ys i d)
+      → flat_map f (take (i + 1) (set xs i v)) ≡ flat_map f (take (i + 1) ys)
+  same_more xs ys i v d inside inside' same here =
+      flat_more_set xs i v inside ∙ ap (λ zs. zs ++ f v) same ∙ ap (λ zs. flat_map f (take i ys) ++ zs) here ∙ sym (flat_more ys i d inside')
+
+  pub same_at : (xs ys : List V) (i : ℕ) (v d : V) → i < length xs → i < length ys → flat_map f (take i xs) ≡ flat_map f (take i ys) → drop (i + 1) xs ≡ drop (i + 1) ys
+      → f v ≡ f (get_or ys i d) → flat_map f (set xs i v) ≡ flat_map f ys
+  same_at xs ys i v d inside inside' same rest here =
+      flat_set xs i v inside ∙ ap (λ zs. zs ++ (f v ++ flat_map f (drop (i + 1) xs))) same
+      ∙ ap (λ zs. flat_map f (take i ys) ++ (zs ++ flat_map f (drop (i + 1) xs))) here
+      ∙ ap (λ zs. flat_map f (take i ys) ++ (f (get_or ys i d) ++ flat_map f zs)) rest ∙ sym (flat_split ys i d inside')
+
+  pub same_all : (xs ys : List V) (i : ℕ) → length xs ≤ i → length ys ≤ i → flat_map f (take i xs) ≡ flat_map f (take i ys) → flat_map f xs ≡ flat_map f ys
+  same_all xs ys i all all' same = sym (ap (flat_map f) (take_all i xs all)) ∙ same ∙ ap (flat_map f) (take_all i ys all')
+
+module _ (V : Type 0) where
+  pub drop_one : (xs ys : List V) (i : ℕ) → drop i xs ≡ drop i ys → drop (i + 1) xs ≡ drop (i + 1) ys
+  drop_one xs ys i same = sym (drop-drop 1 i xs) ∙ ap (drop 1) same ∙ drop-drop 1 i ys
+
+  pub drop_set : (xs ys : List V) (i : ℕ) (v : V) → drop i xs ≡ drop i ys → drop (i + 1) (set xs i v) ≡ drop (i + 1) ys
+  drop_set xs ys i v same = drop-set-lt (i + 1) xs i v (omega arith) ∙ drop_one xs ys i same
+
+  pub get_same : (xs ys : List V) (i : ℕ) (d : V) → drop i xs ≡ drop i ys → get_or xs i d ≡ get_or ys i d
+  get_same xs ys i d same = ap (λ n. get_or xs n d) (sym (add-zero i)) ∙ sym (get_or-drop i xs 0 d) ∙ ap (λ zs. get_or zs 0 d) same ∙ get_or-drop i ys 0 d ∙ ap (λ n. get_or ys n d) (add-zero i)

@@ -1,0 +1,5 @@
+pub mod Copies
+pub mod Folds
+pub mod Forms
+pub mod Sizes
+pub mod Steps

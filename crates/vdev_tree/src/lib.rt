@@ -1,0 +1,11 @@
+//! The tree of a top: mirrors, replacing and spare vdevs, and the leaves, with their states and logs.
+#![tactic(auto)]
+
+mod form;
+#[cfg(test)]
+mod tests;
+mod top;
+mod vdev;
+
+pub use top::Top;
+pub use vdev::{Counts, InnerVdev, Kind, LeafVdev, State, Vdev};
