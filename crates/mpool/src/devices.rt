@@ -1,4 +1,8 @@
 //! The devices of a host that no file describes: in memory, and empty when the program starts.
+ghost use Rattle.std.specs.Prelude.{◌≡◌, ℕ, ◌<◌, IfOk, map};
+ghost use Rattle.bank_core.specs.MemBank.{bank_names, bank_size, bank_calls};
+ghost use Rattle.host_front.specs.FixedHost.{host_devices};
+
 use bank_core::MemBank;
 use host_front::{HOST_DEVICES, host_device};
 use mp_base::{MemFault, Name, NameFault};
@@ -8,7 +12,11 @@ use std::alloc::Global;
 const DEVICE_SECTORS: u64 = 1000;
 
 /// A bank of the host's devices.
-pub fn host_bank(alloc: Global) -> Result<MemBank, MemFault> {
+pub fn host_bank(alloc: Global) -> Result<MemBank, MemFault>
+    ensures names { IfOk result (λ bank. bank_names bank ≡ map (λ named. named.0) host_devices) }
+    ensures sizes { IfOk result (λ bank. (d : ℕ) → d < 7 → bank_size bank d ≡ DEVICE_SECTORS) }
+    ensures early { IfOk result (λ bank. bank_calls bank ≡ 0) }
+{
     let mut bank = MemBank::new(alloc);
     for i in 0..HOST_DEVICES {
         let (word, _) = host_device(i);
