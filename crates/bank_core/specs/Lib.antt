@@ -5,5 +5,6 @@ pub mod Disk
 pub mod MemBank
 pub mod Memory
 pub mod Parts
+pub mod Standing
 pub mod Story
 pub mod View
