@@ -3,6 +3,13 @@
 #![tactic(auto)]
 
 mod bytes;
+mod label;
+mod layout;
+mod member;
+mod stamping;
 mod uberblock;
 
+pub use layout::LEAST_SECTORS;
+pub use member::Member;
+pub use stamping::stamp;
 pub use uberblock::{Uberblock, read_uberblock, write_uberblock};
