@@ -3,13 +3,17 @@
 #![tactic(auto)]
 
 mod bytes;
+mod commit;
 mod label;
 mod layout;
 mod member;
+mod round;
+mod rule;
 mod stamping;
 mod uberblock;
 
 pub use layout::LEAST_SECTORS;
 pub use member::Member;
+pub use rule::{BlobRule, Head};
 pub use stamping::stamp;
 pub use uberblock::{Uberblock, read_uberblock, write_uberblock};
