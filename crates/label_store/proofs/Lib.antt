@@ -1,4 +1,5 @@
 pub mod Fields
+pub mod Keeping
 pub mod Phasing
 pub mod Pieces
 pub mod Places
