@@ -9,7 +9,7 @@ use Rattle.label_store.specs.declared.round.Phase.{Phase}
 use Rattle.label_store.specs.declared.round.Phase.TheVariants as phase
 use Rattle.label_store.specs.declared.round.Round.{Round}
 use Rattle.label_store.specs.Phases.{IsTurn, IsPhase}
-use Rattle.label_store.specs.Rounds.{Commit, first_plan, second_plan, third_plan}
+use Rattle.label_store.specs.Rounds.{Commit, IsRound, first_plan, second_plan, third_plan}
 
 abbrev pub commit_of : Round → Commit
 commit_of round = record { pool = round.pool; number = round.number; blob = round.blob.now; length = round.config_bytes }
@@ -30,3 +30,9 @@ pub record MakesPhase (plan : Member → List Ask) (members : List Member) (was 
   pub made : List Noted
   pub calls : Made old new before after made
   pub phase : IsPhase plan members was is made
+
+-- The calls of a round.
+pub record MakesRound (size : ℕ → ℕ) (commit : Commit) (members : List Member) (results : List Bool) (old new : Option Story) (before after : ℕ → ℕ) : Type 0 where
+  pub made : List Noted
+  pub calls : Made old new before after made
+  pub round : IsRound size commit members results made

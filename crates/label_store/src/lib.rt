@@ -12,6 +12,7 @@ mod rule;
 mod stamping;
 mod uberblock;
 
+pub use commit::commit_record;
 pub use layout::LEAST_SECTORS;
 pub use member::Member;
 pub use rule::{BlobRule, Head};

@@ -18,6 +18,7 @@ pub(crate) enum Phase {
 }
 
 /// A configuration that is committed: whole sectors, which begin with so many bytes of it, and its sum.
+#[derive(Drop)]
 pub(crate) struct Round<'a> {
     pub(crate) pool: Guid,
     pub(crate) number: Group,
