@@ -5,4 +5,5 @@ pub mod Phasing
 pub mod Pieces
 pub mod Places
 pub mod Rounding
+pub mod Searching
 pub mod Writing

@@ -41,7 +41,7 @@ stops_there {old} {new} {f} {g} {fault} dev labels offset bytes n a =
     subst (λ asks. MakesPart asks old new f g (Some fault)) (writes_split dev labels offset bytes n) (part_stop (label_writes dev (drop n labels) offset bytes) a)
 
 -- a place in each label lies inside the device
-label_room : (size room : ℕ) (k : ℕ) → 320 ≤ size → room ≤ 64 → get_or (labels_of size) k 0 + room ≤ size
+pub label_room : (size room : ℕ) (k : ℕ) → 320 ≤ size → room ≤ 64 → get_or (labels_of size) k 0 + room ≤ size
 label_room size room zero big small = omega arith
 label_room size room (suc zero) big small = omega arith
 label_room size room (suc (suc zero)) big small = omega arith

@@ -1,4 +1,5 @@
 pub mod Committing
+pub mod Identities
 pub mod Layout
 pub mod Phases
 pub mod Plans

@@ -9,6 +9,7 @@ mod layout;
 mod member;
 mod round;
 mod rule;
+mod search;
 mod stamping;
 mod uberblock;
 
@@ -16,5 +17,6 @@ pub use commit::commit_record;
 pub use layout::LEAST_SECTORS;
 pub use member::Member;
 pub use rule::{BlobRule, Head};
+pub use search::identity;
 pub use stamping::stamp;
 pub use uberblock::{Uberblock, read_uberblock, write_uberblock};
