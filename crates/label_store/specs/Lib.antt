@@ -1,6 +1,8 @@
 pub mod Committing
 pub mod Identities
 pub mod Layout
+pub mod Newest
+pub mod Opening
 pub mod Phases
 pub mod Plans
 pub mod Records

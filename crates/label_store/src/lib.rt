@@ -4,9 +4,13 @@
 
 mod bytes;
 mod commit;
+mod found;
 mod label;
 mod layout;
+mod look;
 mod member;
+mod opening;
+mod part;
 mod round;
 mod rule;
 mod search;
@@ -14,7 +18,9 @@ mod stamping;
 mod uberblock;
 
 pub use commit::commit_record;
+pub use found::Found;
 pub use layout::LEAST_SECTORS;
+pub use look::newest;
 pub use member::Member;
 pub use rule::{BlobRule, Head};
 pub use search::identity;
