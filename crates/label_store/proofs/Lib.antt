@@ -1,6 +1,7 @@
 pub mod Causing
 pub mod Fields
 pub mod Keeping
+pub mod Looking
 pub mod Openings
 pub mod Phasing
 pub mod Pieces

@@ -1,21 +1,16 @@
 //! Looks at all labels of devices.
-ghost use Rattle.std.specs.Prelude.{◌≡◌, ℕ, ◌+◌, ◌%◌, ◌/◌, ◌<◌, ◌≤◌, List, length, IfOk, slice_get, Some};
-ghost use Rattle.bank_core.specs.Disk.{sector_size, sectors_in};
+ghost use Rattle.std.specs.Prelude.{◌≡◌, ℕ, ◌+◌, ◌<◌, ◌≤◌, List, length, IfOk, slice_get, Some};
 ghost use Rattle.label_store.specs.Newest.{look_asks, Looks, FindsNewest};
 ghost use Rattle.label_store.specs.Opening.{ReadsPart};
 
 use crate::found::Found;
-use crate::layout::{CONFIG_OFFSET, RING_OFFSET, labels_of};
+use crate::layout::{CONFIG_OFFSET, CONFIG_SECTORS, RING_OFFSET, RING_SLOTS, labels_of};
 use crate::opening::best_of;
 use crate::part::Part;
 use crate::rule::BlobRule;
-use crate::stamping::RING_BYTES;
-use bank_core::Bank;
+use bank_core::{Bank, SECTOR_BYTES};
 use mp_base::{MemFault, Name};
 use std::alloc::Global;
-
-/// The bytes of a configuration part.
-const CONFIG_BYTES: usize = 114_688;
 
 /// The record of this name with the greatest number that is verified on one of these devices; of two with
 /// one number that of the first device, and on one device that of the first label and slot. Every label
@@ -53,8 +48,8 @@ fn look<B: Bank>(alloc: Global, bank: &mut B, dev: u32) -> Result<Vec<Part>, Mem
     let mut parts = Vec::new(alloc);
     let labels = labels_of(bank.sectors(dev));
     for at in &labels {
-        parts.push(read_part(alloc, bank, dev, *at + RING_OFFSET, RING_BYTES)?)?;
-        parts.push(read_part(alloc, bank, dev, *at + CONFIG_OFFSET, CONFIG_BYTES)?)?;
+        parts.push(read_part(alloc, bank, dev, *at + RING_OFFSET, RING_SLOTS as usize)?)?;
+        parts.push(read_part(alloc, bank, dev, *at + CONFIG_OFFSET, CONFIG_SECTORS)?)?;
     }
     Ok(parts)
 }
@@ -64,17 +59,17 @@ fn read_part<B: Bank>(
     bank: &mut B,
     dev: u32,
     at: u64,
-    count: usize,
+    sectors: usize,
 ) -> Result<Part, MemFault>
-    requires whole { count % sector_size ≡ 0 }
-    requires some { 0 < count }
-    requires inside { at + count / sector_size ≤ B.size bank.old dev }
+    requires some { 0 < sectors }
+    requires few { sectors ≤ 32 }
+    requires inside { at + sectors ≤ B.size bank.old dev }
     ensures size { (d : ℕ) → B.size bank.new d ≡ B.size bank.old d }
     ensures numbers { (other : List ℕ) → B.number_of bank.new other ≡ B.number_of bank.old other }
-    ensures read { IfOk result (λ part. ReadsPart dev at (count / sector_size)
+    ensures read { IfOk result (λ part. ReadsPart dev at sectors
         (B.told bank.old) (B.told bank.new) (B.faults bank.old) (B.faults bank.new) part) }
 {
-    let mut bytes = vec![in alloc; 0; count]?;
+    let mut bytes = vec![in alloc; 0; sectors * SECTOR_BYTES]?;
     match bank.read(dev, at, &mut bytes) {
         Ok(()) => Ok(Part::read(bytes)),
         Err(_) => Ok(Part::failed()),
