@@ -4,10 +4,9 @@ use Rattle.std.specs.Prelude.{slice_get}
 use Rattle.mp_base.specs.Outside.{Rose}
 use Rattle.bank_core.specs.declared.bank.Fault.{Fault}
 use Rattle.bank_core.specs.Asks.{Ask, Reads, Writes, Flushes, Admits, Ejects, ask_of, IsPart}
-use Rattle.bank_core.specs.Calls.{AllCaused, IsCaused, device_of, fault_of}
+use Rattle.bank_core.specs.Calls.{AllCaused, device_of}
 use Rattle.bank_core.specs.Disk.{Noted, Call, Read, Write, Flush, Admit, Eject}
 use Rattle.label_store.specs.declared.member.Member.{Member}
-use Rattle.label_store.specs.declared.round.Phase.{Phase}
 use Rattle.label_store.specs.Committing.{AreExcused}
 use Rattle.label_store.specs.Phases.{IsTurn, IsPhase}
 use Rattle.label_store.specs.Rounds.{Commit, IsRound, first_plan, second_plan, third_plan}

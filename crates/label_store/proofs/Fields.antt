@@ -1,11 +1,10 @@
 -- The fields of an uberblock's sector are those that were written.
-use Rattle.std.proofs.Common.{◌≡◌, ℕ, ◌+◌, ◌^◌, ◌<◌, ◌≤◌, List, ◌++◌, length, take, drop, refl, sym, ap, ◌∙◌, arith, append_assoc, length-append, Some, None, Bool, true, false, subst}
+use Rattle.std.proofs.Common.{◌≡◌, ℕ, ◌+◌, ◌^◌, ◌<◌, List, ◌++◌, length, take, drop, refl, sym, ap, ◌∙◌, arith, append_assoc, length-append, Bool, true, false, subst}
 use Rattle.std.proofs.lemmas.Nat.{from_be_bytes-to_be_bytes_8}
 use Rattle.std.proofs.lemmas.List.{take_all, take_at, drop_at}
 use Rattle.std.specs.Int.{from_be_bytes, w64}
 use Rattle.sha2.specs.Sha256.{sha256}
 use Rattle.sha2.proofs.Facts256.{length-sha256}
-use Rattle.mp_base.specs.Block.{zeros}
 use Rattle.label_store.specs.declared.uberblock.Uberblock.{Uberblock}
 use Rattle.label_store.specs.Uberblock.{be, number_at, uberblock_head, uberblock_bytes, fields_of, IsInRange, IsUberblock}
 

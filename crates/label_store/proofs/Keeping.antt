@@ -1,11 +1,11 @@
 -- A round leaves each member its old record or the new one, at each moment.
-use Rattle.std.proofs.Common.{◌≡◌, ◌≢◌, ◌⊎◌, ℕ, zero, suc, ◌+◌, ◌-◌, ◌/◌, ◌%◌, ◌<◌, ◌≤◌, Bool, true, false, List, [], ◌∷◌, ◌++◌, map, length, take, drop, get_or, Option, Some, None, is_none, refl, sym, ap, ◌∙◌, subst, arith, inl, inr, ⊎_elim, append_assoc, add_assoc}
+use Rattle.std.proofs.Common.{◌≡◌, ◌≢◌, ◌⊎◌, ℕ, zero, suc, ◌+◌, ◌-◌, ◌/◌, ◌%◌, ◌<◌, ◌≤◌, Bool, true, false, List, [], ◌∷◌, ◌++◌, map, length, take, get_or, Option, Some, None, is_none, refl, sym, ap, ◌∙◌, subst, arith, inl, inr, ⊎_elim, append_assoc, add_assoc}
 use Rattle.std.specs.Prelude.{slice_get}
 use Rattle.std.proofs.lemmas.Bool.{cases_lt}
 use Rattle.std.proofs.lemmas.List.{take-append-le}
 use Rattle.bank_core.specs.declared.bank.Fault.{Fault}
 use Rattle.bank_core.specs.Asks.{Ask, IsPart}
-use Rattle.bank_core.specs.Disk.{Sector, Sectors, Noted, replay, run, sectors_in, sector_of, IsClean, IsImage}
+use Rattle.bank_core.specs.Disk.{Sector, Sectors, Noted, replay, run, sectors_in, sector_of, IsImage}
 use Rattle.bank_core.specs.Standing.{Stands, StandFrom, Untouched, Spares}
 use Rattle.bank_core.proofs.Composing.{replay_more}
 use Rattle.bank_core.proofs.Standing.{untouched_stands, untouched_more, untouched_front, part_spares}
@@ -14,11 +14,11 @@ use Rattle.label_store.specs.declared.rule.Head.{Head}
 use Rattle.label_store.specs.declared.uberblock.Uberblock.{Uberblock}
 use Rattle.label_store.specs.Layout.{labels_of}
 use Rattle.label_store.specs.Phases.{IsTurn, IsPhase}
-use Rattle.label_store.specs.Records.{config_at, place_at, IsRecord, IsVerified, AreUnhurt, HasRecord, Leaves, LeavesOne}
+use Rattle.label_store.specs.Records.{config_at, place_at, IsRecord, AreUnhurt, HasRecord, Leaves, LeavesOne}
 use Rattle.label_store.specs.Rounds.{Commit, IsRound, config_of, uberblock_of, first_plan, second_plan, third_plan}
 use Rattle.label_store.specs.Seats.{AreSeated, AreApart}
 use Rattle.label_store.specs.Uberblock.{uberblock_bytes}
-use Rattle.label_store.proofs.Places.{IsOneOf, label_is, config_elsewhere_even, config_elsewhere_odd, ring_elsewhere, even_spares_ring, odd_spares_ring, even_spares_config, odd_spares_config, ring_spares_ring, ring_spares_config, uberblock_sectors, even_lands, ring_lands}
+use Rattle.label_store.proofs.Places.{label_is, config_elsewhere_even, config_elsewhere_odd, ring_elsewhere, even_spares_ring, odd_spares_ring, even_spares_config, odd_spares_config, ring_spares_ring, ring_spares_config, uberblock_sectors, even_lands, ring_lands}
 
 same_member : (m n : Member) → Some m ≡ Some n → m ≡ n
 same_member m n e = cc
@@ -289,15 +289,16 @@ brings_new head_of size commit ms i m results made sectors sc r on =
 third_spares_new : (head_of : List ℕ → Option Head) (size : ℕ → ℕ) (commit : Commit) (ms : List Member) (i : ℕ) (m : Member) (was is : List Bool) (made : List Noted)
     → Scene head_of size commit ms i m → IsPhase (third_plan size commit) ms was is made
     → (Untouched made m.dev (0 + (32 + commit.number.0 % 32))) × ((x : ℕ) → x < sectors_in commit.blob → Untouched made m.dev (config_at (size m.dev) 0 + x))
-third_spares_new head_of size commit ms i m was is made sc p =
-    (phase_spares (third_plan size commit) ms was is made m.dev _
-    (λ j n e _. each (λ q. Spares (third_plan size commit q) m.dev (0 + (32 + commit.number.0 % 32))) ms i j m n sc.apart sc.at e
-    (λ _. odd_spares_ring m.dev (size m.dev) commit.blob m.dev 0 (commit.number.0 % 32) (big_of sc) sc.few (label_is (size m.dev) 0 (omega arith)) (omega arith))
-    (λ q away. config_elsewhere_odd q.dev (size q.dev) commit.blob m.dev _ away)) p,
-    λ x lt. phase_spares (third_plan size commit) ms was is made m.dev _
-    (λ j n e _. each (λ q. Spares (third_plan size commit q) m.dev (config_at (size m.dev) 0 + x)) ms i j m n sc.apart sc.at e
-    (λ _. odd_spares_config m.dev (size m.dev) commit.blob m.dev 0 x (big_of sc) sc.few (label_is (size m.dev) 0 (omega arith)) (omega arith) (omega (arith, big_of sc)) (omega (arith, sc.few)))
-    (λ q away. config_elsewhere_odd q.dev (size q.dev) commit.blob m.dev _ away)) p)
+third_spares_new head_of size commit ms i m was is made sc p = (
+  phase_spares (third_plan size commit) ms was is made m.dev _
+      (λ j n e _. each (λ q. Spares (third_plan size commit q) m.dev (0 + (32 + commit.number.0 % 32))) ms i j m n sc.apart sc.at e
+      (λ _. odd_spares_ring m.dev (size m.dev) commit.blob m.dev 0 (commit.number.0 % 32) (big_of sc) sc.few (label_is (size m.dev) 0 (omega arith)) (omega arith))
+      (λ q away. config_elsewhere_odd q.dev (size q.dev) commit.blob m.dev _ away)) p,
+  λ x lt. phase_spares (third_plan size commit) ms was is made m.dev _
+      (λ j n e _. each (λ q. Spares (third_plan size commit q) m.dev (config_at (size m.dev) 0 + x)) ms i j m n sc.apart sc.at e
+      (λ _. odd_spares_config m.dev (size m.dev) commit.blob m.dev 0 x (big_of sc) sc.few (label_is (size m.dev) 0 (omega arith)) (omega arith) (omega (arith, big_of sc)) (omega (arith, sc.few)))
+      (λ q away. config_elsewhere_odd q.dev (size q.dev) commit.blob m.dev _ away)) p,
+)
 
 new_more : (size : ℕ) (sectors : ℕ → Sector) (calls more : List Noted) (d : ℕ) (u : Uberblock) (blob : List ℕ) → IsNew size sectors calls d u blob
     → Untouched more d (0 + (32 + u.number.0 % 32)) → ((x : ℕ) → x < sectors_in blob → Untouched more d (config_at size 0 + x)) → IsNew size sectors (calls ++ more) d u blob
@@ -327,12 +328,12 @@ stays : (head_of : List ℕ → Option Head) (size : ℕ → ℕ) (commit : Comm
     → LeavesOne head_of (size m.dev) (λ s. replay (take k made) m.dev s (sectors s)) (u, config) (uberblock_of commit m, config_of commit)
 stays head_of size commit ms i m results made sectors u config k sc old r on image =
     let front = old_more (size m.dev) r.first r.second m.dev old.place old.label old.blob
-        (first_keeps head_of size commit ms i m _ r.in_first r.first sectors u config sc old r.configs)
-        (second_keeps head_of size commit ms i m r.in_first r.in_second r.second sectors u config sc old r.uberblocks) in
+    (first_keeps head_of size commit ms i m _ r.in_first r.first sectors u config sc old r.configs)
+    (second_keeps head_of size commit ms i m r.in_first r.in_second r.second sectors u config sc old r.uberblocks) in
     let spared = third_spares_new head_of size commit ms i m r.in_second results r.third sc r.copies in
     let all : made ≡ (r.first ++ r.second) ++ r.third = r.all ∙ sym (append_assoc r.first r.second r.third) in
     let P : List Noted → Type 0 = λ calls. AreUnhurt (size m.dev) (λ s. replay calls m.dev s (sectors s)) → IsImage (λ s. replay calls m.dev s (sectors s)) image
-        → Leaves head_of (size m.dev) image u config ⊎ Leaves head_of (size m.dev) image (uberblock_of commit m) (config_of commit) in
+    → Leaves head_of (size m.dev) image u config ⊎ Leaves head_of (size m.dev) image (uberblock_of commit m) (config_of commit) in
     subst (λ calls. P (take k calls)) (sym all)
     (⊎_elim {A = k < length (r.first ++ r.second)} {B = length (r.first ++ r.second) ≤ k}
     (λ lt. subst P (sym (take-append-le k (r.first ++ r.second) r.third (omega arith)))
@@ -352,10 +353,10 @@ left : (head_of : List ℕ → Option Head) (size : ℕ → ℕ) (commit : Commi
     → LeavesOne head_of (size m.dev) (λ s. replay (take k made) m.dev s (sectors s)) (u, config) (uberblock_of commit m, config_of commit)
 left head_of size commit ms i m results made sectors u config k sc old r off image unhurt is =
     let all = old_more (size m.dev) r.first (r.second ++ r.third) m.dev old.place old.label old.blob
-        (first_keeps head_of size commit ms i m _ r.in_first r.first sectors u config sc old r.configs)
-        (old_more (size m.dev) r.second r.third m.dev old.place old.label old.blob
-        (second_keeps head_of size commit ms i m r.in_first r.in_second r.second sectors u config sc old r.uberblocks)
-        (third_keeps head_of size commit ms i m r.in_second results r.third sectors u config sc old off r.copies)) in
+    (first_keeps head_of size commit ms i m _ r.in_first r.first sectors u config sc old r.configs)
+    (old_more (size m.dev) r.second r.third m.dev old.place old.label old.blob
+    (second_keeps head_of size commit ms i m r.in_first r.in_second r.second sectors u config sc old r.uberblocks)
+    (third_keeps head_of size commit ms i m r.in_second results r.third sectors u config sc old off r.copies)) in
     let whole = subst (λ calls. IsOld (size m.dev) calls m.dev old.place old.label old.blob) (sym r.all) all in
     inl (old_leaves head_of (size m.dev) commit.number.0 sectors u config (take k made) m.dev old
     (old_front (size m.dev) made m.dev old.place old.label old.blob k whole) image unhurt is)

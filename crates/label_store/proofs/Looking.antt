@@ -1,5 +1,5 @@
 -- Reads of the parts of labels, one after another.
-use Rattle.std.proofs.Common.{◌≡◌, ℕ, zero, suc, ◌+◌, ◌-◌, ◌*◌, ◌/◌, ◌%◌, ◌<◌, ◌≤◌, List, [], ◌∷◌, ◌++◌, map, length, take, get_or, Option, Some, None, Result, Ok, Err, refl, sym, ap, ◌∙◌, subst, arith, append_assoc, append-nil}
+use Rattle.std.proofs.Common.{◌≡◌, ℕ, ◌+◌, ◌*◌, ◌/◌, ◌%◌, ◌<◌, ◌≤◌, List, [], ◌∷◌, ◌++◌, length, take, get_or, Option, Some, None, Ok, Err, refl, sym, ap, ◌∙◌, subst, arith, append_assoc, append-nil}
 use Rattle.std.specs.Prelude.{slice_get}
 use Rattle.std.specs.List.{flat_map}
 use Rattle.std.proofs.lemmas.List.{map-append, take_more, take_all, take_at, length_push}
@@ -16,7 +16,7 @@ use Rattle.label_store.specs.declared.found.Found.{Found}
 use Rattle.label_store.specs.declared.rule.Head.{Head}
 use Rattle.label_store.specs.declared.uberblock.Uberblock.{Uberblock}
 use Rattle.label_store.specs.Layout.{labels_of}
-use Rattle.label_store.specs.Newest.{Parts, parts_of, given_by, label_asks, look_asks, Looks, IsLook, IsBest, IsTop, IsCandidate, FindsNewest}
+use Rattle.label_store.specs.Newest.{Parts, parts_of, given_by, label_asks, look_asks, Looks, IsLook, IsBest, IsCandidate, FindsNewest}
 use Rattle.label_store.specs.Opening.{ReadsPart}
 
 pub many_whole : (bytes : List ℕ) (n : ℕ) → length bytes ≡ n * 4096 → length bytes % sector_size ≡ 0
@@ -66,8 +66,8 @@ pub label_more : {old mid between new : Option Story} {f g h i : ℕ → ℕ} {p
 label_more {old} {mid} {between} {new} {f} {g} {h} {i} {parts} dev labels k ring config parts' lt are l r c =
     let both = looks_more dev (get_or labels k 0 + 4) 28 config (looks_more dev (get_or labels k 0 + 32) 32 ring l r) c in
     let asks : flat_map (label_asks dev) (take (k + 1) labels) ≡ (flat_map (label_asks dev) (take k labels) ++ Reads dev (get_or labels k 0 + 32) 32 ∷ []) ++ Reads dev (get_or labels k 0 + 4) 28 ∷ [] =
-        ap (flat_map (label_asks dev)) (take_more labels k 0 lt) ∙ flat_map-append (label_asks dev) (take k labels) (get_or labels k 0 ∷ [])
-        ∙ sym (two_more (flat_map (label_asks dev) (take k labels)) (Reads dev (get_or labels k 0 + 32) 32) (Reads dev (get_or labels k 0 + 4) 28)) in
+    ap (flat_map (label_asks dev)) (take_more labels k 0 lt) ∙ flat_map-append (label_asks dev) (take k labels) (get_or labels k 0 ∷ [])
+    ∙ sym (two_more (flat_map (label_asks dev) (take k labels)) (Reads dev (get_or labels k 0 + 32) 32) (Reads dev (get_or labels k 0 + 4) 28)) in
     subst (λ p. Looks (flat_map (label_asks dev) (take (k + 1) labels)) old new f i p) (sym are)
     (subst (λ a. Looks a old new f i ((parts ++ ring ∷ []) ++ config ∷ [])) (sym asks) both)
 
@@ -136,7 +136,7 @@ so_far_more {old} {mid} {new} {f} {g} {h} head_of size devs name i dev parts bes
     let more : take (i + 1) devs ≡ take i devs ++ dev ∷ [] = take_more devs i 0 lt ∙ ap (λ d. take i devs ++ d ∷ []) (sym at) in
     let there : slice_get (s.looks ++ parts ∷ []) i ≡ Some parts = ap (slice_get (s.looks ++ parts ∷ [])) (sym s.count) ∙ get_last s.looks parts in
     let longer : IsBest head_of (s.looks ++ parts ∷ []) name (128 * i) best = subst (λ n. IsBest head_of (s.looks ++ parts ∷ []) name (128 * n) best) s.count
-        (best_longer head_of s.looks parts name best (subst (λ n. IsBest head_of s.looks name (128 * n) best) (sym s.count) s.is_best)) in
+    (best_longer head_of s.looks parts name best (subst (λ n. IsBest head_of s.looks name (128 * n) best) (sym s.count) s.is_best)) in
     record {
       made = s.made ++ l.made;
       calls = made_more old mid new f g h s.made l.made s.calls l.calls;

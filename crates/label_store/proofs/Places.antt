@@ -1,10 +1,10 @@
 -- Which sectors the plans of a round spare, and which bytes they bring.
-use Rattle.std.proofs.Common.{◌≡◌, ◌≢◌, ◌⊎◌, ℕ, zero, suc, ◌+◌, ◌-◌, ◌*◌, ◌/◌, ◌%◌, nat_le, nat_lt, ◌==◌, ◌<◌, ◌≤◌, ◌&&◌, Bool, true, false, List, [], ◌∷◌, ◌++◌, length, refl, sym, ap, ◌∙◌, subst, arith, inl, inr, get_or, None, length-append, take, drop}
+use Rattle.std.proofs.Common.{◌≡◌, ◌≢◌, ◌⊎◌, ℕ, zero, suc, ◌+◌, ◌-◌, ◌*◌, ◌%◌, nat_le, nat_lt, ◌==◌, ◌<◌, ◌≤◌, ◌&&◌, Bool, true, false, List, [], ◌∷◌, ◌++◌, length, refl, ap, ◌∙◌, subst, arith, inl, inr, get_or, None, length-append, take, drop}
 use Rattle.std.proofs.lemmas.List.{take_all, length-replicate}
 use Rattle.label_store.proofs.Fields.{length-be}
 use Rattle.std.proofs.lemmas.Bool.Decides.{nat_tests}
 use Rattle.std.proofs.lemmas.Grind.{common_steps}
-use Rattle.bank_core.specs.Asks.{Ask, Writes, Flushes, IsPart}
+use Rattle.bank_core.specs.Asks.{Writes, IsPart}
 use Rattle.bank_core.proofs.Blocks.{block_sectors}
 use Rattle.mp_base.specs.Block.{zeros}
 use Rattle.sha2.proofs.Facts256.{length-sha256}
@@ -14,8 +14,7 @@ use Rattle.bank_core.specs.Disk.{Sector, covers, sectors_in, sector_of, sector_s
 use Rattle.bank_core.specs.Standing.{Stands, Spares}
 use Rattle.bank_core.proofs.Standing.{part_lands}
 use Rattle.label_store.specs.Layout.{labels_of, even_labels, odd_labels}
-use Rattle.label_store.specs.Plans.{config_plan, ring_plan, label_writes}
-use Rattle.label_store.specs.Records.{config_at, place_at}
+use Rattle.label_store.specs.Plans.{config_plan, ring_plan}
 
 and_false : (x : Bool) → (x && false) ≡ false
 and_false true = refl
@@ -127,28 +126,32 @@ third' size = inr (inr (inr refl))
 -- the even labels' configuration spares every place of a ring
 pub even_spares_ring : (dev size : ℕ) (blob : List ℕ) (d a t : ℕ) → 320 ≤ size → sectors_in blob ≤ 28 → IsOneOf size a → t < 32
     → Spares (config_plan dev (even_labels size) blob) d (a + (32 + t))
-even_spares_ring dev size blob d a t big few is lt =
-    (spared dev _ _ d _ (ring_off_config size a 0 t _ big is (zeroth size) lt few),
-    (spared dev _ _ d _ (ring_off_config size a (size - 128) t _ big is (second' size) lt few), (refl, tt)))
+even_spares_ring dev size blob d a t big few is lt = (
+  spared dev _ _ d _ (ring_off_config size a 0 t _ big is (zeroth size) lt few),
+  (spared dev _ _ d _ (ring_off_config size a (size - 128) t _ big is (second' size) lt few), (refl, tt)),
+)
 
 pub odd_spares_ring : (dev size : ℕ) (blob : List ℕ) (d a t : ℕ) → 320 ≤ size → sectors_in blob ≤ 28 → IsOneOf size a → t < 32
     → Spares (config_plan dev (odd_labels size) blob) d (a + (32 + t))
-odd_spares_ring dev size blob d a t big few is lt =
-    (spared dev _ _ d _ (ring_off_config size a 64 t _ big is (first' size) lt few),
-    (spared dev _ _ d _ (ring_off_config size a (size - 64) t _ big is (third' size) lt few), (refl, tt)))
+odd_spares_ring dev size blob d a t big few is lt = (
+  spared dev _ _ d _ (ring_off_config size a 64 t _ big is (first' size) lt few),
+  (spared dev _ _ d _ (ring_off_config size a (size - 64) t _ big is (third' size) lt few), (refl, tt)),
+)
 
 -- and every configuration part that it doesn't write
 pub even_spares_config : (dev size : ℕ) (blob : List ℕ) (d a i : ℕ) → 320 ≤ size → sectors_in blob ≤ 28 → IsOneOf size a → a ≢ 0 → a ≢ size - 128 → i < 28
     → Spares (config_plan dev (even_labels size) blob) d (a + 4 + i)
-even_spares_config dev size blob d a i big few is ne ne' lt =
-    (spared dev _ _ d _ (config_off_config size a 0 i _ big is (zeroth size) ne lt few),
-    (spared dev _ _ d _ (config_off_config size a (size - 128) i _ big is (second' size) ne' lt few), (refl, tt)))
+even_spares_config dev size blob d a i big few is ne ne' lt = (
+  spared dev _ _ d _ (config_off_config size a 0 i _ big is (zeroth size) ne lt few),
+  (spared dev _ _ d _ (config_off_config size a (size - 128) i _ big is (second' size) ne' lt few), (refl, tt)),
+)
 
 pub odd_spares_config : (dev size : ℕ) (blob : List ℕ) (d a i : ℕ) → 320 ≤ size → sectors_in blob ≤ 28 → IsOneOf size a → a ≢ 64 → a ≢ size - 64 → i < 28
     → Spares (config_plan dev (odd_labels size) blob) d (a + 4 + i)
-odd_spares_config dev size blob d a i big few is ne ne' lt =
-    (spared dev _ _ d _ (config_off_config size a 64 i _ big is (first' size) ne lt few),
-    (spared dev _ _ d _ (config_off_config size a (size - 64) i _ big is (third' size) ne' lt few), (refl, tt)))
+odd_spares_config dev size blob d a i big few is ne ne' lt = (
+  spared dev _ _ d _ (config_off_config size a 64 i _ big is (first' size) ne lt few),
+  (spared dev _ _ d _ (config_off_config size a (size - 64) i _ big is (third' size) ne' lt few), (refl, tt)),
+)
 
 ring_one : (dev size : ℕ) (u : Uberblock) (d s b : ℕ) → (b + (32 + u.number.0 % 32) ≤ s → s < b + (32 + u.number.0 % 32) + 1 → ⊥)
     → sectors_in (uberblock_bytes u) ≡ 1 → ((dev == d) && covers (b + (32 + u.number.0 % 32)) (sectors_in (uberblock_bytes u)) s) ≡ false
@@ -158,27 +161,45 @@ ring_one dev size u d s b m one = rw one (spared dev (b + (32 + u.number.0 % 32)
 pub ring_spares_ring : (dev size : ℕ) (u : Uberblock) (d a t : ℕ) → 320 ≤ size → sectors_in (uberblock_bytes u) ≡ 1 → IsOneOf size a → t < 32 → t ≢ u.number.0 % 32
     → Spares (ring_plan dev size u) d (a + (32 + t))
 ring_spares_ring dev size u d a t big one is lt ne =
-    let slot : u.number.0 % 32 < 32 = omega arith in
-    (ring_one dev size u d _ 0 (ring_off_ring size a 0 t _ big is (zeroth size) lt slot ne) one,
-    (ring_one dev size u d _ 64 (ring_off_ring size a 64 t _ big is (first' size) lt slot ne) one,
-    (ring_one dev size u d _ (size - 128) (ring_off_ring size a (size - 128) t _ big is (second' size) lt slot ne) one,
-    (ring_one dev size u d _ (size - 64) (ring_off_ring size a (size - 64) t _ big is (third' size) lt slot ne) one, (refl, tt)))))
+    let slot : u.number.0 % 32 < 32 = omega arith in (
+      ring_one dev size u d _ 0 (ring_off_ring size a 0 t _ big is (zeroth size) lt slot ne) one,
+      (
+        ring_one dev size u d _ 64 (ring_off_ring size a 64 t _ big is (first' size) lt slot ne) one,
+        (
+          ring_one dev size u d _ (size - 128) (ring_off_ring size a (size - 128) t _ big is (second' size) lt slot ne) one,
+          (ring_one dev size u d _ (size - 64) (ring_off_ring size a (size - 64) t _ big is (third' size) lt slot ne) one, (refl, tt)),
+        ),
+      ),
+    )
 
 pub ring_spares_config : (dev size : ℕ) (u : Uberblock) (d a i : ℕ) → 320 ≤ size → sectors_in (uberblock_bytes u) ≡ 1 → IsOneOf size a → i < 28
     → Spares (ring_plan dev size u) d (a + 4 + i)
 ring_spares_config dev size u d a i big one is lt =
-    let slot : u.number.0 % 32 < 32 = omega arith in
-    (ring_one dev size u d _ 0 (config_off_ring size a 0 i _ big is (zeroth size) lt slot) one,
-    (ring_one dev size u d _ 64 (config_off_ring size a 64 i _ big is (first' size) lt slot) one,
-    (ring_one dev size u d _ (size - 128) (config_off_ring size a (size - 128) i _ big is (second' size) lt slot) one,
-    (ring_one dev size u d _ (size - 64) (config_off_ring size a (size - 64) i _ big is (third' size) lt slot) one, (refl, tt)))))
+    let slot : u.number.0 % 32 < 32 = omega arith in (
+      ring_one dev size u d _ 0 (config_off_ring size a 0 i _ big is (zeroth size) lt slot) one,
+      (
+        ring_one dev size u d _ 64 (config_off_ring size a 64 i _ big is (first' size) lt slot) one,
+        (
+          ring_one dev size u d _ (size - 128) (config_off_ring size a (size - 128) i _ big is (second' size) lt slot) one,
+          (ring_one dev size u d _ (size - 64) (config_off_ring size a (size - 64) i _ big is (third' size) lt slot) one, (refl, tt)),
+        ),
+      ),
+    )
 
 length_nine : (a b c d e f g z t : List ℕ) → length a ≡ 8 → length b ≡ 8 → length c ≡ 8 → length d ≡ 8 → length e ≡ 8 → length f ≡ 8 → length g ≡ 32
     → length z ≡ 3984 → length t ≡ 32 → length (a ++ b ++ c ++ d ++ e ++ f ++ g ++ z ++ t) ≡ 4096
 length_nine a b c d e f g z t la lb lc ld le lf lg lz lt =
-    omega (arith, length-append a b, length-append (a ++ b) c, length-append (a ++ b ++ c) d, length-append (a ++ b ++ c ++ d) e,
-    length-append (a ++ b ++ c ++ d ++ e) f, length-append (a ++ b ++ c ++ d ++ e ++ f) g, length-append (a ++ b ++ c ++ d ++ e ++ f ++ g) z,
-    length-append (a ++ b ++ c ++ d ++ e ++ f ++ g ++ z) t)
+    omega (
+      arith,
+      length-append a b,
+      length-append (a ++ b) c,
+      length-append (a ++ b ++ c) d,
+      length-append (a ++ b ++ c ++ d) e,
+      length-append (a ++ b ++ c ++ d ++ e) f,
+      length-append (a ++ b ++ c ++ d ++ e ++ f) g,
+      length-append (a ++ b ++ c ++ d ++ e ++ f ++ g) z,
+      length-append (a ++ b ++ c ++ d ++ e ++ f ++ g ++ z) t,
+    )
 
 length-zeros : (n : ℕ) → length (zeros n) ≡ n
 unfolding zeros
@@ -214,9 +235,12 @@ ring_lands dev size u mine x big long part =
     let one = uberblock_sectors u long in
     let s = 0 + (32 + u.number.0 % 32) in
     let lands = part_lands dev s (uberblock_bytes u)
-        (Writes dev (64 + (32 + u.number.0 % 32)) (uberblock_bytes u) ∷ Writes dev (size - 128 + (32 + u.number.0 % 32)) (uberblock_bytes u) ∷ Writes dev (size - 64 + (32 + u.number.0 % 32)) (uberblock_bytes u) ∷ []) mine s x
-        (rw one (covered s 1 s (omega arith) (omega arith)))
-        (ring_one dev size u dev s 64 (λ above below. omega arith) one,
-        (ring_one dev size u dev s (size - 128) (λ above below. omega arith) one,
-        (ring_one dev size u dev s (size - 64) (λ above below. omega arith) one, tt))) part in
+    (Writes dev (64 + (32 + u.number.0 % 32)) (uberblock_bytes u) ∷ Writes dev (size - 128 + (32 + u.number.0 % 32)) (uberblock_bytes u) ∷ Writes dev (size - 64 + (32 + u.number.0 % 32)) (uberblock_bytes u) ∷ []) mine s x
+    (rw one (covered s 1 s (omega arith) (omega arith))) (
+      ring_one dev size u dev s 64 (λ above below. omega arith) one,
+      (
+        ring_one dev size u dev s (size - 128) (λ above below. omega arith) one,
+        (ring_one dev size u dev s (size - 64) (λ above below. omega arith) one, tt),
+      ),
+    ) part in
     subst (λ b. Stands (replay mine dev s x) b) (first_sector s (uberblock_bytes u) (length-uberblock u long)) lands

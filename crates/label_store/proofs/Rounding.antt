@@ -1,19 +1,16 @@
 -- Three phases are a round, and what it keeps.
 use mathlib.Core.Path.{fun_ext}
-use Rattle.std.proofs.Common.{◌≡◌, ℕ, zero, suc, ◌+◌, ◌^◌, ◌<◌, ◌≤◌, Bool, true, List, [], ◌∷◌, ◌++◌, length, take, map, replicate, Option, refl, sym, ap, ◌∙◌, subst, arith}
-use Rattle.sha2.specs.Sha256.{sha256}
+use Rattle.std.proofs.Common.{◌≡◌, ℕ, ◌^◌, ◌<◌, ◌≤◌, Bool, true, List, [], ◌∷◌, ◌++◌, length, map, replicate, Option, refl, ap, ◌∙◌, subst, arith}
 use Rattle.sha2.proofs.Facts256.{length-sha256}
-use Rattle.bank_core.specs.Calls.{Made}
-use Rattle.bank_core.specs.Disk.{Noted, sector_size, sectors_in}
+use Rattle.bank_core.specs.Disk.{sector_size}
 use Rattle.bank_core.specs.Story.{Story}
 use Rattle.bank_core.proofs.Composing.{made_more}
 use Rattle.label_store.specs.declared.member.Member.{Member}
-use Rattle.label_store.specs.declared.round.Phase.{Phase}
 use Rattle.label_store.specs.declared.round.Phase.TheVariants as phase
 use Rattle.label_store.specs.declared.rule.Head.{Head}
 use Rattle.label_store.specs.Committing.{IsSealed, Commits, AreExcused}
 use Rattle.label_store.specs.Records.{IsRecord, IsHeaded}
-use Rattle.label_store.specs.Rounds.{Commit, IsRound, config_of, uberblock_of}
+use Rattle.label_store.specs.Rounds.{Commit, config_of, uberblock_of}
 use Rattle.label_store.specs.Seats.{AreSeated, AreApart}
 use Rattle.label_store.specs.Turns.{plan_of, MakesPhase, MakesRound}
 use Rattle.label_store.proofs.Causing.{round_excused}

@@ -1,19 +1,19 @@
 -- Rings that are searched one after another.
-use Rattle.std.proofs.Common.{◌≡◌, ◌≢◌, ◌⊎◌, ℕ, zero, suc, ◌+◌, ◌-◌, ◌*◌, ◌%◌, ◌<◌, ◌≤◌, Bool, true, false, List, [], ◌∷◌, ◌++◌, map, length, take, drop, get_or, Option, Some, None, Result, Ok, Err, OnErr, refl, sym, ap, ◌∙◌, subst, arith, below_more}
+use Rattle.std.proofs.Common.{◌≡◌, ℕ, zero, suc, ◌+◌, ◌-◌, ◌*◌, ◌%◌, ◌<◌, ◌≤◌, Bool, true, false, List, [], ◌∷◌, ◌++◌, map, length, take, drop, get_or, Option, Some, None, Result, Ok, Err, OnErr, refl, sym, ap, ◌∙◌, subst, arith}
 use Rattle.std.proofs.lemmas.List.{take_more, map-append, take_all}
 use Rattle.mp_base.specs.Outside.{Rose}
 use Rattle.mp_base.specs.declared.number.Guid.{Guid}
 use Rattle.bank_core.specs.declared.bank.Fault.{Fault}
 use Rattle.bank_core.specs.Asks.{Reads, ask_of}
-use Rattle.bank_core.specs.Calls.{Made, fault_of}
-use Rattle.bank_core.specs.Disk.{Call, Read, Write, Flush, Admit, Eject, Noted, sector_of, sectors_in, sector_size}
+use Rattle.bank_core.specs.Calls.{fault_of}
+use Rattle.bank_core.specs.Disk.{Call, Read, Noted, sector_of, sectors_in, sector_size}
 use Rattle.bank_core.specs.Story.{Story, Tells, fault_in}
 use Rattle.bank_core.proofs.Composing.{made_none, made_more, one_made, call_caused}
 use Rattle.bank_core.proofs.Sectors.{piece_is}
 use Rattle.label_store.specs.Layout.{labels_of}
 use Rattle.label_store.proofs.Writing.{label_room}
 use Rattle.label_store.specs.Uberblock.{IsUberblock}
-use Rattle.label_store.specs.Identities.{HasIdentity, NamesMember, GivesIdentity, AreMisses, IsHit, IsFound, ReadsRing, Misses, Searches, fault_or, first_fault, rings_of, search_outcome}
+use Rattle.label_store.specs.Identities.{HasIdentity, NamesMember, GivesIdentity, AreMisses, IsFound, ReadsRing, Misses, Searches, fault_or, first_fault, search_outcome}
 
 pub identity_here : (pool member : Guid) (ring piece : List ℕ) (slot start : ℕ) → start ≡ slot * 4096 → slot < 32
     → piece ≡ take (start + 4096 - start) (drop start ring) → NamesMember pool member piece → HasIdentity pool member ring
@@ -102,7 +102,7 @@ pub misses_more : {old mid new : Option Story} {f g h : ℕ → ℕ} (pool membe
 misses_more {old} {mid} {new} {f} {g} {h} pool member dev labels i failed found test lt tells fails m r =
     let one = found_fault pool member r.noted.call found test tells fails r.found in
     let rings : map (λ at. at + 32) (take (i + 1) labels) ≡ map (λ at. at + 32) (take i labels) ++ (get_or labels i 0 + 32) ∷ [] =
-        ap (map (λ at. at + 32)) (take_more labels i 0 lt) ∙ map-append (λ at. at + 32) (take i labels) (get_or labels i 0 ∷ []) in
+    ap (map (λ at. at + 32)) (take_more labels i 0 lt) ∙ map-append (λ at. at + 32) (take i labels) (get_or labels i 0 ∷ []) in
     record {
       made = m.made ++ r.noted ∷ [];
       calls = made_more old mid new f g h m.made (r.noted ∷ []) m.calls r.calls;

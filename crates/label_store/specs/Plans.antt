@@ -1,11 +1,10 @@
 -- What is asked of a member's device, by its number and how many sectors it has.
 use Rattle.std.specs.Prelude.{ℕ, ◌+◌, List, [], ◌∷◌, ◌++◌, map}
 use Rattle.mp_base.specs.Block.{zeros}
-use Rattle.mp_base.specs.declared.number.Group.{Group}
 use Rattle.mp_base.specs.declared.number.Guid.{Guid}
-use Rattle.bank_core.specs.Asks.{Ask, Reads, Writes, Flushes}
+use Rattle.bank_core.specs.Asks.{Ask, Writes, Flushes}
 use Rattle.label_store.specs.declared.uberblock.Uberblock.{Uberblock}
-use Rattle.label_store.specs.Layout.{labels_of, even_labels, odd_labels, config_offset, ring_offset, slot_of}
+use Rattle.label_store.specs.Layout.{labels_of, config_offset, ring_offset, slot_of}
 use Rattle.label_store.specs.Uberblock.{uberblock_bytes}
 
 -- these bytes go into each of these labels, at one place

@@ -1,7 +1,6 @@
 -- Records: a configuration with the uberblock that names it, and when one is verified on a device.
-use Rattle.std.specs.Prelude.{◌≡◌, ◌≢◌, ◌⊎◌, ℕ, ◌+◌, ◌-◌, ◌/◌, ◌%◌, ◌<◌, ◌≤◌, Bool, false, List, length, take, drop, Option, Some, slice_index}
+use Rattle.std.specs.Prelude.{◌≡◌, ◌≢◌, ◌⊎◌, ℕ, ◌+◌, ◌/◌, ◌%◌, ◌<◌, ◌≤◌, false, List, length, take, Option, Some, slice_index}
 use Rattle.sha2.specs.Sha256.{sha256}
-use Rattle.mp_base.specs.Block.{zeros}
 use Rattle.mp_base.specs.declared.number.Group.{Group}
 use Rattle.mp_base.specs.declared.number.Guid.{Guid}
 use Rattle.bank_core.specs.Disk.{Sector, sector_size, sectors_in, sector_of, IsImage}

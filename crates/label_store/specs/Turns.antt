@@ -1,5 +1,5 @@
 -- What a bank did in a phase of a round.
-use Rattle.std.specs.Prelude.{◌≡◌, ℕ, Bool, List, Option, take}
+use Rattle.std.specs.Prelude.{ℕ, Bool, List, Option}
 use Rattle.bank_core.specs.Asks.{Ask}
 use Rattle.bank_core.specs.Calls.{Made}
 use Rattle.bank_core.specs.Disk.{Noted}

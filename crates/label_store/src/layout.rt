@@ -9,10 +9,12 @@ pub const LEAST_SECTORS: u64 = 320;
 
 /// Where the configuration part of a label begins, and how many sectors it has.
 pub(crate) const CONFIG_OFFSET: u64 = 4;
+
 pub(crate) const CONFIG_SECTORS: usize = 28;
 
 /// Where the ring of a label begins, and how many slots it has.
 pub(crate) const RING_OFFSET: u64 = 32;
+
 pub(crate) const RING_SLOTS: u64 = 32;
 
 /// The first sectors of the labels of a device.

@@ -24,6 +24,7 @@ use mp_base::{Group, Guid};
 use sha2::{Digest, Sha256};
 
 const MAGIC: u64 = 0x00ba_b10c;
+
 const VERSION: u64 = 1;
 
 /// The last number.
@@ -34,6 +35,7 @@ pub const MOST_CONFIG_BYTES: u64 = 114_688;
 
 /// Where the zeros of an uberblock begin, and its last sum.
 const ZEROS_AT: usize = 80;
+
 const SUM_AT: usize = 4064;
 
 /// An uberblock: it names a pool and a member of it, and the configuration of a number by its length in

@@ -1,4 +1,4 @@
-use Rattle.std.proofs.Common.{rules, arith}
+use Rattle.std.proofs.Common.{rules}
 use Rattle.label_store.proofs.Pieces.{zeros_put}
 use Rattle.label_store.proofs.bytes.put_zeros.Goals as goal
 

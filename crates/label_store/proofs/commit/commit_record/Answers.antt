@@ -1,4 +1,3 @@
-use Rattle.label_store.specs.Rounds.{Commit}
 use Rattle.label_store.proofs.Rounding.{committed, excused}
 use Rattle.label_store.proofs.commit.commit_record.Goals as goal
 

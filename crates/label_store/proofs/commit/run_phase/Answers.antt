@@ -1,4 +1,4 @@
-use Rattle.std.proofs.Common.{arith, ◌∙◌, length, ◌<◌, refl}
+use Rattle.std.proofs.Common.{arith, ◌∙◌}
 use Rattle.label_store.specs.Turns.{commit_of}
 use Rattle.label_store.proofs.Phasing.{phase_turns, left_next, got_there}
 use Rattle.label_store.proofs.commit.run_phase.Goals as goal

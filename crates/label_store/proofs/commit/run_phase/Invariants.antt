@@ -1,5 +1,4 @@
-use Rattle.std.proofs.Common.{◌≡◌, ℕ, ◌≤◌, List, drop, take, length}
-use Rattle.label_store.specs.Seats.{AreSeated}
+use Rattle.std.proofs.Common.{◌≡◌, ℕ, List, drop, take}
 use Rattle.label_store.specs.Turns.{commit_of, plan_of, MakesPhase}
 use Rattle.label_store.proofs.commit.run_phase.Given as goal
 

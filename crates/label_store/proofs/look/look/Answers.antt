@@ -1,4 +1,4 @@
-use Rattle.std.proofs.Common.{◌≡◌, ◌<◌, ◌∙◌, arith, ap, length}
+use Rattle.std.proofs.Common.{◌<◌, ◌∙◌, arith, ap, length}
 use Rattle.label_store.specs.Layout.{labels_of}
 use Rattle.label_store.proofs.Looking.{label_more, looked, pushed_two, pushed_count}
 use Rattle.label_store.proofs.look.look.Goals as goal
@@ -7,7 +7,7 @@ pub loop-at-preserved : goal.loop-at-preserved
 loop-at-preserved g c =
     let lt : c.loop-at.at-index < length c.labels_of-labels.result = omega (arith, ap length c.labels_of-labels.ensures) in
     let pushed = pushed_two c.loop-at.parts.items c.push.new.self.items c.push-in-loop-at.new.self.items c.in_ok-read_part.field-0 c.in_ok-read_part-2.field-0
-        c.in_ok-push.ensures.items c.in_ok-push-2.ensures.items in
+    c.in_ok-push.ensures.items c.in_ok-push-2.ensures.items in
     record {
       size = λ d. c.read_part-in-loop-at.ensures.size d ∙ c.read_part.ensures.size d ∙ c.loop-at.invariant.size d;
       numbers = λ name. c.read_part-in-loop-at.ensures.numbers name ∙ c.read_part.ensures.numbers name ∙ c.loop-at.invariant.numbers name;

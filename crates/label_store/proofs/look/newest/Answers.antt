@@ -1,6 +1,5 @@
-use Rattle.std.proofs.Common.{◌≡◌, ◌≤◌, ◌∙◌, arith, sym, refl, subst, ap, get_or, Some}
+use Rattle.std.proofs.Common.{◌≤◌, ◌∙◌, arith, sym, refl, subst, ap, get_or, Some}
 use Rattle.std.proofs.lemmas.Option.{slice_get-get_or}
-use Rattle.label_store.specs.Newest.{IsBest}
 use Rattle.label_store.proofs.Looking.{so_far_none, so_far_more, found_newest, looks_same}
 use Rattle.label_store.proofs.look.newest.Goals as goal
 

@@ -1,5 +1,4 @@
-use Rattle.std.proofs.Common.{◌≡◌, ℕ, ◌≤◌, List, take, Some}
-use Rattle.std.specs.Prelude.{slice_get}
+use Rattle.std.proofs.Common.{◌≡◌, ℕ, List, take}
 use Rattle.label_store.proofs.Looking.{LooksSoFar}
 use Rattle.label_store.proofs.look.newest.Given as goal
 

@@ -1,4 +1,4 @@
-use Rattle.std.proofs.Common.{◌≡◌, ◌*◌, ap, length, ◌∙◌, arith, sym}
+use Rattle.std.proofs.Common.{arith}
 use Rattle.label_store.proofs.Looking.{part_answered, part_failed, many_whole, many_inside, written_whole}
 use Rattle.label_store.proofs.look.read_part.Goals as goal
 

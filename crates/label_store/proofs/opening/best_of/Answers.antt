@@ -1,4 +1,4 @@
-use Rattle.std.proofs.Common.{◌+◌, ◌*◌, subst, arith}
+use Rattle.std.proofs.Common.{subst, arith}
 use Rattle.label_store.specs.Newest.{IsBest}
 use Rattle.label_store.proofs.opening.best_of.Goals as goal
 

@@ -1,5 +1,4 @@
-use Rattle.std.proofs.Common.{◌≡◌, ◌+◌, ◌*◌, ◌<◌, List, ℕ, Some, arith, refl, sym}
-use Rattle.std.specs.Prelude.{slice_get}
+use Rattle.std.proofs.Common.{◌+◌, ◌*◌, arith, sym}
 use Rattle.std.proofs.lemmas.Option.{slice_get_read}
 use Rattle.label_store.proofs.Openings.{lacks_none, lacks_more, lacks_all, has_in}
 use Rattle.label_store.proofs.opening.config_in.Goals as goal

@@ -1,4 +1,4 @@
-use Rattle.label_store.proofs.Openings.{none_configured, none_newer, is_newer}
+use Rattle.label_store.proofs.Openings.{none_configured}
 use Rattle.label_store.proofs.opening.newer_record.Goals as goal
 
 pub returns-in-None-2-clause-none : goal.returns-in-None-2-clause-none

@@ -1,4 +1,4 @@
-use Rattle.std.proofs.Common.{◌≡◌, ◌<◌, ◌*◌, ℕ, arith, refl, below_more}
+use Rattle.std.proofs.Common.{◌*◌, arith, refl, below_more}
 use Rattle.bank_core.specs.Disk.{sector_of}
 use Rattle.label_store.specs.Identities.{NamesMember}
 use Rattle.label_store.proofs.Searching.{identity_here, missed_here, missed_all}

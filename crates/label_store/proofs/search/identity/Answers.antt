@@ -1,6 +1,5 @@
-use Rattle.std.proofs.Common.{◌∙◌, arith, ap, subst, sym, map, take, ◌+◌, ◌<◌, ◌≤◌, length}
+use Rattle.std.proofs.Common.{◌∙◌, arith, ap, ◌<◌, ◌≤◌, length}
 use Rattle.label_store.specs.Layout.{labels_of}
-use Rattle.label_store.specs.Identities.{Misses, Searches}
 use Rattle.label_store.proofs.Searching.{misses_as, searches_as, misses_more, search_hit, search_missed, fault_cause}
 use Rattle.label_store.proofs.search.identity.Goals as goal
 

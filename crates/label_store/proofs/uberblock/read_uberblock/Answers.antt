@@ -1,5 +1,4 @@
-use Rattle.std.proofs.Common.{◌≡◌, sym, ap, ◌∙◌, Some, rules, subst, false, true}
-use Rattle.label_store.specs.Uberblock.{IsInRange, uberblock_bytes, fields_of}
+use Rattle.std.proofs.Common.{ap, ◌∙◌, Some}
 use Rattle.label_store.proofs.Fields.{is_of_fields, out_of_range, other_bytes}
 use Rattle.label_store.proofs.uberblock.read_uberblock.Goals as goal
 

@@ -1,4 +1,4 @@
-use Rattle.std.proofs.Common.{◌≡◌, ◌+◌, take, subst, arith, rules}
+use Rattle.std.proofs.Common.{◌≡◌, take, subst, arith}
 use Rattle.label_store.specs.Uberblock.{uberblock_head}
 use Rattle.label_store.proofs.Pieces.{put_first, put_next}
 use Rattle.label_store.proofs.uberblock.write_head.Goals as goal

@@ -1,7 +1,5 @@
-use Rattle.std.proofs.Common.{◌≡◌, ◌+◌, arith, length, refl, sym, ap, ◌∙◌, rules, take}
+use Rattle.std.proofs.Common.{arith, sym, rules}
 use Rattle.std.proofs.lemmas.List.{length-take-le}
-use Rattle.sha2.specs.Sha256.{sha256}
-use Rattle.sha2.proofs.Facts256.{length-sha256}
 use Rattle.label_store.proofs.Fields.{written}
 use Rattle.label_store.proofs.uberblock.write_uberblock.Goals as goal
 
