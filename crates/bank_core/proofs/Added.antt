@@ -1,5 +1,6 @@
 -- What a bank tells with another device.
 use Rattle.std.proofs.Common.{◌≡◌, Bool, true, false, cond, List, [], ◌∷◌, ◌++◌, length, Some, None, refl, ap, ◌∙◌, arith, subst}
+use Rattle.std.proofs.lemmas.List.{length-append}
 use Rattle.std.proofs.lemmas.List.{map-append}
 use Rattle.bank_core.specs.declared.call.MemCall.{MemCall}
 use Rattle.bank_core.specs.declared.device.MemDevice.{MemDevice}
@@ -40,6 +41,7 @@ pub is_added : (old new : MemBank) (x : MemDevice) → new.devices.items ≡ old
 is_added old new x devices calls faults tells early =
     let none : old.calls.items ≡ [] = no_calls old.calls.items early in
     record {
+      devices = rw devices (length-append old.devices.items (x ∷ []));
       names = rw devices (map-append (λ device. device.name) old.devices.items (x ∷ []));
       size = rw devices (ap sectors_of (get_last old.devices.items x));
       sizes = λ d lt. rw devices (ap sectors_of (get_front old.devices.items x d lt));

@@ -1,5 +1,5 @@
 -- One block fills one sector.
-use Rattle.std.proofs.Common.{◌≡◌, ℕ, ◌+◌, ◌<◌, ◌≤◌, ◌%◌, ◌/◌, List, length, refl, arith}
+use Rattle.std.proofs.Common.{◌≡◌, ℕ, ◌+◌, ◌<◌, ◌≤◌, ◌%◌, List, length, refl, arith}
 use Rattle.bank_core.specs.Disk.{sector_size, sectors_in}
 
 pub block_whole : (bytes : List ℕ) → length bytes ≡ 4096 → length bytes % sector_size ≡ 0

@@ -3,7 +3,7 @@ use mathlib.Core.Path.{fun_ext}
 use Rattle.std.proofs.Common.{◌≡◌, ℕ, ◌≤◌, List, [], ◌∷◌, ◌++◌, Option, Some, None, Result, Ok, Err, OnErr, refl, sym, ◌∙◌, ap, arith, append_assoc, append-nil, subst, Bool, false}
 use Rattle.bank_core.specs.declared.bank.Fault.{Fault}
 use Rattle.mp_base.specs.Outside.{Rose}
-use Rattle.bank_core.specs.Disk.{Sector, Sectors, Call, Noted, run, replay, AllAnswer, Answers, as_found}
+use Rattle.bank_core.specs.Disk.{Sector, Sectors, Call, Noted, run, replay, AllAnswer}
 use Rattle.bank_core.specs.Story.{Story, Continues, Tells, now, goes_on, fault_in}
 use Rattle.bank_core.specs.Calls.{Made, AllCaused, IsCaused, device_of, fault_of}
 

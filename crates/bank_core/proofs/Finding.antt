@@ -18,7 +18,7 @@ replay_inside size (call ∷ calls) d s x inside =
     replay_inside size calls d s _ inside
     ∙ ap (λ counts. replay (map noted_alone calls) d s (effect (call_of call) d s (hurt (counts && is_damaged call.damage.items d s) x))) inside
 
-is_lower : (s n : ℕ) → s < n → nat_lt s n ≡ true
+pub is_lower : (s n : ℕ) → s < n → nat_lt s n ≡ true
 is_lower s n lt = grind (arith, nat_tests)
 
 pub found_inside : (devices : List MemDevice) (calls : List MemCall) (damages : List Damage) (device : MemDevice) (d s : ℕ)

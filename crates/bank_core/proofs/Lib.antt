@@ -1,7 +1,9 @@
 pub mod Added
 pub mod Adding
 pub mod Blocks
+pub mod Choosing
 pub mod Composing
+pub mod Crashing
 pub mod Finding
 pub mod Names
 pub mod Parting

@@ -1,5 +1,5 @@
 -- Devices by their names.
-use Rattle.std.proofs.Common.{◌≡◌, ℕ, ◌<◌, ◌≤◌, Bool, true, false, cond, ltb, List, length, get_or, Option, Some, None, refl, sym, ap, ◌∙◌, arith, subst, ⊎_elim}
+use Rattle.std.proofs.Common.{◌+◌, [], ◌∷◌, not, ◌≡◌, ℕ, ◌<◌, ◌≤◌, Bool, true, false, cond, ltb, List, length, get_or, Option, Some, None, refl, sym, ap, ◌∙◌, arith, subst, ⊎_elim}
 use Rattle.std.specs.Prelude.{slice_get, position, Contains, IfSome, IfNone}
 use Rattle.std.specs.List.{position_or_len}
 use Rattle.std.specs.Option.{option_map}
@@ -89,3 +89,18 @@ size_past devices d past = ap sectors_of (slice_get_past devices d past)
 
 pub has_place : (devices : List MemDevice) (d : ℕ) → 0 < size_in devices d → d < length devices
 has_place devices d has = ⊎_elim {A = d < length devices} {B = length devices ≤ d} (λ lt. lt) (λ past. absurd (omega (arith, size_past devices d past))) (cases_lt d (length devices))
+
+-- Numbers are places in the list of names.
+place_by_name : (name : List ℕ) (devices : List MemDevice)
+    → position_or_len (λ device. bytes_eq device.name name) devices ≡ position_or_len (λ other. bytes_eq other name) (names_in devices)
+place_by_name name [] = refl
+place_by_name name (device ∷ devices) = ap (λ n. cond (not (bytes_eq device.name name)) (1 + n) 0) (place_by_name name devices)
+
+number_by_names : (devices : List MemDevice) (name : List ℕ) → number_in devices name ≡ position (λ other. bytes_eq other name) (names_in devices)
+number_by_names devices name =
+    ap (λ n. cond (ltb n (length devices)) (Some n) None) (place_by_name name devices)
+    ∙ ap (λ m. cond (ltb (position_or_len (λ other. bytes_eq other name) (names_in devices)) m) (Some (position_or_len (λ other. bytes_eq other name) (names_in devices))) None)
+    (sym (length-map devices (λ device. device.name)))
+
+pub same_numbers : (one other : List MemDevice) (name : List ℕ) → names_in one ≡ names_in other → number_in one name ≡ number_in other name
+same_numbers one other name e = number_by_names one name ∙ ap (position (λ x. bytes_eq x name)) e ∙ sym (number_by_names other name)

@@ -1,13 +1,13 @@
 -- Parts of a plan, one after another.
-use Rattle.std.proofs.Common.{◌≡◌, ℕ, ◌≤◌, List, [], ◌∷◌, ◌++◌, Bool, Option, Some, None, Result, Ok, Err, OnErr, refl, inl, inr, ◌⊎◌, ◌∙◌, sym}
+use Rattle.std.proofs.Common.{◌≡◌, ℕ, ◌≤◌, List, [], ◌∷◌, ◌++◌, Bool, Option, Some, None, Result, Ok, Err, OnErr, refl, inl, inr, ◌⊎◌, sym}
 use Rattle.mp_base.specs.Outside.{Rose}
 use Rattle.bank_core.specs.declared.bank.Fault.{Fault}
 use Rattle.bank_core.specs.Disk.{Call, Noted}
 use Rattle.bank_core.specs.Story.{Story, Tells, fault_in}
-use Rattle.bank_core.specs.Calls.{Made, device_of, fault_of, IsCaused}
+use Rattle.bank_core.specs.Calls.{device_of, fault_of}
 use Rattle.bank_core.specs.Asks.{Ask, ask_of, IsPart}
 use Rattle.bank_core.specs.Parts.{MakesPart}
-use Rattle.bank_core.proofs.Composing.{made_none, made_more, one_made, call_caused, MadeOne}
+use Rattle.bank_core.proofs.Composing.{made_none, made_more, one_made, call_caused}
 
 pub part_none : {told : Option Story} {faults : ℕ → ℕ} → MakesPart [] told told faults faults None
 part_none {told} {faults} = record { made = []; calls = made_none told faults; part = refl }

@@ -2,6 +2,8 @@ pub mod Absent
 pub mod Asks
 pub mod Calls
 pub mod Disk
+pub mod Image
+pub mod Left
 pub mod MemBank
 pub mod Memory
 pub mod Parts

@@ -1,5 +1,6 @@
 -- What the bank in memory tells.
-use Rattle.std.specs.Prelude.{◌≡◌, ℕ, ◌<◌, cond, List, [], ◌∷◌, ◌++◌, length, Option, Some, None, slice_index}
+use Rattle.std.specs.Prelude.{◌≡◌, ℕ, ◌+◌, ◌<◌, cond, List, [], ◌∷◌, ◌++◌, length, Option, Some, None, slice_index}
+use Rattle.bank_core.specs.declared.call.MemCall.{MemCall}
 use Rattle.bank_core.specs.declared.memory.MemBank.{MemBank}
 use Rattle.bank_core.specs.Memory.{size_in, number_in, names_in, story_in, with_device}
 use Rattle.bank_core.specs.Disk.{Sector}
@@ -21,7 +22,10 @@ bank_faults bank = slice_index bank.faults
 abbrev pub bank_devices : MemBank → ℕ
 bank_devices bank = length bank.devices.items
 
--- how many calls stand in its list
+-- its list of calls, and how many stand there
+abbrev pub call_list : MemBank → List MemCall
+call_list bank = bank.calls.items
+
 abbrev pub bank_calls : MemBank → ℕ
 bank_calls bank = length bank.calls.items
 
@@ -38,6 +42,7 @@ pub record IsUnchanged (old new : MemBank) : Type 0 where
 
 -- This device was added behind the others, before the first call. Each name and each number stays.
 pub record IsAdded (old new : MemBank) (name : List ℕ) (sectors : ℕ) (device : ℕ → Sector) : Type 0 where
+  pub devices : bank_devices new ≡ bank_devices old + 1
   pub names : bank_names new ≡ bank_names old ++ name ∷ []
   pub size : bank_size new (bank_devices old) ≡ sectors
   pub sizes : (d : ℕ) → d < bank_devices old → bank_size new d ≡ bank_size old d

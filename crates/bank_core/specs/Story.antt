@@ -1,7 +1,7 @@
 -- What a bank tells: the sectors that it began with, and each call since.
 use Rattle.std.specs.Prelude.{◌≡◌, ℕ, Bool, List, [], ◌∷◌, ◌++◌, take, Option, Some, None, Result, Ok, Err}
 use Rattle.bank_core.specs.declared.bank.Fault.{Fault}
-use Rattle.bank_core.specs.Disk.{Sectors, Call, Noted, run, AllAnswer}
+use Rattle.bank_core.specs.Disk.{Sectors, Call, Noted, run, AllAnswer, CrashImages, after_crash}
 
 pub record Story : Type 0 where
   pub start : Sectors
@@ -35,3 +35,9 @@ pub record Continues (old : Option Story) (made : List Noted) (story' : Story) :
 pub record Tells (old new : Option Story) (call : Call) : Type 0 where
   pub by : (story' : Story) → new ≡ Some story'
       → (damage : ℕ → ℕ → Bool) × Continues old (record { call = call; damage = damage } ∷ []) story'
+
+-- After a crash at this moment a bank tells a story that begins with what the crash left, with no calls.
+pub record IsCrashed (story : Story) (moment : ℕ) (new : Option Story) : Type 0 where
+  pub images : ℕ → ℕ → List ℕ
+  pub are : CrashImages (at_moment story moment) images
+  pub told : new ≡ Some (record { start = after_crash (at_moment story moment) images; calls = [] })

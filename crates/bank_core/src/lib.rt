@@ -4,10 +4,15 @@
 
 mod bank;
 mod call;
+mod crash;
 mod device;
 mod memory;
 mod moment;
+mod noting;
 mod piece;
+mod plan;
+#[cfg(test)]
+mod tests;
 mod view;
 
 pub use bank::{Bank, Fault, FindFault, SECTOR_BYTES};

@@ -11,27 +11,12 @@ use crate::bank::{Bank, Fault, FindFault};
 use crate::call::{CallKind, Damage, MemCall};
 use crate::device::{MOST_SECTORS, MemDevice};
 use crate::moment::{Moment, Showing, show_from};
+use crate::plan::Plan;
 use mp_base::{MemFault, Name};
 use std::alloc::Global;
 
 /// The most devices of a bank.
 pub const MOST_DEVICES: usize = 64;
-
-/// The calls on a device at the places `from..=to` of the list fail.
-#[derive(Clone, Copy)]
-struct PlannedFault {
-    dev: u32,
-    from: u64,
-    to: u64,
-    fault: Fault,
-}
-
-/// This damage comes with the call at this place of the list.
-#[derive(Clone, Copy)]
-struct PlannedDamage {
-    place: u64,
-    damage: Damage,
-}
 
 /// A bank in memory of at most 64 devices, each with a name, and numbered from 0 in the order in which
 /// they were added. It keeps a list of its calls, and finds each sector by going through the list.
@@ -40,34 +25,43 @@ struct PlannedDamage {
 /// tells nothing.
 #[derive(Drop)]
 pub struct MemBank {
-    alloc: Global,
-    devices: Vec<MemDevice>,
-    calls: Vec<MemCall>,
-    faults: [u64; 64],
-    tells: bool,
-    failing: Vec<PlannedFault>,
-    hurting: Vec<PlannedDamage>,
+    pub(crate) alloc: Global,
+    pub(crate) devices: Vec<MemDevice>,
+    pub(crate) calls: Vec<MemCall>,
+    pub(crate) faults: [u64; 64],
+    pub(crate) tells: bool,
+    pub(crate) plan: Plan,
     ghost few: { length devices.items ≤ 64 },
     ghost inside: { list_all (is_inside (size_in devices.items)) calls.items ≡ true },
 }
 
 impl MemBank {
-    ghost use Rattle.bank_core.specs.MemBank.{bank_size, bank_names, bank_devices, bank_calls, bank_told, bank_faults, IsUnchanged, IsAdded};
+    ghost use Rattle.bank_core.specs.MemBank.{bank_size, bank_names, bank_devices, bank_calls, call_list, bank_told, bank_faults, IsUnchanged, IsAdded};
 
     /// A bank of no devices.
     pub fn new(alloc: Global) -> MemBank
+        ensures devices { bank_devices result ≡ 0 }
         ensures names { bank_names result ≡ [] }
         ensures calls { bank_calls result ≡ 0 }
         ensures told { bank_told result ≡ Some (story_in [] []) }
     {
+        MemBank::of(alloc, Vec::new(alloc))
+    }
+
+    /// A bank of these devices.
+    pub(crate) fn of(alloc: Global, devices: Vec<MemDevice>) -> MemBank
+        requires { length devices.items ≤ 64 }
+        ensures devices { result.devices.items ≡ devices.items }
+        ensures calls { result.calls.items ≡ [] }
+        ensures tells { result.tells ≡ true }
+    {
         MemBank {
             alloc,
-            devices: Vec::new(alloc),
+            devices,
             calls: Vec::new(alloc),
             faults: [0; 64],
             tells: true,
-            failing: Vec::new(alloc),
-            hurting: Vec::new(alloc),
+            plan: Plan::new(alloc),
         }
     }
 
@@ -83,6 +77,21 @@ impl MemBank {
         ensures { result ≡ bank_calls self.now }
     {
         self.calls.len() as u64
+    }
+
+    /// The calls that were made, the oldest first.
+    pub fn calls(&self) -> &[MemCall]
+        ensures { result.now ≡ call_list self.now }
+    {
+        &self.calls
+    }
+
+    /// How often a call on the device of this number failed.
+    pub fn fault_count(&self, dev: u32) -> u64
+        requires { dev < 64 }
+        ensures { result ≡ bank_faults self.now dev }
+    {
+        self.faults[dev as usize]
     }
 
     /// Adds a device of zeros. Devices are added before the first call. A look-up of a name that two
@@ -141,13 +150,7 @@ impl MemBank {
     pub fn fail(&mut self, dev: u32, from: u64, to: u64, fault: Fault) -> Result<(), MemFault>
         ensures { IsUnchanged self.old self.new }
     {
-        self.failing.push(PlannedFault {
-            dev,
-            from,
-            to,
-            fault,
-        })?;
-        Ok(())
+        self.plan.fail(dev, from, to, fault)
     }
 
     /// With the call at this place of the list, and before its effect, the damage comes. Damage that
@@ -155,29 +158,7 @@ impl MemBank {
     pub fn damage(&mut self, place: u64, damage: Damage) -> Result<(), MemFault>
         ensures { IsUnchanged self.old self.new }
     {
-        self.hurting.push(PlannedDamage { place, damage })?;
-        Ok(())
-    }
-
-    /// What is planned for the next call on a device.
-    fn planned_fault(&self, dev: u32) -> Option<Fault> {
-        let place = self.place();
-        self.failing
-            .iter()
-            .find(|x| x.dev == dev && x.from <= place && place <= x.to)
-            .map(|x| x.fault)
-    }
-
-    /// The damage that comes with the next call.
-    fn planned_damage(&self) -> Result<Vec<Damage>, MemFault> {
-        let place = self.place();
-        let mut damage = Vec::new(self.alloc);
-        for x in &self.hurting {
-            if x.place == place {
-                damage.push(x.damage)?;
-            }
-        }
-        Ok(damage)
+        self.plan.damage(place, damage)
     }
 
     /// A call that gives no bytes, as it is planned.
@@ -192,8 +173,8 @@ impl MemBank {
             dev,
             at,
             bytes: Vec::from_slice(self.alloc, bytes)?,
-            fault: self.planned_fault(dev),
-            damage: self.planned_damage()?,
+            fault: self.plan.fault_at(dev, self.place()),
+            damage: self.plan.damage_at(self.alloc, self.place())?,
         })
     }
 
@@ -207,8 +188,8 @@ impl MemBank {
         ensures bytes { IfOk result (λ call. call.bytes.items ≡ out.new) }
         ensures answers { IfOk result (λ call. AnswersThere self.now.devices.items self.now.calls.items call) }
     {
-        let fault = self.planned_fault(dev);
-        let damage = self.planned_damage()?;
+        let fault = self.plan.fault_at(dev, self.place());
+        let damage = self.plan.damage_at(self.alloc, self.place())?;
         self.show_unless(fault, dev, at, &damage, out);
         let bytes = Vec::from_slice(self.alloc, out)?;
         Ok(MemCall {
@@ -245,70 +226,6 @@ impl MemBank {
             damage,
         };
         show_from(moment, at, Showing::Read, out);
-    }
-
-    /// Raises the count of faults of a device.
-    fn count(&mut self, dev: u32)
-        requires { dev < 64 }
-        ensures devices { self.new.devices ≡ self.old.devices }
-        ensures calls { self.new.calls ≡ self.old.calls }
-        ensures tells { self.new.tells ≡ self.old.tells }
-        ensures counts { (d : ℕ) → bank_faults self.old d ≤ bank_faults self.new d }
-        ensures rose { Rose (bank_faults self.old dev) (bank_faults self.new dev) }
-    {
-        self.faults[dev as usize] = self.faults[dev as usize].saturating_add(1);
-    }
-
-    /// Puts a call into the list.
-    fn keep(&mut self, call: MemCall) -> Result<(), MemFault>
-        requires { call.at + sectors_in call.bytes.items ≤ bank_size self.old call.dev }
-        ensures devices { self.new.devices ≡ self.old.devices }
-        ensures faults { self.new.faults ≡ self.old.faults }
-        ensures tells { self.new.tells ≡ self.old.tells }
-        ensures ok { OnOk result (self.new.calls.items ≡ self.old.calls.items ++ call ∷ []) }
-        ensures err { OnErr result (self.new.calls.items ≡ self.old.calls.items) }
-    {
-        self.calls.push(call)?;
-        Ok(())
-    }
-
-    /// Stops telling, since the list has no memory for a call, which fails.
-    fn lose(&mut self, dev: u32) -> Result<(), Fault>
-        requires { dev < 64 }
-        ensures failed { result ≡ Err Fault.Failed }
-        ensures devices { self.new.devices ≡ self.old.devices }
-        ensures told { bank_told self.new ≡ None }
-        ensures counts { (d : ℕ) → bank_faults self.old d ≤ bank_faults self.new d }
-        ensures rose { Rose (bank_faults self.old dev) (bank_faults self.new dev) }
-    {
-        self.tells = false;
-        self.count(dev);
-        Err(Fault::Failed)
-    }
-
-    /// Makes a call, whose answer it holds.
-    fn note(&mut self, call: MemCall) -> Result<(), Fault>
-        requires device { 0 < bank_size self.old call.dev }
-        requires inside { call.at + sectors_in call.bytes.items ≤ bank_size self.old call.dev }
-        requires answers { AnswersThere self.old.devices.items self.old.calls.items call }
-        ensures devices { self.new.devices ≡ self.old.devices }
-        ensures counts { (d : ℕ) → bank_faults self.old d ≤ bank_faults self.new d }
-        ensures cause { OnErr result (Rose (bank_faults self.old call.dev) (bank_faults self.new call.dev)) }
-        ensures told { Tells (bank_told self.old) (bank_told self.new)
-            (call_as call.kind call.dev call.at call.bytes.items (fault_in result)) }
-    {
-        let dev = call.dev;
-        let fault = call.fault;
-        if self.keep(call).is_err() {
-            return self.lose(dev);
-        }
-        match fault {
-            None => Ok(()),
-            Some(fault) => {
-                self.count(dev);
-                Err(fault)
-            }
-        }
     }
 }
 

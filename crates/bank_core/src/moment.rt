@@ -1,8 +1,9 @@
 //! A device of a bank in memory at a moment, and what a buffer shows of it.
-ghost use Rattle.std.specs.Prelude.{◌≡◌, ◌≢◌, true, ℕ, ◌+◌, ◌<◌, ◌≤◌, length};
+ghost use Rattle.std.specs.Prelude.{◌≡◌, ◌≢◌, true, ℕ, ◌+◌, ◌<◌, ◌≤◌, length, List};
 ghost use Rattle.bank_core.specs.Disk.{sectors_in, sector_of, IsClean};
 ghost use Rattle.bank_core.specs.Memory.{sector_then};
-ghost use Rattle.bank_core.specs.View.{view_of, Shows, ShowsClean};
+ghost use Rattle.bank_core.specs.Image.{newest, IsChosen, ShowsChosen};
+ghost use Rattle.bank_core.specs.View.{view_of, held_bytes, Shows, ShowsClean};
 
 use crate::bank::SECTOR_BYTES;
 use crate::call::{Damage, MemCall};
@@ -54,7 +55,10 @@ pub(crate) fn view_at<'a>(moment: Moment<'a>, sector: u64) -> View<'a>
 /// Shows the sectors from `at` on: the stable bytes at each clean one.
 pub(crate) fn show_from(moment: Moment, at: u64, showing: Showing, out: &mut [u8])
     requires { at + sectors_in out.old ≤ moment.device.now.sectors }
-    ensures { ShowsClean (λ i. sector_then moment.entry.device.now moment.entry.calls.now moment.entry.damage.now moment.entry.dev (at + i))
+    ensures clean { ShowsClean (λ i. sector_then moment.entry.device.now moment.entry.calls.now moment.entry.damage.now moment.entry.dev (at + i))
+        (sectors_in out.new) out.new }
+    ensures chosen { (choice : ImageChoice) → showing ≡ Showing.Image choice
+        → ShowsChosen choice (λ i. sector_then moment.entry.device.now moment.entry.calls.now moment.entry.damage.now moment.entry.dev (at + i))
         (sectors_in out.new) out.new }
 {
     for i in 0..out.len() / SECTOR_BYTES {
@@ -76,9 +80,11 @@ fn show_at(shown: Shown, out: &mut [u8], i: usize)
 
 /// What to show of a sector: just what stands on it, where it is clean.
 fn shown_of<'a>(view: View<'a>, showing: Showing, sector: u64) -> Shown<'a>
-    ensures { IsClean (view_of view.entry) → result ≡ Shown.Held view.entry.stable }
+    ensures clean { IsClean (view_of view.entry) → result ≡ Shown.Held view.entry.stable }
+    ensures chosen { (choice : ImageChoice) (bytes : List ℕ) → showing ≡ Showing.Image choice → Shows result bytes
+        → IsChosen choice (view_of view.entry) bytes }
 {
-    if !view.damaged && is_still(view.last) {
+    if is_clean(view) {
         return Shown::Held(view.stable);
     }
     match showing {
@@ -87,10 +93,15 @@ fn shown_of<'a>(view: View<'a>, showing: Showing, sector: u64) -> Shown<'a>
     }
 }
 
-fn is_still(last: Last) -> bool
-    ensures { last.entry ≡ Last.Nothing → result ≡ true }
+fn is_clean(view: View) -> bool
+    ensures clean { result ≡ true → IsClean (view_of view.entry) }
+    ensures other { IsClean (view_of view.entry) → result ≡ true }
 {
-    matches!(last, Last::Nothing)
+    match view.last {
+        Last::Nothing => !view.damaged,
+        Last::Written(_) => false,
+        Last::Failing(_) => false,
+    }
 }
 
 /// What a read gives of a sector that isn't clean.
@@ -101,7 +112,9 @@ fn read_of<'a>(view: View<'a>) -> Shown<'a> {
     Shown::Held(newest(view))
 }
 
-fn newest<'a>(view: View<'a>) -> Held<'a> {
+fn newest<'a>(view: View<'a>) -> Held<'a>
+    ensures { held_bytes result ≡ newest (view_of view.entry) }
+{
     match view.last {
         Last::Nothing => view.stable,
         Last::Written(bytes) => Held::Bytes(bytes),
@@ -110,18 +123,24 @@ fn newest<'a>(view: View<'a>) -> Held<'a> {
 }
 
 /// What a crash leaves of a sector that isn't clean.
-fn image_of<'a>(view: View<'a>, choice: ImageChoice, sector: u64) -> Shown<'a> {
+fn image_of<'a>(view: View<'a>, choice: ImageChoice, sector: u64) -> Shown<'a>
+    ensures { (bytes : List ℕ) → Shows result bytes → IsChosen choice (view_of view.entry) bytes }
+{
     match choice {
         ImageChoice::Old => Shown::Held(view.stable),
         ImageChoice::New => Shown::Held(newest(view)),
-        ImageChoice::Zeros => Shown::Fill(0),
+        ImageChoice::Zeros => Shown::Held(Held::Zeros),
         ImageChoice::Noise(seed) => Shown::Noise(mixed(seed, sector)),
-        ImageChoice::Mixed(seed) => match mixed(seed, sector) % 4 {
-            0 => Shown::Held(view.stable),
-            1 => Shown::Held(newest(view)),
-            2 => Shown::Fill(0),
-            _ => Shown::Noise(mixed(seed, sector)),
-        },
+        ImageChoice::Mixed(seed) => mixture_of(view, mixed(seed, sector)),
+    }
+}
+
+fn mixture_of<'a>(view: View<'a>, number: u64) -> Shown<'a> {
+    match number % 4 {
+        0 => Shown::Held(view.stable),
+        1 => Shown::Held(newest(view)),
+        2 => Shown::Held(Held::Zeros),
+        _ => Shown::Noise(number),
     }
 }
 

@@ -1,0 +1,10 @@
+mod Answering
+mod Creating
+mod Feedings
+mod FoundDevices
+mod Handling
+mod LineEnds
+mod ReadReplies
+mod RunLaws
+mod Scripts
+mod Taking

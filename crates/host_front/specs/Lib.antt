@@ -1,6 +1,13 @@
 pub mod Codes
+pub mod Feeding
+pub mod Finishing
 pub mod FixedHost
 pub mod Lines
 pub mod Machine
+pub mod Making
+pub mod Replying
 pub mod Session
+pub mod SoFar
 pub mod Standing
+pub mod Words
+pub mod Writing

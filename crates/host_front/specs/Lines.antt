@@ -1,5 +1,5 @@
 -- The lines of an input. This file names no type of the crate.
-use Rattle.std.specs.Prelude.{◌≡◌, ℕ, ◌<◌, ◌≤◌, List, [], ◌∷◌, ◌++◌, ◌==◌, false, if◌then◌else◌, length}
+use Rattle.std.specs.Prelude.{◌≡◌, ℕ, ◌≤◌, List, [], ◌∷◌, ◌++◌, ◌==◌, false, if◌then◌else◌, length}
 
 -- the byte at which a line ends
 abbrev pub newline : ℕ

@@ -1,14 +1,12 @@
 -- The abstract machine: the state of a host, what a line answers in it, and the entries of a history.
-use Rattle.std.specs.Prelude.{◌≡◌, ℕ, ◌⊎◌, Bool, true, false, ◌==◌, ◌&&◌, ◌||◌, not, nat_le, nat_lt, List, [], ◌∷◌, ◌++◌, map, Option, Some, None, Result, Ok, Err, if◌then◌else◌}
-use Rattle.std.specs.List.{flat_map, list_all}
+use Rattle.std.specs.Prelude.{◌≡◌, ℕ, ◌⊎◌, Bool, false, ◌==◌, ◌&&◌, ◌||◌, not, nat_le, nat_lt, List, [], ◌∷◌, ◌++◌, Option, Some, None, Result, Ok, Err, if◌then◌else◌}
+use Rattle.std.specs.List.{flat_map}
 use Rattle.std.specs.Str.{bytes_eq}
-use Rattle.mp_base.specs.declared.number.Guid.{Guid}
 use Rattle.mp_base.specs.declared.refusal.LeafSeen.{LeafSeen}
 use Rattle.mp_base.specs.declared.refusal.Refusal.{Refusal}
 use Rattle.mp_base.specs.declared.refusal.Refusal.TheVariants as refusals
 use Rattle.bank_core.specs.Asks.{Ask, asks_of}
 use Rattle.bank_core.specs.Disk.{Call, Read, Write, Flush, Admit, Eject, Noted}
-use Rattle.pool_wire.specs.Reading.{request_of}
 use Rattle.pool_wire.specs.Text.{text_of}
 use Rattle.pool_wire.specs.declared.reply.NamedLeaf.{NamedLeaf}
 use Rattle.pool_wire.specs.declared.reply.Reply.{Reply}
@@ -47,13 +45,14 @@ abbrev pub reply_of : {A : Type 0} → (A → Reply) → Result A Refusal → Re
 reply_of shows (Ok x) = shows x
 reply_of shows (Err refusal) = replies.Refused refusal
 
--- the number of the device of this name, where it was found, is no spare device and has the labels' room
+-- the device's number, where it was found, is no spare device and has the labels' room
+abbrev pub usable : HostDevice → Option ℕ
+usable device = if not device.spare && nat_le 320 device.sectors then device.dev else None
+
+-- the number of the device of this name that may become a member
 abbrev pub member_of : List ℕ → List HostDevice → Option ℕ
 member_of name [] = None
-member_of name (device ∷ table) =
-    if bytes_eq device.name name
-    then (if not device.spare && nat_le 320 device.sectors then device.dev else None)
-    else member_of name table
+member_of name (device ∷ table) = if bytes_eq device.name name then usable device else member_of name table
 
 -- the two members of a new mirror, numbered from 2 on behind the mirror itself
 abbrev pub members : List ℕ → List ℕ → Option ℕ → Option ℕ → Option (List Leaf)
@@ -71,9 +70,12 @@ abbrev pub create_with : HostState → List ℕ → ℕ → Option (List Leaf) �
 create_with h name blocks None = (h, replies.Refused refusals.NotBuilt)
 create_with h name blocks (Some leaves) = (with_pool h (created name blocks leaves), replies.Committed (record { 0 = 1 }))
 
+abbrev pub is_bad_size : ℕ → Bool
+is_bad_size blocks = (blocks == 0) || nat_lt 262144 blocks
+
 abbrev pub create_answer : HostState → List ℕ → ℕ → List ℕ → List ℕ → HostState × Reply
 create_answer h name blocks first second =
-    if (blocks == 0) || nat_lt 262144 blocks then (h, replies.Refused (refusals.BadAddress 262144))
+    if is_bad_size blocks then (h, replies.Refused (refusals.BadAddress 262144))
     else if may_create h.pool blocks first second
     then create_with h name blocks (members first second (member_of first h.table) (member_of second h.table))
     else (h, replies.Refused refusals.NotBuilt)

@@ -1,6 +1,6 @@
 -- What a run did with its input, its output and its bank.
-use Rattle.std.specs.Prelude.{◌≡◌, ◌⊎◌, ℕ, ◌<◌, List, [], ◌∷◌, ◌++◌, map, take, length, Option, Some, None}
-use Rattle.mp_base.specs.Outside.{Rose, Given, Taken}
+use Rattle.std.specs.Prelude.{◌≡◌, ℕ, ◌<◌, List, [], ◌∷◌, ◌++◌, map, take, length, Option, Some}
+use Rattle.mp_base.specs.Outside.{Given, Taken}
 use Rattle.bank_core.specs.Calls.{Made}
 use Rattle.bank_core.specs.Disk.{Noted}
 use Rattle.bank_core.specs.Story.{Story}
@@ -60,9 +60,9 @@ IsWritten statuses.SinkFault all bytes = (k : ℕ) × (bytes ≡ take k all)
 IsWritten statuses.Memory all bytes = (k : ℕ) × (bytes ≡ take k all)
 IsWritten statuses.Usage all bytes = ⊥
 
--- A run of the machine: one history, whose requests are those of the input's lines, whose entries are
--- steps one after another, whose device calls are the bank's, and whose replies are what was written.
-pub record Ran (status : Status) (table : List HostDevice) (old new : Option Story) (before after : ℕ → ℕ) (left left' sink sink' : Option (List ℕ)) : Type 0 where
+-- A run of the machine from a state: one history, whose requests are those of the input's lines, whose
+-- entries are steps one after another, whose device calls are the bank's, and whose replies are what was written.
+pub record Ran (h : HostState) (status : Status) (old new : Option Story) (before after : ℕ → ℕ) (left left' sink sink' : Option (List ℕ)) : Type 0 where
   pub text : List ℕ
   pub lines : List (List ℕ)
   pub entries : List Entry
@@ -71,5 +71,19 @@ pub record Ran (status : Status) (table : List HostDevice) (old new : Option Sto
   pub given : Given left left' text
   pub up_to : IsUpTo status text left' lines
   pub short : AreShort lines
-  pub handles : Handles (started table) lines old new before after sink sink' state entries bytes
+  pub handles : Handles h lines old new before after sink sink' state entries bytes
   pub is_written : IsWritten status (texts entries) bytes
+
+-- What a run that was begun did: it looked the host's devices up, and ran from a host of those that it found.
+pub record RanScript (status : Status) (number_of : List ℕ → Option ℕ) (size : ℕ → ℕ) (names : Option (List (List ℕ))) (lookups lookups' : ℕ)
+    (old new : Option Story) (before after : ℕ → ℕ) (left left' sink sink' : Option (List ℕ)) : Type 0 where
+  pub table : List HostDevice
+  pub found : AreLookedUp number_of size names lookups lookups' host_devices table
+  pub ran : Ran (started table) status old new before after left left' sink sink'
+
+-- Nothing was read, written or asked of a device.
+pub record IsQuiet (old new : Option Story) (before after : ℕ → ℕ) (left left' sink sink' : Option (List ℕ)) : Type 0 where
+  pub untold : new ≡ old
+  pub unasked : (d : ℕ) → after d ≡ before d
+  pub unread : left' ≡ left
+  pub unwritten : sink' ≡ sink

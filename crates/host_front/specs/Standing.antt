@@ -1,13 +1,13 @@
 -- What a host keeps of its abstract state.
-use Rattle.std.specs.Prelude.{◌≡◌, ◌⊎◌, ℕ, ◌≤◌, List, [], ◌∷◌, Bool, Option, Some, None}
+use Rattle.std.specs.Prelude.{◌≡◌, ◌⊎◌, ℕ, ◌<◌, List, [], ◌∷◌, Bool, Option, Some, None, slice_get}
 use Rattle.mp_base.specs.Outside.{Rose}
 use Rattle.bank_core.specs.Absent.{IsAbsent}
-use Rattle.pool_core.specs.declared.leaf.Leaf.{Leaf}
 use Rattle.pool_core.specs.declared.pool.Pool.{Pool}
 use Rattle.pool_core.specs.Keeping.{Represents, IsSeated, leaves_of}
 use Rattle.pool_core.specs.State.{PoolState}
 use Rattle.host_front.specs.declared.device.HostDevice.{HostDevice}
 use Rattle.host_front.specs.declared.host.Host.{Host}
+use Rattle.host_front.specs.FixedHost.{host_devices}
 use Rattle.host_front.specs.Machine.{HostState}
 
 -- the pool, so far as there is one
@@ -41,7 +41,7 @@ pub record IsLookedUp (number_of : List ℕ → Option ℕ) (size : ℕ → ℕ)
     (named : List ℕ × Bool) (device : HostDevice) : Type 0 where
   pub name : device.name ≡ named.0
   pub spare : device.spare ≡ named.1
-  pub found : (dev : ℕ) → device.dev ≡ Some dev → (number_of named.0 ≡ Some dev) × (size dev ≡ device.sectors)
+  pub found : (dev : ℕ) → device.dev ≡ Some dev → (number_of named.0 ≡ Some dev) × (size dev ≡ device.sectors) × (0 < size dev)
   pub absent : device.dev ≡ None → IsAbsent names named.0 ⊎ Rose before after
 
 -- The table has just these devices, each as its look-up in this run found it.
@@ -50,3 +50,9 @@ AreLookedUp number_of size names before after [] table = table ≡ []
 AreLookedUp number_of size names before after (named ∷ more) [] = ⊥
 AreLookedUp number_of size names before after (named ∷ more) (device ∷ table) =
     IsLookedUp number_of size names before after named device × AreLookedUp number_of size names before after more table
+
+-- one of the host's devices was looked up
+pub record LooksUp (number_of : List ℕ → Option ℕ) (size : ℕ → ℕ) (names : Option (List (List ℕ))) (before after : ℕ) (i : ℕ) (device : HostDevice) : Type 0 where
+  pub named : List ℕ × Bool
+  pub is_named : slice_get host_devices i ≡ Some named
+  pub looked_up : IsLookedUp number_of size names before after named device

@@ -39,6 +39,7 @@ impl Host {
         requires seated { HostIsSeated (B.size bank.old) self.old }
         ensures size { (d : ℕ) → B.size bank.new d ≡ B.size bank.old d }
         ensures numbers { (name : List ℕ) → B.number_of bank.new name ≡ B.number_of bank.old name }
+        ensures lookups { B.lookup_faults bank.new ≡ B.lookup_faults bank.old }
         ensures seated { HostIsSeated (B.size bank.new) self.new }
         ensures answers { (h : HostState) → Stands self.old h → Answers h (request_of line.now)
             (B.told bank.old) (B.told bank.new) (B.faults bank.old) (B.faults bank.new) self.new result }
@@ -55,6 +56,7 @@ impl Host {
         requires seated { HostIsSeated (B.size bank.old) self.old }
         ensures size { (d : ℕ) → B.size bank.new d ≡ B.size bank.old d }
         ensures numbers { (name : List ℕ) → B.number_of bank.new name ≡ B.number_of bank.old name }
+        ensures lookups { B.lookup_faults bank.new ≡ B.lookup_faults bank.old }
         ensures seated { HostIsSeated (B.size bank.new) self.new }
         ensures answers { (h : HostState) → Stands self.old h → Answers h (Some request.now)
             (B.told bank.old) (B.told bank.new) (B.faults bank.old) (B.faults bank.new) self.new result }

@@ -8,9 +8,21 @@ use Rattle.mp_base.specs.declared.clock.MemClock.{MemClock}
 abbrev pub source_rest : MemSource → List ℕ
 source_rest s = drop s.at s.bytes.items
 
+-- the longest piece that it gives, the number of the read that fails, and how many there were
+abbrev pub source_plan : MemSource → ℕ × Option ℕ × ℕ
+source_plan s = (s.piece, s.failing, s.reads)
+
 -- the bytes that it took
 abbrev pub sink_bytes : MemSink → List ℕ
 sink_bytes s = s.taken.items
+
+-- the longest piece that it takes, the number of the write that fails, and how many there were
+abbrev pub sink_plan : MemSink → ℕ × Option ℕ × ℕ
+sink_plan s = (s.piece, s.failing, s.writes)
+
+-- the second at which it stands
+abbrev pub clock_second : MemClock → ℕ
+clock_second c = c.second
 
 -- the seconds that it gave, while it tells
 abbrev pub clock_seconds : MemClock → Option (List ℕ)

@@ -23,11 +23,12 @@ pub struct MemClock {
 }
 
 impl MemClock {
-    ghost use Rattle.mp_base.specs.Memory.{clock_seconds};
+    ghost use Rattle.mp_base.specs.Memory.{clock_second, clock_seconds};
 
     /// A clock that stands at this second.
     pub fn new(alloc: Global, second: u64) -> MemClock
-        ensures { clock_seconds result ≡ Some [] }
+        ensures gave { clock_seconds result ≡ Some [] }
+        ensures second { clock_second result ≡ second }
     {
         MemClock {
             second,
@@ -38,19 +39,24 @@ impl MemClock {
 
     /// From now on it stands at this second.
     pub fn set(&mut self, second: u64)
-        ensures { clock_seconds self.new ≡ clock_seconds self.old }
+        ensures gave { clock_seconds self.new ≡ clock_seconds self.old }
+        ensures second { clock_second self.new ≡ second }
     {
         self.second = second;
     }
 }
 
 impl Clock for MemClock {
-    ghost use Rattle.mp_base.specs.Memory.{clock_seconds};
+    ghost use Rattle.mp_base.specs.Memory.{clock_second, clock_seconds};
 
     ghost gave = { clock_seconds };
 
     // Where its list finds no memory it stops telling, for good.
-    fn now(&mut self) -> u64 {
+    fn now(&mut self) -> u64
+        ensures gave { Taken (clock_seconds self.old) (clock_seconds self.new) (result ∷ []) }
+        ensures second { result ≡ clock_second self.old }
+        ensures stands { clock_second self.new ≡ clock_second self.old }
+    {
         if self.tells && self.gave.push(self.second).is_err() {
             self.tells = false;
         }

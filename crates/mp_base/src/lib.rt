@@ -10,6 +10,8 @@ mod number;
 mod refusal;
 mod sink;
 mod source;
+#[cfg(test)]
+mod tests;
 
 pub use block::{BLOCK_BYTES, Block};
 pub use clock::{Clock, MemClock};

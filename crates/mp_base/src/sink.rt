@@ -38,13 +38,15 @@ pub struct MemSink {
 }
 
 impl MemSink {
-    ghost use Rattle.mp_base.specs.Memory.{sink_bytes};
+    ghost use Rattle.mp_base.specs.Memory.{sink_bytes, sink_plan};
 
     /// An empty sink, which takes at most `piece` bytes at once, and whose write number `failing`,
     /// counted from 0, fails.
     pub fn new(alloc: Global, piece: usize, failing: Option<u64>) -> MemSink
         requires { 0 < piece }
-        ensures { sink_bytes result ≡ [] }
+        ensures bytes { sink_bytes result ≡ [] }
+        ensures plan { sink_plan result ≡ (piece, failing, 0) }
+        ensures faults { result.faults ≡ 0 }
     {
         MemSink {
             taken: Vec::new(alloc),

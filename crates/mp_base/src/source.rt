@@ -49,13 +49,15 @@ pub struct MemSource {
 }
 
 impl MemSource {
-    ghost use Rattle.mp_base.specs.Memory.{source_rest};
+    ghost use Rattle.mp_base.specs.Memory.{source_rest, source_plan};
 
     /// A source of these bytes, in pieces of at most `piece` bytes, whose read number `failing`,
     /// counted from 0, fails.
     pub fn new(bytes: Vec<u8>, piece: usize, failing: Option<u64>) -> MemSource
         requires { 0 < piece }
-        ensures { source_rest result ≡ bytes.items }
+        ensures rest { source_rest result ≡ bytes.items }
+        ensures plan { source_plan result ≡ (piece, failing, 0) }
+        ensures faults { result.faults ≡ 0 }
     {
         MemSource {
             bytes,

@@ -1,19 +1,13 @@
 -- A commit, address by address, and the state that it leaves.
-use Rattle.std.proofs.Common.{◌≡◌, ◌≢◌, ℕ, suc, ◌+◌, ◌<◌, ◌≤◌, Bool, List, [], ◌∷◌, Option, Some, None, length, refl, arith, inl, inr, ◌⊎◌, sym, ◌∙◌, ap, subst, set, get_or}
-use Rattle.std.specs.Prelude.{slice_get}
-use Rattle.std.proofs.lemmas.Bool.{cases_lt}
-use Rattle.std.proofs.lemmas.Bool.Decides.{eqb_tells}
-use Rattle.std.proofs.lemmas.List.{length-set, get_or-set_other}
-use Rattle.std.proofs.lemmas.Option.{slice_get_within, slice_get-get_or, slice_get_past}
-use Rattle.sha2.specs.Sha256.{sha256}
+use Rattle.std.proofs.Common.{◌≡◌, ℕ, ◌+◌, List, Option, Some, None, length, refl, sym, ◌∙◌}
+use Rattle.std.proofs.lemmas.Option.{slice_get_within}
 use Rattle.pool_core.specs.declared.pool.Pointer.{Pointer}
 use Rattle.pool_core.specs.declared.pool.Pool.{Pool}
-use Rattle.pool_core.specs.Committing.{IsNext, CommitsAt, CommitsBelow, SameOtherwise}
-use Rattle.pool_core.specs.Keeping.{Represents, IsPointed, PointsTo, leaves_of}
+use Rattle.pool_core.specs.Committing.{IsNext, CommitsBelow}
+use Rattle.pool_core.specs.Keeping.{Represents, IsPointed}
 use Rattle.pool_core.specs.Pointers.{next_pointer}
 use Rattle.pool_core.specs.State.{PoolState, Version}
 use Rattle.pool_core.specs.Syncing.{next_version, synced, suspended}
-use Rattle.pool_core.proofs.Lists.{same_some, set_get_same, set_get_other}
 use Rattle.pool_core.proofs.SyncSteps.{other_is}
 
 -- the version that a next pointer points to

@@ -1,5 +1,5 @@
 -- Reads, against the abstract state.
-use Rattle.std.proofs.Common.{◌≡◌, ◌≢◌, ℕ, ◌+◌, ◌<◌, ◌≤◌, ◌==◌, Bool, true, false, cond, List, [], ◌∷◌, ◌++◌, Option, Some, None, Result, Ok, Err, length, map, refl, arith, inl, inr, ◌⊎◌, replicate, sym, ◌∙◌, ap, ap₂, subst, lt-ltb, le-ltb, ltb, nat_lt}
+use Rattle.std.proofs.Common.{◌≡◌, ◌≢◌, ℕ, ◌+◌, ◌<◌, ◌≤◌, Bool, true, false, List, [], ◌∷◌, Option, Some, None, Result, Ok, Err, length, refl, inl, inr, ◌⊎◌, replicate, sym, ◌∙◌, ap, ap₂, subst, lt-ltb, le-ltb, nat_lt}
 use Rattle.std.proofs.lemmas.Slice.Eq.{bytes_eq-Decides}
 use Rattle.std.specs.Prelude.{slice_get}
 use Rattle.std.specs.Str.{bytes_eq}
@@ -12,9 +12,8 @@ use Rattle.mp_base.specs.declared.refusal.Seen.{Seen}
 use Rattle.mp_base.specs.declared.refusal.Seen.TheVariants as seen
 use Rattle.bank_core.specs.declared.bank.Fault.{Fault}
 use Rattle.bank_core.specs.declared.bank.Fault.TheVariants as faults
-use Rattle.bank_core.specs.Asks.{Ask, Reads as ReadsAsk, asks_of}
-use Rattle.bank_core.specs.Calls.{Made}
-use Rattle.bank_core.specs.Disk.{Call, Read, Noted, sectors_in}
+use Rattle.bank_core.specs.Asks.{asks_of}
+use Rattle.bank_core.specs.Disk.{Call, Read, Noted}
 use Rattle.bank_core.specs.Story.{Story}
 use Rattle.bank_core.proofs.Composing.{made_none, made_more}
 use Rattle.bank_core.proofs.Blocks.{block_sectors}
@@ -26,8 +25,8 @@ use Rattle.pool_core.specs.Clash.{Clash, IsFound}
 use Rattle.pool_core.specs.Copies.{IsSeen, TriesCopy}
 use Rattle.pool_core.specs.Done.{IsRead, Reads}
 use Rattle.pool_core.specs.Keeping.{Represents, IsPointed, PointsTo}
-use Rattle.pool_core.specs.Outside.{Trouble, Failed, Gone, Wrong, trouble_of, trouble_from, troubles}
-use Rattle.pool_core.specs.Reading.{Source, Memory, Hole, Copies, source_of, source_at, wanted, read_asks, read_answer, asks_from, answer_from, asks_to, is_served, shown, seen_as, block_from}
+use Rattle.pool_core.specs.Outside.{Trouble, Wrong, trouble_of, trouble_from, troubles}
+use Rattle.pool_core.specs.Reading.{Source, Copies, source_of, source_at, wanted, read_asks, read_answer, asks_from, answer_from, seen_as, block_from}
 use Rattle.pool_core.specs.Tries.{TriesCopies, TriesBoth, TriesSecond, shown_by}
 use Rattle.pool_core.specs.State.{PoolState, Version, data_start}
 

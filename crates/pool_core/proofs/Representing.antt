@@ -1,15 +1,14 @@
 -- What each change of a pool leaves of the state that it stands for.
-use Rattle.std.proofs.Common.{◌≡◌, ◌≢◌, ℕ, ◌+◌, ◌<◌, ◌==◌, Bool, true, false, cond, List, [], ◌∷◌, Option, Some, None, length, replicate, refl, arith, set, sym, ◌∙◌, ap, inl, inr, subst, lt-ltb, Result, Ok, Err}
+use Rattle.std.proofs.Common.{◌≡◌, ℕ, ◌<◌, ◌==◌, Bool, true, false, cond, List, Option, Some, None, length, replicate, refl, set, sym, ◌∙◌, ap, inl, subst, lt-ltb, Ok, Err}
 use Rattle.std.proofs.lemmas.Bool.{eqb-true, eqb-false}
-use Rattle.mp_base.specs.declared.refusal.Refusal.{Refusal}
 use Rattle.mp_base.specs.declared.refusal.Refusal.TheVariants as refusals
-use Rattle.pool_core.specs.Writing.{Puts, put_answer}
+use Rattle.pool_core.specs.Writing.{Puts}
 use Rattle.std.specs.Prelude.{slice_get}
 use Rattle.pool_core.specs.declared.leaf.Leaf.{Leaf}
 use Rattle.pool_core.specs.declared.pool.Pointer.{Pointer}
 use Rattle.pool_core.specs.declared.pool.Pool.{Pool}
-use Rattle.pool_core.specs.Keeping.{Represents, IsPointed, PointsTo, leaves_of}
-use Rattle.pool_core.specs.State.{PoolState, Version, created, written}
+use Rattle.pool_core.specs.Keeping.{Represents, IsPointed, leaves_of}
+use Rattle.pool_core.specs.State.{PoolState, created, written}
 use Rattle.pool_core.proofs.Lists.{same_some, replicate_get, set_get_same, set_get_other}
 
 none_points : (pointer : Option Pointer) (a : ℕ) → pointer ≡ None → IsPointed pointer a None

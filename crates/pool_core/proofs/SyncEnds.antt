@@ -1,12 +1,9 @@
 -- The three ends of a sync.
-use Rattle.std.proofs.Common.{◌≡◌, ℕ, ◌+◌, ◌-◌, ◌^◌, ◌<◌, ◌≤◌, Bool, true, false, List, [], Option, Some, None, Result, Ok, Err, length, refl, arith, sym, ◌∙◌, ap, leb, le-leb, nat_le}
+use Rattle.std.proofs.Common.{◌≡◌, ℕ, ◌+◌, ◌-◌, ◌^◌, ◌<◌, ◌≤◌, true, false, [], Option, Some, None, Result, Ok, Err, length, refl, sym, ◌∙◌, ap, le-leb}
 use Rattle.std.specs.Prelude.{is_err}
 use Rattle.std.proofs.lemmas.Bool.{lt-leb}
-use Rattle.mp_base.specs.declared.number.Group.{Group}
-use Rattle.mp_base.specs.declared.refusal.Refusal.{Refusal}
 use Rattle.mp_base.specs.declared.refusal.Refusal.TheVariants as refusals
 use Rattle.bank_core.specs.declared.bank.Fault.{Fault}
-use Rattle.bank_core.specs.Asks.{Ask}
 use Rattle.bank_core.specs.Parts.{MakesPart}
 use Rattle.bank_core.specs.Story.{Story, fault_in}
 use Rattle.bank_core.proofs.Composing.{made_none}
@@ -15,7 +12,7 @@ use Rattle.pool_core.specs.Done.{Syncs}
 use Rattle.pool_core.specs.Keeping.{Represents, leaves_of}
 use Rattle.pool_core.specs.State.{PoolState, is_spent}
 use Rattle.pool_core.specs.Syncing.{sync_plan, synced, suspended}
-use Rattle.pool_core.proofs.SyncSteps.{Asked, sync_asked}
+use Rattle.pool_core.proofs.SyncSteps.{sync_asked}
 
 -- the last numbers are not drawn
 pub sync_spent : {told : Option Story} {faults : ℕ → ℕ} (pool : Pool) (s : PoolState) → Represents pool s → 2 ^ 62 - 64 ≤ pool.number

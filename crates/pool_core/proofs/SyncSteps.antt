@@ -1,5 +1,5 @@
 -- The calls of a sync, against its plan.
-use Rattle.std.proofs.Common.{◌≡◌, ◌≢◌, ℕ, zero, suc, ◌+◌, ◌*◌, ◌<◌, ◌≤◌, ◌==◌, Bool, true, false, cond, not, List, [], ◌∷◌, ◌++◌, Option, Some, None, Result, Ok, Err, length, map, refl, arith, inl, inr, ◌⊎◌, sym, ◌∙◌, ap, subst, append_assoc, append-nil, add-one}
+use Rattle.std.proofs.Common.{◌≡◌, ◌≢◌, ℕ, zero, suc, ◌+◌, ◌*◌, ◌<◌, ◌≤◌, ◌==◌, Bool, true, false, cond, not, List, [], ◌∷◌, ◌++◌, Option, Some, None, map, refl, arith, inl, inr, ◌⊎◌, sym, ◌∙◌, ap, subst, append_assoc, append-nil, add-one}
 use Rattle.std.specs.Prelude.{slice_get, is_some}
 use Rattle.std.specs.Option.{option_map}
 use Rattle.std.specs.List.{flat_map}
@@ -12,11 +12,11 @@ use Rattle.bank_core.specs.Calls.{fault_of}
 use Rattle.bank_core.specs.Disk.{Call, Read, Write, Flush, Admit, Eject, Noted}
 use Rattle.bank_core.specs.Parts.{MakesPart}
 use Rattle.bank_core.specs.Story.{Story}
-use Rattle.bank_core.proofs.Parting.{part_more, part_stop}
+use Rattle.bank_core.proofs.Parting.{part_stop}
 use Rattle.pool_core.specs.declared.leaf.Leaf.{Leaf}
 use Rattle.pool_core.specs.declared.pool.Pointer.{Pointer}
 use Rattle.pool_core.specs.declared.pool.Pool.{Pool}
-use Rattle.pool_core.specs.Keeping.{Represents, IsPointed, PointsTo, leaves_of, IsSeated}
+use Rattle.pool_core.specs.Keeping.{Represents, IsPointed, leaves_of, IsSeated}
 use Rattle.pool_core.specs.Outside.{Trouble, trouble_from, trouble_of, troubles, has_trouble}
 use Rattle.pool_core.specs.Pointers.{other_odd}
 use Rattle.pool_core.specs.Sectors.{sector_at}

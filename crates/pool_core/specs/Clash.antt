@@ -1,5 +1,5 @@
 -- Two different byte strings with one sum: the only way in which wrong bytes may pass for a block.
-use Rattle.std.specs.Prelude.{◌≡◌, ◌≢◌, ℕ, List, [], ◌∷◌, ◌⊎◌, Option, None, Some}
+use Rattle.std.specs.Prelude.{◌≡◌, ◌≢◌, ℕ, List, [], ◌∷◌, ◌⊎◌, None, Some}
 use Rattle.sha2.specs.Sha256.{sha256}
 use Rattle.bank_core.specs.Disk.{Call, Read, Write, Flush, Admit, Eject, Noted}
 

@@ -4,7 +4,7 @@ use Rattle.sha2.specs.Sha256.{sha256}
 use Rattle.mp_base.specs.declared.refusal.Seen.{Seen}
 use Rattle.mp_base.specs.declared.refusal.Seen.TheVariants as seen
 use Rattle.bank_core.specs.declared.bank.Fault.{Fault}
-use Rattle.bank_core.specs.Disk.{Noted, Read}
+use Rattle.bank_core.specs.Disk.{Read}
 use Rattle.bank_core.specs.Story.{Story}
 use Rattle.bank_core.specs.Calls.{Made}
 

@@ -1,6 +1,6 @@
 -- What a pool keeps of its abstract state: the blocks that were written since the last commit, and of a
 -- committed one where it stands and its sum.
-use Rattle.std.specs.Prelude.{◌≡◌, ℕ, ◌+◌, ◌*◌, ◌<◌, ◌≤◌, Bool, true, false, cond, List, [], ◌∷◌, length, Option, Some, None, Result, Ok, Err, slice_get}
+use Rattle.std.specs.Prelude.{◌≡◌, ℕ, ◌≤◌, List, [], ◌∷◌, length, Option, Some, None, slice_get}
 use Rattle.sha2.specs.Sha256.{sha256}
 use Rattle.pool_core.specs.declared.leaf.Leaf.{Leaf}
 use Rattle.pool_core.specs.declared.pool.Pointer.{Pointer}

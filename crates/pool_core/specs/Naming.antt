@@ -1,5 +1,5 @@
 -- A leaf by its member number.
-use Rattle.std.specs.Prelude.{ℕ, List, [], ◌∷◌, ◌==◌, Option, Some, None, if◌then◌else◌}
+use Rattle.std.specs.Prelude.{List, [], ◌∷◌, ◌==◌, Option, Some, None, if◌then◌else◌}
 use Rattle.mp_base.specs.declared.number.Guid.{Guid}
 use Rattle.pool_core.specs.declared.leaf.Leaf.{Leaf}
 

@@ -1,5 +1,5 @@
 -- A read: what was written since the last commit, else the copies of the committed block in tree order.
-use Rattle.std.specs.Prelude.{◌≡◌, ℕ, ◌+◌, ◌<◌, Bool, true, false, if◌then◌else◌, nat_lt, List, [], ◌∷◌, Option, Some, None, Result, Ok, Err}
+use Rattle.std.specs.Prelude.{ℕ, ◌+◌, Bool, true, false, if◌then◌else◌, nat_lt, List, [], ◌∷◌, Option, Some, None, Result, Ok, Err}
 use Rattle.mp_base.specs.Block.{zero_block}
 use Rattle.mp_base.specs.declared.refusal.LeafSeen.{LeafSeen}
 use Rattle.mp_base.specs.declared.refusal.Seen.{Seen}

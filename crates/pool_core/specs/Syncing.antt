@@ -3,7 +3,7 @@ use Rattle.std.specs.Prelude.{ℕ, zero, suc, ◌+◌, List, [], ◌∷◌, ◌+
 use Rattle.std.specs.List.{flat_map}
 use Rattle.bank_core.specs.Asks.{Ask, Writes, Flushes}
 use Rattle.pool_core.specs.declared.leaf.Leaf.{Leaf}
-use Rattle.pool_core.specs.State.{Version, PoolState, data_start, other_sector, is_spent}
+use Rattle.pool_core.specs.State.{Version, PoolState, data_start, other_sector}
 use Rattle.pool_core.specs.Outside.{Trouble}
 
 -- the addresses below n, in order

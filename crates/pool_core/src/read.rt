@@ -28,6 +28,7 @@ impl Pool {
         requires seated { IsSeated (B.size bank.old) (leaves_of self.now) }
         ensures size { (d : ℕ) → B.size bank.new d ≡ B.size bank.old d }
         ensures numbers { (name : List ℕ) → B.number_of bank.new name ≡ B.number_of bank.old name }
+        ensures lookups { B.lookup_faults bank.new ≡ B.lookup_faults bank.old }
         ensures read { (s : PoolState) → Represents self.now s
             → Reads s address (B.told bank.old) (B.told bank.new) (B.faults bank.old) (B.faults bank.new) (answered out.new result) }
     {
@@ -56,6 +57,7 @@ impl Pool {
         requires inside { address < length self.now.map.items }
         ensures size { (d : ℕ) → B.size bank.new d ≡ B.size bank.old d }
         ensures numbers { (name : List ℕ) → B.number_of bank.new name ≡ B.number_of bank.old name }
+        ensures lookups { B.lookup_faults bank.new ≡ B.lookup_faults bank.old }
         ensures read { (s : PoolState) → Represents self.now s → s.writes address ≡ None
             → Reads s address (B.told bank.old) (B.told bank.new) (B.faults bank.old) (B.faults bank.new) (answered out.new result) }
     {
@@ -109,6 +111,7 @@ impl Pool {
         requires inside { at < 32 }
         ensures size { (d : ℕ) → B.size bank.new d ≡ B.size bank.old d }
         ensures numbers { (name : List ℕ) → B.number_of bank.new name ≡ B.number_of bank.old name }
+        ensures lookups { B.lookup_faults bank.new ≡ B.lookup_faults bank.old }
         ensures tries { TriesCopies self.now at pointer.now (B.told bank.old) (B.told bank.new) (B.faults bank.old) (B.faults bank.new) out.new result }
     {
         let sector = DATA_START + sector_at(at, pointer.odd);
@@ -145,6 +148,7 @@ fn read_copy<B: Bank>(
     requires inside { at < B.size bank.old dev }
     ensures size { (d : ℕ) → B.size bank.new d ≡ B.size bank.old d }
     ensures numbers { (name : List ℕ) → B.number_of bank.new name ≡ B.number_of bank.old name }
+    ensures lookups { B.lookup_faults bank.new ≡ B.lookup_faults bank.old }
     ensures copy { TriesCopy dev at sum.now (B.told bank.old) (B.told bank.new) (B.faults bank.old) (B.faults bank.new) out.new result }
 {
     if bank.read(dev, at, out).is_err() {

@@ -28,6 +28,7 @@ impl Pool {
         requires seated { IsSeated (B.size bank.old) (leaves_of self.old) }
         ensures size { (d : ℕ) → B.size bank.new d ≡ B.size bank.old d }
         ensures numbers { (name : List ℕ) → B.number_of bank.new name ≡ B.number_of bank.old name }
+        ensures lookups { B.lookup_faults bank.new ≡ B.lookup_faults bank.old }
         ensures leaves { leaves_of self.new ≡ leaves_of self.old }
         ensures sync { (s : PoolState) → Represents self.old s
             → Syncs s (B.told bank.old) (B.told bank.new) (B.faults bank.old) (B.faults bank.new) self.new result }
@@ -54,6 +55,7 @@ impl Pool {
         requires seated { IsSeated (B.size bank.old) (leaves_of self.now) }
         ensures size { (d : ℕ) → B.size bank.new d ≡ B.size bank.old d }
         ensures numbers { (name : List ℕ) → B.number_of bank.new name ≡ B.number_of bank.old name }
+        ensures lookups { B.lookup_faults bank.new ≡ B.lookup_faults bank.old }
         ensures part { (s : PoolState) → Represents self.now s
             → MakesPart (sync_plan s) (B.told bank.old) (B.told bank.new) (B.faults bank.old) (B.faults bank.new) (fault_in result) }
     {
@@ -66,6 +68,7 @@ impl Pool {
         requires seated { IsSeated (B.size bank.old) (leaves_of self.now) }
         ensures size { (d : ℕ) → B.size bank.new d ≡ B.size bank.old d }
         ensures numbers { (name : List ℕ) → B.number_of bank.new name ≡ B.number_of bank.old name }
+        ensures lookups { B.lookup_faults bank.new ≡ B.lookup_faults bank.old }
         ensures part { (s : PoolState) → Represents self.now s
             → MakesPart (flat_map (writes_at s) (addresses s.blocks)) (B.told bank.old) (B.told bank.new) (B.faults bank.old) (B.faults bank.new) (fault_in result) }
     {
@@ -81,6 +84,7 @@ impl Pool {
         requires inside { at < length self.now.map.items }
         ensures size { (d : ℕ) → B.size bank.new d ≡ B.size bank.old d }
         ensures numbers { (name : List ℕ) → B.number_of bank.new name ≡ B.number_of bank.old name }
+        ensures lookups { B.lookup_faults bank.new ≡ B.lookup_faults bank.old }
         ensures part { (s : PoolState) → Represents self.now s
             → MakesPart (writes_at s at) (B.told bank.old) (B.told bank.new) (B.faults bank.old) (B.faults bank.new) (fault_in result) }
     {
@@ -99,6 +103,7 @@ impl Pool {
         requires whole { length block.now ≡ 4096 }
         ensures size { (d : ℕ) → B.size bank.new d ≡ B.size bank.old d }
         ensures numbers { (name : List ℕ) → B.number_of bank.new name ≡ B.number_of bank.old name }
+        ensures lookups { B.lookup_faults bank.new ≡ B.lookup_faults bank.old }
         ensures part { MakesPart (writes_to (leaves_of self.now) sector (Some block.now))
             (B.told bank.old) (B.told bank.new) (B.faults bank.old) (B.faults bank.new) (fault_in result) }
     {

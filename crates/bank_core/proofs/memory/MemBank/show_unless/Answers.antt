@@ -10,4 +10,4 @@ returns c = λ none.
     shown_inside c.args.self.now.devices.items c.args.self.now.calls.items c.deref.result.now c.args.damage.now c.index.result.now c.args.dev c.args.at _ _
     c.deref.ensures.value
     (slice_get_read c.args.self.now.devices.items _ c.args.dev c.index.result.now refl (has_place c.args.self.now.devices.items c.args.dev c.requires.device) c.index.ensures)
-    (grind (arith, common_steps)) c.show_from.ensures
+    (grind (arith, common_steps)) c.show_from.ensures.clean

@@ -1,4 +1,4 @@
-use Rattle.std.proofs.Common.{rules, refl, arith}
+use Rattle.std.proofs.Common.{refl, arith}
 use Rattle.std.proofs.lemmas.Grind.{common_steps}
 use Rattle.pool_core.proofs.Representing.{new_represents}
 use Rattle.pool_core.proofs.pool.Pool.create.Goals as goal

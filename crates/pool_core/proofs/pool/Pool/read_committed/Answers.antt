@@ -1,4 +1,3 @@
-use Rattle.std.proofs.Common.{rules, arith}
 use Rattle.pool_core.proofs.ReadSteps.{read_nothing, read_committed, zeros_block}
 use Rattle.pool_core.proofs.pool.Pool.read_committed.Goals as goal
 

@@ -1,4 +1,4 @@
-use Rattle.std.proofs.Common.{arith, sym, refl, rules}
+use Rattle.std.proofs.Common.{sym, refl}
 use Rattle.pool_core.proofs.SyncEnds.{sync_spent, sync_stopped, sync_done, suspended_represents}
 use Rattle.pool_core.proofs.pool.Pool.sync.Goals as goal
 

@@ -1,4 +1,3 @@
-use Rattle.std.proofs.Common.{rules}
 use Rattle.pool_core.proofs.SyncSteps.{block_plan}
 use Rattle.pool_core.proofs.pool.Pool.write_block.Goals as goal
 

@@ -15,6 +15,7 @@ pub loop-at-preserved : goal.loop-at-preserved
 loop-at-preserved g c = record {
   size = λ d. c.write_block.ensures.size d ∙ c.loop-at.invariant.size d;
   numbers = λ name. c.write_block.ensures.numbers name ∙ c.loop-at.invariant.numbers name;
+  lookups = c.write_block.ensures.lookups ∙ c.loop-at.invariant.lookups;
   seated = seated_on _ _ (leaves_of c.args.self.now) c.write_block.ensures.size c.loop-at.invariant.seated;
   part = λ s r. rw one_more (part_more (c.loop-at.invariant.part s r) (c.in_ok-write_block.ensures.part s r));
 }

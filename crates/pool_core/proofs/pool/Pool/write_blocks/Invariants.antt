@@ -10,6 +10,7 @@ abbrev pub invariant-loop-at : goal.invariant-loop-at
 invariant-loop-at g l = record {
   size : (d : ℕ) → g.B.Bank.size l.bank d ≡ g.B.Bank.size l.initial.bank d;
   numbers : (name : List ℕ) → g.B.Bank.number_of l.bank name ≡ g.B.Bank.number_of l.initial.bank name;
+  lookups : g.B.Bank.lookup_faults l.bank ≡ g.B.Bank.lookup_faults l.initial.bank;
   seated : IsSeated (g.B.Bank.size l.bank) (leaves_of l.self);
   part : (s : PoolState) → Represents l.self s → MakesPart (flat_map (writes_at s) (addresses l.at))
       (g.B.Bank.told l.initial.bank) (g.B.Bank.told l.bank) (g.B.Bank.faults l.initial.bank) (g.B.Bank.faults l.bank) None;

@@ -1,7 +1,6 @@
-use Rattle.std.proofs.Common.{List, [], ◌∷◌, Some, None, Ok, Err, refl}
+use Rattle.std.proofs.Common.{[], ◌∷◌, Some, None, refl}
 use Rattle.bank_core.proofs.Blocks.{block_whole, block_inside}
 use Rattle.std.proofs.lemmas.Result.{err_from_is_err_and}
-use Rattle.bank_core.specs.declared.bank.Fault.{Fault}
 use Rattle.bank_core.specs.Asks.{Writes}
 use Rattle.bank_core.specs.Disk.{Write}
 use Rattle.bank_core.specs.Story.{fault_in}

@@ -1,0 +1,78 @@
+//! How a bank in memory notes a call: in its list, and in the count of faults of the device.
+ghost use Rattle.std.specs.Prelude.{◌≡◌, ℕ, ◌+◌, ◌<◌, ◌≤◌, ◌++◌, [], ◌∷◌, None, OnOk, OnErr};
+ghost use Rattle.mp_base.specs.Outside.{Rose};
+ghost use Rattle.bank_core.specs.Disk.{sectors_in};
+ghost use Rattle.bank_core.specs.MemBank.{bank_size, bank_told, bank_faults};
+ghost use Rattle.bank_core.specs.Memory.{call_as, AnswersThere};
+ghost use Rattle.bank_core.specs.Story.{Tells, fault_in};
+
+use crate::bank::Fault;
+use crate::call::MemCall;
+use crate::memory::MemBank;
+use mp_base::MemFault;
+
+impl MemBank {
+    /// Raises the count of faults of a device.
+    fn count(&mut self, dev: u32)
+        requires { dev < 64 }
+        ensures devices { self.new.devices ≡ self.old.devices }
+        ensures calls { self.new.calls ≡ self.old.calls }
+        ensures tells { self.new.tells ≡ self.old.tells }
+        ensures counts { (d : ℕ) → bank_faults self.old d ≤ bank_faults self.new d }
+        ensures rose { Rose (bank_faults self.old dev) (bank_faults self.new dev) }
+    {
+        self.faults[dev as usize] = self.faults[dev as usize].saturating_add(1);
+    }
+
+    /// Puts a call into the list.
+    fn keep(&mut self, call: MemCall) -> Result<(), MemFault>
+        requires { call.at + sectors_in call.bytes.items ≤ bank_size self.old call.dev }
+        ensures devices { self.new.devices ≡ self.old.devices }
+        ensures faults { self.new.faults ≡ self.old.faults }
+        ensures tells { self.new.tells ≡ self.old.tells }
+        ensures ok { OnOk result (self.new.calls.items ≡ self.old.calls.items ++ call ∷ []) }
+        ensures err { OnErr result (self.new.calls.items ≡ self.old.calls.items) }
+    {
+        self.calls.push(call)?;
+        Ok(())
+    }
+
+    /// Stops telling, since the list has no memory for a call, which fails.
+    pub(crate) fn lose(&mut self, dev: u32) -> Result<(), Fault>
+        requires { dev < 64 }
+        ensures failed { result ≡ Err Fault.Failed }
+        ensures devices { self.new.devices ≡ self.old.devices }
+        ensures told { bank_told self.new ≡ None }
+        ensures counts { (d : ℕ) → bank_faults self.old d ≤ bank_faults self.new d }
+        ensures rose { Rose (bank_faults self.old dev) (bank_faults self.new dev) }
+    {
+        self.tells = false;
+        self.count(dev);
+        Err(Fault::Failed)
+    }
+
+    /// Makes a call, whose answer it holds.
+    pub(crate) fn note(&mut self, call: MemCall) -> Result<(), Fault>
+        requires device { 0 < bank_size self.old call.dev }
+        requires inside { call.at + sectors_in call.bytes.items ≤ bank_size self.old call.dev }
+        requires answers { AnswersThere self.old.devices.items self.old.calls.items call }
+        ensures devices { self.new.devices ≡ self.old.devices }
+        ensures counts { (d : ℕ) → bank_faults self.old d ≤ bank_faults self.new d }
+        ensures cause { OnErr result (Rose (bank_faults self.old call.dev) (bank_faults self.new call.dev)) }
+        ensures told { Tells (bank_told self.old) (bank_told self.new)
+            (call_as call.kind call.dev call.at call.bytes.items (fault_in result)) }
+    {
+        let dev = call.dev;
+        let fault = call.fault;
+        if self.keep(call).is_err() {
+            return self.lose(dev);
+        }
+        match fault {
+            None => Ok(()),
+            Some(fault) => {
+                self.count(dev);
+                Err(fault)
+            }
+        }
+    }
+}

@@ -1,0 +1,205 @@
+-- A run, from its beginning to its end.
+use Rattle.std.proofs.Common.{◌≡◌, ℕ, ◌+◌, ◌<◌, List, [], ◌∷◌, ◌++◌, take, length, Option, Some, refl, sym, ◌∙◌, ap, append_assoc, append-nil, arith, subst, inl, inr}
+use Rattle.mp_base.specs.Outside.{Given}
+use Rattle.bank_core.specs.Story.{Story}
+use Rattle.host_front.specs.declared.host.Host.{Host}
+use Rattle.host_front.specs.declared.status.Status.{Status}
+use Rattle.host_front.specs.declared.status.Status.TheVariants as statuses
+use Rattle.host_front.specs.declared.stop.Stop.{Stop}
+use Rattle.host_front.specs.declared.stop.Stop.TheVariants as stops
+use Rattle.host_front.specs.Feeding.{Feeds, Breaks, Overflows, StopsBy, BreaksLine}
+use Rattle.host_front.specs.Finishing.{Finishes, Finished}
+use Rattle.host_front.specs.Lines.{lines_of}
+use Rattle.host_front.specs.Machine.{HostState, texts}
+use Rattle.host_front.specs.Session.{Handles, Ran}
+use Rattle.host_front.specs.SoFar.{SoFar, status_of}
+use Rattle.host_front.specs.Standing.{Stands}
+use Rattle.host_front.proofs.Feedings.{feeds_none, feeds_more, stops_more, texts_front}
+use Rattle.host_front.proofs.Handling.{handles_more, texts_more}
+use Rattle.host_front.proofs.LineEnds.{short_more, last_line}
+
+given_none : (left : Option (List ℕ)) → Given left left []
+given_none left = record { by = λ rest e. e }
+
+given_more : (old mid new : Option (List ℕ)) (first second : List ℕ) → Given old mid first → Given mid new second → Given old new (first ++ second)
+given_more old mid new first second a b = record { by = λ rest e. a.by (second ++ rest) (b.by rest e) ∙ ap Some (sym (append_assoc first second rest)) }
+
+given_still : (old mid new : Option (List ℕ)) (text : List ℕ) → Given old mid text → Given mid new [] → Given old new text
+given_still old mid new text a b = record { by = λ rest e. a.by rest (b.by rest e) }
+
+pub so_far_none : {h : HostState} {told : Option Story} {faults : ℕ → ℕ} {left sink : Option (List ℕ)} {host : Host} → Stands host h
+    → SoFar h [] told told faults faults left left sink sink host
+so_far_none {left = left} stands = record { text = []; given = given_none left; feeds = feeds_none [] tt (omega arith) stands }
+
+pub so_far_more : {h : HostState} {old mid new : Option Story} {f g k : ℕ → ℕ} {left left' left'' sink sink' sink'' : Option (List ℕ)} {host host' : Host}
+    (waiting piece waiting' : List ℕ) → (a : SoFar h waiting old mid f g left left' sink sink' host) → Given left' left'' piece
+    → Feeds a.feeds.next waiting piece waiting' mid new g k sink' sink'' host' → SoFar h waiting' old new f k left left'' sink sink'' host'
+so_far_more {left = left} {left' = left'} {left'' = left''} waiting piece waiting' a given feeds = record {
+  text = a.text ++ piece;
+  given = given_more left left' left'' a.text piece a.given given;
+  feeds = feeds_more [] a.text waiting piece waiting' a.feeds feeds;
+}
+
+-- a read of the input failed
+pub source_ran : {h : HostState} {old new : Option Story} {f g : ℕ → ℕ} {left left' left'' sink sink' : Option (List ℕ)} (host : Host) (waiting : List ℕ)
+    → SoFar h waiting old new f g left left' sink sink' host → Given left' left'' [] → Ran h statuses.SourceFault old new f g left left'' sink sink'
+source_ran {left = left} {left' = left'} {left'' = left''} host waiting a given = record {
+  text = a.text;
+  lines = a.feeds.lines;
+  entries = a.feeds.entries;
+  state = a.feeds.next;
+  bytes = texts a.feeds.entries;
+  given = given_still left left' left'' a.text a.given given;
+  up_to = (waiting, a.feeds.ends);
+  short = a.feeds.short;
+  handles = a.feeds.handles;
+  is_written = refl;
+}
+
+module _ (h : HostState) (old new : Option Story) (f g : ℕ → ℕ) (left left' sink sink' : Option (List ℕ)) (text : List ℕ) (given : Given left left' text) where
+  sink_ran : Breaks h [] text old new f g sink sink' → Ran h statuses.SinkFault old new f g left left' sink sink'
+  sink_ran b = record {
+    text = text;
+    lines = b.lines;
+    entries = b.entries;
+    state = b.next;
+    bytes = take b.kept (texts b.entries);
+    given = given;
+    up_to = λ rest e. b.first rest;
+    short = b.short;
+    handles = b.handles;
+    is_written = (b.kept, refl);
+  }
+
+  memory_ran : Breaks h [] text old new f g sink sink' → Ran h statuses.Memory old new f g left left' sink sink'
+  memory_ran b = record {
+    text = text;
+    lines = b.lines;
+    entries = b.entries;
+    state = b.next;
+    bytes = take b.kept (texts b.entries);
+    given = given;
+    up_to = λ rest e. b.first rest;
+    short = b.short;
+    handles = b.handles;
+    is_written = (b.kept, refl);
+  }
+
+  long_ran : Overflows h [] text old new f g sink sink' → Ran h statuses.LineTooLong old new f g left left' sink sink'
+  long_ran b = record {
+    text = text;
+    lines = b.lines;
+    entries = b.entries;
+    state = b.next;
+    bytes = texts b.entries;
+    given = given;
+    up_to = λ rest e. b.first rest;
+    short = b.short;
+    handles = b.handles;
+    is_written = refl;
+  }
+
+stopped_ran : (h : HostState) (old new : Option Story) (f g : ℕ → ℕ) (left left' sink sink' : Option (List ℕ)) (text : List ℕ) → Given left left' text
+    → (stop : Stop) → StopsBy stop h [] text old new f g sink sink' → Ran h (status_of stop) old new f g left left' sink sink'
+stopped_ran h old new f g left left' sink sink' text given stops.Sink b = sink_ran h old new f g left left' sink sink' text given b
+stopped_ran h old new f g left left' sink sink' text given stops.Memory b = memory_ran h old new f g left left' sink sink' text given b
+stopped_ran h old new f g left left' sink sink' text given stops.TooLong b = long_ran h old new f g left left' sink sink' text given b
+
+-- a piece of the input broke off
+pub stop_ran : (h : HostState) (old mid new : Option Story) (f g k : ℕ → ℕ) (left left' left'' sink sink' sink'' : Option (List ℕ)) (host : Host)
+    (waiting piece : List ℕ) (stop : Stop) → (a : SoFar h waiting old mid f g left left' sink sink' host) → Given left' left'' piece
+    → StopsBy stop a.feeds.next waiting piece mid new g k sink' sink'' → Ran h (status_of stop) old new f k left left'' sink sink''
+stop_ran h old mid new f g k left left' left'' sink sink' sink'' host waiting piece stop a given b =
+    stopped_ran h old new f k left left'' sink sink'' (a.text ++ piece) (given_more left left' left'' a.text piece a.given given) stop
+    (stops_more h old mid new f g k sink sink' sink'' host [] a.text waiting piece stop a.feeds b)
+
+module _ (h : HostState) (old mid new : Option Story) (f g k : ℕ → ℕ) (left left' left'' sink sink' sink'' : Option (List ℕ)) (host : Host) (waiting : List ℕ)
+    (a : SoFar h waiting old mid f g left left' sink sink' host) (given : Given left' left'' []) where
+  -- the lines of all the text, with what waits as the last one
+  all_lines : (rest : List ℕ) → rest ≡ [] → lines_of (a.text ++ rest) ≡ a.feeds.lines ++ lines_of waiting
+  all_lines rest empty = a.feeds.ends.each rest ∙ ap (λ tail. a.feeds.lines ++ lines_of (waiting ++ tail)) empty
+      ∙ ap (λ last. a.feeds.lines ++ lines_of last) (append-nil waiting)
+
+  whole_text : lines_of a.text ≡ a.feeds.lines ++ lines_of waiting
+  whole_text = ap lines_of (sym (append-nil a.text)) ∙ all_lines [] refl
+
+  nothing_ran : ((rest : List ℕ) → left'' ≡ Some rest → rest ≡ []) → waiting ≡ [] → Ran h statuses.Done old mid f g left left'' sink sink'
+  nothing_ran ended empty = record {
+    text = a.text;
+    lines = a.feeds.lines;
+    entries = a.feeds.entries;
+    state = a.feeds.next;
+    bytes = texts a.feeds.entries;
+    given = given_still left left' left'' a.text a.given given;
+    up_to = (ended, whole_text ∙ ap (λ last. a.feeds.lines ++ lines_of last) empty ∙ append-nil a.feeds.lines);
+    short = a.feeds.short;
+    handles = a.feeds.handles;
+    is_written = refl;
+  }
+
+  last_ran : ((rest : List ℕ) → left'' ≡ Some rest → rest ≡ []) → Finished a.feeds.next waiting mid new g k sink' sink'' → Ran h statuses.Done old new f k left left'' sink sink''
+  last_ran ended l = record {
+    text = a.text;
+    lines = a.feeds.lines ++ waiting ∷ [];
+    entries = a.feeds.entries ++ l.line.entry ∷ [];
+    state = l.line.next;
+    bytes = texts a.feeds.entries ++ texts (l.line.entry ∷ []);
+    given = given_still left left' left'' a.text a.given given;
+    up_to = (ended, whole_text ∙ ap (λ last. a.feeds.lines ++ last) (last_line waiting a.feeds.ends.unended l.some));
+    short = short_more a.feeds.lines (waiting ∷ []) a.feeds.short (a.feeds.fits, tt);
+    handles = handles_more h a.feeds.next l.line.next a.feeds.lines (waiting ∷ []) old mid new f g k sink sink' sink'' a.feeds.entries (l.line.entry ∷ [])
+        (texts a.feeds.entries) (texts (l.line.entry ∷ [])) a.feeds.handles l.line.handles;
+    is_written = texts_more a.feeds.entries (l.line.entry ∷ []);
+  }
+
+  -- the reply to the last line broke off
+  broken_lines : 0 < length waiting → ((rest : List ℕ) → left'' ≡ Some rest → rest ≡ []) → (rest : List ℕ) → left'' ≡ Some rest
+      → (more : List (List ℕ)) × (lines_of (a.text ++ rest) ≡ (a.feeds.lines ++ waiting ∷ []) ++ more)
+  broken_lines some ended rest e = (
+    [],
+    all_lines rest (ended rest e) ∙ ap (λ last. a.feeds.lines ++ last) (last_line waiting a.feeds.ends.unended some)
+        ∙ sym (append-nil (a.feeds.lines ++ waiting ∷ [])),
+  )
+
+  broken_handles : (l : BreaksLine a.feeds.next waiting mid new g k sink' sink'')
+      → Handles h (a.feeds.lines ++ waiting ∷ []) old new f k sink sink'' l.next (a.feeds.entries ++ l.entry ∷ [])
+      (take (length (texts a.feeds.entries) + l.kept) (texts (a.feeds.entries ++ l.entry ∷ [])))
+  broken_handles l = subst (Handles h (a.feeds.lines ++ waiting ∷ []) old new f k sink sink'' l.next (a.feeds.entries ++ l.entry ∷ []))
+      (texts_front a.feeds.entries (l.entry ∷ []) l.kept)
+      (handles_more h a.feeds.next l.next a.feeds.lines (waiting ∷ []) old mid new f g k sink sink' sink'' a.feeds.entries (l.entry ∷ [])
+      (texts a.feeds.entries) (take l.kept (texts (l.entry ∷ []))) a.feeds.handles l.handles)
+
+  broken_ran : (stop : Stop) → (stop ≡ stops.TooLong → ⊥) → 0 < length waiting → ((rest : List ℕ) → left'' ≡ Some rest → rest ≡ [])
+      → BreaksLine a.feeds.next waiting mid new g k sink' sink'' → Ran h (status_of stop) old new f k left left'' sink sink''
+  broken_ran stops.Sink whole some ended l = record {
+    text = a.text;
+    lines = a.feeds.lines ++ waiting ∷ [];
+    entries = a.feeds.entries ++ l.entry ∷ [];
+    state = l.next;
+    bytes = take (length (texts a.feeds.entries) + l.kept) (texts (a.feeds.entries ++ l.entry ∷ []));
+    given = given_still left left' left'' a.text a.given given;
+    up_to = broken_lines some ended;
+    short = short_more a.feeds.lines (waiting ∷ []) a.feeds.short (a.feeds.fits, tt);
+    handles = broken_handles l;
+    is_written = (length (texts a.feeds.entries) + l.kept, refl);
+  }
+  broken_ran stops.Memory whole some ended l = record {
+    text = a.text;
+    lines = a.feeds.lines ++ waiting ∷ [];
+    entries = a.feeds.entries ++ l.entry ∷ [];
+    state = l.next;
+    bytes = take (length (texts a.feeds.entries) + l.kept) (texts (a.feeds.entries ++ l.entry ∷ []));
+    given = given_still left left' left'' a.text a.given given;
+    up_to = broken_lines some ended;
+    short = short_more a.feeds.lines (waiting ∷ []) a.feeds.short (a.feeds.fits, tt);
+    handles = broken_handles l;
+    is_written = (length (texts a.feeds.entries) + l.kept, refl);
+  }
+  broken_ran stops.TooLong whole some ended l = absurd (whole refl)
+
+  -- the input has ended
+  pub finish_ran : (status : Status) → ((rest : List ℕ) → left'' ≡ Some rest → rest ≡ []) → Finishes a.feeds.next status waiting mid new g k sink' sink''
+      → Ran h status old new f k left left'' sink sink''
+  finish_ran status ended (inl n) = rw (n.0, n.1.told, n.1.faults, n.1.written) (nothing_ran ended n.1.none)
+  finish_ran status ended (inr (inl l)) = rw l.0 (last_ran ended l.1)
+  finish_ran status ended (inr (inr b)) = rw b.status_is (broken_ran b.stop b.whole b.some ended b.line)

@@ -1,0 +1,13 @@
+use Rattle.std.proofs.Common.{refl, Some}
+use Rattle.pool_wire.specs.declared.request.Request.TheVariants as requests
+use Rattle.host_front.proofs.Answering.{answers_quiet}
+use Rattle.host_front.proofs.host.Host.request.Goals as goal
+
+pub returns-in-Nothing-clause-answers : goal.returns-in-Nothing-clause-answers
+returns-in-Nothing-clause-answers g c = λ h stands. rw c.in-Nothing.is (answers_quiet h h (Some requests.Nothing) stands refl refl)
+
+pub returns-in-Create-clause-seated : goal.returns-in-Create-clause-seated
+returns-in-Create-clause-seated g c = c.create.ensures.seated _ c.requires.seated
+
+pub returns-in-Write-clause-seated : goal.returns-in-Write-clause-seated
+returns-in-Write-clause-seated g c = c.write.ensures.seated _ c.requires.seated

@@ -1,0 +1,45 @@
+use Rattle.std.proofs.Common.{rules, arith, ℕ, ◌+◌, ◌∙◌, List, [], ◌∷◌, ◌++◌, take, drop, get_or, subst}
+use Rattle.std.proofs.lemmas.List.{take_more}
+use Rattle.host_front.specs.Feeding.{StopsBy}
+use Rattle.host_front.proofs.Feedings.{feeds_none, feeds_more, stops_more, stops_within, piece_split}
+use Rattle.host_front.proofs.input.feed.Goals as goal
+
+pub loop-b-init : goal.loop-b-init
+loop-b-init g c = record {
+  size = search rules;
+  numbers = search rules;
+  lookups = search rules;
+  seated = c.requires.seated;
+  feeds = λ h stands. feeds_none c.args.waiting.now.items c.requires.open_line c.requires.fits stands;
+  open_line = c.requires.open_line;
+  fits = c.requires.fits;
+  counts = omega arith;
+}
+
+pub returns-in-Err-clause-stops : goal.returns-in-Err-clause-stops
+returns-in-Err-clause-stops g c = λ h stands.
+    let a = c.loop-b.invariant.feeds h stands in
+    let b = c.in-Err.ensures.stops a.next a.stands in
+    let first = take c.loop-b.b-index c.args.piece.now ++ get_or c.args.piece.now c.loop-b.b-index 0 ∷ [] in
+    subst (λ (piece : List ℕ). StopsBy c.in-Err.stop h c.args.waiting.now.items piece (g.B.Bank.told c.args.bank.now) (g.B.Bank.told c.take_byte.new.bank)
+    (g.B.Bank.faults c.args.bank.now) (g.B.Bank.faults c.take_byte.new.bank) (g.W.Sink.contents c.args.output.now) (g.W.Sink.contents c.take_byte.new.output))
+    (piece_split c.args.piece.now c.loop-b.b-index c.loop-b-test.true)
+    (stops_within h _ _ _ _ _ _ c.args.waiting.now.items first (drop (c.loop-b.b-index + 1) c.args.piece.now) c.in-Err.stop
+    (stops_more h _ _ _ _ _ _ _ _ _ _ c.args.waiting.now.items (take c.loop-b.b-index c.args.piece.now) c.loop-b.waiting.items
+    (get_or c.args.piece.now c.loop-b.b-index 0 ∷ []) c.in-Err.stop a b))
+
+pub loop-b-preserved : goal.loop-b-preserved
+loop-b-preserved g c = record {
+  size = λ d. c.in-Ok.ensures.size d ∙ c.loop-b.invariant.size d;
+  numbers = λ name. c.in-Ok.ensures.numbers name ∙ c.loop-b.invariant.numbers name;
+  lookups = c.in-Ok.ensures.lookups ∙ c.loop-b.invariant.lookups;
+  seated = c.in-Ok.ensures.seated;
+  feeds = λ h stands.
+      let a = c.loop-b.invariant.feeds h stands in
+      rw (take_more c.args.piece.now c.loop-b.b-index 0 c.loop-b-test.true)
+      (feeds_more c.args.waiting.now.items (take c.loop-b.b-index c.args.piece.now) c.loop-b.waiting.items
+      (get_or c.args.piece.now c.loop-b.b-index 0 ∷ []) c.take_byte.new.waiting.items a (c.in-Ok.ensures.feeds a.next a.stands));
+  open_line = c.in-Ok.ensures.open_line;
+  fits = c.in-Ok.ensures.fits;
+  counts = omega arith;
+}

@@ -1,0 +1,20 @@
+use Rattle.std.proofs.Common.{◌≡◌, ℕ, ◌≤◌, List, take, length}
+use Rattle.host_front.specs.Feeding.{Feeds}
+use Rattle.host_front.specs.Lines.{IsOpen, longest}
+use Rattle.host_front.specs.Machine.{HostState}
+use Rattle.host_front.specs.Standing.{Stands, HostIsSeated}
+use Rattle.host_front.proofs.input.feed.Given as goal
+
+abbrev pub invariant-loop-b : goal.invariant-loop-b
+invariant-loop-b g l = record {
+  size : (d : ℕ) → g.B.Bank.size l.bank d ≡ g.B.Bank.size l.initial.bank d;
+  numbers : (name : List ℕ) → g.B.Bank.number_of l.bank name ≡ g.B.Bank.number_of l.initial.bank name;
+  lookups : g.B.Bank.lookup_faults l.bank ≡ g.B.Bank.lookup_faults l.initial.bank;
+  seated : HostIsSeated (g.B.Bank.size l.bank) l.host;
+  feeds : (h : HostState) → Stands l.initial.host h → Feeds h l.initial.waiting.items (take l.b-index l.piece) l.waiting.items
+      (g.B.Bank.told l.initial.bank) (g.B.Bank.told l.bank) (g.B.Bank.faults l.initial.bank) (g.B.Bank.faults l.bank)
+      (g.W.Sink.contents l.initial.output) (g.W.Sink.contents l.output) l.host;
+  open_line : IsOpen l.waiting.items;
+  fits : length l.waiting.items ≤ longest;
+  counts : g.W.Sink.faults l.initial.output ≤ g.W.Sink.faults l.output;
+}

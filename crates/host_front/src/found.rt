@@ -1,0 +1,106 @@
+//! The look-ups with which a run begins.
+ghost use Rattle.std.specs.Prelude.{◌≡◌, ℕ, ◌<◌, ◌≤◌, ◌⊎◌, List, Option, Some, None, IsTrue, IfOk, slice_get, take};
+ghost use Rattle.mp_base.specs.Name.{is_name};
+ghost use Rattle.mp_base.specs.Outside.{Rose};
+ghost use Rattle.bank_core.specs.Absent.{IsAbsent};
+ghost use Rattle.host_front.specs.FixedHost.{host_devices};
+ghost use Rattle.host_front.specs.Standing.{AreLookedUp, LooksUp};
+
+use crate::HostDevice;
+use bank_core::{Bank, FindFault};
+use mp_base::{MemFault, Name, NameFault};
+use std::alloc::Global;
+
+/// How many devices the host has, as long as no host file names them.
+pub const HOST_DEVICES: usize = 7;
+
+// Looks every device of the host up.
+pub(crate) fn find_devices<B: Bank>(
+    alloc: Global,
+    bank: &mut B,
+) -> Result<Vec<HostDevice>, MemFault>
+    ensures found { IfOk result (λ table. AreLookedUp (B.number_of bank.new) (B.size bank.new) (B.names bank.old)
+        (B.lookup_faults bank.old) (B.lookup_faults bank.new) host_devices table.items) }
+    ensures told { B.told bank.new ≡ B.told bank.old }
+    ensures faults { (d : ℕ) → B.faults bank.new d ≡ B.faults bank.old d }
+{
+    let mut table = Vec::with_capacity(alloc, HOST_DEVICES)?;
+    for i in 0..HOST_DEVICES {
+        let device = look_up(alloc, bank, i)?;
+        table.push(device)?;
+    }
+    Ok(table)
+}
+
+// Looks one device of the host up. It isn't there where its look-up finds nothing, or fails.
+fn look_up<B: Bank>(alloc: Global, bank: &mut B, i: usize) -> Result<HostDevice, MemFault>
+    requires { i < 7 }
+    ensures looked_up { IfOk result (LooksUp (B.number_of bank.new) (B.size bank.new) (B.names bank.old)
+        (B.lookup_faults bank.old) (B.lookup_faults bank.new) i) }
+    ensures keeps { (other : List ℕ) (dev : ℕ) → B.number_of bank.old other ≡ Some dev → B.number_of bank.new other ≡ Some dev }
+    ensures sizes { (d : ℕ) → 0 < B.size bank.old d → B.size bank.new d ≡ B.size bank.old d }
+    ensures names { B.names bank.new ≡ B.names bank.old }
+    ensures told { B.told bank.new ≡ B.told bank.old }
+    ensures faults { (d : ℕ) → B.faults bank.new d ≡ B.faults bank.old d }
+    ensures lookups { B.lookup_faults bank.old ≤ B.lookup_faults bank.new }
+{
+    let (word, spare) = host_device(i);
+    let name = match Name::new(alloc, word) {
+        Ok(name) => name,
+        Err(NameFault::Memory) => return Err(MemFault),
+        Err(NameFault::Bad) => unreachable!(),
+    };
+    let dev = find(bank, &name)?;
+    let sectors = sectors(bank, dev);
+    Ok(HostDevice {
+        name,
+        dev,
+        sectors,
+        spare,
+    })
+}
+
+// Looks one name up: nothing is found where the look-up fails, too.
+fn find<B: Bank>(bank: &mut B, name: &Name) -> Result<Option<u32>, MemFault>
+    ensures some { IfOk result (λ found. (dev : ℕ) → found ≡ Some dev → (B.number_of bank.new name.now ≡ Some dev) × (0 < B.size bank.new dev)) }
+    ensures none { IfOk result (λ found. found ≡ None → IsAbsent (B.names bank.old) name.now ⊎ Rose (B.lookup_faults bank.old) (B.lookup_faults bank.new)) }
+    ensures keeps { (other : List ℕ) (dev : ℕ) → B.number_of bank.old other ≡ Some dev → B.number_of bank.new other ≡ Some dev }
+    ensures sizes { (d : ℕ) → 0 < B.size bank.old d → B.size bank.new d ≡ B.size bank.old d }
+    ensures names { B.names bank.new ≡ B.names bank.old }
+    ensures told { B.told bank.new ≡ B.told bank.old }
+    ensures faults { (d : ℕ) → B.faults bank.new d ≡ B.faults bank.old d }
+    ensures lookups { B.lookup_faults bank.old ≤ B.lookup_faults bank.new }
+{
+    match bank.find(name) {
+        Ok(Some(dev)) => Ok(Some(dev)),
+        Ok(None) | Err(FindFault::Fault(_)) => Ok(None),
+        Err(FindFault::Memory) => Err(MemFault),
+    }
+}
+
+// How many sectors a device has, if it was found.
+fn sectors<B: Bank>(bank: &B, found: Option<u32>) -> u64
+    ensures { (dev : ℕ) → found ≡ Some dev → result ≡ B.size bank.now dev }
+{
+    match found {
+        Some(dev) => bank.sectors(dev),
+        None => 0,
+    }
+}
+
+/// The name of a device of the host, and whether it is a spare device.
+pub fn host_device(i: usize) -> (&'static [u8], bool)
+    requires { i < 7 }
+    ensures is { slice_get host_devices i ≡ Some (result.0.now, result.1) }
+    ensures name { IsTrue (is_name result.0.now) }
+{
+    match i {
+        0 => (b"a", false),
+        1 => (b"b", false),
+        2 => (b"c", false),
+        3 => (b"d", false),
+        4 => (b"n", false),
+        5 => (b"s", true),
+        _ => (b"t", true),
+    }
+}

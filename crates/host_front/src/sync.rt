@@ -1,0 +1,38 @@
+//! The line `sync`.
+ghost use Rattle.std.specs.Prelude.{◌≡◌, ℕ};
+
+use crate::Host;
+use bank_core::Bank;
+use mp_base::{Name, Refusal};
+use pool_wire::Reply;
+
+impl Host {
+    ghost use Rattle.std.specs.Prelude.{Some, List, Option};
+    ghost use Rattle.pool_wire.specs.declared.request.Request.TheVariants.{Sync};
+    ghost use Rattle.host_front.specs.Machine.{HostState};
+    ghost use Rattle.host_front.specs.Standing.{Stands, HostIsSeated};
+    ghost use Rattle.host_front.specs.Session.{Answers};
+
+    pub(crate) fn sync<B: Bank>(&mut self, bank: &mut B, name: &Name) -> Reply
+        requires seated { HostIsSeated (B.size bank.old) self.old }
+        ensures size { (d : ℕ) → B.size bank.new d ≡ B.size bank.old d }
+        ensures numbers { (name : List ℕ) → B.number_of bank.new name ≡ B.number_of bank.old name }
+        ensures lookups { B.lookup_faults bank.new ≡ B.lookup_faults bank.old }
+        ensures seated { HostIsSeated (B.size bank.new) self.new }
+        ensures answers { (h : HostState) → Stands self.old h → Answers h (Some (Sync name.now))
+            (B.told bank.old) (B.told bank.new) (B.faults bank.old) (B.faults bank.new) self.new result }
+    {
+        match &mut self.pool {
+            Some(pool) => {
+                if !pool.is_named(name) {
+                    return Reply::Refused(Refusal::NotBuilt);
+                }
+                match pool.sync(bank) {
+                    Ok(group) => Reply::Committed(group),
+                    Err(refusal) => Reply::Refused(refusal),
+                }
+            }
+            None => Reply::Refused(Refusal::NotBuilt),
+        }
+    }
+}

@@ -1,0 +1,313 @@
+//! What scripts answer, over the devices of a host that no file describes.
+use crate::devices::host_bank;
+use bank_core::{Damage, Fault, MemBank};
+use host_front::{Status, run};
+use mp_base::{MemSink, MemSource};
+use std::alloc::Global;
+use std::process::Abort;
+use std::test::Fail;
+
+/// The plainest script, and what it answers.
+const PLAINEST: &[u8] = b"create tank 16 mirror a b\nwrite tank 0 c0ffee\nsync tank\nread tank 0\n";
+
+const PLAINEST_REPLIES: &[u8] = b"ok 1\nok\nok 2\nok c0ffee\n";
+
+/// The devices a and b have these numbers, in the order of their look-ups.
+const A: u32 = 0;
+
+const B: u32 = 1;
+
+/// How input comes and output goes: the most bytes of a piece, and which call fails.
+#[derive(Drop)]
+struct Streams {
+    read_most: usize,
+    failing_read: Option<u64>,
+    write_most: usize,
+    failing_write: Option<u64>,
+}
+
+/// Whole pieces, and no failed call.
+const WHOLE: Streams = Streams {
+    read_most: usize::MAX,
+    failing_read: None,
+    write_most: usize::MAX,
+    failing_write: None,
+};
+
+/// What a run wrote, and how it ended.
+#[derive(Drop)]
+struct Outcome {
+    status: Status,
+    written: Vec<u8>,
+}
+
+fn run_words(
+    rt: &impl Abort,
+    alloc: Global,
+    words: &[String],
+    bank: &mut MemBank,
+    script: &[u8],
+    streams: &Streams,
+) -> Result<Outcome, Fail> {
+    assert!(rt; streams.read_most > 0);
+    assert!(rt; streams.write_most > 0);
+    let bytes = Vec::from_slice(alloc, script)?;
+    let mut input = MemSource::new(bytes, streams.read_most, streams.failing_read);
+    let mut output = MemSink::new(alloc, streams.write_most, streams.failing_write);
+    let status = run(alloc, words, bank, &mut input, &mut output);
+    let written = Vec::from_slice(alloc, output.bytes())?;
+    Ok(Outcome { status, written })
+}
+
+fn run_script(
+    rt: &impl Abort,
+    alloc: Global,
+    bank: &mut MemBank,
+    script: &[u8],
+    streams: &Streams,
+) -> Result<Outcome, Fail> {
+    let words = vec![in alloc; format!(in alloc; "script")?]?;
+    run_words(rt, alloc, &words, bank, script, streams)
+}
+
+/// Runs a script over a new bank.
+fn run_plain(
+    rt: &impl Abort,
+    alloc: Global,
+    script: &[u8],
+    streams: &Streams,
+) -> Result<Outcome, Fail> {
+    let mut bank = host_bank(alloc)?;
+    run_script(rt, alloc, &mut bank, script, streams)
+}
+
+#[test]
+fn scripts_answer_each_line_by_its_reply(rt: HostRuntime) -> Result<(), Fail> {
+    let alloc = rt.alloc();
+    let cases: [(&[u8], &[u8]); 4] = [
+        (PLAINEST, PLAINEST_REPLIES),
+        (
+            b"create tank 16 mirror a b\nread tank 15\nread tank 16\nwrite tank 16 01",
+            b"ok 1\nok -\nno 3 address 16\nno 3 address 16\n",
+        ),
+        // a line that isn't one of the grammar's, and one before there is a pool
+        (
+            b"\n# a remark\nread tank 0\nread tank 00\ncreate tank 16 mirror a b\n",
+            b"ok\nok\nno 40 notbuilt\nno 40 notbuilt\nok 1\n",
+        ),
+        (b"", b""),
+    ];
+    for (script, replies) in cases {
+        let outcome = run_plain(&rt, alloc, script, &WHOLE)?;
+        assert_eq!(rt; outcome.status, Status::Done);
+        assert_eq!(rt; outcome.written.as_slice(), replies);
+    }
+    Ok(())
+}
+
+#[test]
+fn the_replies_are_the_same_whatever_the_pieces(rt: HostRuntime) -> Result<(), Fail> {
+    let alloc = rt.alloc();
+    for (read_most, write_most) in [(1, 1), (7, 3), (4096, 7)] {
+        let streams = Streams {
+            read_most,
+            failing_read: None,
+            write_most,
+            failing_write: None,
+        };
+        let outcome = run_plain(&rt, alloc, PLAINEST, &streams)?;
+        assert_eq!(rt; outcome.status, Status::Done);
+        assert_eq!(rt; outcome.written.as_slice(), PLAINEST_REPLIES);
+    }
+    Ok(())
+}
+
+#[test]
+fn a_failed_write_leaves_a_front_of_the_replies(rt: HostRuntime) -> Result<(), Fail> {
+    let alloc = rt.alloc();
+    let mut failures = 0;
+    for failing in 0..12u64 {
+        let streams = Streams {
+            read_most: usize::MAX,
+            failing_read: None,
+            write_most: 3,
+            failing_write: Some(failing),
+        };
+        let outcome = run_plain(&rt, alloc, PLAINEST, &streams)?;
+        assert!(rt; PLAINEST_REPLIES.starts_with(&outcome.written));
+        if outcome.status == Status::SinkFault {
+            failures += 1;
+            assert!(rt; outcome.written.len() < PLAINEST_REPLIES.len());
+        } else {
+            assert_eq!(rt; outcome.status, Status::Done);
+            assert_eq!(rt; outcome.written.as_slice(), PLAINEST_REPLIES);
+        }
+    }
+    // two writes for each reply of five or three bytes, and four for the last one
+    assert_eq!(rt; failures, 9);
+    Ok(())
+}
+
+#[test]
+fn a_failed_read_leaves_the_replies_to_whole_lines(rt: HostRuntime) -> Result<(), Fail> {
+    let alloc = rt.alloc();
+    let lengths = [0usize, 0, 0, 5, 5, 8, 13, 23];
+    // the lines end behind the bytes 26, 46, 56 and 68
+    for (failing, length) in lengths.iter().enumerate() {
+        let streams = Streams {
+            read_most: 10,
+            failing_read: Some(failing as u64),
+            write_most: usize::MAX,
+            failing_write: None,
+        };
+        let outcome = run_plain(&rt, alloc, PLAINEST, &streams)?;
+        assert_eq!(rt; outcome.status, Status::SourceFault);
+        assert_eq!(rt; outcome.written.len(), *length, "read {failing}");
+        assert!(rt; PLAINEST_REPLIES.starts_with(&outcome.written));
+    }
+    Ok(())
+}
+
+#[test]
+fn a_line_may_have_16384_bytes(rt: HostRuntime) -> Result<(), Fail> {
+    let alloc = rt.alloc();
+    for (length, status, replies) in [
+        (16_384usize, Status::Done, b"ok 1\nok\nok -\n".as_slice()),
+        (16_385, Status::LineTooLong, b"ok 1\n".as_slice()),
+    ] {
+        let mut script = Vec::from_slice(alloc, b"create tank 16 mirror a b\n#")?;
+        for _ in 1..length {
+            script.push(b'x')?;
+        }
+        script.extend_from_slice(b"\nread tank 0\n")?;
+        let outcome = run_plain(&rt, alloc, &script, &WHOLE)?;
+        assert_eq!(rt; outcome.status, status);
+        assert_eq!(rt; outcome.written.as_slice(), replies);
+    }
+    Ok(())
+}
+
+#[test]
+fn other_words_are_no_command(rt: HostRuntime) -> Result<(), Fail> {
+    let alloc = rt.alloc();
+    let cases: [&[&str]; 3] = [&[], &["scripts"], &["script", "script"]];
+    for case in cases {
+        let mut words = Vec::new(alloc);
+        for word in case {
+            words.push(format!(in alloc; "{word}")?)?;
+        }
+        let mut bank = host_bank(alloc)?;
+        let outcome = run_words(&rt, alloc, &words, &mut bank, PLAINEST, &WHOLE)?;
+        assert_eq!(rt; outcome.status, Status::Usage);
+        assert!(rt; outcome.written.is_empty());
+    }
+    Ok(())
+}
+
+#[test]
+fn a_failed_write_suspends_its_group_and_keeps_its_writes(rt: HostRuntime) -> Result<(), Fail> {
+    let alloc = rt.alloc();
+    let mut bank = host_bank(alloc)?;
+    // a's first write is the first call of all
+    bank.fail(A, 0, 0, Fault::Failed)?;
+    let script =
+        b"create tank 16 mirror a b\nwrite tank 0 01\nsync tank\nread tank 0\nsync tank\nread tank 0\n";
+    let outcome = run_script(&rt, alloc, &mut bank, script, &WHOLE)?;
+    assert_eq!(rt; outcome.status, Status::Done);
+    assert_eq!(rt;
+        outcome.written.as_slice(),
+        b"ok 1\nok\nno 16 suspended 2 1 1\nok 01\nok 3\nok 01\n".as_slice()
+    );
+    Ok(())
+}
+
+/// Damages all of a device with its call number `place`.
+fn damage(bank: &mut MemBank, place: u64, dev: u32) -> Result<(), Fail> {
+    bank.damage(
+        place,
+        Damage {
+            dev,
+            from: 0,
+            to: 999,
+            fill: 0xdd,
+        },
+    )?;
+    Ok(())
+}
+
+#[test]
+fn the_good_member_answers_and_two_damaged_ones_are_exhausted(rt: HostRuntime) -> Result<(), Fail> {
+    let alloc = rt.alloc();
+    // two writes and two flushes go before the first read
+    const FIRST_READ: u64 = 4;
+    let cases: [(&[u32], &[u8]); 4] = [
+        (&[], b"ok c0ffee"),
+        (&[A], b"ok c0ffee"),
+        (&[B], b"ok c0ffee"),
+        (&[A, B], b"no 15 exhausted 0 0 a=mismatch,b=mismatch"),
+    ];
+    for (damaged, reply) in cases {
+        let mut bank = host_bank(alloc)?;
+        for dev in damaged {
+            damage(&mut bank, FIRST_READ, *dev)?;
+        }
+        let outcome = run_script(&rt, alloc, &mut bank, PLAINEST, &WHOLE)?;
+        assert_eq!(rt; outcome.status, Status::Done);
+        let last = outcome
+            .written
+            .split(|byte| *byte == b'\n')
+            .nth(3)
+            .ok_or("no reply")?;
+        assert_eq!(rt; last, reply);
+    }
+    let mut bank = host_bank(alloc)?;
+    damage(&mut bank, FIRST_READ, A)?;
+    bank.fail(B, FIRST_READ, u64::MAX, Fault::Gone)?;
+    let outcome = run_script(&rt, alloc, &mut bank, PLAINEST, &WHOLE)?;
+    assert_eq!(rt;
+        outcome.written.as_slice(),
+        b"ok 1\nok\nok 2\nno 15 exhausted 0 0 a=mismatch,b=failed\n".as_slice()
+    );
+    Ok(())
+}
+
+#[test]
+fn one_failed_call_costs_one_sync_at_most_and_no_block(rt: HostRuntime) -> Result<(), Fail> {
+    let alloc = rt.alloc();
+    let script =
+        b"create tank 16 mirror a b\nwrite tank 0 01\nsync tank\nread tank 0\nwrite tank 0 02\nwrite tank 3 03\nsync tank\nread tank 0\nread tank 3\nsync tank\nread tank 0\nread tank 3\n";
+    for dev in [A, B] {
+        let mut failures = 0;
+        for place in 0..24u64 {
+            let mut bank = host_bank(alloc)?;
+            bank.fail(dev, place, place, Fault::Failed)?;
+            let outcome = run_script(&rt, alloc, &mut bank, script, &WHOLE)?;
+            assert_eq!(rt; outcome.status, Status::Done);
+            let text = String::from_utf8(outcome.written).map_err(|_| "no text")?;
+            let mut suspended = 0;
+            for (line, reply) in text.lines().enumerate() {
+                match line {
+                    0 => assert_eq!(rt; reply, "ok 1"),
+                    1 | 4 | 5 => assert_eq!(rt; reply, "ok"),
+                    3 => assert_eq!(rt; reply, "ok 01"),
+                    7 | 10 => assert_eq!(rt; reply, "ok 02"),
+                    8 | 11 => assert_eq!(rt; reply, "ok 03"),
+                    _ => {
+                        let number = line / 4 + 2;
+                        let committed = format!(in alloc; "ok {number}")?;
+                        let refused = format!(in alloc; "no 16 suspended {number} 1 1")?;
+                        if reply == refused.as_str() {
+                            suspended += 1;
+                        } else {
+                            assert_eq!(rt; reply, committed.as_str());
+                        }
+                    }
+                }
+            }
+            assert!(rt; suspended <= bank.fault_count(dev));
+            failures += bank.fault_count(dev);
+        }
+        assert!(rt; failures > 5);
+    }
+    Ok(())
+}
