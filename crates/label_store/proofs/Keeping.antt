@@ -12,13 +12,13 @@ use Rattle.bank_core.proofs.Standing.{untouched_stands, untouched_more, untouche
 use Rattle.label_store.specs.declared.member.Member.{Member}
 use Rattle.label_store.specs.declared.rule.Head.{Head}
 use Rattle.label_store.specs.declared.uberblock.Uberblock.{Uberblock}
-use Rattle.label_store.specs.Layout.{labels_of}
+use Rattle.label_store.specs.Layout.{labels_of, slot_of}
 use Rattle.label_store.specs.Phases.{IsTurn, IsPhase}
 use Rattle.label_store.specs.Records.{config_at, place_at, IsRecord, AreUnhurt, HasRecord, Leaves, LeavesOne}
 use Rattle.label_store.specs.Rounds.{Commit, IsRound, config_of, uberblock_of, first_plan, second_plan, third_plan}
 use Rattle.label_store.specs.Seats.{AreSeated, AreApart}
 use Rattle.label_store.specs.Uberblock.{uberblock_bytes}
-use Rattle.label_store.proofs.Places.{label_is, config_elsewhere_even, config_elsewhere_odd, ring_elsewhere, even_spares_ring, odd_spares_ring, even_spares_config, odd_spares_config, ring_spares_ring, ring_spares_config, uberblock_sectors, even_lands, ring_lands}
+use Rattle.label_store.proofs.Places.{label_is, config_elsewhere_even, config_elsewhere_odd, ring_elsewhere, even_spares_ring, odd_spares_ring, even_spares_config, odd_spares_config, ring_spares_ring, ring_spares_config, uberblock_sectors, even_lands, odd_lands, ring_lands}
 
 same_member : (m n : Member) → Some m ≡ Some n → m ≡ n
 same_member m n e = cc
@@ -376,3 +376,35 @@ round_leaves head_of size commit ms results made seated apart r i m at new secto
         → LeavesOne head_of (size m.dev) (run (take k made) sectors m.dev) (u, config) (uberblock_of commit m, config_of commit)
     by_result true on = stays head_of size commit ms i m results made (sectors m.dev) u config k (record { seated = seated; apart = apart; at = at; new = new; few = new.most }) old r on
     by_result false off = left head_of size commit ms i m results made (sectors m.dev) u config k (record { seated = seated; apart = apart; at = at; new = new; few = new.most }) old r off
+
+-- A member that ends a round has the new record, as a further round needs it.
+pub round_ends : (head_of : List ℕ → Option Head) (size : ℕ → ℕ) (commit : Commit) (ms : List Member) (results : List Bool) (made : List Noted)
+    → AreSeated size ms → AreApart ms → IsRound size commit ms results made
+    → (i : ℕ) (m : Member) → slice_get ms i ≡ Some m → slice_get results i ≡ Some true → IsRecord head_of (uberblock_of commit m) commit.blob (config_of commit)
+    → (sectors : Sectors) (next : ℕ) → slot_of commit.number.0 ≢ slot_of next
+    → HasRecord head_of (size m.dev) (run made sectors m.dev) next (uberblock_of commit m) (config_of commit)
+round_ends head_of size commit ms results made seated apart r i m at done new sectors next other =
+    let sc : Scene head_of size commit ms i m = record { seated = seated; apart = apart; at = at; new = new; few = new.most } in
+    let on = phase_was (third_plan size commit) ms r.in_second results r.third i done r.copies in
+    let spared = third_spares_new head_of size commit ms i m r.in_second results r.third sc r.copies in
+    let stands = new_more (size m.dev) (sectors m.dev) (r.first ++ r.second) r.third m.dev (uberblock_of commit m) commit.blob
+        (brings_new head_of size commit ms i m results made (sectors m.dev) sc r on) spared.0 spared.1 in
+    let all : made ≡ (r.first ++ r.second) ++ r.third = r.all ∙ sym (append_assoc r.first r.second r.third) in
+    let small : commit.number.0 % 32 < 32 = omega arith in
+    let same : (commit.number.0 % 32) % 32 ≡ commit.number.0 % 32 = omega arith in
+    record {
+      place = commit.number.0 % 32;
+      inside = omega arith;
+      other_slot = λ e. other (sym same ∙ e);
+      uberblock = subst (λ s. Stands (run made sectors m.dev s) (uberblock_bytes (uberblock_of commit m))) (sym (new_place (size m.dev) commit.number.0))
+          (subst (λ calls. Stands (replay calls m.dev (0 + (32 + commit.number.0 % 32)) (sectors m.dev (0 + (32 + commit.number.0 % 32)))) (uberblock_bytes (uberblock_of commit m))) (sym all) stands.ring);
+      label = 1;
+      odd = inl refl;
+      blob = commit.blob;
+      stands = λ x lt. subst (λ calls. Stands (replay calls m.dev (68 + x) (sectors m.dev (68 + x))) (sector_of x commit.blob)) (sym all)
+          (subst (λ y. Stands y (sector_of x commit.blob)) (sym (replay_more (r.first ++ r.second) r.third m.dev _ _))
+          (phase_lands (third_plan size commit) ms r.in_second results r.third i m m.dev _ _ _ at done
+          (λ j n e ne. config_elsewhere_odd n.dev (size n.dev) commit.blob m.dev _ (others ms i j m n apart at e ne))
+          (λ mine y part. odd_lands m.dev (size m.dev) commit.blob x mine y (big_of sc) sc.few lt part) r.copies));
+      is_record = new;
+    }

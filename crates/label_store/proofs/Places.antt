@@ -244,3 +244,11 @@ ring_lands dev size u mine x big long part =
       ),
     ) part in
     subst (λ b. Stands (replay mine dev s x) b) (first_sector s (uberblock_bytes u) (length-uberblock u long)) lands
+
+-- A whole third phase brings the configuration into label 1.
+pub odd_lands : (dev size : ℕ) (blob : List ℕ) (i : ℕ) (mine : List Noted) (x : Sector) → 320 ≤ size → sectors_in blob ≤ 28 → i < sectors_in blob
+    → IsPart (config_plan dev (odd_labels size) blob) mine None → Stands (replay mine dev (68 + i) x) (sector_of i blob)
+odd_lands dev size blob i mine x big few lt part =
+    subst (λ j. Stands (replay mine dev (68 + i) x) (sector_of j blob)) (omega arith)
+    (part_lands dev 68 blob (Writes dev (size - 64 + 4) blob ∷ []) mine (68 + i) x (covered 68 (sectors_in blob) (68 + i) (omega arith) (omega arith))
+    (spared dev (size - 64 + 4) (sectors_in blob) dev (68 + i) (λ above below. omega arith), tt) part)

@@ -14,7 +14,7 @@ use Rattle.label_store.specs.Rounds.{Commit, config_of, uberblock_of}
 use Rattle.label_store.specs.Seats.{AreSeated, AreApart}
 use Rattle.label_store.specs.Turns.{plan_of, MakesPhase, MakesRound}
 use Rattle.label_store.proofs.Causing.{round_excused}
-use Rattle.label_store.proofs.Keeping.{round_leaves}
+use Rattle.label_store.proofs.Keeping.{round_leaves, round_ends}
 
 pub all_on_board : (ms : List Member) (n : ℕ) → n ≡ length ms → replicate n true ≡ map (λ m. true) ms
 all_on_board [] n e = ap (λ k. replicate k true) e
@@ -79,6 +79,8 @@ committed head_of size commit ms results seated apart s headed least most r = re
   round = r.round;
   keeps = λ i m at pool member sectors u config old k.
       round_leaves head_of size commit ms results r.made seated apart r.round i m at (new_record head_of commit m s headed least most pool member) sectors u config old k;
+  ends = λ i m at done pool member sectors next other.
+      round_ends head_of size commit ms results r.made seated apart r.round i m at done (new_record head_of commit m s headed least most pool member) sectors next other;
 }
 
 pub excused : {old new : Option Story} {f g : ℕ → ℕ} (size : ℕ → ℕ) (commit : Commit) (ms : List Member) (results : List Bool)

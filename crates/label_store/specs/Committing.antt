@@ -1,5 +1,5 @@
 -- What a commit needs, and what it did.
-use Rattle.std.specs.Prelude.{◌≡◌, ℕ, ◌+◌, ◌-◌, ◌%◌, ◌^◌, ◌<◌, ◌≤◌, Bool, false, List, length, take, drop, Option, Some, slice_get}
+use Rattle.std.specs.Prelude.{◌≡◌, ◌≢◌, ℕ, ◌+◌, ◌-◌, ◌%◌, ◌^◌, ◌<◌, ◌≤◌, Bool, true, false, List, length, take, drop, Option, Some, slice_get}
 use Rattle.mp_base.specs.Block.{zeros}
 use Rattle.mp_base.specs.Outside.{Rose}
 use Rattle.bank_core.specs.Calls.{Made}
@@ -8,7 +8,7 @@ use Rattle.bank_core.specs.Story.{Story}
 use Rattle.label_store.specs.declared.member.Member.{Member}
 use Rattle.label_store.specs.declared.rule.Head.{Head}
 use Rattle.label_store.specs.declared.uberblock.Uberblock.{Uberblock}
-use Rattle.label_store.specs.Layout.{config_sectors}
+use Rattle.label_store.specs.Layout.{config_sectors, slot_of}
 use Rattle.label_store.specs.Records.{HasRecord, LeavesOne}
 use Rattle.label_store.specs.Rounds.{Commit, IsRound, config_of, uberblock_of}
 
@@ -28,6 +28,12 @@ KeepsRecords head_of size commit members made = (i : ℕ) (m : Member) → slice
     → (sectors : Sectors) (u : Uberblock) (config : List ℕ) → HasRecord head_of (size m.dev) (sectors m.dev) commit.number.0 u config
     → (k : ℕ) → LeavesOne head_of (size m.dev) (run (take k made) sectors m.dev) (u, config) (uberblock_of commit m, config_of commit)
 
+-- A member that ends the round has the new record behind it, as a further round of another slot needs it.
+abbrev pub EndsWhole : (List ℕ → Option Head) → (ℕ → ℕ) → Commit → List Member → List Bool → List Noted → Type 0
+EndsWhole head_of size commit members results made = (i : ℕ) (m : Member) → slice_get members i ≡ Some m → slice_get results i ≡ Some true
+    → commit.pool.0 < 2 ^ 64 → m.guid.0 < 2 ^ 64 → (sectors : Sectors) (next : ℕ) → slot_of commit.number.0 ≢ slot_of next
+    → HasRecord head_of (size m.dev) (run made sectors m.dev) next (uberblock_of commit m) (config_of commit)
+
 -- A round was made.
 pub record Commits (head_of : List ℕ → Option Head) (size : ℕ → ℕ) (commit : Commit) (members : List Member) (results : List Bool)
     (old new : Option Story) (before after : ℕ → ℕ) : Type 0 where
@@ -35,6 +41,7 @@ pub record Commits (head_of : List ℕ → Option Head) (size : ℕ → ℕ) (co
   pub calls : Made old new before after made
   pub round : IsRound size commit members results made
   pub keeps : KeepsRecords head_of size commit members made
+  pub ends : EndsWhole head_of size commit members results made
 
 -- each member that left the round had a failed call
 abbrev pub AreExcused : List Member → List Bool → (before after : ℕ → ℕ) → Type 0
