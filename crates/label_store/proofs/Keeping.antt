@@ -388,7 +388,7 @@ round_ends head_of size commit ms results made seated apart r i m at done new se
     let on = phase_was (third_plan size commit) ms r.in_second results r.third i done r.copies in
     let spared = third_spares_new head_of size commit ms i m r.in_second results r.third sc r.copies in
     let stands = new_more (size m.dev) (sectors m.dev) (r.first ++ r.second) r.third m.dev (uberblock_of commit m) commit.blob
-        (brings_new head_of size commit ms i m results made (sectors m.dev) sc r on) spared.0 spared.1 in
+    (brings_new head_of size commit ms i m results made (sectors m.dev) sc r on) spared.0 spared.1 in
     let all : made ≡ (r.first ++ r.second) ++ r.third = r.all ∙ sym (append_assoc r.first r.second r.third) in
     let small : commit.number.0 % 32 < 32 = omega arith in
     let same : (commit.number.0 % 32) % 32 ≡ commit.number.0 % 32 = omega arith in

@@ -20,8 +20,9 @@ use mp_base::{Group, Guid};
 use sha2::{Digest, Sha256};
 
 /// Commits a configuration, the first `config_bytes` of `blob`, on each of these members, in order. A
-/// member whose call failed leaves the round, and its result is false; the others go on. At each moment
-/// a member that had a record keeps it or has the new one. One whose result is true has the new one.
+/// member whose call failed leaves the round, and its result is false; the others go on. Whatever moment
+/// a crash comes at, a member that had a record has it still or has the new one, as long as none of its
+/// label sectors is damaged then (docs/MODEL.md, "Labels"). One whose result is true has the new one.
 pub fn commit_record<B: Bank, R: BlobRule>(
     bank: &mut B,
     devs: &[Member],
@@ -124,13 +125,13 @@ fn write_phase<B: Bank>(
 {
     match phase {
         Phase::First => {
-            let labels = even_labels(bank.sectors(member.dev));
-            write_config(bank, member.dev, &labels, round.blob)
+            let even = even_labels(bank.sectors(member.dev));
+            write_config(bank, member.dev, &even, round.blob)
         }
         Phase::Second => write_rings(bank, member.dev, &uberblock_of(round, member)),
         Phase::Third => {
-            let labels = odd_labels(bank.sectors(member.dev));
-            write_config(bank, member.dev, &labels, round.blob)
+            let odd = odd_labels(bank.sectors(member.dev));
+            write_config(bank, member.dev, &odd, round.blob)
         }
     }
 }

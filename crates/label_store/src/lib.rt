@@ -15,6 +15,8 @@ mod round;
 mod rule;
 mod search;
 mod stamping;
+#[cfg(test)]
+mod tests;
 mod uberblock;
 
 pub use commit::commit_record;
