@@ -9,4 +9,5 @@ pub mod Names
 pub mod Parting
 pub mod Sectors
 pub mod Shown
+pub mod Standing
 pub mod Telling

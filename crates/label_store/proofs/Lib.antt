@@ -1,0 +1,11 @@
+pub mod Causing
+pub mod Fields
+pub mod Keeping
+pub mod Looking
+pub mod Openings
+pub mod Phasing
+pub mod Pieces
+pub mod Places
+pub mod Rounding
+pub mod Searching
+pub mod Writing

@@ -1,0 +1,91 @@
+-- Writes into one label after another.
+use Rattle.std.proofs.Common.{◌≡◌, ℕ, zero, suc, ◌+◌, ◌%◌, ◌<◌, ◌≤◌, List, [], ◌∷◌, ◌++◌, length, take, drop, replicate, get_or, refl, sym, ap, ◌∙◌, subst, arith, Option, Some, None, Result, Ok, Err, OnErr}
+use Rattle.std.proofs.lemmas.List.{length-replicate, map-append, take_more, take-append-drop}
+use Rattle.bank_core.specs.declared.bank.Fault.{Fault}
+use Rattle.bank_core.specs.Asks.{Ask, Writes, Flushes}
+use Rattle.bank_core.specs.Disk.{Flush, sector_size, sectors_in}
+use Rattle.mp_base.specs.Block.{zeros}
+use Rattle.mp_base.specs.Outside.{Rose}
+use Rattle.label_store.specs.Layout.{labels_of}
+use Rattle.bank_core.specs.Parts.{MakesPart}
+use Rattle.bank_core.specs.Story.{Story, Tells, fault_in}
+use Rattle.bank_core.proofs.Parting.{part_more, part_one, part_stop}
+use Rattle.label_store.specs.Plans.{label_writes, ring_plan, blank_uberblock, zero_ring}
+use Rattle.mp_base.specs.declared.number.Guid.{Guid}
+
+pub length-ring : length zero_ring ≡ 131072
+unfolding zero_ring zeros
+length-ring = length-replicate {A = ℕ} 131072 0
+
+-- the writes into the first labels, and one more
+pub writes_more : (dev : ℕ) (labels : List ℕ) (offset : ℕ) (bytes : List ℕ) (i : ℕ) → i < length labels
+    → label_writes dev (take (i + 1) labels) offset bytes ≡ label_writes dev (take i labels) offset bytes ++ Writes dev (get_or labels i 0 + offset) bytes ∷ []
+writes_more dev labels offset bytes i lt =
+    ap (λ l. label_writes dev l offset bytes) (take_more labels i 0 lt) ∙ map-append (λ at. Writes dev (at + offset) bytes) (take i labels) (get_or labels i 0 ∷ [])
+
+writes_split : (dev : ℕ) (labels : List ℕ) (offset : ℕ) (bytes : List ℕ) (n : ℕ)
+    → label_writes dev (take n labels) offset bytes ++ label_writes dev (drop n labels) offset bytes ≡ label_writes dev labels offset bytes
+writes_split dev labels offset bytes n =
+    sym (map-append (λ at. Writes dev (at + offset) bytes) (take n labels) (drop n labels)) ∙ ap (λ l. label_writes dev l offset bytes) (take-append-drop n labels)
+
+pub one_more : {old mid new : Option Story} {f g h : ℕ → ℕ} {outcome : Option Fault} (dev : ℕ) (labels : List ℕ) (offset : ℕ) (bytes : List ℕ) (i : ℕ) → i < length labels
+    → MakesPart (label_writes dev (take i labels) offset bytes) old mid f g None
+    → MakesPart (Writes dev (get_or labels i 0 + offset) bytes ∷ []) mid new g h outcome
+    → MakesPart (label_writes dev (take (i + 1) labels) offset bytes) old new f h outcome
+one_more dev labels offset bytes i lt a b = rw (writes_more dev labels offset bytes i lt) (part_more a b)
+
+-- it stops there, whatever is behind it
+pub stops_there : {old new : Option Story} {f g : ℕ → ℕ} {fault : Fault} (dev : ℕ) (labels : List ℕ) (offset : ℕ) (bytes : List ℕ) (n : ℕ)
+    → MakesPart (label_writes dev (take n labels) offset bytes) old new f g (Some fault) → MakesPart (label_writes dev labels offset bytes) old new f g (Some fault)
+stops_there {old} {new} {f} {g} {fault} dev labels offset bytes n a =
+    subst (λ asks. MakesPart asks old new f g (Some fault)) (writes_split dev labels offset bytes n) (part_stop (label_writes dev (drop n labels) offset bytes) a)
+
+-- a place in each label lies inside the device
+pub label_room : (size room : ℕ) (k : ℕ) → 320 ≤ size → room ≤ 64 → get_or (labels_of size) k 0 + room ≤ size
+label_room size room zero big small = omega arith
+label_room size room (suc zero) big small = omega arith
+label_room size room (suc (suc zero)) big small = omega arith
+label_room size room (suc (suc (suc zero))) big small = omega arith
+label_room size room (suc (suc (suc (suc k)))) big small = omega arith
+
+pub labels_inside : (labels : List ℕ) (sectors size offset : ℕ) (bytes : List ℕ) (n : ℕ) → labels ≡ labels_of sectors → sectors ≡ size → 320 ≤ size
+    → sectors_in bytes ≡ n → offset + n ≤ 64 → (k : ℕ) → k < length labels → get_or labels k 0 + offset + sectors_in bytes ≤ size
+labels_inside labels sectors size offset bytes n are is big count small k lt =
+    let room : get_or (labels_of size) k 0 + (offset + n) ≤ size = label_room size (offset + n) k big small in
+    let same : get_or labels k 0 ≡ get_or (labels_of size) k 0 = ap (λ l. get_or l k 0) (are ∙ ap labels_of is) in
+    let fill : sectors_in bytes ≡ n = count in
+    rw fill (omega arith)
+
+-- the writes as a plan has them
+pub writes_as : {old new : Option Story} {f g : ℕ → ℕ} {outcome : Option Fault} (dev : ℕ) (labels labels' : List ℕ) (offset : ℕ) (bytes bytes' : List ℕ)
+    → labels ≡ labels' → bytes ≡ bytes' → MakesPart (label_writes dev labels offset bytes) old new f g outcome
+    → MakesPart (label_writes dev labels' offset bytes') old new f g outcome
+writes_as {old} {new} {f} {g} {outcome} dev labels labels' offset bytes bytes' are is part =
+    subst (λ asks. MakesPart asks old new f g outcome)
+    (ap (λ l. label_writes dev l offset bytes) are ∙ ap (λ b. label_writes dev labels' offset b) is) part
+
+-- and then a flush
+pub flushed : {old mid new : Option Story} {f g h : ℕ → ℕ} (asks : List Ask) (dev : ℕ) (r : Result (Unit {0}) Fault)
+    → MakesPart asks old mid f g None → ((d : ℕ) → g d ≤ h d) → OnErr r (Rose (g dev) (h dev)) → Tells mid new (Flush dev (fault_in r))
+    → MakesPart (asks ++ Flushes dev ∷ []) old new f h (fault_in r)
+flushed asks dev r a counts cause told = part_more a (part_one (Flush dev (fault_in r)) r refl counts cause told)
+
+pub later_cause : (r : Result (Unit {0}) Fault) (x y z : ℕ) → x ≤ y → OnErr r (Rose y z) → OnErr r (Rose x z)
+later_cause (Ok x') x y z le cause = tt
+later_cause (Err fault) x y z le cause = omega arith
+
+pub ring_whole : (ring : List ℕ) → ring ≡ zero_ring → length ring % sector_size ≡ 0
+unfolding sector_size
+ring_whole ring is = rw (ap length is, length-ring) refl
+
+pub ring_sectors : (ring : List ℕ) → ring ≡ zero_ring → sectors_in ring ≡ 32
+unfolding sector_size
+ring_sectors ring is = rw (ap length is, length-ring) refl
+
+-- the uberblock of a stamp, with zeros written out, on a device whose size was named otherwise
+pub blank_plan : {old new : Option Story} {f g : ℕ → ℕ} {outcome : Option Fault} (dev size size' : ℕ) (pool member : Guid) → size' ≡ size
+    → MakesPart (ring_plan dev size' (record { pool = pool; member = member; number = record { 0 = 0 }; length = 0; sum = replicate 32 0 })) old new f g outcome
+    → MakesPart (ring_plan dev size (blank_uberblock pool member)) old new f g outcome
+unfolding zeros
+blank_plan {old} {new} {f} {g} {outcome} dev size size' pool member same part =
+    subst (λ n. MakesPart (ring_plan dev n (blank_uberblock pool member)) old new f g outcome) same part

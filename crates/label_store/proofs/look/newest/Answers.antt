@@ -1,0 +1,28 @@
+use Rattle.std.proofs.Common.{◌≤◌, ◌∙◌, arith, sym, refl, subst, ap, get_or, Some}
+use Rattle.std.proofs.lemmas.Option.{slice_get-get_or}
+use Rattle.label_store.proofs.Looking.{so_far_none, so_far_more, found_newest, looks_same}
+use Rattle.label_store.proofs.look.newest.Goals as goal
+
+pub loop-dev-init : goal.loop-dev-init
+loop-dev-init g c = record { size = λ d. refl; numbers = λ other. refl; so_far = so_far_none }
+
+pub look-requires : goal.look-requires
+look-requires g c = record {
+  device = subst (λ n. 320 ≤ n) (sym (c.loop-dev.invariant.size (get_or c.args.devs.now c.loop-dev.dev-index 0)))
+      (c.requires.devices c.loop-dev.dev-index (get_or c.args.devs.now c.loop-dev.dev-index 0) (slice_get-get_or c.args.devs.now c.loop-dev.dev-index 0 c.loop-dev-test.true));
+}
+
+pub loop-dev-preserved : goal.loop-dev-preserved
+loop-dev-preserved g c = record {
+  size = λ d. c.look.ensures.size d ∙ c.loop-dev.invariant.size d;
+  numbers = λ other. c.look.ensures.numbers other ∙ c.loop-dev.invariant.numbers other;
+  so_far = so_far_more g.R.BlobRule.head_of (g.B.Bank.size c.args.bank.now) c.args.devs.now c.args.name.now c.loop-dev.dev-index
+      (get_or c.args.devs.now c.loop-dev.dev-index 0) c.in_ok-parts.parts.items c.loop-dev.best c.in_ok-best.best c.loop-dev-test.true refl
+      c.loop-dev.invariant.so_far (looks_same _ _ _ (c.loop-dev.invariant.size (get_or c.args.devs.now c.loop-dev.dev-index 0)) c.in_ok-parts.ensures.looks)
+      (λ looks n at b. c.in_ok-best.ensures looks n (at ∙ ap Some (sym c.deref.ensures.value)) b);
+}
+
+pub returns-clause-finds : goal.returns-clause-finds
+returns-clause-finds g c =
+    found_newest g.R.BlobRule.head_of (g.B.Bank.size c.args.bank.now) c.args.devs.now c.args.name.now c.loop-dev.dev-index c.loop-dev.best
+    (omega (arith, c.loop-dev-test.false, c.loop-dev.auto.dev-index-end)) c.loop-dev.invariant.so_far

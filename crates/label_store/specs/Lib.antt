@@ -1,0 +1,12 @@
+pub mod Committing
+pub mod Identities
+pub mod Layout
+pub mod Newest
+pub mod Opening
+pub mod Phases
+pub mod Plans
+pub mod Records
+pub mod Rounds
+pub mod Seats
+pub mod Turns
+pub mod Uberblock

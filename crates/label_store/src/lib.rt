@@ -1,0 +1,30 @@
+//! The labels of a device: how a pool's configuration stands on it, so that it is found again after any
+//! stop (docs/FORMATS.md, "Labels").
+#![tactic(auto)]
+
+mod bytes;
+mod commit;
+mod found;
+mod label;
+mod layout;
+mod look;
+mod member;
+mod opening;
+mod part;
+mod round;
+mod rule;
+mod search;
+mod stamping;
+#[cfg(test)]
+mod tests;
+mod uberblock;
+
+pub use commit::commit_record;
+pub use found::Found;
+pub use layout::LEAST_SECTORS;
+pub use look::newest;
+pub use member::Member;
+pub use rule::{BlobRule, Head};
+pub use search::identity;
+pub use stamping::stamp;
+pub use uberblock::{Uberblock, read_uberblock, write_uberblock};
