@@ -33,12 +33,6 @@ found_inside devices calls damages device d s is lt =
 pub clean_as : (one other : ℕ → Sector) (n : ℕ) (bytes : List ℕ) → ((i : ℕ) → i < n → one i ≡ other i) → ShowsClean other n bytes → ShowsClean one n bytes
 clean_as one other n bytes same shows = λ i lt. rw (same i lt) (shows i lt)
 
--- a read that is planned to fail may give any bytes
-pub answers_if : (sectors : Sectors) (dev at : ℕ) (bytes : List ℕ) (fault : Option Fault)
-    → (fault ≡ None → ShowsClean (λ i. sectors dev (at + i)) (sectors_in bytes) bytes) → Answers sectors (Read dev at bytes fault)
-answers_if sectors dev at bytes None shows = shows refl
-answers_if sectors dev at bytes (Some fault) shows = tt
-
 pub shown_inside : (devices : List MemDevice) (calls calls' : List MemCall) (damages : List Damage) (device : MemDevice) (d at n : ℕ) (bytes : List ℕ)
     → calls' ≡ calls → slice_get devices d ≡ Some device → at + n ≤ size_in devices d
     → ShowsClean (λ i. sector_then device calls' damages d (at + i)) n bytes → ShowsClean (λ i. found_in devices calls damages d (at + i)) n bytes

@@ -1,6 +1,6 @@
 -- The disk model: a device is its sectors, and each call acts on each sector by itself. So what a list
 -- of calls leaves of a sector is a replay of that list, and what no call touches stays.
-use Rattle.std.specs.Prelude.{◌≡◌, ℕ, ◌+◌, ◌-◌, ◌*◌, ◌/◌, ◌<◌, Bool, true, false, cond, ◌==◌, ◌&&◌, nat_le, nat_lt, List, [], ◌∷◌, length, take, drop, Option, Some, None, is_none}
+use Rattle.std.specs.Prelude.{◌≡◌, ℕ, ◌%◌, ◌+◌, ◌-◌, ◌*◌, ◌/◌, ◌<◌, Bool, true, false, cond, ◌==◌, ◌&&◌, nat_le, nat_lt, List, [], ◌∷◌, length, take, drop, Option, Some, None, is_none}
 use Rattle.bank_core.specs.declared.bank.Fault.{Fault}
 
 -- a sector has 4,096 bytes
@@ -95,10 +95,14 @@ pub record IsClean (x : Sector) : Type 0 where
   pub still : x.pending ≡ Nothing
   pub sound : x.damaged ≡ false
 
--- A read that answered Ok gave the stable bytes of each clean sector. Of another it says nothing.
+-- each clean sector from `at` on shows its stable bytes. Of another this says nothing
+abbrev pub ShowsStable : (ℕ → Sector) → ℕ → List ℕ → Type 0
+ShowsStable sectors at bytes =
+    (i : ℕ) → i < sectors_in bytes → IsClean (sectors (at + i)) → sector_of i bytes ≡ (sectors (at + i)).stable
+
+-- A read that answered Ok gave whole sectors, and the stable bytes of each clean one.
 abbrev pub Answers : Sectors → Call → Type 0
-Answers sectors (Read dev at bytes None) =
-    (i : ℕ) → i < sectors_in bytes → IsClean (sectors dev (at + i)) → sector_of i bytes ≡ (sectors dev (at + i)).stable
+Answers sectors (Read dev at bytes None) = (length bytes % sector_size ≡ 0) × ShowsStable (sectors dev) at bytes
 Answers sectors (Read dev at bytes (Some fault)) = Unit {0}
 Answers sectors (Write dev at bytes fault) = Unit {0}
 Answers sectors (Flush dev fault) = Unit {0}

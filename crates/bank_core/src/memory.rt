@@ -1,8 +1,8 @@
 //! A bank in memory, which tells what its devices hold, and whose calls fail as they are planned to.
-ghost use Rattle.std.specs.Prelude.{◌≡◌, ℕ, ◌+◌, ◌<◌, ◌≤◌, ◌++◌, [], ◌∷◌, length, true, slice_index, Some, None, IfOk, OnOk, OnErr};
+ghost use Rattle.std.specs.Prelude.{◌≡◌, ℕ, ◌+◌, ◌%◌, ◌<◌, ◌≤◌, ◌++◌, [], ◌∷◌, length, true, slice_index, Some, None, IfOk, OnOk, OnErr};
 ghost use Rattle.std.specs.List.{list_all};
 ghost use Rattle.mp_base.specs.Outside.{Rose};
-ghost use Rattle.bank_core.specs.Disk.{sectors_in};
+ghost use Rattle.bank_core.specs.Disk.{sector_size, sectors_in};
 ghost use Rattle.bank_core.specs.Memory.{is_inside, size_in, number_in, names_in, story_in, call_as, AnswersThere, found_in, clean_sector, image_sector, zero_sector};
 ghost use Rattle.bank_core.specs.Story.{Tells, fault_in};
 ghost use Rattle.bank_core.specs.View.{ShowsClean};
@@ -180,6 +180,7 @@ impl MemBank {
 
     /// A read as it is planned, with the bytes that it gives.
     fn coming_read(&self, dev: u32, at: u64, out: &mut [u8]) -> Result<MemCall, MemFault>
+        requires whole { length out.old % sector_size ≡ 0 }
         requires device { 0 < bank_size self.now dev }
         requires inside { at + sectors_in out.old ≤ bank_size self.now dev }
         ensures kind { IfOk result (λ call. call.kind ≡ CallKind.Read) }
