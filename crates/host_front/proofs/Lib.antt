@@ -3,6 +3,8 @@ mod Creating
 mod Feedings
 mod FoundDevices
 mod Handling
+mod KeptLaws
+mod KeptSectors
 mod LineEnds
 mod ReadReplies
 mod RunLaws

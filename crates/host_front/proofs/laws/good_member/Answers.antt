@@ -1,0 +1,5 @@
+use Rattle.host_front.proofs.KeptLaws.{kept_by_reads}
+use Rattle.host_front.proofs.laws.good_member.Goals as goal
+
+pub returns : goal.returns
+returns c = record { by_reads = kept_by_reads }
