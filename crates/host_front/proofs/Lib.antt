@@ -5,6 +5,7 @@ mod FoundDevices
 mod Handling
 mod KeptLaws
 mod KeptSectors
+mod KeptSync
 mod LineEnds
 mod ReadReplies
 mod RunLaws
