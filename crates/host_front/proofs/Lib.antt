@@ -3,8 +3,11 @@ mod Creating
 mod Feedings
 mod FoundDevices
 mod Handling
+mod KeptHistory
 mod KeptLaws
+mod KeptReads
 mod KeptSectors
+mod KeptSteps
 mod KeptSync
 mod LineEnds
 mod ReadReplies

@@ -4,11 +4,15 @@ use Rattle.bank_core.specs.declared.bank.Fault.{Fault}
 use Rattle.bank_core.specs.Asks.{Reads, ask_of}
 use Rattle.bank_core.specs.Calls.{fault_of}
 use Rattle.bank_core.specs.Disk.{Sector, Sectors, Nothing, Call, Read, Write, Flush, Admit, Eject, Noted, run, as_found, sectors_in}
+use Rattle.mp_base.specs.declared.refusal.Refusal.TheVariants as refusals
+use Rattle.pool_wire.specs.declared.reply.Reply.{Reply}
+use Rattle.pool_wire.specs.declared.reply.Reply.TheVariants as replies
 use Rattle.pool_wire.specs.declared.request.Request.{Request}
 use Rattle.pool_wire.specs.declared.request.Request.TheVariants as requests
 use Rattle.pool_core.specs.declared.leaf.Leaf.{Leaf}
+use Rattle.pool_core.specs.Clash.{Clash}
 use Rattle.pool_core.specs.State.{Version, PoolState, data_start}
-use Rattle.host_front.specs.Machine.{HostState, Entry}
+use Rattle.host_front.specs.Machine.{HostState, Entry, named_pool}
 
 -- one of these leaves
 abbrev pub IsLeaf : List Leaf → Leaf → Type 0
@@ -85,3 +89,23 @@ pub record IsLost (sectors : Sectors) (s : PoolState) (a : ℕ) (made : List Not
   pub version : Version
   pub committed : s.committed a ≡ Some version
   pub missed : AllMiss sectors (data_start + version.sector) s.leaves made
+
+-- A line asked for a committed block of the pool of this name, and every leaf missed it.
+abbrev pub LosesBlock : Sectors → HostState → List ℕ → ℕ → List Noted → Type 0
+LosesBlock sectors h name a made = (s : PoolState) × (named_pool name h.pool ≡ Some s) × IsLost sectors s a made
+
+-- two different byte strings with one sum
+abbrev pub SomeClash : List Noted → Type 0
+SomeClash calls = (block : List ℕ) × Clash calls block
+
+-- A block that was committed, with nothing written there since.
+pub record IsCommitted (s : PoolState) (a : ℕ) (version : Version) : Type 0 where
+  pub inside : a < s.blocks
+  pub closed : s.writes a ≡ None
+  pub is : s.committed a ≡ Some version
+
+-- How a read of it ends: with the block, unless every leaf missed it, there was no memory, or sums clash.
+abbrev pub EndsWell : Sectors → List Leaf → Version → List Noted → Reply → Type 0
+EndsWell sectors leaves version made reply =
+    (reply ≡ replies.Data version.block) ⊎ (AllMiss sectors (data_start + version.sector) leaves made
+    ⊎ ((reply ≡ replies.Refused refusals.Memory) ⊎ SomeClash made))
