@@ -27,10 +27,10 @@ found_right : (first second : List Noted) (found : List ℕ) → IsFound second 
 found_right [] second found is = is
 found_right (noted ∷ first) second found is = inr (found_right first second found is)
 
-clash_left : (first second : List Noted) → SomeClash first → SomeClash (first ++ second)
+pub clash_left : (first second : List Noted) → SomeClash first → SomeClash (first ++ second)
 clash_left first second c = (c.0, record { found = c.1.found; read = found_left first second c.1.found c.1.read; differs = c.1.differs; same_sum = c.1.same_sum })
 
-clash_right : (first second : List Noted) → SomeClash second → SomeClash (first ++ second)
+pub clash_right : (first second : List Noted) → SomeClash second → SomeClash (first ++ second)
 clash_right first second c = (c.0, record { found = c.1.found; read = found_right first second c.1.found c.1.read; differs = c.1.differs; same_sum = c.1.same_sum })
 
 -- the rest of a history, behind its first step
@@ -56,7 +56,7 @@ replay_keeps sectors old (entry ∷ entries) calls new whole kept r =
     (step_keeps sectors old entry r.0 r.2 whole.0 kept r.4))
 
 -- the answers of the later calls
-answers_behind : (calls made : List Noted) (sectors : Sectors) → AllAnswer sectors (calls ++ made) → AllAnswer (run calls sectors) made
+pub answers_behind : (calls made : List Noted) (sectors : Sectors) → AllAnswer sectors (calls ++ made) → AllAnswer (run calls sectors) made
 answers_behind [] made sectors answers = answers
 answers_behind (noted ∷ calls) made sectors answers = answers_behind calls made (run (noted ∷ []) sectors) answers.1
 

@@ -5,7 +5,9 @@ mod FoundDevices
 mod Handling
 mod KeptHistory
 mod KeptLaws
+mod KeptLines
 mod KeptReads
+mod KeptRuns
 mod KeptSectors
 mod KeptSteps
 mod KeptSync

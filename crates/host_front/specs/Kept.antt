@@ -1,10 +1,11 @@
 -- What stands behind what was committed, and what it takes to lose a block.
-use Rattle.std.specs.Prelude.{◌≡◌, ℕ, ◌+◌, ◌*◌, ◌<◌, ◌⊎◌, true, List, [], ◌∷◌, length, Option, Some, None}
+use Rattle.std.specs.Prelude.{◌≡◌, ℕ, ◌+◌, ◌*◌, ◌++◌, ◌<◌, ◌⊎◌, true, List, [], ◌∷◌, length, Option, Some, None}
 use Rattle.bank_core.specs.declared.bank.Fault.{Fault}
 use Rattle.bank_core.specs.Asks.{Reads, ask_of}
 use Rattle.bank_core.specs.Calls.{fault_of}
-use Rattle.bank_core.specs.Disk.{Sector, Sectors, Nothing, Call, Read, Write, Flush, Admit, Eject, Noted, run, as_found, sectors_in}
+use Rattle.bank_core.specs.Disk.{Sector, Sectors, AllAnswer, Nothing, Call, Read, Write, Flush, Admit, Eject, Noted, run, as_found, sectors_in}
 use Rattle.mp_base.specs.declared.refusal.Refusal.TheVariants as refusals
+use Rattle.pool_wire.specs.declared.reply.NamedLeaf.{NamedLeaf}
 use Rattle.pool_wire.specs.declared.reply.Reply.{Reply}
 use Rattle.pool_wire.specs.declared.reply.Reply.TheVariants as replies
 use Rattle.pool_wire.specs.declared.request.Request.{Request}
@@ -12,7 +13,8 @@ use Rattle.pool_wire.specs.declared.request.Request.TheVariants as requests
 use Rattle.pool_core.specs.declared.leaf.Leaf.{Leaf}
 use Rattle.pool_core.specs.Clash.{Clash}
 use Rattle.pool_core.specs.State.{Version, PoolState, data_start}
-use Rattle.host_front.specs.Machine.{HostState, Entry, named_pool}
+use Rattle.host_front.specs.Machine.{HostState, Entry, Step, Replay, started, named_pool}
+use Rattle.host_front.specs.declared.device.HostDevice.{HostDevice}
 
 -- one of these leaves
 abbrev pub IsLeaf : List Leaf → Leaf → Type 0
@@ -109,3 +111,30 @@ abbrev pub EndsWell : Sectors → List Leaf → Version → List Noted → Reply
 EndsWell sectors leaves version made reply =
     (reply ≡ replies.Data version.block) ⊎ (AllMiss sectors (data_start + version.sector) leaves made
     ⊎ ((reply ≡ replies.Refused refusals.Memory) ⊎ SomeClash made))
+
+-- A line was handled behind these entries of a host that started on these sectors.
+pub record IsReached (sectors : Sectors) (table : List HostDevice) (entries : List Entry) (calls : List Noted) (h : HostState) (entry : Entry) (made : List Noted) (next : HostState) : Type 0 where
+  pub replay : Replay (started table) entries calls h
+  pub step : Step h entry made next
+  pub whole : AreWhole entries
+  pub answers : AllAnswer sectors (calls ++ made)
+  pub gives : GiveSectors made
+
+-- Where an entry of a history stands: the state and the calls before it, its own calls, and those behind.
+pub record IsPlaceOf (old : HostState) (entries : List Entry) (entry : Entry) (calls : List Noted) (h next : HostState) (before made after : List Noted) : Type 0 where
+  pub calls_are : calls ≡ before ++ (made ++ after)
+  pub replay : Replay old entries before h
+  pub step : Step h entry made next
+
+-- A read among the entries of a history ended well: a refusal says that every leaf missed the block, and a
+-- committed block was given unless every leaf missed it.
+pub record ReadsWell (sectors : Sectors) (old : HostState) (entries : List Entry) (entry : Entry) (calls : List Noted) (name : List ℕ) (a : ℕ) : Type 0 where
+  pub h : HostState
+  pub next : HostState
+  pub before : List Noted
+  pub made : List Noted
+  pub after : List Noted
+  pub place : IsPlaceOf old entries entry calls h next before made after
+  pub refused : (level index : ℕ) (named : List NamedLeaf) → entry.reply ≡ replies.Exhausted level index named → LosesBlock (run before sectors) h name a made ⊎ SomeClash made
+  pub given : (s : PoolState) (version : Version) → named_pool name h.pool ≡ Some s → IsCommitted s a version
+      → EndsWell (run before sectors) s.leaves version made entry.reply

@@ -21,5 +21,5 @@ pub use device::HostDevice;
 pub use entry::run;
 pub use found::{HOST_DEVICES, host_device};
 pub use host::Host;
-pub use laws::good_member;
+pub use laws::good_member_answers;
 pub use status::Status;
