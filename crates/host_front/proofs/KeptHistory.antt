@@ -1,5 +1,5 @@
 -- A good member answers, however long the host ran before.
-use Rattle.std.proofs.Common.{◌≡◌, ℕ, ◌+◌, ◌<◌, List, [], ◌∷◌, ◌++◌, Option, Some, None, refl, inl, inr, ◌⊎◌, sym, ◌∙◌, ap, subst, lt-ltb}
+use Rattle.std.proofs.Common.{◌≡◌, ℕ, ◌+◌, List, [], ◌∷◌, ◌++◌, Option, Some, None, refl, inl, inr, ◌⊎◌, sym, ◌∙◌, ap, subst, lt-ltb}
 use Rattle.std.specs.Prelude.{nat_lt}
 use Rattle.bank_core.specs.Asks.{asks_of}
 use Rattle.bank_core.specs.Disk.{Sectors, Noted, AllAnswer, run}
@@ -7,10 +7,9 @@ use Rattle.bank_core.proofs.Composing.{run_more}
 use Rattle.pool_wire.specs.declared.reply.NamedLeaf.{NamedLeaf}
 use Rattle.pool_wire.specs.declared.reply.Reply.{Reply}
 use Rattle.pool_wire.specs.declared.reply.Reply.TheVariants as replies
-use Rattle.pool_wire.specs.declared.request.Request.{Request}
 use Rattle.pool_wire.specs.declared.request.Request.TheVariants as requests
-use Rattle.pool_core.specs.Clash.{Clash, Gave, IsFound}
-use Rattle.pool_core.specs.Outside.{Trouble, troubles}
+use Rattle.pool_core.specs.Clash.{Clash, IsFound}
+use Rattle.pool_core.specs.Outside.{troubles}
 use Rattle.pool_core.specs.State.{PoolState, Version, data_start}
 use Rattle.host_front.specs.declared.device.HostDevice.{HostDevice}
 use Rattle.host_front.specs.Machine.{HostState, Entry, Step, Replay, IsAnswered, WantsMemory, Clashes, started, named_pool, answer, read_line_answer, read_line_asks, line_asks, line_wants, wanted_of}

@@ -1,11 +1,11 @@
 -- What is committed stays.
-use Rattle.std.proofs.Common.{◌≡◌, ℕ, ◌+◌, List, Some}
+use Rattle.std.proofs.Common.{ℕ, ◌+◌, List}
 use Rattle.bank_core.specs.Asks.{asks_of}
 use Rattle.bank_core.specs.Disk.{Sectors, Noted, run}
 use Rattle.pool_core.specs.declared.leaf.Leaf.{Leaf}
 use Rattle.pool_core.specs.State.{PoolState, Version, data_start}
 use Rattle.host_front.specs.Machine.{AreReads}
-use Rattle.host_front.specs.Kept.{IsLeaf, IsPlaced, IsKept}
+use Rattle.host_front.specs.Kept.{IsPlaced, IsKept}
 use Rattle.host_front.proofs.KeptSectors.{AllSpare, spared, reads_spare}
 
 -- a version that no call writes

@@ -1,12 +1,11 @@
 -- A read that no leaf served: what each leaf's copy met.
-use Rattle.std.proofs.Common.{◌≡◌, ℕ, ◌+◌, ◌<◌, Bool, true, false, cond, List, [], ◌∷◌, Option, Some, None, Result, Ok, Err, length, refl, arith, inl, inr, ◌⊎◌, sym, ◌∙◌, ap, subst}
-use Rattle.std.specs.Prelude.{nat_lt}
+use Rattle.std.proofs.Common.{◌≡◌, ℕ, ◌+◌, Bool, true, false, cond, List, [], ◌∷◌, Option, Some, None, Err, length, refl, arith, inl, inr, ◌⊎◌, sym, ◌∙◌, ap, subst}
 use Rattle.std.specs.Str.{bytes_eq}
 use Rattle.std.proofs.lemmas.Slice.Eq.{bytes_eq-Decides}
 use Rattle.mp_base.specs.declared.refusal.LeafSeen.{LeafSeen}
 use Rattle.mp_base.specs.declared.refusal.Refusal.TheVariants as refusals
 use Rattle.bank_core.specs.declared.bank.Fault.{Fault}
-use Rattle.bank_core.specs.Asks.{Ask, Reads, ask_of, asks_of}
+use Rattle.bank_core.specs.Asks.{Reads, ask_of, asks_of}
 use Rattle.bank_core.specs.Calls.{fault_of}
 use Rattle.bank_core.specs.Disk.{Sector, Sectors, Call, Read, Write, Flush, Admit, Eject, Noted, IsClean, Answers, AllAnswer, as_found, run, sectors_in, sector_of}
 use Rattle.pool_wire.specs.declared.reply.NamedLeaf.{NamedLeaf}
@@ -14,10 +13,10 @@ use Rattle.pool_wire.specs.declared.reply.Reply.{Reply}
 use Rattle.pool_wire.specs.declared.reply.Reply.TheVariants as replies
 use Rattle.pool_core.specs.declared.leaf.Leaf.{Leaf}
 use Rattle.pool_core.specs.Outside.{Trouble, Wrong, trouble_of, troubles}
-use Rattle.pool_core.specs.Reading.{Source, source_of, block_from, asks_from, asks_to, answer_from, is_served, shown, copies_give}
+use Rattle.pool_core.specs.Reading.{source_of, block_from, asks_from, asks_to, answer_from, is_served, shown, copies_give}
 use Rattle.pool_core.specs.State.{PoolState, Version, data_start}
 use Rattle.host_front.specs.Machine.{read_reply}
-use Rattle.host_front.specs.Kept.{IsLeaf, Holds, IsKept, GivesSector, GiveSectors, Misses, AllMiss, IsLost}
+use Rattle.host_front.specs.Kept.{IsLeaf, Holds, IsKept, GivesSector, GiveSectors, AllMiss, IsLost}
 use Rattle.host_front.proofs.KeptSectors.{Spares, spared, hurt_holds, first_sector}
 
 -- a sound copy's read gives its block
@@ -60,17 +59,19 @@ missed_cause found at block leaf (Eject dev) trouble h asked gives answers met =
 miss_next : (sectors : Sectors) (at : ℕ) (block : List ℕ) (leaf : Leaf) (leaves : List Leaf) (noted : Noted) (made : List Noted) (met : Option Trouble)
     → Holds (sectors leaf.dev at) block → Answers (as_found noted sectors) noted.call → GivesSector noted.call → trouble_of block noted.call ≡ met
     → (ask_of noted.call ≡ Reads leaf.dev at 1 → asks_of made ≡ asks_to at leaves (troubles block made) → is_served leaves (troubles block made) ≡ false
-        → AllMiss (run (noted ∷ []) sectors) at leaves made)
+    → AllMiss (run (noted ∷ []) sectors) at leaves made)
     → ask_of noted.call ∷ asks_of made ≡ asks_to at (leaf ∷ leaves) (met ∷ troubles block made) → is_served (leaf ∷ leaves) (met ∷ troubles block made) ≡ false
     → AllMiss sectors at (leaf ∷ leaves) (noted ∷ made)
 miss_next sectors at block leaf leaves noted made None h answers gives e more asks none = absurd (cc)
 miss_next sectors at block leaf leaves noted made (Some trouble) h answers gives e more asks none =
     let first : ask_of noted.call ≡ Reads leaf.dev at 1 = cc in
-    let rest : asks_of made ≡ asks_to at leaves (troubles block made) = cc in
-    (record {
-      asked = first;
-      cause = missed_cause (as_found noted sectors) at block leaf noted.call trouble (hurt_holds (noted.damage leaf.dev at) block (sectors leaf.dev at) h) first gives answers e;
-    }, more first rest none)
+    let rest : asks_of made ≡ asks_to at leaves (troubles block made) = cc in (
+      record {
+        asked = first;
+        cause = missed_cause (as_found noted sectors) at block leaf noted.call trouble (hurt_holds (noted.damage leaf.dev at) block (sectors leaf.dev at) h) first gives answers e;
+      },
+      more first rest none,
+    )
 
 -- no leaf served, so each missed it
 pub all_miss : (sectors : Sectors) (at : ℕ) (block : List ℕ) (leaves : List Leaf) (made : List Noted) → ((leaf : Leaf) → IsLeaf leaves leaf → Holds (sectors leaf.dev at) block)
@@ -82,8 +83,8 @@ all_miss sectors at block (leaf ∷ leaves) [] hold answers gives asks none = ab
 all_miss sectors at block (leaf ∷ leaves) (noted ∷ made) hold answers gives asks none =
     miss_next sectors at block leaf leaves noted made (trouble_of block noted.call) (hold leaf (inl refl)) answers.0 gives.0 refl
     (λ first. all_miss (run (noted ∷ []) sectors) at block leaves made
-        (λ other member. spared other.dev at block (noted ∷ []) (sectors other.dev at) (subst (Spares other.dev at) (sym first) tt, tt) (hold other (inr member)))
-        answers.1 gives.1)
+    (λ other member. spared other.dev at block (noted ∷ []) (sectors other.dev at) (subst (Spares other.dev at) (sym first) tt, tt) (hold other (inr member)))
+    answers.1 gives.1)
     asks none
 
 not_served : (served : Bool) (leaves : List Leaf) (a : ℕ) (block : List ℕ) (seen : List LeafSeen) (level index : ℕ) (named : List NamedLeaf)
@@ -96,7 +97,7 @@ pub lost_by : (sectors : Sectors) (s : PoolState) (a : ℕ) (made : List Noted) 
     (level index : ℕ) (named : List NamedLeaf) → IsKept sectors s → AllAnswer sectors made → GiveSectors made → s.committed a ≡ committed
     → asks_of made ≡ cond inside (asks_from (source_of writes committed) s.leaves (troubles (block_from (source_of writes committed)) made)) []
     → replies.Exhausted level index named
-        ≡ read_reply s.leaves (cond inside (answer_from (source_of writes committed) a s.leaves (troubles (block_from (source_of writes committed)) made)) (Err (refusals.BadAddress s.blocks)))
+    ≡ read_reply s.leaves (cond inside (answer_from (source_of writes committed) a s.leaves (troubles (block_from (source_of writes committed)) made)) (Err (refusals.BadAddress s.blocks)))
     → IsLost sectors s a made
 lost_by sectors s a made false writes committed level index named kept answers gives is asks e = absurd (cc)
 lost_by sectors s a made true (Some block) committed level index named kept answers gives is asks e = absurd (cc)

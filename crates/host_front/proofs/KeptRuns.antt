@@ -1,7 +1,7 @@
 -- A good member answers in each run.
-use Rattle.std.proofs.Common.{◌≡◌, ℕ, ◌+◌, ◌<◌, List, [], ◌∷◌, ◌++◌, Option, Some, None, map, refl, inl, inr, ◌⊎◌, sym, ◌∙◌, ap, subst, append_assoc}
+use Rattle.std.proofs.Common.{◌≡◌, ℕ, List, [], ◌∷◌, ◌++◌, Option, Some, refl, inl, inr, ◌⊎◌, sym, ◌∙◌, ap, subst, append_assoc}
 use Rattle.bank_core.specs.Disk.{Sectors, Noted, AllAnswer, run}
-use Rattle.bank_core.specs.Story.{Story, Continues, now}
+use Rattle.bank_core.specs.Story.{Story, now}
 use Rattle.bank_core.specs.Calls.{Made}
 use Rattle.pool_wire.specs.declared.reply.NamedLeaf.{NamedLeaf}
 use Rattle.pool_wire.specs.declared.reply.Reply.TheVariants as replies
@@ -12,7 +12,7 @@ use Rattle.host_front.specs.declared.status.Status.{Status}
 use Rattle.host_front.specs.Machine.{HostState, Entry, Step, Replay, started, named_pool}
 use Rattle.host_front.specs.Session.{Ran}
 use Rattle.host_front.specs.Kept.{HostIsKept, AreWhole, GiveSectors, LosesBlock, SomeClash, IsCommitted, EndsWell, IsReached, IsPlaceOf, ReadsWell}
-use Rattle.host_front.proofs.KeptHistory.{replay_keeps, exhausted_is_lost, good_member_answers, history_loses_nothing, history_answers, answers_behind, clash_left, clash_right}
+use Rattle.host_front.proofs.KeptHistory.{replay_keeps, exhausted_is_lost, good_member_answers, history_loses_nothing, history_answers, answers_behind, clash_left}
 use Rattle.host_front.proofs.KeptLines.{lines_whole}
 
 pub reached_refuses : (sectors : Sectors) (table : List HostDevice) (entries : List Entry) (calls : List Noted) (h : HostState) (entry : Entry) (made : List Noted) (next : HostState)

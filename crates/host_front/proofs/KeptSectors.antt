@@ -1,12 +1,12 @@
 -- What calls leave of one sector, by what they ask.
-use Rattle.std.proofs.Common.{◌≡◌, ◌≢◌, ℕ, ◌+◌, ◌*◌, ◌-◌, ◌<◌, ◌≤◌, ◌==◌, Bool, true, false, cond, List, [], ◌∷◌, ◌++◌, Option, Some, None, length, take, drop, map, refl, arith, inl, inr, ◌⊎◌, sym, ◌∙◌, ap, subst, le-leb, lt-ltb, le-ltb}
-use Rattle.std.specs.Prelude.{◌&&◌, nat_le, nat_lt, is_none}
+use Rattle.std.proofs.Common.{◌≡◌, ◌≢◌, ℕ, ◌+◌, ◌-◌, ◌<◌, ◌≤◌, ◌==◌, Bool, true, false, cond, List, [], ◌∷◌, ◌++◌, Option, None, length, map, refl, arith, inl, inr, ◌⊎◌, sym, ◌∙◌, ap, subst, le-leb, lt-ltb, le-ltb}
+use Rattle.std.specs.Prelude.{◌&&◌, nat_le, is_none}
 use Rattle.std.proofs.lemmas.Bool.{eq-eqb, cases_lt, lt-leb}
 use Rattle.std.proofs.lemmas.List.{take_all}
 use Rattle.bank_core.specs.declared.bank.Fault.{Fault}
 use Rattle.bank_core.specs.Asks.{Ask, Reads, Writes, Flushes, Admits, Ejects, ask_of, asks_of}
 use Rattle.bank_core.specs.Calls.{fault_of}
-use Rattle.bank_core.specs.Disk.{Pending, Nothing, Written, Failing, Sector, Sectors, Call, Read, Write, Flush, Admit, Eject, Noted, sector_size, sectors_in, sector_of, covers, hurt, after_write, after_flush, effect, after_call, replay, run}
+use Rattle.bank_core.specs.Disk.{Pending, Nothing, Written, Failing, Sector, Call, Read, Write, Flush, Admit, Eject, Noted, sector_size, sectors_in, sector_of, covers, hurt, after_write, after_flush, effect, after_call, replay}
 use Rattle.bank_core.proofs.Blocks.{block_sectors}
 use Rattle.pool_core.specs.declared.leaf.Leaf.{Leaf}
 use Rattle.host_front.specs.Machine.{IsRead, AreReads}

@@ -1,31 +1,24 @@
 -- Every step keeps what is committed, and so does a history.
-use Rattle.std.proofs.Common.{◌≡◌, ℕ, ◌+◌, ◌<◌, ◌==◌, Bool, true, false, cond, List, [], ◌∷◌, ◌++◌, Option, Some, None, Result, Ok, Err, length, refl, arith, inl, inr, ◌⊎◌, sym, ◌∙◌, ap, subst}
+use Rattle.std.proofs.Common.{◌≡◌, ℕ, ◌+◌, ◌<◌, ◌==◌, Bool, true, false, cond, List, [], ◌∷◌, Option, Some, None, Result, length, refl, arith, inl, inr, ◌⊎◌, sym, ◌∙◌, ap, subst}
 use Rattle.std.specs.Prelude.{nat_lt}
 use Rattle.std.specs.Str.{bytes_eq}
 use Rattle.std.proofs.lemmas.Bool.{eqb-true, ltb-true}
 use Rattle.mp_base.specs.declared.refusal.Refusal.{Refusal}
 use Rattle.bank_core.specs.Asks.{Ask, asks_of}
-use Rattle.bank_core.specs.Disk.{Sectors, Noted, AllAnswer, run}
-use Rattle.bank_core.proofs.Composing.{run_more}
-use Rattle.pool_wire.specs.declared.reply.NamedLeaf.{NamedLeaf}
+use Rattle.bank_core.specs.Disk.{Sectors, Noted, run}
 use Rattle.pool_wire.specs.declared.reply.Reply.{Reply}
-use Rattle.pool_wire.specs.declared.reply.Reply.TheVariants as replies
 use Rattle.pool_wire.specs.declared.request.Request.{Request}
 use Rattle.pool_wire.specs.declared.request.Request.TheVariants as requests
 use Rattle.pool_core.specs.declared.leaf.Leaf.{Leaf}
-use Rattle.pool_core.specs.Clash.{Clash, Gave, IsFound}
-use Rattle.pool_core.specs.Done.{sync_asks, sync_answer}
+use Rattle.pool_core.specs.Clash.{Clash}
 use Rattle.pool_core.specs.Outside.{Trouble, troubles}
-use Rattle.pool_core.specs.Reading.{Source, Memory, Hole, Copies, source_at, asks_from, asks_to, read_asks}
-use Rattle.pool_core.specs.State.{PoolState, Version, data_start, created, written}
-use Rattle.pool_core.specs.Writing.{put_answer}
-use Rattle.host_front.specs.declared.device.HostDevice.{HostDevice}
-use Rattle.host_front.specs.Machine.{HostState, Entry, Step, Replay, IsAnswered, WantsMemory, Clashes, started, with_pool, named_pool, members, member_of, may_create, is_bad_size, create_with, create_answer, write_answer, read_line_answer, sync_line_answer, answer, read_line_asks, sync_line_asks, line_asks, line_wants}
-use Rattle.host_front.specs.Kept.{IsPlaced, IsKept, PoolIsKept, HostIsKept, IsWhole, AreWhole, GiveSectors, IsLost}
-use Rattle.host_front.proofs.KeptSectors.{Spares, AllSpare, reads_spare}
+use Rattle.pool_core.specs.Reading.{Source, Memory, Hole, Copies, source_at, asks_from, asks_to}
+use Rattle.pool_core.specs.State.{PoolState, data_start, created, written}
+use Rattle.host_front.specs.Machine.{HostState, Entry, Step, IsAnswered, WantsMemory, Clashes, named_pool, members, member_of, may_create, is_bad_size, create_with, write_answer, read_line_answer, sync_line_answer, answer, read_line_asks, sync_line_asks, line_asks, line_wants}
+use Rattle.host_front.specs.Kept.{IsKept, PoolIsKept, HostIsKept, IsWhole}
+use Rattle.host_front.proofs.KeptSectors.{AllSpare, reads_spare}
 use Rattle.host_front.proofs.KeptLaws.{placed_spared}
 use Rattle.host_front.proofs.KeptSync.{kept_by_sync}
-use Rattle.host_front.proofs.KeptReads.{lost_by}
 
 -- calls that write nothing keep a pool
 spared_pool : (sectors : Sectors) (pool : Option PoolState) (made : List Noted) → ((d s : ℕ) → AllSpare d s (asks_of made)) → PoolIsKept sectors pool → PoolIsKept (run made sectors) pool

@@ -1,6 +1,5 @@
 -- A sync keeps what is committed, and what it commits stands.
-use Rattle.std.proofs.Common.{◌≡◌, ◌≢◌, ℕ, zero, suc, ◌+◌, ◌*◌, ◌<◌, ◌≤◌, ◌==◌, Bool, true, false, cond, List, [], ◌∷◌, ◌++◌, Option, Some, None, length, map, refl, arith, inl, inr, ◌⊎◌, sym, ◌∙◌, ap, subst}
-use Rattle.std.specs.Prelude.{is_some}
+use Rattle.std.proofs.Common.{◌≡◌, ◌≢◌, ℕ, zero, suc, ◌+◌, ◌*◌, ◌<◌, ◌≤◌, ◌==◌, Bool, true, false, cond, List, [], ◌∷◌, ◌++◌, Option, Some, None, length, refl, arith, inl, inr, ◌⊎◌, sym, ◌∙◌, ap, subst}
 use Rattle.std.specs.Option.{option_map}
 use Rattle.std.specs.List.{flat_map}
 use Rattle.std.proofs.lemmas.Bool.{cases_lt}
@@ -13,9 +12,9 @@ use Rattle.pool_core.specs.declared.leaf.Leaf.{Leaf}
 use Rattle.pool_core.specs.Done.{sync_asks, sync_outcome, sync_answer}
 use Rattle.pool_core.specs.Outside.{Trouble, trouble_from, trouble_of, troubles, has_trouble}
 use Rattle.pool_core.specs.State.{PoolState, Version, data_start, other_sector, is_spent}
-use Rattle.pool_core.specs.Syncing.{addresses, writes_to, writes_at, sync_plan, asks_until, next_version, synced, suspended}
+use Rattle.pool_core.specs.Syncing.{addresses, writes_to, writes_at, sync_plan, asks_until, next_version}
 use Rattle.host_front.specs.Kept.{IsLeaf, IsPlaced, IsKept, Holds}
-use Rattle.host_front.proofs.KeptSectors.{hits, Spares, AllSpare, all_spare_more, flushes_spare, elsewhere, hits_itself, its_sector, Agrees, AllAgree, all_agree_more, Puts, SomePuts, some_puts_left, some_puts_right, AllOk, flushes, stand_behind}
+use Rattle.host_front.proofs.KeptSectors.{hits, AllSpare, all_spare_more, flushes_spare, elsewhere, hits_itself, its_sector, Agrees, AllAgree, all_agree_more, SomePuts, some_puts_left, some_puts_right, AllOk, flushes, stand_behind}
 use Rattle.host_front.proofs.KeptLaws.{placed_spared}
 
 -- the two sectors of an address
@@ -97,8 +96,8 @@ placed_by_sync sectors s made outside a version asks kept is =
     let placed = kept.committed a version is in
     placed_spared sectors s.leaves a version made
     (λ leaf. subst (AllSpare leaf.dev (data_start + version.sector)) (sym asks)
-        (until_spares leaf.dev (data_start + version.sector) (sync_plan s) outside
-        (plan_spares s leaf.dev (data_start + version.sector) kept.whole (λ b. free_differs s a b version is placed.sector)))) placed
+    (until_spares leaf.dev (data_start + version.sector) (sync_plan s) outside
+    (plan_spares s leaf.dev (data_start + version.sector) kept.whole (λ b. free_differs s a b version is placed.sector)))) placed
 
 -- an ask that a sync makes
 abbrev Changes : Ask → Type 0

@@ -31,5 +31,4 @@ pub fn good_member_answers()
         (ran : Ran (started table) status (Some story) (Some story') f g left left' sink sink') (first rest : List Entry) (entry : Entry) (name : List ℕ) (a : ℕ)
         → GiveSectors ran.handles.calls → ran.entries ≡ first ++ entry ∷ rest → entry.asked ≡ Some (requests.Read name a)
         → ReadsWell (now story) (started table) first entry ran.handles.calls name a ⊎ SomeClash ran.handles.calls }
-{
-}
+{}
