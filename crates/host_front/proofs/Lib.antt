@@ -3,6 +3,14 @@ mod Creating
 mod Feedings
 mod FoundDevices
 mod Handling
+mod KeptHistory
+mod KeptLaws
+mod KeptLines
+mod KeptReads
+mod KeptRuns
+mod KeptSectors
+mod KeptSteps
+mod KeptSync
 mod LineEnds
 mod ReadReplies
 mod RunLaws

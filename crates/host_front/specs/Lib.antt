@@ -2,6 +2,7 @@ pub mod Codes
 pub mod Feeding
 pub mod Finishing
 pub mod FixedHost
+pub mod Kept
 pub mod Lines
 pub mod Machine
 pub mod Making

@@ -1,0 +1,34 @@
+//! Laws of the abstract machine (docs/MODEL.md, "A good member answers").
+ghost use Rattle.std.specs.Prelude.{◌≡◌, ◌⊎◌, ◌++◌, ◌∷◌, ℕ, List, Option, Some};
+ghost use Rattle.bank_core.specs.Disk.{Sectors, Noted, run};
+ghost use Rattle.bank_core.specs.Story.{Story, now};
+ghost use Rattle.pool_wire.specs.declared.reply.NamedLeaf.{NamedLeaf};
+ghost use Rattle.pool_wire.specs.declared.reply.Reply.TheVariants as replies;
+ghost use Rattle.pool_wire.specs.declared.request.Request.TheVariants as requests;
+ghost use Rattle.pool_core.specs.Clash.{Clash};
+ghost use Rattle.pool_core.specs.State.{PoolState, Version};
+ghost use Rattle.host_front.specs.declared.device.HostDevice.{HostDevice};
+ghost use Rattle.host_front.specs.declared.status.Status.{Status};
+ghost use Rattle.host_front.specs.Machine.{HostState, Entry, Step, line_wants, named_pool, started};
+ghost use Rattle.host_front.specs.Session.{Ran};
+ghost use Rattle.host_front.specs.Kept.{HostIsKept, IsWhole, GiveSectors, LosesBlock, SomeClash, IsCommitted, EndsWell, IsReached, ReadsWell};
+
+/// A good member always answers: a read is refused only where every leaf of the mirror missed the block,
+/// which is that its read failed, or found its sector damaged. It computes nothing: its clauses are the law.
+///
+/// `keeps` is the invariant. `refuses` and `answers` speak of one line behind any others, and
+/// `reads_well` of each read of a run whose bank tells.
+pub fn good_member_answers()
+    ensures keeps { (sectors : Sectors) (h : HostState) (entry : Entry) (made : List Noted) (next : HostState) → IsWhole entry.asked → HostIsKept sectors h
+        → Step h entry made next → HostIsKept (run made sectors) next ⊎ Clash made (line_wants h entry.asked) }
+    ensures refuses { (sectors : Sectors) (table : List HostDevice) (entries : List Entry) (calls : List Noted) (h : HostState) (entry : Entry) (made : List Noted) (next : HostState)
+        (name : List ℕ) (a level index : ℕ) (named : List NamedLeaf) → IsReached sectors table entries calls h entry made next → entry.asked ≡ Some (requests.Read name a)
+        → entry.reply ≡ replies.Exhausted level index named → LosesBlock (run calls sectors) h name a made ⊎ SomeClash (calls ++ made) }
+    ensures answers { (sectors : Sectors) (table : List HostDevice) (entries : List Entry) (calls : List Noted) (h : HostState) (entry : Entry) (made : List Noted) (next : HostState)
+        (name : List ℕ) (a : ℕ) (s : PoolState) (version : Version) → IsReached sectors table entries calls h entry made next → entry.asked ≡ Some (requests.Read name a)
+        → named_pool name h.pool ≡ Some s → IsCommitted s a version → EndsWell (run calls sectors) s.leaves version made entry.reply ⊎ SomeClash calls }
+    ensures reads_well { (table : List HostDevice) (status : Status) (story story' : Story) (f g : ℕ → ℕ) (left left' sink sink' : Option (List ℕ))
+        (ran : Ran (started table) status (Some story) (Some story') f g left left' sink sink') (first rest : List Entry) (entry : Entry) (name : List ℕ) (a : ℕ)
+        → GiveSectors ran.handles.calls → ran.entries ≡ first ++ entry ∷ rest → entry.asked ≡ Some (requests.Read name a)
+        → ReadsWell (now story) (started table) first entry ran.handles.calls name a ⊎ SomeClash ran.handles.calls }
+{}
