@@ -11,7 +11,7 @@ use Rattle.host_front.specs.declared.device.HostDevice.{HostDevice}
 use Rattle.host_front.specs.declared.status.Status.{Status}
 use Rattle.host_front.specs.Machine.{HostState, Entry, Step, Replay, started, named_pool}
 use Rattle.host_front.specs.Session.{Ran}
-use Rattle.host_front.specs.Kept.{HostIsKept, AreWhole, GiveSectors, LosesBlock, SomeClash, IsCommitted, EndsWell, IsReached, IsPlaceOf, ReadsWell}
+use Rattle.host_front.specs.Kept.{HostIsKept, AreWhole, LosesBlock, SomeClash, IsCommitted, EndsWell, IsReached, IsPlaceOf, ReadsWell}
 use Rattle.host_front.proofs.KeptHistory.{replay_keeps, exhausted_is_lost, good_member_answers, history_loses_nothing, history_answers, answers_behind, clash_left}
 use Rattle.host_front.proofs.KeptLines.{lines_whole}
 
@@ -19,13 +19,13 @@ pub reached_refuses : (sectors : Sectors) (table : List HostDevice) (entries : L
     (name : List ℕ) (a level index : ℕ) (named : List NamedLeaf) → IsReached sectors table entries calls h entry made next → entry.asked ≡ Some (requests.Read name a)
     → entry.reply ≡ replies.Exhausted level index named → LosesBlock (run calls sectors) h name a made ⊎ SomeClash (calls ++ made)
 reached_refuses sectors table entries calls h entry made next name a level index named r asked reply =
-    history_loses_nothing sectors table entries calls h entry made next name a level index named r.whole r.replay r.step r.answers r.gives asked reply
+    history_loses_nothing sectors table entries calls h entry made next name a level index named r.whole r.replay r.step r.answers asked reply
 
 pub reached_answers : (sectors : Sectors) (table : List HostDevice) (entries : List Entry) (calls : List Noted) (h : HostState) (entry : Entry) (made : List Noted) (next : HostState)
     (name : List ℕ) (a : ℕ) (s : PoolState) (version : Version) → IsReached sectors table entries calls h entry made next → entry.asked ≡ Some (requests.Read name a)
     → named_pool name h.pool ≡ Some s → IsCommitted s a version → EndsWell (run calls sectors) s.leaves version made entry.reply ⊎ SomeClash calls
 reached_answers sectors table entries calls h entry made next name a s version r asked named committed =
-    history_answers sectors table entries calls h entry made next name a s version r.whole r.replay r.step r.answers r.gives asked named committed
+    history_answers sectors table entries calls h entry made next name a s version r.whole r.replay r.step r.answers asked named committed
 
 -- the place of an entry among others
 record Place (old : HostState) (first : List Entry) (entry : Entry) (calls : List Noted) : Type 0 where
@@ -72,22 +72,14 @@ front_answers : (made after : List Noted) (sectors : Sectors) → AllAnswer sect
 front_answers [] after sectors answers = tt
 front_answers (noted ∷ made) after sectors answers = (answers.0, front_answers made after (run (noted ∷ []) sectors) answers.1)
 
-front_gives : (made after : List Noted) → GiveSectors (made ++ after) → GiveSectors made
-front_gives [] after gives = tt
-front_gives (noted ∷ made) after gives = (gives.0, front_gives made after gives.1)
-
-back_gives : (before made : List Noted) → GiveSectors (before ++ made) → GiveSectors made
-back_gives [] made gives = gives
-back_gives (noted ∷ before) made gives = back_gives before made gives.1
 
 -- behind entries that kept what was committed, or clashed
 reads_well : (sectors : Sectors) (old : HostState) (first : List Entry) (entry : Entry) (calls : List Noted) (name : List ℕ) (a : ℕ) (p : Place old first entry calls)
-    → AllAnswer sectors calls → GiveSectors calls → entry.asked ≡ Some (requests.Read name a) → HostIsKept (run p.before sectors) p.h ⊎ SomeClash p.before
+    → AllAnswer sectors calls → entry.asked ≡ Some (requests.Read name a) → HostIsKept (run p.before sectors) p.h ⊎ SomeClash p.before
     → ReadsWell sectors old first entry calls name a ⊎ SomeClash calls
-reads_well sectors old first entry calls name a p answers gives asked (inl kept) =
+reads_well sectors old first entry calls name a p answers asked (inl kept) =
     let all : AllAnswer sectors (p.before ++ (p.made ++ p.after)) = subst (AllAnswer sectors) p.place.calls_are answers in
     let own : AllAnswer (run p.before sectors) p.made = front_answers p.made p.after (run p.before sectors) (answers_behind p.before (p.made ++ p.after) sectors all) in
-    let wholes : GiveSectors p.made = front_gives p.made p.after (back_gives p.before (p.made ++ p.after) (subst GiveSectors p.place.calls_are gives)) in
     inl (record {
       h = p.h;
       next = p.next;
@@ -96,20 +88,20 @@ reads_well sectors old first entry calls name a p answers gives asked (inl kept)
       after = p.after;
       place = p.place;
       refused = λ level index named reply.
-          exhausted_is_lost (run p.before sectors) p.h entry p.made p.next name a level index named kept p.place.step own wholes asked reply;
+          exhausted_is_lost (run p.before sectors) p.h entry p.made p.next name a level index named kept p.place.step own asked reply;
       given = λ s version named committed.
-          good_member_answers (run p.before sectors) p.h entry p.made p.next name a s version kept p.place.step own wholes asked named committed;
+          good_member_answers (run p.before sectors) p.h entry p.made p.next name a s version kept p.place.step own asked named committed;
     })
-reads_well sectors old first entry calls name a p answers gives asked (inr clash) =
+reads_well sectors old first entry calls name a p answers asked (inr clash) =
     inr (subst SomeClash (sym p.place.calls_are) (clash_left p.before (p.made ++ p.after) clash))
 
 -- each read of a history
 pub history_reads_well : (sectors : Sectors) (table : List HostDevice) (first : List Entry) (entry : Entry) (rest : List Entry) (calls : List Noted) (new : HostState) (name : List ℕ) (a : ℕ)
-    → AreWhole (first ++ entry ∷ rest) → Replay (started table) (first ++ entry ∷ rest) calls new → AllAnswer sectors calls → GiveSectors calls
+    → AreWhole (first ++ entry ∷ rest) → Replay (started table) (first ++ entry ∷ rest) calls new → AllAnswer sectors calls
     → entry.asked ≡ Some (requests.Read name a) → ReadsWell sectors (started table) first entry calls name a ⊎ SomeClash calls
-history_reads_well sectors table first entry rest calls new name a whole replay answers gives asked =
+history_reads_well sectors table first entry rest calls new name a whole replay answers asked =
     let p = place_in (started table) first entry rest calls new replay in
-    reads_well sectors (started table) first entry calls name a p answers gives asked
+    reads_well sectors (started table) first entry calls name a p answers asked
     (replay_keeps sectors (started table) first p.before p.h (first_whole first (entry ∷ rest) whole) tt p.place.replay)
 
 same_some : (x y : Story) → Some x ≡ Some y → x ≡ y
@@ -124,10 +116,10 @@ told_answers story story' f g calls made =
 -- each read of a run over a bank that tells
 pub run_reads_well : (table : List HostDevice) (status : Status) (story story' : Story) (f g : ℕ → ℕ) (left left' sink sink' : Option (List ℕ))
     (ran : Ran (started table) status (Some story) (Some story') f g left left' sink sink') (first rest : List Entry) (entry : Entry) (name : List ℕ) (a : ℕ)
-    → GiveSectors ran.handles.calls → ran.entries ≡ first ++ entry ∷ rest → entry.asked ≡ Some (requests.Read name a)
+    → ran.entries ≡ first ++ entry ∷ rest → entry.asked ≡ Some (requests.Read name a)
     → ReadsWell (now story) (started table) first entry ran.handles.calls name a ⊎ SomeClash ran.handles.calls
-run_reads_well table status story story' f g left left' sink sink' ran first rest entry name a gives are asked =
+run_reads_well table status story story' f g left left' sink sink' ran first rest entry name a are asked =
     history_reads_well (now story) table first entry rest ran.handles.calls ran.state name a
     (subst AreWhole are (lines_whole ran.entries ran.lines ran.handles.asked))
     (subst (λ entries. Replay (started table) entries ran.handles.calls ran.state) are ran.handles.replay)
-    (told_answers story story' f g ran.handles.calls ran.handles.made) gives asked
+    (told_answers story story' f g ran.handles.calls ran.handles.made) asked

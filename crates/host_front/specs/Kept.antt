@@ -63,18 +63,6 @@ abbrev pub AreWhole : List Entry → Type 0
 AreWhole [] = Unit {0}
 AreWhole (entry ∷ entries) = IsWhole entry.asked × AreWhole entries
 
--- a read of one sector gives 4,096 bytes
-abbrev pub GivesSector : Call → Type 0
-GivesSector (Read dev at bytes fault) = sectors_in bytes ≡ 1 → length bytes ≡ 4096
-GivesSector (Write dev at bytes fault) = Unit {0}
-GivesSector (Flush dev fault) = Unit {0}
-GivesSector (Admit dev holds) = Unit {0}
-GivesSector (Eject dev) = Unit {0}
-
-abbrev pub GiveSectors : List Noted → Type 0
-GiveSectors [] = Unit {0}
-GiveSectors (noted ∷ more) = GivesSector noted.call × GiveSectors more
-
 -- A leaf's copy was asked for and gave nothing: the read failed, or found its sector damaged.
 pub record Misses (sectors : Sectors) (at : ℕ) (leaf : Leaf) (noted : Noted) : Type 0 where
   pub asked : ask_of noted.call ≡ Reads leaf.dev at 1
@@ -118,7 +106,6 @@ pub record IsReached (sectors : Sectors) (table : List HostDevice) (entries : Li
   pub step : Step h entry made next
   pub whole : AreWhole entries
   pub answers : AllAnswer sectors (calls ++ made)
-  pub gives : GiveSectors made
 
 -- Where an entry of a history stands: the state and the calls before it, its own calls, and those behind.
 pub record IsPlaceOf (old : HostState) (entries : List Entry) (entry : Entry) (calls : List Noted) (h next : HostState) (before made after : List Noted) : Type 0 where
