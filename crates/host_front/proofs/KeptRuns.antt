@@ -9,23 +9,46 @@ use Rattle.pool_wire.specs.declared.request.Request.TheVariants as requests
 use Rattle.pool_core.specs.State.{PoolState, Version}
 use Rattle.host_front.specs.declared.device.HostDevice.{HostDevice}
 use Rattle.host_front.specs.declared.status.Status.{Status}
-use Rattle.host_front.specs.Machine.{HostState, Entry, Step, Replay, started, named_pool}
+use Rattle.host_front.specs.Machine.{HostState, Entry, Step, Replay, started, named_pool, line_wants}
 use Rattle.host_front.specs.Session.{Ran}
-use Rattle.host_front.specs.Kept.{HostIsKept, AreWhole, LosesBlock, SomeClash, IsCommitted, EndsWell, IsReached, IsPlaceOf, ReadsWell}
-use Rattle.host_front.proofs.KeptHistory.{replay_keeps, exhausted_is_lost, good_member_answers, history_loses_nothing, history_answers, answers_behind, clash_left}
+use Rattle.pool_core.specs.Clash.{Clash}
+use Rattle.host_front.specs.Kept.{HostIsKept, AreWhole, LosesBlock, SomeClashes, IsCommitted, EndsWell, IsReached, IsPlaceOf, ReadsWell}
+use Rattle.host_front.proofs.KeptHistory.{replay_keeps, exhausted_is_lost, good_member_answers, answers_behind, clashes_more}
 use Rattle.host_front.proofs.KeptLines.{lines_whole}
+
+refuses_by : (sectors : Sectors) (table : List HostDevice) (entries : List Entry) (calls : List Noted) (h : HostState) (entry : Entry) (made : List Noted) (next : HostState)
+    (name : List ℕ) (a level index : ℕ) (named : List NamedLeaf) → IsReached sectors table entries calls h entry made next → entry.asked ≡ Some (requests.Read name a)
+    → entry.reply ≡ replies.Exhausted level index named → HostIsKept (run calls sectors) h ⊎ SomeClashes (started table) entries calls
+    → LosesBlock (run calls sectors) h name a made ⊎ (Clash made (line_wants h entry.asked) ⊎ SomeClashes (started table) entries calls)
+refuses_by sectors table entries calls h entry made next name a level index named r asked reply (inl kept) =
+    either (exhausted_is_lost (run calls sectors) h entry made next name a level index named kept r.step (answers_behind calls made sectors r.answers) asked reply)
+  where
+    either : LosesBlock (run calls sectors) h name a made ⊎ Clash made (line_wants h entry.asked)
+        → LosesBlock (run calls sectors) h name a made ⊎ (Clash made (line_wants h entry.asked) ⊎ SomeClashes (started table) entries calls)
+    either (inl lost) = inl lost
+    either (inr clash) = inr (inl clash)
+refuses_by sectors table entries calls h entry made next name a level index named r asked reply (inr clash) = inr (inr clash)
 
 pub reached_refuses : (sectors : Sectors) (table : List HostDevice) (entries : List Entry) (calls : List Noted) (h : HostState) (entry : Entry) (made : List Noted) (next : HostState)
     (name : List ℕ) (a level index : ℕ) (named : List NamedLeaf) → IsReached sectors table entries calls h entry made next → entry.asked ≡ Some (requests.Read name a)
-    → entry.reply ≡ replies.Exhausted level index named → LosesBlock (run calls sectors) h name a made ⊎ SomeClash (calls ++ made)
+    → entry.reply ≡ replies.Exhausted level index named
+    → LosesBlock (run calls sectors) h name a made ⊎ (Clash made (line_wants h entry.asked) ⊎ SomeClashes (started table) entries calls)
 reached_refuses sectors table entries calls h entry made next name a level index named r asked reply =
-    history_loses_nothing sectors table entries calls h entry made next name a level index named r.whole r.replay r.step r.answers asked reply
+    refuses_by sectors table entries calls h entry made next name a level index named r asked reply (replay_keeps sectors (started table) entries calls h r.whole tt r.replay)
+
+answers_by : (sectors : Sectors) (table : List HostDevice) (entries : List Entry) (calls : List Noted) (h : HostState) (entry : Entry) (made : List Noted) (next : HostState)
+    (name : List ℕ) (a : ℕ) (s : PoolState) (version : Version) → IsReached sectors table entries calls h entry made next → entry.asked ≡ Some (requests.Read name a)
+    → named_pool name h.pool ≡ Some s → IsCommitted s a version → HostIsKept (run calls sectors) h ⊎ SomeClashes (started table) entries calls
+    → EndsWell (run calls sectors) s.leaves version made entry.reply ⊎ SomeClashes (started table) entries calls
+answers_by sectors table entries calls h entry made next name a s version r asked named committed (inl kept) =
+    inl (good_member_answers (run calls sectors) h entry made next name a s version kept r.step (answers_behind calls made sectors r.answers) asked named committed)
+answers_by sectors table entries calls h entry made next name a s version r asked named committed (inr clash) = inr clash
 
 pub reached_answers : (sectors : Sectors) (table : List HostDevice) (entries : List Entry) (calls : List Noted) (h : HostState) (entry : Entry) (made : List Noted) (next : HostState)
     (name : List ℕ) (a : ℕ) (s : PoolState) (version : Version) → IsReached sectors table entries calls h entry made next → entry.asked ≡ Some (requests.Read name a)
-    → named_pool name h.pool ≡ Some s → IsCommitted s a version → EndsWell (run calls sectors) s.leaves version made entry.reply ⊎ SomeClash calls
+    → named_pool name h.pool ≡ Some s → IsCommitted s a version → EndsWell (run calls sectors) s.leaves version made entry.reply ⊎ SomeClashes (started table) entries calls
 reached_answers sectors table entries calls h entry made next name a s version r asked named committed =
-    history_answers sectors table entries calls h entry made next name a s version r.whole r.replay r.step r.answers asked named committed
+    answers_by sectors table entries calls h entry made next name a s version r asked named committed (replay_keeps sectors (started table) entries calls h r.whole tt r.replay)
 
 -- the place of an entry among others
 record Place (old : HostState) (first : List Entry) (entry : Entry) (calls : List Noted) : Type 0 where
@@ -72,10 +95,11 @@ front_answers : (made after : List Noted) (sectors : Sectors) → AllAnswer sect
 front_answers [] after sectors answers = tt
 front_answers (noted ∷ made) after sectors answers = (answers.0, front_answers made after (run (noted ∷ []) sectors) answers.1)
 
+
 -- behind entries that kept what was committed, or clashed
 reads_well : (sectors : Sectors) (old : HostState) (first : List Entry) (entry : Entry) (calls : List Noted) (name : List ℕ) (a : ℕ) (p : Place old first entry calls)
-    → AllAnswer sectors calls → entry.asked ≡ Some (requests.Read name a) → HostIsKept (run p.before sectors) p.h ⊎ SomeClash p.before
-    → ReadsWell sectors old first entry calls name a ⊎ SomeClash calls
+    → AllAnswer sectors calls → entry.asked ≡ Some (requests.Read name a) → HostIsKept (run p.before sectors) p.h ⊎ SomeClashes old first p.before
+    → ReadsWell sectors old first entry calls name a ⊎ SomeClashes old first calls
 reads_well sectors old first entry calls name a p answers asked (inl kept) =
     let all : AllAnswer sectors (p.before ++ (p.made ++ p.after)) = subst (AllAnswer sectors) p.place.calls_are answers in
     let own : AllAnswer (run p.before sectors) p.made = front_answers p.made p.after (run p.before sectors) (answers_behind p.before (p.made ++ p.after) sectors all) in
@@ -92,12 +116,12 @@ reads_well sectors old first entry calls name a p answers asked (inl kept) =
           good_member_answers (run p.before sectors) p.h entry p.made p.next name a s version kept p.place.step own asked named committed;
     })
 reads_well sectors old first entry calls name a p answers asked (inr clash) =
-    inr (subst SomeClash (sym p.place.calls_are) (clash_left p.before (p.made ++ p.after) clash))
+    inr (subst (SomeClashes old first) (sym p.place.calls_are) (clashes_more old first p.before (p.made ++ p.after) clash))
 
 -- each read of a history
 pub history_reads_well : (sectors : Sectors) (table : List HostDevice) (first : List Entry) (entry : Entry) (rest : List Entry) (calls : List Noted) (new : HostState) (name : List ℕ) (a : ℕ)
     → AreWhole (first ++ entry ∷ rest) → Replay (started table) (first ++ entry ∷ rest) calls new → AllAnswer sectors calls
-    → entry.asked ≡ Some (requests.Read name a) → ReadsWell sectors (started table) first entry calls name a ⊎ SomeClash calls
+    → entry.asked ≡ Some (requests.Read name a) → ReadsWell sectors (started table) first entry calls name a ⊎ SomeClashes (started table) first calls
 history_reads_well sectors table first entry rest calls new name a whole replay answers asked =
     let p = place_in (started table) first entry rest calls new replay in
     reads_well sectors (started table) first entry calls name a p answers asked
@@ -116,7 +140,7 @@ told_answers story story' f g calls made =
 pub run_reads_well : (table : List HostDevice) (status : Status) (story story' : Story) (f g : ℕ → ℕ) (left left' sink sink' : Option (List ℕ))
     (ran : Ran (started table) status (Some story) (Some story') f g left left' sink sink') (first rest : List Entry) (entry : Entry) (name : List ℕ) (a : ℕ)
     → ran.entries ≡ first ++ entry ∷ rest → entry.asked ≡ Some (requests.Read name a)
-    → ReadsWell (now story) (started table) first entry ran.handles.calls name a ⊎ SomeClash ran.handles.calls
+    → ReadsWell (now story) (started table) first entry ran.handles.calls name a ⊎ SomeClashes (started table) first ran.handles.calls
 run_reads_well table status story story' f g left left' sink sink' ran first rest entry name a are asked =
     history_reads_well (now story) table first entry rest ran.handles.calls ran.state name a
     (subst AreWhole are (lines_whole ran.entries ran.lines ran.handles.asked))

@@ -13,7 +13,7 @@ use Rattle.pool_wire.specs.declared.request.Request.TheVariants as requests
 use Rattle.pool_core.specs.declared.leaf.Leaf.{Leaf}
 use Rattle.pool_core.specs.Clash.{Clash}
 use Rattle.pool_core.specs.State.{Version, PoolState, data_start}
-use Rattle.host_front.specs.Machine.{HostState, Entry, Step, Replay, started, named_pool}
+use Rattle.host_front.specs.Machine.{HostState, Entry, Step, Replay, started, named_pool, line_wants}
 use Rattle.host_front.specs.declared.device.HostDevice.{HostDevice}
 
 -- one of these leaves
@@ -84,9 +84,12 @@ pub record IsLost (sectors : Sectors) (s : PoolState) (a : ℕ) (made : List Not
 abbrev pub LosesBlock : Sectors → HostState → List ℕ → ℕ → List Noted → Type 0
 LosesBlock sectors h name a made = (s : PoolState) × (named_pool name h.pool ≡ Some s) × IsLost sectors s a made
 
--- two different byte strings with one sum
-abbrev pub SomeClash : List Noted → Type 0
-SomeClash calls = (block : List ℕ) × Clash calls block
+-- Some line of a history that begins so took wrong bytes for its block, since both have one sum.
+abbrev pub SomeClashes : HostState → List Entry → List Noted → Type 0
+SomeClashes old [] calls = ⊥
+SomeClashes old (entry ∷ entries) calls =
+    (made more : List Noted) × (between : HostState) × (calls ≡ made ++ more) × Step old entry made between
+    × (Clash made (line_wants old entry.asked) ⊎ SomeClashes between entries more)
 
 -- A block that was committed, with nothing written there since.
 pub record IsCommitted (s : PoolState) (a : ℕ) (version : Version) : Type 0 where
@@ -94,11 +97,11 @@ pub record IsCommitted (s : PoolState) (a : ℕ) (version : Version) : Type 0 wh
   pub closed : s.writes a ≡ None
   pub is : s.committed a ≡ Some version
 
--- How a read of it ends: with the block, unless every leaf missed it, there was no memory, or sums clash.
+-- How a read of it ends: with the block, unless every leaf missed it, there was no memory, or a read took wrong bytes for it.
 abbrev pub EndsWell : Sectors → List Leaf → Version → List Noted → Reply → Type 0
 EndsWell sectors leaves version made reply =
     (reply ≡ replies.Data version.block) ⊎ (AllMiss sectors (data_start + version.sector) leaves made
-    ⊎ ((reply ≡ replies.Refused refusals.Memory) ⊎ SomeClash made))
+    ⊎ ((reply ≡ replies.Refused refusals.Memory) ⊎ Clash made version.block))
 
 -- A line was handled behind these entries of a host that started on these sectors.
 pub record IsReached (sectors : Sectors) (table : List HostDevice) (entries : List Entry) (calls : List Noted) (h : HostState) (entry : Entry) (made : List Noted) (next : HostState) : Type 0 where
@@ -122,6 +125,6 @@ pub record ReadsWell (sectors : Sectors) (old : HostState) (entries : List Entry
   pub made : List Noted
   pub after : List Noted
   pub place : IsPlaceOf old entries entry calls h next before made after
-  pub refused : (level index : ℕ) (named : List NamedLeaf) → entry.reply ≡ replies.Exhausted level index named → LosesBlock (run before sectors) h name a made ⊎ SomeClash made
+  pub refused : (level index : ℕ) (named : List NamedLeaf) → entry.reply ≡ replies.Exhausted level index named → LosesBlock (run before sectors) h name a made ⊎ Clash made (line_wants h entry.asked)
   pub given : (s : PoolState) (version : Version) → named_pool name h.pool ≡ Some s → IsCommitted s a version
       → EndsWell (run before sectors) s.leaves version made entry.reply

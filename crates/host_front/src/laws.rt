@@ -11,7 +11,7 @@ ghost use Rattle.host_front.specs.declared.device.HostDevice.{HostDevice};
 ghost use Rattle.host_front.specs.declared.status.Status.{Status};
 ghost use Rattle.host_front.specs.Machine.{HostState, Entry, Step, line_wants, named_pool, started};
 ghost use Rattle.host_front.specs.Session.{Ran};
-ghost use Rattle.host_front.specs.Kept.{HostIsKept, IsWhole, LosesBlock, SomeClash, IsCommitted, EndsWell, IsReached, ReadsWell};
+ghost use Rattle.host_front.specs.Kept.{HostIsKept, IsWhole, LosesBlock, SomeClashes, IsCommitted, EndsWell, IsReached, ReadsWell};
 
 /// A good member always answers: a read is refused only where every leaf of the mirror missed the block,
 /// which is that its read failed, or found its sector damaged. It computes nothing: its clauses are the law.
@@ -23,12 +23,12 @@ pub fn good_member_answers()
         → Step h entry made next → HostIsKept (run made sectors) next ⊎ Clash made (line_wants h entry.asked) }
     ensures refuses { (sectors : Sectors) (table : List HostDevice) (entries : List Entry) (calls : List Noted) (h : HostState) (entry : Entry) (made : List Noted) (next : HostState)
         (name : List ℕ) (a level index : ℕ) (named : List NamedLeaf) → IsReached sectors table entries calls h entry made next → entry.asked ≡ Some (requests.Read name a)
-        → entry.reply ≡ replies.Exhausted level index named → LosesBlock (run calls sectors) h name a made ⊎ SomeClash (calls ++ made) }
+        → entry.reply ≡ replies.Exhausted level index named → LosesBlock (run calls sectors) h name a made ⊎ (Clash made (line_wants h entry.asked) ⊎ SomeClashes (started table) entries calls) }
     ensures answers { (sectors : Sectors) (table : List HostDevice) (entries : List Entry) (calls : List Noted) (h : HostState) (entry : Entry) (made : List Noted) (next : HostState)
         (name : List ℕ) (a : ℕ) (s : PoolState) (version : Version) → IsReached sectors table entries calls h entry made next → entry.asked ≡ Some (requests.Read name a)
-        → named_pool name h.pool ≡ Some s → IsCommitted s a version → EndsWell (run calls sectors) s.leaves version made entry.reply ⊎ SomeClash calls }
+        → named_pool name h.pool ≡ Some s → IsCommitted s a version → EndsWell (run calls sectors) s.leaves version made entry.reply ⊎ SomeClashes (started table) entries calls }
     ensures reads_well { (table : List HostDevice) (status : Status) (story story' : Story) (f g : ℕ → ℕ) (left left' sink sink' : Option (List ℕ))
         (ran : Ran (started table) status (Some story) (Some story') f g left left' sink sink') (first rest : List Entry) (entry : Entry) (name : List ℕ) (a : ℕ)
         → ran.entries ≡ first ++ entry ∷ rest → entry.asked ≡ Some (requests.Read name a)
-        → ReadsWell (now story) (started table) first entry ran.handles.calls name a ⊎ SomeClash ran.handles.calls }
+        → ReadsWell (now story) (started table) first entry ran.handles.calls name a ⊎ SomeClashes (started table) first ran.handles.calls }
 {}
