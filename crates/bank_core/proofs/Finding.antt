@@ -1,12 +1,11 @@
 -- Sectors found by going through the list of calls.
-use Rattle.std.proofs.Common.{◌≡◌, ℕ, ◌+◌, ◌<◌, ◌≤◌, true, ◌&&◌, List, [], ◌∷◌, map, Option, Some, None, refl, sym, ap, ◌∙◌, arith, subst}
+use Rattle.std.proofs.Common.{◌≡◌, ℕ, ◌+◌, ◌<◌, ◌≤◌, true, ◌&&◌, List, [], ◌∷◌, map, Some, refl, sym, ap, ◌∙◌, arith, subst}
 use Rattle.std.proofs.lemmas.Bool.Decides.{nat_tests}
 use Rattle.std.specs.Prelude.{nat_lt, slice_get}
-use Rattle.bank_core.specs.declared.bank.Fault.{Fault}
 use Rattle.bank_core.specs.declared.call.Damage.{Damage}
 use Rattle.bank_core.specs.declared.call.MemCall.{MemCall}
 use Rattle.bank_core.specs.declared.device.MemDevice.{MemDevice}
-use Rattle.bank_core.specs.Disk.{Sector, Sectors, Answers, Read, effect, hurt, replay, sectors_in}
+use Rattle.bank_core.specs.Disk.{Sector, effect, hurt, replay}
 use Rattle.bank_core.specs.Memory.{noted_in, noted_alone, call_of, is_damaged, size_in, sectors_of, found_in, sector_then, first_sector, story_in}
 use Rattle.bank_core.specs.View.{ShowsClean}
 

@@ -1,10 +1,10 @@
 -- What stays on a sector while calls are made elsewhere, and what a whole part brings onto it.
-use Rattle.std.proofs.Common.{◌≡◌, ℕ, ◌+◌, ◌-◌, ◌==◌, ◌&&◌, Bool, true, false, cond, List, [], ◌∷◌, ◌++◌, take, zero, suc, Option, Some, None, refl, sym, ap, ◌∙◌, ◌⊎◌, inl, inr, arith, subst, is_none}
+use Rattle.std.proofs.Common.{◌≡◌, ℕ, ◌-◌, ◌==◌, ◌&&◌, Bool, true, false, cond, List, [], ◌∷◌, ◌++◌, take, zero, suc, Option, Some, None, refl, sym, ap, ◌∙◌, ◌⊎◌, inl, inr, arith, subst, is_none}
 use Rattle.std.proofs.lemmas.Bool.Decides.{nat_tests}
 use Rattle.bank_core.specs.declared.bank.Fault.{Fault}
-use Rattle.bank_core.specs.Asks.{Ask, Reads, Writes, Flushes, Admits, Ejects, ask_of, IsPart}
+use Rattle.bank_core.specs.Asks.{Ask, Writes, Flushes, ask_of, IsPart}
 use Rattle.bank_core.specs.Calls.{fault_of}
-use Rattle.bank_core.specs.Disk.{Sector, Pending, Nothing, Written, Failing, Call, Read, Write, Flush, Admit, Eject, Noted, sectors_in, sector_of, covers, hurt, after_write, after_flush, effect, after_call, replay}
+use Rattle.bank_core.specs.Disk.{Sector, Pending, Nothing, Written, Failing, Call, Read, Write, Flush, Admit, Eject, Noted, sectors_in, sector_of, covers, hurt, after_flush, effect, replay}
 use Rattle.bank_core.specs.Standing.{Stands, touches, Untouched, aims, Spares}
 
 no_fault : (fault : Fault) → None ≡ Some fault → ⊥

@@ -1,5 +1,5 @@
 -- What stays on a sector while calls are made elsewhere, and what calls bring onto it.
-use Rattle.std.specs.Prelude.{◌≡◌, ℕ, ◌+◌, ◌<◌, Bool, true, false, ◌==◌, ◌&&◌, List, [], ◌∷◌}
+use Rattle.std.specs.Prelude.{◌≡◌, ℕ, ◌+◌, ◌<◌, Bool, false, ◌==◌, ◌&&◌, List, [], ◌∷◌}
 use Rattle.bank_core.specs.Asks.{Ask, Reads, Writes, Flushes, Admits, Ejects}
 use Rattle.bank_core.specs.Disk.{Sector, Nothing, Call, Read, Write, Flush, Admit, Eject, Noted, sectors_in, sector_of, covers}
 

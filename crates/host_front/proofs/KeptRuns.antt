@@ -95,7 +95,6 @@ front_answers : (made after : List Noted) (sectors : Sectors) → AllAnswer sect
 front_answers [] after sectors answers = tt
 front_answers (noted ∷ made) after sectors answers = (answers.0, front_answers made after (run (noted ∷ []) sectors) answers.1)
 
-
 -- behind entries that kept what was committed, or clashed
 reads_well : (sectors : Sectors) (old : HostState) (first : List Entry) (entry : Entry) (calls : List Noted) (name : List ℕ) (a : ℕ) (p : Place old first entry calls)
     → AllAnswer sectors calls → entry.asked ≡ Some (requests.Read name a) → HostIsKept (run p.before sectors) p.h ⊎ SomeClashes old first p.before

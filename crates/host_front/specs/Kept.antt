@@ -3,7 +3,7 @@ use Rattle.std.specs.Prelude.{◌≡◌, ℕ, ◌+◌, ◌*◌, ◌++◌, ◌<�
 use Rattle.bank_core.specs.declared.bank.Fault.{Fault}
 use Rattle.bank_core.specs.Asks.{Reads, ask_of}
 use Rattle.bank_core.specs.Calls.{fault_of}
-use Rattle.bank_core.specs.Disk.{Sector, Sectors, AllAnswer, Nothing, Call, Read, Write, Flush, Admit, Eject, Noted, run, as_found, sectors_in}
+use Rattle.bank_core.specs.Disk.{Sector, Sectors, AllAnswer, Nothing, Noted, run, as_found}
 use Rattle.mp_base.specs.declared.refusal.Refusal.TheVariants as refusals
 use Rattle.pool_wire.specs.declared.reply.NamedLeaf.{NamedLeaf}
 use Rattle.pool_wire.specs.declared.reply.Reply.{Reply}
