@@ -9,7 +9,7 @@ use Rattle.host_front.specs.declared.stop.Stop.TheVariants as stops
 use Rattle.host_front.specs.Feeding.{Feeds, Breaks, Overflows, StopsBy, HandlesLine, BreaksLine}
 use Rattle.host_front.specs.Lines.{lines_of, newline, Ends, IsOpen, longest}
 use Rattle.host_front.specs.Machine.{HostState, Entry, texts}
-use Rattle.host_front.specs.Session.{Handles}
+use Rattle.host_front.specs.Session.{CutsLast, Handles}
 use Rattle.host_front.specs.Standing.{Stands}
 use Rattle.host_front.proofs.LineEnds.{ended, newline_ends, byte_waits, ends_none, ends_more, short_more, overflow}
 use Rattle.host_front.proofs.Handling.{handles_none, handles_more, texts_more}
@@ -28,6 +28,10 @@ line_feeds waiting left empty is_open fits l = rw empty (record {
   stands = l.stands;
 })
 
+-- a single reply line may be cut anywhere
+pub cuts_one : (entry : Entry) (k : ℕ) → CutsLast (entry ∷ []) k
+cuts_one entry k = record { before = []; last = entry ∷ []; split = refl; one = omega arith; whole = omega arith }
+
 line_breaks : (h : HostState) (old new : Option Story) (f g : ℕ → ℕ) (sink sink' : Option (List ℕ)) (waiting : List ℕ)
     → IsOpen waiting → length waiting ≤ longest → BreaksLine h waiting old new f g sink sink' → Breaks h waiting (newline ∷ []) old new f g sink sink'
 line_breaks h old new f g sink sink' waiting is_open fits l = record {
@@ -35,6 +39,7 @@ line_breaks h old new f g sink sink' waiting is_open fits l = record {
   entries = l.entry ∷ [];
   next = l.next;
   kept = l.kept;
+  cut = cuts_one l.entry l.kept;
   first = λ rest. (lines_of rest, ended waiting rest is_open);
   short = (fits, tt);
   handles = l.handles;
@@ -69,6 +74,7 @@ byte_breaks {h} {told} {faults} {sink} waiting bytes = record {
   entries = [];
   next = h;
   kept = 0;
+  cut = record { before = []; last = []; split = refl; one = omega arith; whole = omega arith };
   first = λ rest. (lines_of (waiting ++ (bytes ++ rest)), refl);
   short = tt;
   handles = handles_none h told faults sink;
@@ -125,6 +131,19 @@ lines_on waiting first between second rest lines ends = ap (λ bytes. lines_of (
 pub texts_front : (entries more : List Entry) (kept : ℕ) → texts entries ++ take kept (texts more) ≡ take (length (texts entries) + kept) (texts (entries ++ more))
 texts_front entries more kept = sym (ap (take (length (texts entries) + kept)) (sym (texts_more entries more)) ∙ take-append-add (texts entries) (texts more) kept)
 
+at_most_on : (m n k : ℕ) → n ≤ k → m + n ≤ m + k
+at_most_on m n k le = omega arith
+
+-- whole reply lines before
+pub cuts_more : (entries more : List Entry) (k : ℕ) → CutsLast more k → CutsLast (entries ++ more) (length (texts entries) + k)
+cuts_more entries more k c = record {
+  before = entries ++ c.before;
+  last = c.last;
+  split = ap (λ m. entries ++ m) c.split ∙ sym (append_assoc entries c.before c.last);
+  one = c.one;
+  whole = rw (sym (texts_more entries c.before), length-append) (at_most_on (length (texts entries)) (length (texts c.before)) k c.whole);
+}
+
 module _ (h : HostState) (old mid new : Option Story) (f g k : ℕ → ℕ) (sink sink' sink'' : Option (List ℕ)) (host : Host) (waiting first between second : List ℕ)
     (a : Feeds h waiting first between old mid f g sink sink' host) where
   breaks_more : Breaks a.next between second mid new g k sink' sink'' → Breaks h waiting (first ++ second) old new f k sink sink''
@@ -133,6 +152,7 @@ module _ (h : HostState) (old mid new : Option Story) (f g k : ℕ → ℕ) (sin
     entries = a.entries ++ b.entries;
     next = b.next;
     kept = length (texts a.entries) + b.kept;
+    cut = cuts_more a.entries b.entries b.kept b.cut;
     first = λ rest. let more = b.first rest in
         (more.0, lines_on waiting first between second rest a.lines a.ends ∙ ap (λ l. a.lines ++ l) more.1 ∙ sym (append_assoc a.lines b.lines more.0));
     short = short_more a.lines b.lines a.short b.short;
@@ -171,6 +191,7 @@ breaks_within h old new f g sink sink' waiting bytes more b = record {
   entries = b.entries;
   next = b.next;
   kept = b.kept;
+  cut = b.cut;
   first = λ rest. let found = b.first (more ++ rest) in (found.0, ap (λ t. lines_of (waiting ++ t)) (append_assoc bytes more rest) ∙ found.1);
   short = b.short;
   handles = b.handles;

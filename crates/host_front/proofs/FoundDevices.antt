@@ -9,80 +9,75 @@ use Rattle.host_front.specs.declared.device.HostDevice.{HostDevice}
 use Rattle.host_front.specs.FixedHost.{host_devices}
 use Rattle.host_front.specs.Standing.{IsLookedUp, AreLookedUp, AreSized, LooksUp}
 
-rose_on : (before mid after : ℕ) → mid ≤ after → Rose before mid → Rose before after
-rose_on before mid after le rose = omega arith
+at_most_on : (before mid after : ℕ) → before ≤ mid → mid ≤ after → before ≤ after
+at_most_on before mid after l m = omega arith
 
-absent_on : (names : Option (List (List ℕ))) (name : List ℕ) (before mid after : ℕ) → mid ≤ after → IsAbsent names name ⊎ Rose before mid → IsAbsent names name ⊎ Rose before after
-absent_on names name before mid after le (inl absent) = inl absent
-absent_on names name before mid after le (inr rose) = inr (rose_on before mid after le rose)
-
-module _ (number_of number_of' : List ℕ → Option ℕ) (size size' : ℕ → ℕ) (names : Option (List (List ℕ))) (before mid after : ℕ)
+module _ (number_of number_of' : List ℕ → Option ℕ) (size size' : ℕ → ℕ) (names : Option (List (List ℕ)))
     (keeps : (name : List ℕ) (dev : ℕ) → number_of name ≡ Some dev → number_of' name ≡ Some dev)
-    (sizes : (d : ℕ) → 0 < size d → size' d ≡ size d) (le : mid ≤ after) where
-  one_on : (named : List ℕ × Bool) (device : HostDevice) → IsLookedUp number_of size names before mid named device → IsLookedUp number_of' size' names before after named device
-  one_on named device l = record {
+    (sizes : (d : ℕ) → 0 < size d → size' d ≡ size d) where
+  one_on : (before after : ℕ) (named : List ℕ × Bool) (device : HostDevice) → IsLookedUp number_of size names before after named device
+      → IsLookedUp number_of' size' names before after named device
+  one_on before after named device l = record {
     name = l.name;
     spare = l.spare;
     found = λ dev e. let f = l.found dev e in (keeps named.0 dev f.0, sizes dev f.2 ∙ f.1, rw (sizes dev f.2) f.2);
-    absent = λ e. absent_on names named.0 before mid after le (l.absent e);
+    absent = l.absent;
   }
 
   -- what was looked up stays so
-  pub looked_up_on : (named : List (List ℕ × Bool)) (table : List HostDevice) → AreLookedUp number_of size names before mid named table
+  pub looked_up_on : (before mid after : ℕ) → mid ≤ after → (named : List (List ℕ × Bool)) (table : List HostDevice) → AreLookedUp number_of size names before mid named table
       → AreLookedUp number_of' size' names before after named table
-  looked_up_on [] table l = l
-  looked_up_on (n ∷ named) [] l = absurd l
-  looked_up_on (n ∷ named) (device ∷ table) l = (one_on n device l.0, looked_up_on named table l.1)
+  looked_up_on before mid after le [] table l = (l.0, at_most_on before mid after l.1 le)
+  looked_up_on before mid after le (n ∷ named) [] l = absurd l
+  looked_up_on before mid after le (n ∷ named) (device ∷ table) l = (l.0, l.1, one_on before l.0 n device l.2, looked_up_on l.0 mid after le named table l.3)
+
+rose_since : (before mid after : ℕ) → before ≤ mid → Rose mid after → Rose before after
+rose_since before mid after le rose = omega arith
+
+-- the count before a look-up may be taken earlier
+looked_up_since : (number_of : List ℕ → Option ℕ) (size : ℕ → ℕ) (names : Option (List (List ℕ))) (before mid after : ℕ) (named : List ℕ × Bool) (device : HostDevice) → before ≤ mid
+    → IsLookedUp number_of size names mid after named device → IsLookedUp number_of size names before after named device
+looked_up_since number_of size names before mid after named device le l =
+    record { name = l.name; spare = l.spare; found = l.found; absent = λ e. earlier (l.absent e) }
+  where
+    earlier : IsAbsent names named.0 ⊎ Rose mid after → IsAbsent names named.0 ⊎ Rose before after
+    earlier (inl absent) = inl absent
+    earlier (inr rose) = inr (rose_since before mid after le rose)
 
 -- one more device
-looked_up_more : (number_of : List ℕ → Option ℕ) (size : ℕ → ℕ) (names : Option (List (List ℕ))) (before after : ℕ) (named : List (List ℕ × Bool)) (table : List HostDevice)
-    (one : List ℕ × Bool) (device : HostDevice) → AreLookedUp number_of size names before after named table → IsLookedUp number_of size names before after one device
-    → AreLookedUp number_of size names before after (named ++ one ∷ []) (table ++ device ∷ [])
-looked_up_more number_of size names before after [] table one device l d = subst (λ t. AreLookedUp number_of size names before after (one ∷ []) (t ++ device ∷ [])) (sym l) (d, refl)
-looked_up_more number_of size names before after (n ∷ named) [] one device l d = absurd l
-looked_up_more number_of size names before after (n ∷ named) (other ∷ table) one device l d = (l.0, looked_up_more number_of size names before after named table one device l.1 d)
+looked_up_more : (number_of : List ℕ → Option ℕ) (size : ℕ → ℕ) (names : Option (List (List ℕ))) (before mid after : ℕ) → mid ≤ after
+    → (named : List (List ℕ × Bool)) (table : List HostDevice) (one : List ℕ × Bool) (device : HostDevice) → AreLookedUp number_of size names before mid named table
+    → IsLookedUp number_of size names mid after one device → AreLookedUp number_of size names before after (named ++ one ∷ []) (table ++ device ∷ [])
+looked_up_more number_of size names before mid after le [] table one device l d =
+    subst (λ t. AreLookedUp number_of size names before after (one ∷ []) (t ++ device ∷ [])) (sym l.0)
+    (after, at_most_on before mid after l.1 le, looked_up_since number_of size names before mid after one device l.1 d, (refl, at_most_on after after after (omega arith) (omega arith)))
+looked_up_more number_of size names before mid after le (n ∷ named) [] one device l d = absurd l
+looked_up_more number_of size names before mid after le (n ∷ named) (other ∷ table) one device l d =
+    (l.0, l.1, l.2, looked_up_more number_of size names l.0 mid after le named table one device l.3 d)
 
 -- the next device of the host
 next_named : (i : ℕ) (named : List ℕ × Bool) → slice_get host_devices i ≡ Some named → take (i + 1) host_devices ≡ take i host_devices ++ named ∷ []
 next_named i named is = take_more host_devices i named (slice_get_within host_devices i named is)
     ∙ ap (λ d. take i host_devices ++ d ∷ []) (get_or_from_slice_get host_devices i named named is)
 
-pub found_more : {number_of : List ℕ → Option ℕ} {size : ℕ → ℕ} {names : Option (List (List ℕ))} {before after : ℕ} (i : ℕ) (table : List HostDevice) (device : HostDevice)
-    → AreLookedUp number_of size names before after (take i host_devices) table → LooksUp number_of size names before after i device
-    → AreLookedUp number_of size names before after (take (i + 1) host_devices) (table ++ device ∷ [])
-found_more {number_of} {size} {names} {before} {after} i table device l d = rw (next_named i d.named d.is_named)
-    (looked_up_more number_of size names before after (take i host_devices) table d.named device l d.looked_up)
-
--- the count before a look-up may be taken earlier
-pub looks_up_since : {number_of : List ℕ → Option ℕ} {size : ℕ → ℕ} {names : Option (List (List ℕ))} (before mid after i : ℕ) (device : HostDevice) → before ≤ mid
-    → LooksUp number_of size names mid after i device → LooksUp number_of size names before after i device
-looks_up_since {number_of} {size} {names} before mid after i device le d = record {
-  named = d.named;
-  is_named = d.is_named;
-  looked_up = record { name = d.looked_up.name; spare = d.looked_up.spare; found = d.looked_up.found; absent = λ e. earlier (d.looked_up.absent e) };
-}
-  where
-    earlier : IsAbsent names d.named.0 ⊎ Rose mid after → IsAbsent names d.named.0 ⊎ Rose before after
-    earlier (inl absent) = inl absent
-    earlier (inr rose) = inr (omega arith)
-
 -- the devices that were found have the sizes of the table
 pub looked_up_sized : (number_of : List ℕ → Option ℕ) (size : ℕ → ℕ) (names : Option (List (List ℕ))) (before after : ℕ) (named : List (List ℕ × Bool)) (table : List HostDevice)
     → AreLookedUp number_of size names before after named table → AreSized size table
-looked_up_sized number_of size names before after [] table l = subst (AreSized size) (sym l) tt
+looked_up_sized number_of size names before after [] table l = subst (AreSized size) (sym l.0) tt
 looked_up_sized number_of size names before after (n ∷ named) [] l = absurd l
 looked_up_sized number_of size names before after (n ∷ named) (device ∷ table) l =
-    (λ dev e. (l.0.found dev e).1, looked_up_sized number_of size names before after named table l.1)
+    (λ dev e. (l.2.found dev e).1, looked_up_sized number_of size names l.0 after named table l.3)
 
 -- one more look-up, in the course of all
 pub found_next : (number_of number_of' : List ℕ → Option ℕ) (size size' : ℕ → ℕ) (names names' : Option (List (List ℕ))) (before mid after i : ℕ)
     (table items : List HostDevice) (device : HostDevice)
     → ((name : List ℕ) (dev : ℕ) → number_of name ≡ Some dev → number_of' name ≡ Some dev)
-    → ((d : ℕ) → 0 < size d → size' d ≡ size d) → before ≤ mid → mid ≤ after → names' ≡ names
+    → ((d : ℕ) → 0 < size d → size' d ≡ size d) → mid ≤ after → names' ≡ names
     → AreLookedUp number_of size names before mid (take i host_devices) table → LooksUp number_of' size' names' mid after i device
     → items ≡ table ++ device ∷ [] → AreLookedUp number_of' size' names before after (take (i + 1) host_devices) items
-found_next number_of number_of' size size' names names' before mid after i table items device keeps sizes early late same found next is =
-    rw is (found_more {number_of = number_of'} {size = size'} {names = names} {before = before} {after = after} i table device
-    (looked_up_on number_of number_of' size size' names before mid after keeps sizes late (take i host_devices) table found)
-    (looks_up_since {number_of = number_of'} {size = size'} {names = names} before mid after i device early
-    (subst (λ n. LooksUp number_of' size' n mid after i device) same next)))
+found_next number_of number_of' size size' names names' before mid after i table items device keeps sizes le same found next is =
+    let its : LooksUp number_of' size' names mid after i device = subst (λ n. LooksUp number_of' size' n mid after i device) same next in
+    rw (is, next_named i its.named its.is_named)
+    (looked_up_more number_of' size' names before mid after le (take i host_devices) table its.named device
+    (looked_up_on number_of number_of' size size' names keeps sizes before mid mid (at_most_on mid mid mid (omega arith) (omega arith)) (take i host_devices) table found)
+    its.looked_up)

@@ -3,6 +3,7 @@ mod Creating
 mod Feedings
 mod FoundDevices
 mod Handling
+mod KeptCommits
 mod KeptHistory
 mod KeptLaws
 mod KeptLines

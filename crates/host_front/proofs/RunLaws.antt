@@ -53,7 +53,7 @@ pub ran_script : {status : Status} (number_of number_of' : List ℕ → Option �
     → RanScript status number_of' size' names lookups lookups' old new f g left left' sink sink'
 ran_script number_of number_of' size size' names lookups mid lookups' table found numbers sizes counts told faults ran = record {
   table = table;
-  found = looked_up_on number_of number_of' size size' names lookups mid lookups' (λ name dev e. numbers name ∙ e) (λ d some. sizes d)
-      (still_at_most mid lookups' counts) host_devices table found;
+  found = looked_up_on number_of number_of' size size' names (λ name dev e. numbers name ∙ e) (λ d some. sizes d)
+      lookups mid lookups' (still_at_most mid lookups' counts) host_devices table found;
   ran = ran_from (sym told) faults ran;
 }

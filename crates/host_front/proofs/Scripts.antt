@@ -14,7 +14,7 @@ use Rattle.host_front.specs.Machine.{HostState, texts}
 use Rattle.host_front.specs.Session.{Handles, Ran}
 use Rattle.host_front.specs.SoFar.{SoFar, status_of}
 use Rattle.host_front.specs.Standing.{Stands}
-use Rattle.host_front.proofs.Feedings.{feeds_none, feeds_more, stops_more, texts_front}
+use Rattle.host_front.proofs.Feedings.{cuts_more, cuts_one, feeds_none, feeds_more, stops_more, texts_front}
 use Rattle.host_front.proofs.Handling.{handles_more, texts_more}
 use Rattle.host_front.proofs.LineEnds.{short_more, last_line}
 
@@ -68,7 +68,7 @@ module _ (h : HostState) (old new : Option Story) (f g : ℕ → ℕ) (left left
     up_to = λ rest e. b.first rest;
     short = b.short;
     handles = b.handles;
-    is_written = (b.kept, refl);
+    is_written = (b.kept, b.cut, refl);
   }
 
   memory_ran : Breaks h [] text old new f g sink sink' → Ran h statuses.Memory old new f g left left' sink sink'
@@ -82,7 +82,7 @@ module _ (h : HostState) (old new : Option Story) (f g : ℕ → ℕ) (left left
     up_to = λ rest e. b.first rest;
     short = b.short;
     handles = b.handles;
-    is_written = (b.kept, refl);
+    is_written = (b.kept, b.cut, refl);
   }
 
   long_ran : Overflows h [] text old new f g sink sink' → Ran h statuses.LineTooLong old new f g left left' sink sink'
@@ -181,7 +181,7 @@ module _ (h : HostState) (old mid new : Option Story) (f g k : ℕ → ℕ) (lef
     up_to = broken_lines some ended;
     short = short_more a.feeds.lines (waiting ∷ []) a.feeds.short (a.feeds.fits, tt);
     handles = broken_handles l;
-    is_written = (length (texts a.feeds.entries) + l.kept, refl);
+    is_written = (length (texts a.feeds.entries) + l.kept, cuts_more a.feeds.entries (l.entry ∷ []) l.kept (cuts_one l.entry l.kept), refl);
   }
   broken_ran stops.Memory whole some ended l = record {
     text = a.text;
@@ -193,7 +193,7 @@ module _ (h : HostState) (old mid new : Option Story) (f g k : ℕ → ℕ) (lef
     up_to = broken_lines some ended;
     short = short_more a.feeds.lines (waiting ∷ []) a.feeds.short (a.feeds.fits, tt);
     handles = broken_handles l;
-    is_written = (length (texts a.feeds.entries) + l.kept, refl);
+    is_written = (length (texts a.feeds.entries) + l.kept, cuts_more a.feeds.entries (l.entry ∷ []) l.kept (cuts_one l.entry l.kept), refl);
   }
   broken_ran stops.TooLong whole some ended l = absurd (whole refl)
 

@@ -6,7 +6,7 @@ use Rattle.host_front.specs.declared.stop.Stop.{Stop}
 use Rattle.host_front.specs.declared.stop.Stop.TheVariants as stops
 use Rattle.host_front.specs.Lines.{lines_of, Ends, AreShort, longest}
 use Rattle.host_front.specs.Machine.{HostState, Entry, texts}
-use Rattle.host_front.specs.Session.{Handles}
+use Rattle.host_front.specs.Session.{CutsLast, Handles}
 use Rattle.host_front.specs.Standing.{Stands}
 
 -- Behind what waited, these bytes were taken: the lines that they end were answered, and `left` waits.
@@ -26,6 +26,7 @@ pub record Breaks (h : HostState) (waiting bytes : List ℕ) (old new : Option S
   pub entries : List Entry
   pub next : HostState
   pub kept : ℕ
+  pub cut : CutsLast entries kept
   pub first : (rest : List ℕ) → (more : List (List ℕ)) × (lines_of (waiting ++ (bytes ++ rest)) ≡ lines ++ more)
   pub short : AreShort lines
   pub handles : Handles h lines old new before after sink sink' next entries (take kept (texts entries))

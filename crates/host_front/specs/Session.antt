@@ -1,5 +1,5 @@
 -- What a run did with its input, its output and its bank.
-use Rattle.std.specs.Prelude.{◌≡◌, ℕ, ◌<◌, List, [], ◌∷◌, ◌++◌, map, take, length, Option, Some}
+use Rattle.std.specs.Prelude.{◌≡◌, ℕ, ◌<◌, ◌≤◌, List, [], ◌∷◌, ◌++◌, map, take, length, Option, Some}
 use Rattle.mp_base.specs.Outside.{Given, Taken}
 use Rattle.bank_core.specs.Calls.{Made}
 use Rattle.bank_core.specs.Disk.{Noted}
@@ -51,14 +51,23 @@ IsUpTo statuses.LineTooLong text left lines = (rest : List ℕ) → left ≡ Som
     → (long : List ℕ) × (more : List (List ℕ)) × (lines_of (text ++ rest) ≡ lines ++ long ∷ more) × (longest < length long)
 IsUpTo statuses.Usage text left lines = ⊥
 
+-- The first k bytes of the reply lines cut the last of them at most: no line was answered behind one
+-- whose reply isn't whole.
+pub record CutsLast (entries : List Entry) (k : ℕ) : Type 0 where
+  pub before : List Entry
+  pub last : List Entry
+  pub split : entries ≡ before ++ last
+  pub one : length last ≤ 1
+  pub whole : length (texts before) ≤ k
+
 -- The bytes that were written: all reply lines, but for a sink fault or want of memory a front of them.
-abbrev pub IsWritten : Status → List ℕ → List ℕ → Type 0
-IsWritten statuses.Done all bytes = bytes ≡ all
-IsWritten statuses.SourceFault all bytes = bytes ≡ all
-IsWritten statuses.LineTooLong all bytes = bytes ≡ all
-IsWritten statuses.SinkFault all bytes = (k : ℕ) × (bytes ≡ take k all)
-IsWritten statuses.Memory all bytes = (k : ℕ) × (bytes ≡ take k all)
-IsWritten statuses.Usage all bytes = ⊥
+abbrev pub IsWritten : Status → List Entry → List ℕ → Type 0
+IsWritten statuses.Done entries bytes = bytes ≡ texts entries
+IsWritten statuses.SourceFault entries bytes = bytes ≡ texts entries
+IsWritten statuses.LineTooLong entries bytes = bytes ≡ texts entries
+IsWritten statuses.SinkFault entries bytes = (k : ℕ) × CutsLast entries k × (bytes ≡ take k (texts entries))
+IsWritten statuses.Memory entries bytes = (k : ℕ) × CutsLast entries k × (bytes ≡ take k (texts entries))
+IsWritten statuses.Usage entries bytes = ⊥
 
 -- A run of the machine from a state: one history, whose requests are those of the input's lines, whose
 -- entries are steps one after another, whose device calls are the bank's, and whose replies are what was written.
@@ -72,7 +81,7 @@ pub record Ran (h : HostState) (status : Status) (old new : Option Story) (befor
   pub up_to : IsUpTo status text left' lines
   pub short : AreShort lines
   pub handles : Handles h lines old new before after sink sink' state entries bytes
-  pub is_written : IsWritten status (texts entries) bytes
+  pub is_written : IsWritten status entries bytes
 
 -- What a run that was begun did: it looked the host's devices up, and ran from a host of those that it found.
 pub record RanScript (status : Status) (number_of : List ℕ → Option ℕ) (size : ℕ → ℕ) (names : Option (List (List ℕ))) (lookups lookups' : ℕ)

@@ -1,5 +1,5 @@
 -- What a host keeps of its abstract state.
-use Rattle.std.specs.Prelude.{◌≡◌, ◌⊎◌, ℕ, ◌<◌, List, [], ◌∷◌, Bool, Option, Some, None, slice_get}
+use Rattle.std.specs.Prelude.{◌≡◌, ◌⊎◌, ℕ, ◌<◌, ◌≤◌, List, [], ◌∷◌, Bool, Option, Some, None, slice_get}
 use Rattle.mp_base.specs.Outside.{Rose}
 use Rattle.bank_core.specs.Absent.{IsAbsent}
 use Rattle.pool_core.specs.declared.pool.Pool.{Pool}
@@ -44,12 +44,12 @@ pub record IsLookedUp (number_of : List ℕ → Option ℕ) (size : ℕ → ℕ)
   pub found : (dev : ℕ) → device.dev ≡ Some dev → (number_of named.0 ≡ Some dev) × (size dev ≡ device.sectors) × (0 < size dev)
   pub absent : device.dev ≡ None → IsAbsent names named.0 ⊎ Rose before after
 
--- The table has just these devices, each as its look-up in this run found it.
+-- The table has just these devices, each as its own look-up in this run found it.
 abbrev pub AreLookedUp : (List ℕ → Option ℕ) → (ℕ → ℕ) → Option (List (List ℕ)) → (before after : ℕ) → List (List ℕ × Bool) → List HostDevice → Type 0
-AreLookedUp number_of size names before after [] table = table ≡ []
+AreLookedUp number_of size names before after [] table = (table ≡ []) × (before ≤ after)
 AreLookedUp number_of size names before after (named ∷ more) [] = ⊥
-AreLookedUp number_of size names before after (named ∷ more) (device ∷ table) =
-    IsLookedUp number_of size names before after named device × AreLookedUp number_of size names before after more table
+AreLookedUp number_of size names before after (named ∷ more) (device ∷ table) = (between : ℕ) × (before ≤ between)
+    × IsLookedUp number_of size names before between named device × AreLookedUp number_of size names between after more table
 
 -- one of the host's devices was looked up
 pub record LooksUp (number_of : List ℕ → Option ℕ) (size : ℕ → ℕ) (names : Option (List (List ℕ))) (before after : ℕ) (i : ℕ) (device : HostDevice) : Type 0 where

@@ -27,6 +27,7 @@ pub fn run<B: Bank, S: Source, W: Sink>(
     ensures usage { (result ≡ Status.Usage) ↔ (is_script (map string_bytes words.now) ≡ false) }
     ensures idle { result ≡ Status.Usage → IsQuiet (B.told bank.old) (B.told bank.new) (B.faults bank.old) (B.faults bank.new)
         (S.left input.old) (S.left input.new) (W.contents output.old) (W.contents output.new) }
+    ensures unsought { result ≡ Status.Usage → B.lookup_faults bank.new ≡ B.lookup_faults bank.old }
     ensures ran { is_script (map string_bytes words.now) ≡ true
         → RanScript result (B.number_of bank.new) (B.size bank.new) (B.names bank.old) (B.lookup_faults bank.old) (B.lookup_faults bank.new)
         (B.told bank.old) (B.told bank.new) (B.faults bank.old) (B.faults bank.new)

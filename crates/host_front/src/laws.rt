@@ -1,12 +1,15 @@
 //! Laws of the abstract machine (docs/MODEL.md, "A good member answers").
-ghost use Rattle.std.specs.Prelude.{◌≡◌, ◌⊎◌, ◌++◌, ◌∷◌, ℕ, List, Option, Some};
+ghost use Rattle.std.specs.Prelude.{◌≡◌, ◌⊎◌, ◌++◌, ◌∷◌, ◌+◌, ℕ, false, List, Option, Some};
+ghost use Rattle.mp_base.specs.Outside.{Rose};
+ghost use Rattle.mp_base.specs.declared.refusal.Refusal.TheVariants as refusals;
+ghost use Rattle.bank_core.specs.Calls.{AllCaused};
 ghost use Rattle.bank_core.specs.Disk.{Sectors, Noted, run};
 ghost use Rattle.bank_core.specs.Story.{Story, now};
 ghost use Rattle.pool_wire.specs.declared.reply.NamedLeaf.{NamedLeaf};
 ghost use Rattle.pool_wire.specs.declared.reply.Reply.TheVariants as replies;
 ghost use Rattle.pool_wire.specs.declared.request.Request.TheVariants as requests;
 ghost use Rattle.pool_core.specs.Clash.{Clash};
-ghost use Rattle.pool_core.specs.State.{PoolState, Version};
+ghost use Rattle.pool_core.specs.State.{PoolState, Version, is_spent};
 ghost use Rattle.host_front.specs.declared.device.HostDevice.{HostDevice};
 ghost use Rattle.host_front.specs.declared.status.Status.{Status};
 ghost use Rattle.host_front.specs.Machine.{HostState, Entry, Step, line_wants, named_pool, started};
@@ -17,7 +20,8 @@ ghost use Rattle.host_front.specs.Kept.{HostIsKept, IsWhole, LosesBlock, SomeCla
 /// which is that its read failed, or found its sector damaged. It computes nothing: its clauses are the law.
 ///
 /// `keeps` is the invariant. `refuses` and `answers` speak of one line behind any others, and
-/// `reads_well` of each read of a run whose bank tells.
+/// `reads_well` of each read of a run whose bank tells. `commits` is the same for a sync: it commits where no
+/// device's count of faults rises in it, but for want of memory, and while there are numbers left.
 pub fn good_member_answers()
     ensures keeps { (sectors : Sectors) (h : HostState) (entry : Entry) (made : List Noted) (next : HostState) → IsWhole entry.asked → HostIsKept sectors h
         → Step h entry made next → HostIsKept (run made sectors) next ⊎ Clash made (line_wants h entry.asked) }
@@ -31,4 +35,8 @@ pub fn good_member_answers()
         (ran : Ran (started table) status (Some story) (Some story') f g left left' sink sink') (first rest : List Entry) (entry : Entry) (name : List ℕ) (a : ℕ)
         → ran.entries ≡ first ++ entry ∷ rest → entry.asked ≡ Some (requests.Read name a)
         → ReadsWell (now story) (started table) first entry ran.handles.calls name a ⊎ SomeClashes (started table) first ran.handles.calls }
+    ensures commits { (h : HostState) (entry : Entry) (made : List Noted) (next : HostState) (name : List ℕ) (s : PoolState) (before after : ℕ → ℕ)
+        → Step h entry made next → entry.asked ≡ Some (requests.Sync name) → named_pool name h.pool ≡ Some s → is_spent s ≡ false
+        → AllCaused made before after → ((d : ℕ) → Rose (before d) (after d) → ⊥)
+        → (entry.reply ≡ replies.Committed (record { 0 = s.number + 1 })) ⊎ ((entry.reply ≡ replies.Refused refusals.Memory) ⊎ Clash made (line_wants h entry.asked)) }
 {}

@@ -15,6 +15,9 @@ returns-clause-usage g c = (
 pub returns-clause-idle : goal.returns-clause-idle
 returns-clause-idle g c = λ e. absurd (ran_some (c.script.ensures.ran (started c.in-Ok.table.items) c.new-host.ensures) e)
 
+pub returns-clause-unsought : goal.returns-clause-unsought
+returns-clause-unsought g c = λ e. absurd (ran_some (c.script.ensures.ran (started c.in-Ok.table.items) c.new-host.ensures) e)
+
 pub returns-clause-ran : goal.returns-clause-ran
 returns-clause-ran g c = λ e. inl (ran_script
     (g.B.Bank.number_of c.find_devices.new.bank) (g.B.Bank.number_of c.script.new.bank)

@@ -11,7 +11,7 @@ loop-i-preserved g c = record {
       (g.B.Bank.size c.loop-i.bank) (g.B.Bank.size c.look_up.new.bank) (g.B.Bank.names c.args.bank.now) (g.B.Bank.names c.loop-i.bank)
       (g.B.Bank.lookup_faults c.args.bank.now) (g.B.Bank.lookup_faults c.loop-i.bank) (g.B.Bank.lookup_faults c.look_up.new.bank)
       c.loop-i.i c.loop-i.table.items c.push.new.self.items c.in_ok-device.device c.in_ok-device.ensures.keeps c.in_ok-device.ensures.sizes
-      c.loop-i.invariant.lookups c.in_ok-device.ensures.lookups c.loop-i.invariant.names c.loop-i.invariant.found
+      c.in_ok-device.ensures.lookups c.loop-i.invariant.names c.loop-i.invariant.found
       c.in_ok-device.ensures.looked_up c.in_ok-push.ensures.items;
   names = c.in_ok-device.ensures.names ∙ c.loop-i.invariant.names;
   told = c.in_ok-device.ensures.told ∙ c.loop-i.invariant.told;
