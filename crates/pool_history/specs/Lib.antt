@@ -1,0 +1,13 @@
+pub mod Events
+pub mod Labels
+pub mod Looks
+pub mod Moves
+pub mod Needs
+pub mod Openings
+pub mod Pools
+pub mod Premises
+pub mod Records
+pub mod Rounds
+pub mod Sound
+pub mod Stamps
+pub mod Survival

@@ -1,0 +1,87 @@
+-- Which events keep the invariant: the moves that a pool, its devices and a stop may make.
+use Rattle.std.specs.Prelude.{◌≡◌, ◌⊎◌, ℕ, ◌+◌, ◌-◌, ◌<◌, ◌≤◌, true, false, List, [], ◌∷◌, Option, Some}
+use Rattle.bank_core.specs.Disk.{Call, Read, Write, Flush, Admit, Eject, Sectors, IsClean, CrashImages, sector_of}
+use Rattle.bank_core.specs.Standing.{touches}
+use Rattle.label_store.specs.declared.rule.Head.{Head}
+use Rattle.label_store.specs.declared.uberblock.Uberblock.{Uberblock}
+use Rattle.label_store.specs.Records.{place_at}
+use Rattle.label_store.specs.Uberblock.{IsUberblock}
+use Rattle.pool_history.specs.Events.{Event, Known, Calls, Accepts, Looks, Opens, Begins, Third, Ends, Acks, Loses, Stops}
+use Rattle.pool_history.specs.Labels.{Status, Odd, Even}
+use Rattle.pool_history.specs.Needs.{Held, Needs, NeedsLabel}
+use Rattle.pool_history.specs.Pools.{Pool, after, seat}
+use Rattle.pool_history.specs.Records.{Rec, Cell, IsIn, number_of, block_at, data_start}
+use Rattle.pool_history.specs.Survival.{Fits, IsAmong, IsKnownUber}
+
+-- the call is one on a device that stays
+abbrev pub IsPlain : Call → Type 0
+IsPlain (Read dev at bytes fault) = Unit {0}
+IsPlain (Write dev at bytes fault) = Unit {0}
+IsPlain (Flush dev fault) = Unit {0}
+IsPlain (Admit dev holds) = ⊥
+IsPlain (Eject dev) = ⊥
+
+-- what a write puts on sector s
+abbrev pub puts : Call → ℕ → List ℕ
+puts (Read dev at bytes fault) s = []
+puts (Write dev at bytes fault) s = sector_of (s - at) bytes
+puts (Flush dev fault) s = []
+puts (Admit dev holds) s = []
+puts (Eject dev) s = []
+
+-- A call that spares all that is needed, and puts no uberblock but a drawn record's into a member's rings.
+pub record IsSparing (p : Pool) (call : Call) : Type 0 where
+  pub plain : IsPlain call
+  pub off : (d s : ℕ) (bytes : List ℕ) → Needs p d s bytes → touches call d s ≡ false
+  pub known : (d place : ℕ) → p.member d ≡ true → place < 128 → touches call d (place_at (p.size d) place) ≡ true
+      → IsKnownUber p d (puts call (place_at (p.size d) place))
+
+-- What was read of a clean sector is what stands there.
+abbrev pub ReadsTrue : Sectors → Known → Type 0
+ReadsTrue sectors known = (d s : ℕ) (bytes : List ℕ) → known d s ≡ Some bytes → IsClean (sectors d s) → bytes ≡ (sectors d s).stable
+
+-- A record that may be drawn up now: the next number, the blocks that the pool would answer, each of them
+-- held on each member.
+pub record IsDrawnUp (head_of : List ℕ → Option Head) (p : Pool) (q : Rec) : Type 0 where
+  pub fits : Fits head_of p q
+  pub number_is : number_of q ≡ p.top + 1
+  pub blocks_are : (a : ℕ) → block_at q a ≡ p.written a
+  pub held : (d a : ℕ) (cell : Cell) → p.member d ≡ true → q.cells a ≡ Some cell → Held (p.sectors d (data_start + cell.sector)) cell.block
+
+-- The labels of a member have come to hold this.
+pub record MayStand (head_of : List ℕ → Option Head) (p : Pool) (q : Rec) (d : ℕ) (status : Status) : Type 0 where
+  pub is_live : IsIn q p.live
+  pub fits : Fits head_of p q
+  pub held : (s : ℕ) (bytes : List ℕ) → NeedsLabel (seat p d) status s bytes → Held (p.sectors d s) bytes
+
+-- The record may be acknowledged: it is the newest, and each member's labels hold it.
+pub record MayAck (p : Pool) (q : Rec) : Type 0 where
+  pub rest : List Rec
+  pub newest : p.live ≡ q ∷ rest
+  pub number_is : number_of q ≡ p.top
+  pub all : (d : ℕ) → p.member d ≡ true → p.status d ≡ Odd q
+
+-- What a stop may leave: an image of each device, on which no ring sector holds a correct uberblock that
+-- neither stood there nor was written there in this run.
+pub record MayStop (p : Pool) (images : ℕ → ℕ → List ℕ) : Type 0 where
+  pub are : CrashImages p.sectors images
+  pub unforged : (d place : ℕ) (u : Uberblock) → p.member d ≡ true → place < 128 → IsUberblock u (images d (place_at (p.size d) place)) → 1 ≤ u.number.0
+      → (images d (place_at (p.size d) place) ≡ (p.sectors d (place_at (p.size d) place)).stable)
+      ⊎ IsAmong (images d (place_at (p.size d) place)) (p.since d (place_at (p.size d) place))
+
+abbrev pub May : (List ℕ → Option Head) → Pool → Event → Type 0
+May head_of p (Calls noted) = IsSparing p noted.call
+May head_of p (Accepts a block) = Unit {0}
+May head_of p (Looks known) = ReadsTrue p.sectors known
+May head_of p (Opens r) = IsIn r p.live
+May head_of p (Begins q) = IsDrawnUp head_of p q
+May head_of p (Third q d) = MayStand head_of p q d (Even q)
+May head_of p (Ends q d) = MayStand head_of p q d (Odd q)
+May head_of p (Acks q) = MayAck p q
+May head_of p (Loses d) = Unit {0}
+May head_of p (Stops images) = MayStop p images
+
+-- each of these events, one after another
+abbrev pub Mays : (List ℕ → Option Head) → Pool → List Event → Type 0
+Mays head_of p [] = Unit {0}
+Mays head_of p (v ∷ vs) = May head_of p v × Mays head_of (after v p) vs

@@ -1,0 +1,52 @@
+-- The events of a round, and which rounds a pool may make.
+use Rattle.std.specs.Prelude.{◌≡◌, ℕ, Bool, true, false, List, [], ◌∷◌, ◌++◌, map, Some, slice_get}
+use Rattle.std.specs.List.{list_all}
+use Rattle.bank_core.specs.Asks.{Ask}
+use Rattle.bank_core.specs.Disk.{Noted}
+use Rattle.label_store.specs.declared.member.Member.{Member}
+use Rattle.label_store.specs.Phases.{IsTurn, IsPhase}
+use Rattle.label_store.specs.Rounds.{first_plan, second_plan, third_plan}
+use Rattle.pool_history.specs.Events.{Event, Begins, Third, Ends, Acks, as_events}
+use Rattle.pool_history.specs.Pools.{Pool, seat}
+use Rattle.pool_history.specs.Records.{Rec}
+
+abbrev pub ends_if : Bool → Rec → ℕ → List Event
+ends_if true q d = Ends q d ∷ []
+ends_if false q d = []
+
+-- the third phase: a member that is still in the round begins it, and ends it where no call of its turn failed
+abbrev pub IsThirds : (plan : Member → List Ask) → Rec → List Member → (was is : List Bool) → List Event → Type 0
+IsThirds plan q [] [] [] vs = vs ≡ []
+IsThirds plan q (m ∷ ms) (true ∷ was) (c ∷ is) vs =
+    (mine : List Noted) × (rest : List Event) × (vs ≡ Third q m.dev ∷ (as_events mine ++ (ends_if c q m.dev ++ rest)))
+    × IsTurn (plan m) true c mine × IsThirds plan q ms was is rest
+IsThirds plan q (m ∷ ms) (false ∷ was) (c ∷ is) vs = (c ≡ false) × IsThirds plan q ms was is vs
+IsThirds plan q [] [] (c ∷ is) vs = ⊥
+IsThirds plan q [] (b ∷ was) is vs = ⊥
+IsThirds plan q (m ∷ ms) [] is vs = ⊥
+IsThirds plan q (m ∷ ms) (b ∷ was) [] vs = ⊥
+
+-- no member failed
+abbrev pub all_true : List Bool → Bool
+all_true results = list_all (λ b. b) results
+
+abbrev pub acks_if : Bool → Rec → List Event
+acks_if true q = Acks q ∷ []
+acks_if false q = []
+
+-- The events of a round over these members.
+pub record IsRoundEvents (size : ℕ → ℕ) (q : Rec) (members : List Member) (results : List Bool) (vs : List Event) : Type 0 where
+  pub first : List Noted
+  pub second : List Noted
+  pub thirds : List Event
+  pub in_first : List Bool
+  pub in_second : List Bool
+  pub all : vs ≡ Begins q ∷ (as_events first ++ (as_events second ++ (thirds ++ acks_if (all_true results) q)))
+  pub configs : IsPhase (first_plan size q.commit) members (map (λ m. true) members) in_first first
+  pub uberblocks : IsPhase (second_plan size q.commit) members in_first in_second second
+  pub copies : IsThirds (third_plan size q.commit) q members in_second results thirds
+
+-- These are the pool's members, each on a device of its own.
+pub record AreMembersOf (p : Pool) (members : List Member) : Type 0 where
+  pub seated : (i : ℕ) (m : Member) → slice_get members i ≡ Some m → (p.member m.dev ≡ true) × (m ≡ seat p m.dev)
+  pub all : (d : ℕ) → p.member d ≡ true → (i : ℕ) × (slice_get members i ≡ Some (seat p d))
