@@ -99,3 +99,21 @@ pub record FindsNewest (head_of : List ℕ → Option Head) (size : ℕ → ℕ)
   pub looks : List Parts
   pub look : IsLook size devs looks made
   pub is_best : IsBest head_of looks name (128 * length devs) best
+
+-- no call among these wrote or flushed
+abbrev pub IsRead : Call → Type 0
+IsRead (Read dev at bytes fault) = Unit {0}
+IsRead (Write dev at bytes fault) = ⊥
+IsRead (Flush dev fault) = ⊥
+IsRead (Admit dev holds) = ⊥
+IsRead (Eject dev) = ⊥
+
+abbrev pub AreReads : List Noted → Type 0
+AreReads [] = Unit {0}
+AreReads (noted ∷ more) = IsRead noted.call × AreReads more
+
+-- Reads were made, and no other call.
+pub record ReadsOnly (old new : Option Story) (before after : ℕ → ℕ) : Type 0 where
+  pub made : List Noted
+  pub calls : Made old new before after made
+  pub reads : AreReads made

@@ -41,6 +41,7 @@ pub fn commit_record<B: Bank, R: BlobRule>(
     requires headed { IsHeaded R.head_of pool number (take config_bytes blob.now) }
     ensures size { (d : ℕ) → B.size bank.new d ≡ B.size bank.old d }
     ensures numbers { (name : List ℕ) → B.number_of bank.new name ≡ B.number_of bank.old name }
+    ensures lookups { B.lookup_faults bank.new ≡ B.lookup_faults bank.old }
     ensures cause { AreExcused devs.now results.new (B.faults bank.old) (B.faults bank.new) }
     ensures round { Commits R.head_of (B.size bank.old)
         (record { pool = pool; number = number; blob = blob.now; length = config_bytes }) devs.now results.new
@@ -62,6 +63,7 @@ fn run_round<B: Bank>(bank: &mut B, round: &Round, members: &[Member], board: &m
     requires paired { length board.old ≡ length members.now }
     ensures size { (d : ℕ) → B.size bank.new d ≡ B.size bank.old d }
     ensures numbers { (name : List ℕ) → B.number_of bank.new name ≡ B.number_of bank.old name }
+    ensures lookups { B.lookup_faults bank.new ≡ B.lookup_faults bank.old }
     ensures round { MakesRound (B.size bank.old) (commit_of round.now) members.now board.new
         (B.told bank.old) (B.told bank.new) (B.faults bank.old) (B.faults bank.new) }
 {
@@ -83,6 +85,7 @@ fn run_phase<B: Bank>(
     requires paired { length board.old ≡ length members.now }
     ensures size { (d : ℕ) → B.size bank.new d ≡ B.size bank.old d }
     ensures numbers { (name : List ℕ) → B.number_of bank.new name ≡ B.number_of bank.old name }
+    ensures lookups { B.lookup_faults bank.new ≡ B.lookup_faults bank.old }
     ensures phase { MakesPhase (plan_of phase (B.size bank.old) (commit_of round.now)) members.now board.old board.new
         (B.told bank.old) (B.told bank.new) (B.faults bank.old) (B.faults bank.new) }
 {
@@ -102,6 +105,7 @@ fn take_turn<B: Bank>(
     requires device { 320 ≤ B.size bank.old member.dev }
     ensures size { (d : ℕ) → B.size bank.new d ≡ B.size bank.old d }
     ensures numbers { (name : List ℕ) → B.number_of bank.new name ≡ B.number_of bank.old name }
+    ensures lookups { B.lookup_faults bank.new ≡ B.lookup_faults bank.old }
     ensures turn { MakesTurn (plan_of phase (B.size bank.old) (commit_of round.now) member) on_board result
         (B.told bank.old) (B.told bank.new) (B.faults bank.old) (B.faults bank.new) }
 {
@@ -120,6 +124,7 @@ fn write_phase<B: Bank>(
     requires device { 320 ≤ B.size bank.old member.dev }
     ensures size { (d : ℕ) → B.size bank.new d ≡ B.size bank.old d }
     ensures numbers { (name : List ℕ) → B.number_of bank.new name ≡ B.number_of bank.old name }
+    ensures lookups { B.lookup_faults bank.new ≡ B.lookup_faults bank.old }
     ensures part { MakesPart (plan_of phase (B.size bank.old) (commit_of round.now) member)
         (B.told bank.old) (B.told bank.new) (B.faults bank.old) (B.faults bank.new) (fault_in result) }
 {

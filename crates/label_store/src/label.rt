@@ -24,6 +24,7 @@ pub(crate) fn write_labels<B: Bank>(
     requires fits { EachIndex labels.now (λ k. slice_index labels.now k + offset < 2 ^ 64) }
     ensures size { (d : ℕ) → B.size bank.new d ≡ B.size bank.old d }
     ensures numbers { (name : List ℕ) → B.number_of bank.new name ≡ B.number_of bank.old name }
+    ensures lookups { B.lookup_faults bank.new ≡ B.lookup_faults bank.old }
     ensures counts { (d : ℕ) → B.faults bank.old d ≤ B.faults bank.new d }
     ensures cause { OnErr result (Rose (B.faults bank.old dev) (B.faults bank.new dev)) }
     ensures part { MakesPart (label_writes dev labels.now offset bytes.now)
@@ -49,6 +50,7 @@ pub(crate) fn write_config<B: Bank>(
     requires fits { EachIndex labels.now (λ k. slice_index labels.now k + 4 < 2 ^ 64) }
     ensures size { (d : ℕ) → B.size bank.new d ≡ B.size bank.old d }
     ensures numbers { (name : List ℕ) → B.number_of bank.new name ≡ B.number_of bank.old name }
+    ensures lookups { B.lookup_faults bank.new ≡ B.lookup_faults bank.old }
     ensures counts { (d : ℕ) → B.faults bank.old d ≤ B.faults bank.new d }
     ensures cause { OnErr result (Rose (B.faults bank.old dev) (B.faults bank.new dev)) }
     ensures part { MakesPart (config_plan dev labels.now blob.now)
@@ -63,6 +65,7 @@ pub(crate) fn write_rings<B: Bank>(bank: &mut B, dev: u32, u: &Uberblock) -> Res
     requires device { 320 ≤ B.size bank.old dev }
     ensures size { (d : ℕ) → B.size bank.new d ≡ B.size bank.old d }
     ensures numbers { (name : List ℕ) → B.number_of bank.new name ≡ B.number_of bank.old name }
+    ensures lookups { B.lookup_faults bank.new ≡ B.lookup_faults bank.old }
     ensures counts { (d : ℕ) → B.faults bank.old d ≤ B.faults bank.new d }
     ensures cause { OnErr result (Rose (B.faults bank.old dev) (B.faults bank.new dev)) }
     ensures part { MakesPart (ring_plan dev (B.size bank.old dev) u.now)

@@ -1,6 +1,6 @@
 //! Looks at all labels of devices.
-ghost use Rattle.std.specs.Prelude.{◌≡◌, ℕ, ◌+◌, ◌<◌, ◌≤◌, List, length, IfOk, slice_get, Some};
-ghost use Rattle.label_store.specs.Newest.{look_asks, Looks, FindsNewest};
+ghost use Rattle.std.specs.Prelude.{◌≡◌, ℕ, ◌+◌, ◌<◌, ◌≤◌, List, length, IfOk, OnErr, slice_get, Some};
+ghost use Rattle.label_store.specs.Newest.{look_asks, Looks, FindsNewest, ReadsOnly};
 ghost use Rattle.label_store.specs.Opening.{ReadsPart};
 
 use crate::found::Found;
@@ -15,7 +15,8 @@ use std::alloc::Global;
 /// The record of this name with the greatest number that is verified on one of these devices; of two with
 /// one number that of the first device, and on one device that of the first label and slot. Every label
 /// sector is read once for each device in the list, and one is left out only where its read failed.
-/// `None` comes only where no record of the name is verified by what was read.
+/// `None` comes only where no record of the name is verified by what was read. Where there is no memory,
+/// no device was written.
 pub fn newest<B: Bank, R: BlobRule>(
     alloc: Global,
     bank: &mut B,
@@ -25,8 +26,10 @@ pub fn newest<B: Bank, R: BlobRule>(
     requires devices { (i dev : ℕ) → slice_get devs.now i ≡ Some dev → 320 ≤ B.size bank.old dev }
     ensures size { (d : ℕ) → B.size bank.new d ≡ B.size bank.old d }
     ensures numbers { (other : List ℕ) → B.number_of bank.new other ≡ B.number_of bank.old other }
+    ensures lookups { B.lookup_faults bank.new ≡ B.lookup_faults bank.old }
     ensures finds { IfOk result (λ best. FindsNewest R.head_of (B.size bank.old) devs.now name.now
         (B.told bank.old) (B.told bank.new) (B.faults bank.old) (B.faults bank.new) best) }
+    ensures reads { OnErr result (ReadsOnly (B.told bank.old) (B.told bank.new) (B.faults bank.old) (B.faults bank.new)) }
 {
     let mut best = None;
     for dev in devs {
@@ -41,9 +44,11 @@ fn look<B: Bank>(alloc: Global, bank: &mut B, dev: u32) -> Result<Vec<Part>, Mem
     requires device { 320 ≤ B.size bank.old dev }
     ensures size { (d : ℕ) → B.size bank.new d ≡ B.size bank.old d }
     ensures numbers { (other : List ℕ) → B.number_of bank.new other ≡ B.number_of bank.old other }
+    ensures lookups { B.lookup_faults bank.new ≡ B.lookup_faults bank.old }
     ensures eight { IfOk result (λ parts. length parts.items ≡ 8) }
     ensures looks { IfOk result (λ parts. Looks (look_asks dev (B.size bank.old dev))
         (B.told bank.old) (B.told bank.new) (B.faults bank.old) (B.faults bank.new) parts.items) }
+    ensures reads { OnErr result (ReadsOnly (B.told bank.old) (B.told bank.new) (B.faults bank.old) (B.faults bank.new)) }
 {
     let mut parts = Vec::new(alloc);
     let labels = labels_of(bank.sectors(dev));
@@ -66,8 +71,10 @@ fn read_part<B: Bank>(
     requires inside { at + sectors ≤ B.size bank.old dev }
     ensures size { (d : ℕ) → B.size bank.new d ≡ B.size bank.old d }
     ensures numbers { (other : List ℕ) → B.number_of bank.new other ≡ B.number_of bank.old other }
+    ensures lookups { B.lookup_faults bank.new ≡ B.lookup_faults bank.old }
     ensures read { IfOk result (λ part. ReadsPart dev at sectors
         (B.told bank.old) (B.told bank.new) (B.faults bank.old) (B.faults bank.new) part) }
+    ensures reads { OnErr result (ReadsOnly (B.told bank.old) (B.told bank.new) (B.faults bank.old) (B.faults bank.new)) }
 {
     let mut bytes = vec![in alloc; 0; sectors * SECTOR_BYTES]?;
     match bank.read(dev, at, &mut bytes) {

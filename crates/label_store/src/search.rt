@@ -16,6 +16,7 @@ pub fn identity<B: Bank>(bank: &mut B, dev: u32, pool: Guid, member: Guid) -> Re
     requires device { 320 ≤ B.size bank.old dev }
     ensures size { (d : ℕ) → B.size bank.new d ≡ B.size bank.old d }
     ensures numbers { (name : List ℕ) → B.number_of bank.new name ≡ B.number_of bank.old name }
+    ensures lookups { B.lookup_faults bank.new ≡ B.lookup_faults bank.old }
     ensures cause { OnErr result (Rose (B.faults bank.old dev) (B.faults bank.new dev)) }
     ensures search { Searches pool member dev (B.size bank.old dev)
         (B.told bank.old) (B.told bank.new) (B.faults bank.old) (B.faults bank.new) result }
@@ -74,6 +75,7 @@ fn read_ring<B: Bank>(
     requires inside { at + 32 ≤ B.size bank.old dev }
     ensures size { (d : ℕ) → B.size bank.new d ≡ B.size bank.old d }
     ensures numbers { (name : List ℕ) → B.number_of bank.new name ≡ B.number_of bank.old name }
+    ensures lookups { B.lookup_faults bank.new ≡ B.lookup_faults bank.old }
     ensures cause { OnErr result (Rose (B.faults bank.old dev) (B.faults bank.new dev)) }
     ensures counts { (d : ℕ) → B.faults bank.old d ≤ B.faults bank.new d }
     ensures read { ReadsRing pool member dev at

@@ -22,6 +22,7 @@ pub fn stamp<B: Bank>(bank: &mut B, dev: u32, pool: Guid, member: Guid) -> Resul
     requires device { 320 ≤ B.size bank.old dev }
     ensures size { (d : ℕ) → B.size bank.new d ≡ B.size bank.old d }
     ensures numbers { (name : List ℕ) → B.number_of bank.new name ≡ B.number_of bank.old name }
+    ensures lookups { B.lookup_faults bank.new ≡ B.lookup_faults bank.old }
     ensures counts { (d : ℕ) → B.faults bank.old d ≤ B.faults bank.new d }
     ensures cause { OnErr result (Rose (B.faults bank.old dev) (B.faults bank.new dev)) }
     ensures part { MakesPart (stamp_plan dev (B.size bank.old dev) pool member)
@@ -46,6 +47,7 @@ fn clear_rings<B: Bank>(bank: &mut B, dev: u32) -> Result<(), Fault>
     requires device { 320 ≤ B.size bank.old dev }
     ensures size { (d : ℕ) → B.size bank.new d ≡ B.size bank.old d }
     ensures numbers { (name : List ℕ) → B.number_of bank.new name ≡ B.number_of bank.old name }
+    ensures lookups { B.lookup_faults bank.new ≡ B.lookup_faults bank.old }
     ensures counts { (d : ℕ) → B.faults bank.old d ≤ B.faults bank.new d }
     ensures cause { OnErr result (Rose (B.faults bank.old dev) (B.faults bank.new dev)) }
     ensures part { MakesPart (label_writes dev (labels_of (B.size bank.old dev)) ring_offset zero_ring)

@@ -2,6 +2,7 @@
 use Rattle.std.specs.Prelude.{◌≡◌, ◌≢◌, ℕ, List, [], ◌∷◌, ◌⊎◌, None, Some}
 use Rattle.sha2.specs.Sha256.{sha256}
 use Rattle.bank_core.specs.Disk.{Call, Read, Write, Flush, Admit, Eject, Noted}
+use Rattle.pool_core.specs.State.{Content, Known, Summed}
 
 -- the call is a read that answered Ok with these bytes
 abbrev pub Gave : Call → List ℕ → Type 0
@@ -23,3 +24,8 @@ pub record Clash (calls : List Noted) (block : List ℕ) : Type 0 where
   pub read : IsFound calls found
   pub differs : found ≢ block
   pub same_sum : sha256 found ≡ sha256 block
+
+-- so, of a block that is known
+abbrev pub ClashesWith : List Noted → Content → Type 0
+ClashesWith calls (Known block) = Clash calls block
+ClashesWith calls (Summed sum) = ⊥

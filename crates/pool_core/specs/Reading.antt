@@ -7,8 +7,7 @@ use Rattle.mp_base.specs.declared.refusal.Seen.TheVariants as seen
 use Rattle.mp_base.specs.declared.refusal.Refusal.{Refusal}
 use Rattle.mp_base.specs.declared.refusal.Refusal.TheVariants as refusals
 use Rattle.bank_core.specs.Asks.{Ask, Reads}
-use Rattle.pool_core.specs.declared.leaf.Leaf.{Leaf}
-use Rattle.pool_core.specs.State.{Version, PoolState, data_start}
+use Rattle.pool_core.specs.State.{LeafState, Content, Known, Summed, Version, PoolState, leaves, data_start}
 use Rattle.pool_core.specs.Outside.{Trouble, Failed, Gone, Wrong}
 
 abbrev pub seen_as : Trouble → Seen
@@ -17,21 +16,21 @@ seen_as Gone = seen.Failed
 seen_as Wrong = seen.Mismatch
 
 -- the leaves are asked in order, up to the first whose copy met no trouble
-abbrev pub asks_to : ℕ → List Leaf → List (Option Trouble) → List Ask
+abbrev pub asks_to : ℕ → List LeafState → List (Option Trouble) → List Ask
 asks_to at [] outside = []
 asks_to at (leaf ∷ leaves) [] = Reads leaf.dev at 1 ∷ []
 asks_to at (leaf ∷ leaves) (None ∷ outside) = Reads leaf.dev at 1 ∷ []
 asks_to at (leaf ∷ leaves) (Some trouble ∷ outside) = Reads leaf.dev at 1 ∷ asks_to at leaves outside
 
 -- some leaf's copy met none
-abbrev pub is_served : List Leaf → List (Option Trouble) → Bool
+abbrev pub is_served : List LeafState → List (Option Trouble) → Bool
 is_served [] outside = false
 is_served (leaf ∷ leaves) [] = false
 is_served (leaf ∷ leaves) (None ∷ outside) = true
 is_served (leaf ∷ leaves) (Some trouble ∷ outside) = is_served leaves outside
 
 -- what each leaf showed, where none served
-abbrev pub shown : List Leaf → List (Option Trouble) → List LeafSeen
+abbrev pub shown : List LeafState → List (Option Trouble) → List LeafStateSeen
 shown [] outside = []
 shown (leaf ∷ leaves) [] = []
 shown (leaf ∷ leaves) (None ∷ outside) = []
@@ -52,39 +51,44 @@ source_of None (Some version) = Copies version
 abbrev pub source_at : PoolState → ℕ → Source
 source_at s a = source_of (s.writes a) (s.committed a)
 
--- the block itself
-abbrev pub block_from : Source → List ℕ
-block_from (Memory block) = block
-block_from Hole = zero_block
-block_from (Copies version) = version.block
+-- the block itself, so far as it is known
+abbrev pub block_from : Source → Content
+block_from (Memory block) = Known block
+block_from Hole = Known zero_block
+block_from (Copies version) = version.content
 
 -- the block that a read of this address should give
-abbrev pub wanted : PoolState → ℕ → List ℕ
+abbrev pub wanted : PoolState → ℕ → Content
 wanted s a = block_from (source_at s a)
 
 -- the device calls for it: only copies need some
-abbrev pub asks_from : Source → List Leaf → List (Option Trouble) → List Ask
+abbrev pub asks_from : Source → List LeafState → List (Option Trouble) → List Ask
 asks_from (Memory block) leaves outside = []
 asks_from Hole leaves outside = []
 asks_from (Copies version) leaves outside = asks_to (data_start + version.sector) leaves outside
 
 abbrev pub read_asks : PoolState → ℕ → List (Option Trouble) → List Ask
-read_asks s a outside = if nat_lt a s.blocks then asks_from (source_at s a) s.leaves outside else []
+read_asks s a outside = if nat_lt a s.blocks then asks_from (source_at s a) (leaves s) outside else []
+
+-- The block that a copy gave which served: of one whose sum alone is known, the bytes that the read gave.
+abbrev pub served : Content → (given : List ℕ) → List ℕ
+served (Known block) given = block
+served (Summed sum) given = given
 
 -- a copy that served gives the block, else each leaf is named with what it showed
 abbrev pub copies_give : Bool → ℕ → List ℕ → List LeafSeen → Result (List ℕ) Refusal
 copies_give true a block leaves = Ok block
 copies_give false a block leaves = Err (refusals.Exhausted 0 a leaves)
 
-abbrev pub answer_from : Source → ℕ → List Leaf → List (Option Trouble) → Result (List ℕ) Refusal
-answer_from (Memory block) a leaves outside = Ok block
-answer_from Hole a leaves outside = Ok zero_block
-answer_from (Copies version) a leaves outside = copies_give (is_served leaves outside) a version.block (shown leaves outside)
+abbrev pub answer_from : Source → ℕ → List LeafState → List (Option Trouble) → (given : List ℕ) → Result (List ℕ) Refusal
+answer_from (Memory block) a leaves outside given = Ok block
+answer_from Hole a leaves outside given = Ok zero_block
+answer_from (Copies version) a leaves outside given = copies_give (is_served leaves outside) a (served version.content given) (shown leaves outside)
 
 -- The answer to a read: the block, or why there is none.
-abbrev pub read_answer : PoolState → ℕ → List (Option Trouble) → Result (List ℕ) Refusal
-read_answer s a outside =
-    if nat_lt a s.blocks then answer_from (source_at s a) a s.leaves outside else Err (refusals.BadAddress s.blocks)
+abbrev pub read_answer : PoolState → ℕ → List (Option Trouble) → (given : List ℕ) → Result (List ℕ) Refusal
+read_answer s a outside given =
+    if nat_lt a s.blocks then answer_from (source_at s a) a (leaves s) outside given else Err (refusals.BadAddress s.blocks)
 
 -- a call's result and what it left in the buffer, as an answer
 abbrev pub answered : {E : Type 0} → List ℕ → Result (Unit {0}) E → Result (List ℕ) E

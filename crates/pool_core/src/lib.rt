@@ -3,11 +3,16 @@
 
 mod accessors;
 mod commit;
-mod leaf;
+mod create;
+mod open;
 mod pool;
 mod read;
+mod round;
+mod rule;
 mod sync;
 mod write;
 
-pub use leaf::Leaf;
+pub use create::{CreateFault, NewLeaf};
+pub use open::{has_members, seek};
 pub use pool::{MOST_BLOCKS, Pool};
+pub use rule::ConfigRule;

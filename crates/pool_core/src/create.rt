@@ -1,0 +1,75 @@
+//! The making of a pool on two devices.
+ghost use Rattle.std.specs.Prelude.{◌≡◌, ◌≢◌, ℕ, ◌<◌, ◌≤◌, List};
+
+use crate::{MOST_BLOCKS, Pool};
+use bank_core::Bank;
+use config_codec::{Config, LeafConfig};
+use label_store::stamp;
+use mp_base::{Group, Guid, MemFault, Name};
+use std::alloc::Global;
+
+/// A device that becomes a leaf: its name, and its number in the bank.
+#[derive(Drop)]
+pub struct NewLeaf {
+    pub name: Name,
+    pub dev: u32,
+}
+
+/// Why no pool was made.
+#[derive(Drop)]
+pub enum CreateFault {
+    /// There was no memory, and no device was touched.
+    Memory,
+    /// A call on the device of this name failed, the first in tree order.
+    Device(Name),
+}
+
+impl Pool {
+    ghost use Rattle.pool_core.specs.Making.{CreatesIf};
+
+    /// Makes a pool of `blocks` blocks of zeros, 1 to 32 of them: stamps both devices, up to the first
+    /// that fails, and commits record 1 by one round. `pool` is the pool's number, at least 1. At `Ok`
+    /// each crash leaves a device on which an opening finds the pool; after `Device` there is no pool,
+    /// and the devices may hold stamps or labels.
+    pub fn create<B: Bank>(
+        alloc: Global,
+        bank: &mut B,
+        name: Name,
+        pool: Guid,
+        blocks: u64,
+        first: NewLeaf,
+        second: NewLeaf,
+    ) -> Result<Pool, CreateFault>
+        requires some { 0 < blocks }
+        requires few { blocks ≤ 32 }
+        requires number { 1 ≤ pool.0 }
+        requires two_names { first.name ≢ second.name }
+        requires two_devices { first.dev ≢ second.dev }
+        requires first_room { 320 ≤ B.size bank.old first.dev }
+        requires second_room { 320 ≤ B.size bank.old second.dev }
+        ensures size { (d : ℕ) → B.size bank.new d ≡ B.size bank.old d }
+        ensures numbers { (other : List ℕ) → B.number_of bank.new other ≡ B.number_of bank.old other }
+        ensures lookups { B.lookup_faults bank.new ≡ B.lookup_faults bank.old }
+        ensures creates { CreatesIf (B.size bank.old) name pool blocks (first.name, first.dev) (second.name, second.dev)
+            (B.told bank.old) (B.told bank.new) (B.faults bank.old) (B.faults bank.new) result }
+    {
+        let made = match Pool::new(alloc, bank, name, pool, blocks, first, second) {
+            Ok(made) => made,
+            Err(MemFault) => return Err(CreateFault::Memory),
+        };
+        if stamp(bank, made.first_dev, pool, made.config.first.member).is_err() {
+            return Err(CreateFault::Device(made.config.first.name));
+        }
+        if stamp(bank, made.second_dev, pool, made.config.second.member).is_err() {
+            return Err(CreateFault::Device(made.config.second.name));
+        }
+        let [first_stayed, second_stayed] = made.commit_round(bank);
+        if !first_stayed {
+            return Err(CreateFault::Device(made.config.first.name));
+        }
+        if !second_stayed {
+            return Err(CreateFault::Device(made.config.second.name));
+        }
+        Ok(made)
+    }
+}

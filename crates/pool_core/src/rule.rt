@@ -1,0 +1,27 @@
+//! Which bytes are a pool's configuration, as the labels ask it.
+ghost use Rattle.std.specs.Prelude.{IfOk};
+
+use config_codec::decode;
+use label_store::{BlobRule, Head};
+use mp_base::MemFault;
+use std::alloc::Global;
+
+/// The configurations that this build reads (docs/FORMATS.md, "Configuration").
+pub struct ConfigRule;
+
+impl BlobRule for ConfigRule {
+    ghost use Rattle.pool_core.specs.Heads.{head_of};
+
+    ghost head_of = { head_of };
+
+    fn reads(alloc: Global, bytes: &[u8]) -> Result<Option<Head>, MemFault> {
+        match decode(alloc, bytes)? {
+            Some(config) => Ok(Some(Head {
+                pool: config.pool,
+                name: config.name,
+                number: config.number,
+            })),
+            None => Ok(None),
+        }
+    }
+}
