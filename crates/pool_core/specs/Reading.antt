@@ -30,7 +30,7 @@ is_served (leaf ∷ leaves) (None ∷ outside) = true
 is_served (leaf ∷ leaves) (Some trouble ∷ outside) = is_served leaves outside
 
 -- what each leaf showed, where none served
-abbrev pub shown : List LeafState → List (Option Trouble) → List LeafStateSeen
+abbrev pub shown : List LeafState → List (Option Trouble) → List LeafSeen
 shown [] outside = []
 shown (leaf ∷ leaves) [] = []
 shown (leaf ∷ leaves) (None ∷ outside) = []
