@@ -29,6 +29,7 @@ data_whole text block (inr pairs) = ap length pairs.5 ∙ padded_whole pairs.0 p
 asks_whole : (line : List ℕ) (request : Request) → Asks line request → IsWhole (Some request)
 asks_whole line requests.Nothing asks = tt
 asks_whole line (requests.Create pool blocks first second) asks = tt
+asks_whole line (requests.Import pool) asks = tt
 asks_whole line (requests.Write pool a block) asks = data_whole asks.1 block asks.4
 asks_whole line (requests.Read pool a) asks = tt
 asks_whole line (requests.Sync pool) asks = tt

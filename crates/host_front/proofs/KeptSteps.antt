@@ -126,6 +126,7 @@ answer_kept sectors h (Some (requests.Create pool blocks first second)) outside 
     either_kept (run made sectors) (is_bad_size blocks) _ _ still
     (either_kept (run made sectors) (may_create h.pool blocks first second) _ _
     (create_kept (run made sectors) h pool blocks (members first second (member_of first h.table) (member_of second h.table)) still) still)
+answer_kept sectors h (Some (requests.Import pool)) outside made long kept e asks = still_kept sectors h made kept asks
 answer_kept sectors h (Some (requests.Write pool a block)) outside made long kept e asks =
     let still = still_kept sectors h made kept asks in
     write_kept (run made sectors) h (named_pool pool h.pool) a block long still (named_kept (run made sectors) pool h.pool still)

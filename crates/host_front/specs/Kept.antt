@@ -55,6 +55,7 @@ abbrev pub IsWhole : Option Request → Type 0
 IsWhole None = Unit {0}
 IsWhole (Some requests.Nothing) = Unit {0}
 IsWhole (Some (requests.Create pool blocks first second)) = Unit {0}
+IsWhole (Some (requests.Import pool)) = Unit {0}
 IsWhole (Some (requests.Write pool a block)) = length block ≡ 4096
 IsWhole (Some (requests.Read pool a)) = Unit {0}
 IsWhole (Some (requests.Sync pool)) = Unit {0}

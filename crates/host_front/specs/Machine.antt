@@ -115,6 +115,7 @@ abbrev pub answer : HostState → Option Request → List (Option Trouble) → H
 answer h None outside = (h, replies.Refused refusals.NotBuilt)
 answer h (Some requests.Nothing) outside = (h, replies.Done)
 answer h (Some (requests.Create pool blocks first second)) outside = create_answer h pool blocks first second
+answer h (Some (requests.Import pool)) outside = (h, replies.Refused refusals.NotBuilt)
 answer h (Some (requests.Write pool a block)) outside = write_answer h (named_pool pool h.pool) a block
 answer h (Some (requests.Read pool a)) outside = read_line_answer h (named_pool pool h.pool) a outside
 answer h (Some (requests.Sync pool)) outside = sync_line_answer h (named_pool pool h.pool) outside
@@ -132,6 +133,7 @@ abbrev pub line_asks : HostState → Option Request → List (Option Trouble) �
 line_asks h None outside = []
 line_asks h (Some requests.Nothing) outside = []
 line_asks h (Some (requests.Create pool blocks first second)) outside = []
+line_asks h (Some (requests.Import pool)) outside = []
 line_asks h (Some (requests.Write pool a block)) outside = []
 line_asks h (Some (requests.Read pool a)) outside = read_line_asks (named_pool pool h.pool) a outside
 line_asks h (Some (requests.Sync pool)) outside = sync_line_asks (named_pool pool h.pool) outside
@@ -145,6 +147,7 @@ abbrev pub line_wants : HostState → Option Request → List ℕ
 line_wants h None = []
 line_wants h (Some requests.Nothing) = []
 line_wants h (Some (requests.Create pool blocks first second)) = []
+line_wants h (Some (requests.Import pool)) = []
 line_wants h (Some (requests.Write pool a block)) = []
 line_wants h (Some (requests.Read pool a)) = wanted_of (named_pool pool h.pool) a
 line_wants h (Some (requests.Sync pool)) = []

@@ -69,6 +69,7 @@ impl Host {
                 first,
                 second,
             } => self.create(pool, *blocks, first, second),
+            Request::Import { .. } => Reply::Refused(Refusal::NotBuilt),
             Request::Write {
                 pool,
                 address,

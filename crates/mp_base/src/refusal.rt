@@ -7,6 +7,8 @@ use std::marker::Model;
 /// Why a line was refused; the number beside each is the one in its reply (docs/FORMATS.md, "Replies").
 #[derive(Drop)]
 pub enum Refusal {
+    /// 2: no open pool has the name.
+    NoPool,
     /// 3: the address isn't below the volume's number of blocks, or BLOCKS of `create` isn't 1 to this limit.
     BadAddress {
         limit: u64,
@@ -23,8 +25,19 @@ pub enum Refusal {
         top: Guid,
         faults: u64,
     },
+    /// 17: a call on this member's device failed while it was stamped or committed.
+    DeviceFault {
+        member: Guid,
+    },
     /// 19: there was no memory.
     Memory,
+    /// 21: no device has a verified record of the name.
+    NoRecord,
+    /// 22: a limit would be passed; this count would have been reached.
+    TreeFull {
+        limit: u64,
+        count: u64,
+    },
     /// 40: this form of line, or this case of it, isn't built yet.
     NotBuilt,
 }

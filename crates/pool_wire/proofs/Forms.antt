@@ -6,11 +6,11 @@ use Rattle.std.proofs.lemmas.Bool.{eqb-true, ne_eqb}
 use Rattle.std.proofs.lemmas.Option.{same_Some}
 use Rattle.mp_base.specs.Name.{is_name}
 use Rattle.pool_wire.specs.declared.request.Request.{Request}
-use Rattle.pool_wire.specs.declared.request.Request.TheVariants.{Nothing, Create, Write, Read, Sync}
+use Rattle.pool_wire.specs.declared.request.Request.TheVariants.{Nothing, Create, Import, Write, Read, Sync}
 use Rattle.pool_wire.specs.declared.request.LineFault.{LineFault}
 use Rattle.pool_wire.specs.declared.request.LineFault.TheVariants.{Bad, Memory}
 use Rattle.pool_wire.specs.Grammar.{Asks}
-use Rattle.pool_wire.specs.Reading.{Gives, after_word, create_of, cut_word, data_of, name_of, number_of, read_of, request_of, sync_of, verb_of, write_of}
+use Rattle.pool_wire.specs.Reading.{Gives, after_word, create_of, cut_word, data_of, import_of, name_of, number_of, read_of, request_of, sync_of, verb_of, write_of}
 use Rattle.pool_wire.specs.Words.{IsData, IsNumber}
 use Rattle.pool_wire.proofs.Cuts.{after_found, bind_some, chosen, cut_again, cut_found, is_plain, mirror_again, name_again, name_found, name_plain, same_bytes}
 use Rattle.pool_wire.proofs.Numbers.{number_again, number_found, number_plain}
@@ -31,6 +31,13 @@ sync_found text r e =
     let name = bind_some (name_of text) _ r e in
     let n = name_found text name.0 name.1 in
     rw (← same_Some _ _ name.2) (n.0, ap (λ t. codes "sync " ++ t) n.1)
+
+import_found : (text : List ℕ) (r : Request) → import_of text ≡ Some r → Asks (codes "import " ++ text) r
+unfolding import_of
+import_found text r e =
+    let name = bind_some (name_of text) _ r e in
+    let n = name_found text name.0 name.1 in
+    rw (← same_Some _ _ name.2) (n.0, ap (λ t. codes "import " ++ t) n.1)
 
 read_found : (text : List ℕ) (r : Request) → read_of text ≡ Some r → Asks (codes "read " ++ text) r
 unfolding read_of
@@ -97,13 +104,16 @@ unfolding verb_of
 verb_found verb text r e =
     elim (chosen (bytes_eq verb (codes "create")) (create_of text) _ _ e) [
       | inl c ↦ rw (same_bytes verb (codes "create") c.0) (create_found text r c.1)
-      | inr n1 ↦ elim (chosen (bytes_eq verb (codes "write")) (write_of text) _ _ n1.1) [
-        | inl w ↦ rw (same_bytes verb (codes "write") w.0) (write_found text r w.1)
-        | inr n2 ↦ elim (chosen (bytes_eq verb (codes "read")) (read_of text) _ _ n2.1) [
-          | inl d ↦ rw (same_bytes verb (codes "read") d.0) (read_found text r d.1)
-          | inr n3 ↦ elim (chosen (bytes_eq verb (codes "sync")) (sync_of text) None _ n3.1) [
-            | inl s ↦ rw (same_bytes verb (codes "sync") s.0) (sync_found text r s.1)
-            | inr n4 ↦ cc n4.1
+      | inr n1 ↦ elim (chosen (bytes_eq verb (codes "import")) (import_of text) _ _ n1.1) [
+        | inl i ↦ rw (same_bytes verb (codes "import") i.0) (import_found text r i.1)
+        | inr n2 ↦ elim (chosen (bytes_eq verb (codes "write")) (write_of text) _ _ n2.1) [
+          | inl w ↦ rw (same_bytes verb (codes "write") w.0) (write_found text r w.1)
+          | inr n3 ↦ elim (chosen (bytes_eq verb (codes "read")) (read_of text) _ _ n3.1) [
+            | inl d ↦ rw (same_bytes verb (codes "read") d.0) (read_found text r d.1)
+            | inr n4 ↦ elim (chosen (bytes_eq verb (codes "sync")) (sync_of text) None _ n4.1) [
+              | inl s ↦ rw (same_bytes verb (codes "sync") s.0) (sync_found text r s.1)
+              | inr n5 ↦ cc n5.1
+            ]
           ]
         ]
       ]
@@ -129,6 +139,10 @@ request_found (b ∷ bs) r e =
 sync_again : (pool : List ℕ) → IsTrue (is_name pool) → sync_of pool ≡ Some (Sync pool)
 unfolding sync_of
 sync_again pool is = rw (name_again pool is) refl
+
+import_again : (pool : List ℕ) → IsTrue (is_name pool) → import_of pool ≡ Some (Import pool)
+unfolding import_of
+import_again pool is = rw (name_again pool is) refl
 
 read_again : (pool number : List ℕ) (address : ℕ) → IsTrue (is_name pool) → IsNumber number address
     → read_of (pool ++ (32 ∷ number)) ≡ Some (Read pool address)
@@ -177,6 +191,8 @@ request_again line Nothing (inl empty) = rw empty refl
 request_again line Nothing (inr remark) = rw (remark.1, some_byte 35 remark.0) refl
 request_again line (Create pool blocks first second) a =
     line_again 99 (codes "reate") line _ _ refl refl a.5 (create_again pool a.0 first second blocks a.1 a.2 a.3 a.4)
+request_again line (Import pool) a =
+    line_again 105 (codes "mport") line _ _ refl refl a.1 (import_again pool a.0)
 request_again line (Write pool address block) a =
     line_again 119 (codes "rite") line _ _ refl refl a.5 (write_again pool a.0 a.1 block address a.2 a.3 a.4)
 request_again line (Read pool address) a =

@@ -4,7 +4,7 @@ use Rattle.std.specs.Prelude.{◌≡◌, ℕ, ◌⊎◌, List, [], ◌∷◌, �
 use Rattle.mp_base.specs.Name.{is_name}
 use Rattle.pool_wire.specs.Words.{IsNumber, IsData}
 use Rattle.pool_wire.specs.declared.request.Request.{Request}
-use Rattle.pool_wire.specs.declared.request.Request.TheVariants.{Nothing, Create, Write, Read, Sync}
+use Rattle.pool_wire.specs.declared.request.Request.TheVariants.{Nothing, Create, Import, Write, Read, Sync}
 
 -- an empty line, and a line that begins with `#`, whatever follows
 abbrev pub IsRemark : List ℕ → Type 0
@@ -16,6 +16,7 @@ Asks line Nothing = IsRemark line
 Asks line (Create pool blocks first second) =
     (number : List ℕ) × IsTrue (is_name pool) × IsNumber number blocks × IsTrue (is_name first) × IsTrue (is_name second)
     × (line ≡ codes "create " ++ (pool ++ (32 ∷ (number ++ (codes " mirror " ++ (first ++ (32 ∷ second)))))))
+Asks line (Import pool) = IsTrue (is_name pool) × (line ≡ codes "import " ++ pool)
 Asks line (Write pool address block) =
     (number text : List ℕ) × IsTrue (is_name pool) × IsNumber number address × IsData text block
     × (line ≡ codes "write " ++ (pool ++ (32 ∷ (number ++ (32 ∷ text)))))

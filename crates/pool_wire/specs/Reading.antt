@@ -10,7 +10,7 @@ use Rattle.mp_base.specs.Name.{is_name}
 use Rattle.pool_wire.specs.declared.request.LineFault.{LineFault}
 use Rattle.pool_wire.specs.declared.request.LineFault.TheVariants.{Bad, Memory}
 use Rattle.pool_wire.specs.declared.request.Request.{Request}
-use Rattle.pool_wire.specs.declared.request.Request.TheVariants.{Nothing, Create, Write, Read, Sync}
+use Rattle.pool_wire.specs.declared.request.Request.TheVariants.{Nothing, Create, Import, Write, Read, Sync}
 
 infixl 10 ◌>>=◌
 abbrev pub ◌>>=◌ : {A B : Type 0} → Option A → (A → Option B) → Option B
@@ -79,6 +79,12 @@ create_of text = do
   two ← name_of first.1
   Some (Create name number one two)
 
+-- what stands behind `import `
+unfoldable pub import_of : List ℕ → Option Request
+import_of text = do
+  name ← name_of text
+  Some (Import name)
+
 -- what stands behind `write `
 unfoldable pub write_of : List ℕ → Option Request
 write_of text = do
@@ -107,6 +113,7 @@ sync_of text = do
 unfoldable pub verb_of : List ℕ → List ℕ → Option Request
 verb_of verb text =
     if bytes_eq verb (codes "create") then create_of text
+    else if bytes_eq verb (codes "import") then import_of text
     else if bytes_eq verb (codes "write") then write_of text
     else if bytes_eq verb (codes "read") then read_of text
     else if bytes_eq verb (codes "sync") then sync_of text

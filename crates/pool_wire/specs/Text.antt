@@ -8,7 +8,7 @@ use Rattle.mp_base.specs.declared.refusal.Seen.TheVariants.{Unreadable, Failed, 
 use Rattle.pool_wire.specs.Words.{block_text, with_commas}
 use Rattle.pool_wire.specs.declared.reply.NamedLeaf.{NamedLeaf}
 use Rattle.pool_wire.specs.declared.reply.Reply.{Reply}
-use Rattle.pool_wire.specs.declared.reply.Reply.TheVariants.{Done, Committed, Data, Refused, Exhausted}
+use Rattle.pool_wire.specs.declared.reply.Reply.TheVariants.{Done, Committed, Data, Refused, Exhausted, DeviceFault}
 
 abbrev pub seen_text : Seen → List ℕ
 seen_text Unreadable = codes "unreadable"
@@ -33,11 +33,23 @@ abbrev pub suspended_text : ℕ → ℕ → ℕ → List ℕ
 suspended_text group top faults =
     codes "no 16 suspended " ++ (decimal group ++ (32 ∷ (decimal top ++ (32 ∷ decimal faults))))
 
+-- `no 17 fault DEV`, or the member's number where its device's name isn't known
+abbrev pub fault_text : List ℕ → List ℕ
+fault_text name = codes "no 17 fault " ++ name
+
+-- `no 22 limit LIMIT COUNT`
+abbrev pub limit_text : ℕ → ℕ → List ℕ
+limit_text limit count = codes "no 22 limit " ++ (decimal limit ++ (32 ∷ decimal count))
+
 abbrev pub refusal_text : Refusal → List ℕ
+refusal_text refusals.NoPool = codes "no 2 pool"
 refusal_text (refusals.BadAddress limit) = codes "no 3 address " ++ decimal limit
 refusal_text (refusals.Exhausted level index leaves) = exhausted_text level index (with_commas (map leaf_text leaves))
 refusal_text (refusals.Suspended group top faults) = suspended_text group.0 top.0 faults
+refusal_text (refusals.DeviceFault member) = fault_text (decimal member.0)
 refusal_text refusals.Memory = codes "no 19 memory"
+refusal_text refusals.NoRecord = codes "no 21 norecord"
+refusal_text (refusals.TreeFull limit count) = limit_text limit count
 refusal_text refusals.NotBuilt = codes "no 40 notbuilt"
 
 abbrev pub text_of : Reply → List ℕ
@@ -46,3 +58,4 @@ text_of (Committed group) = codes "ok " ++ decimal group.0
 text_of (Data block) = codes "ok " ++ block_text block
 text_of (Refused refusal) = refusal_text refusal
 text_of (Exhausted level index leaves) = exhausted_text level index (with_commas (map named_leaf_text leaves))
+text_of (DeviceFault name) = fault_text name

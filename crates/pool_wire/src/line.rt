@@ -1,6 +1,6 @@
 //! Lines, read from left to right.
 ghost use Rattle.std.specs.Prelude.{◌≡◌, ℕ, List, IfOk, IsErrOf, codes};
-ghost use Rattle.pool_wire.specs.Reading.{Gives, after_word, create_of, read_of, request_of, sync_of, verb_of, write_of};
+ghost use Rattle.pool_wire.specs.Reading.{Gives, after_word, create_of, import_of, read_of, request_of, sync_of, verb_of, write_of};
 ghost use Rattle.pool_wire.specs.Grammar.{Asks};
 ghost use Rattle.pool_wire.specs.declared.request.Request.{Request};
 
@@ -48,6 +48,9 @@ fn read_verb(alloc: Global, verb: &[u8], text: &[u8]) -> Result<Request, LineFau
     if verb == b"create".as_slice() {
         return read_create(alloc, text);
     }
+    if verb == b"import".as_slice() {
+        return read_import(alloc, text);
+    }
     if verb == b"write".as_slice() {
         return read_write(alloc, text);
     }
@@ -90,6 +93,15 @@ fn after_mirror(text: &[u8]) -> Result<&[u8], LineFault>
         return Err(LineFault::Bad);
     }
     Ok(rest)
+}
+
+#[tactic(auto, unfolding(crate::specs::Reading::import_of))]
+fn read_import(alloc: Global, text: &[u8]) -> Result<Request, LineFault>
+    ensures { Gives (λ request. request) result (import_of text.now) }
+{
+    Ok(Request::Import {
+        pool: read_name(alloc, text)?,
+    })
 }
 
 #[tactic(auto, unfolding(crate::specs::Reading::write_of))]

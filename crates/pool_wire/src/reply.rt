@@ -23,6 +23,10 @@ pub enum Reply {
         index: u64,
         leaves: NamedLeaves,
     },
+    /// `no 17 fault DEV`: the refusal 17 with the device's name, where the refusal itself knows the member's number.
+    DeviceFault {
+        name: Name,
+    },
 }
 
 /// A leaf by its name, and what a read saw of it.

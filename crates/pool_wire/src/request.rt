@@ -16,6 +16,10 @@ pub enum Request {
         first: Name,
         second: Name,
     },
+    /// `import POOL`: that the pool, which stands on devices of the host, is opened.
+    Import {
+        pool: Name,
+    },
     /// `write POOL ADDR DATA`
     Write {
         pool: Name,

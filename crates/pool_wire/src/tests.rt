@@ -8,6 +8,7 @@ fn kind(asked: &Result<Request, LineFault>) -> &'static str {
     match asked {
         Ok(Request::Nothing) => "nothing",
         Ok(Request::Create { .. }) => "create",
+        Ok(Request::Import { .. }) => "import",
         Ok(Request::Write { .. }) => "write",
         Ok(Request::Read { .. }) => "read",
         Ok(Request::Sync { .. }) => "sync",
@@ -28,6 +29,11 @@ fn a_line_is_read_or_bad(rt: HostRuntime) {
         (b"create tank 16 mirror a b c", "bad"),
         (b"create tank 16 a b", "bad"),
         (b"create mirror 16 mirror a b", "bad"),
+        (b"import tank", "import"),
+        (b"import tank ", "bad"),
+        (b"import tank a", "bad"),
+        (b"import mirror", "bad"),
+        (b"import", "bad"),
         (b"write tank 0 c0ffee", "write"),
         (b"write tank 0 -", "write"),
         (b"write tank 0 00", "write"),
@@ -115,10 +121,12 @@ fn replies_have_their_texts(rt: HostRuntime) -> Result<(), Fail> {
     let alloc = rt.alloc();
     let leaves = named_leaves(alloc).ok().ok_or("there is memory")?;
     let zeros = Block::zeros(alloc).ok().ok_or("there is memory")?;
+    let device = Name::new(alloc, b"b").ok().ok_or("there is memory")?;
     for (reply, want) in [
         (Reply::Done, b"ok".as_slice()),
         (Reply::Committed(Group(2)), b"ok 2".as_slice()),
         (Reply::Data(zeros), b"ok -".as_slice()),
+        (Reply::Refused(Refusal::NoPool), b"no 2 pool".as_slice()),
         (
             Reply::Refused(Refusal::BadAddress { limit: 16 }),
             b"no 3 address 16".as_slice(),
@@ -147,7 +155,26 @@ fn replies_have_their_texts(rt: HostRuntime) -> Result<(), Fail> {
             }),
             b"no 16 suspended 2 1 1".as_slice(),
         ),
+        (
+            Reply::DeviceFault { name: device },
+            b"no 17 fault b".as_slice(),
+        ),
+        (
+            Reply::Refused(Refusal::DeviceFault { member: Guid(3) }),
+            b"no 17 fault 3".as_slice(),
+        ),
         (Reply::Refused(Refusal::Memory), b"no 19 memory".as_slice()),
+        (
+            Reply::Refused(Refusal::NoRecord),
+            b"no 21 norecord".as_slice(),
+        ),
+        (
+            Reply::Refused(Refusal::TreeFull {
+                limit: 32,
+                count: 33,
+            }),
+            b"no 22 limit 32 33".as_slice(),
+        ),
         (
             Reply::Refused(Refusal::NotBuilt),
             b"no 40 notbuilt".as_slice(),

@@ -1,7 +1,7 @@
 //! The texts of replies.
 ghost use Rattle.std.specs.Prelude.{◌≡◌, ℕ, ◌<◌, true, false, List, [], ◌∷◌, ◌++◌, map, decimal, codes, length, slice_index, IfOk, OnOk, IfNone, IfSome, if◌then◌else◌, ◌==◌};
 ghost use Rattle.std.specs.List.{list_all};
-ghost use Rattle.pool_wire.specs.Text.{exhausted_text, leaf_text, named_leaf_text, refusal_text, seen_text, suspended_text, text_of};
+ghost use Rattle.pool_wire.specs.Text.{exhausted_text, fault_text, leaf_text, limit_text, named_leaf_text, refusal_text, seen_text, suspended_text, text_of};
 ghost use Rattle.pool_wire.specs.Words.{IsData, are_bytes, block_text, digits_text, is_zero, trimmed, with_commas};
 
 use crate::{NamedLeaf, Reply};
@@ -25,6 +25,7 @@ pub fn write_reply(alloc: Global, reply: &Reply) -> Result<Vec<u8>, MemFault>
             let leaves = write_named_leaves(alloc, leaves.as_slice())?;
             write_exhausted(alloc, *level, *index, &leaves)
         }
+        Reply::DeviceFault { name } => write_fault(alloc, name.as_bytes()),
     }
 }
 
@@ -81,6 +82,7 @@ fn write_refusal(alloc: Global, refusal: &Refusal) -> Result<Vec<u8>, MemFault>
     ensures { IfOk result (λ bytes. bytes.items ≡ refusal_text refusal.now) }
 {
     match refusal {
+        Refusal::NoPool => Ok(Vec::from_slice(alloc, b"no 2 pool")?),
         Refusal::BadAddress { limit } => Ok(format!(in alloc;
             "no 3 address {limit}"
         )?.into_bytes()),
@@ -93,7 +95,10 @@ fn write_refusal(alloc: Global, refusal: &Refusal) -> Result<Vec<u8>, MemFault>
             write_exhausted(alloc, *level, *index, &leaves)
         }
         Refusal::Suspended { group, top, faults } => write_suspended(alloc, *group, *top, *faults),
+        Refusal::DeviceFault { member } => write_member_fault(alloc, *member),
         Refusal::Memory => Ok(Vec::from_slice(alloc, b"no 19 memory")?),
+        Refusal::NoRecord => Ok(Vec::from_slice(alloc, b"no 21 norecord")?),
+        Refusal::TreeFull { limit, count } => write_limit(alloc, *limit, *count),
         Refusal::NotBuilt => Ok(Vec::from_slice(alloc, b"no 40 notbuilt")?),
     }
 }
@@ -104,6 +109,29 @@ fn write_suspended(alloc: Global, group: Group, top: Guid, faults: u64) -> Resul
     let group = group.0;
     let top = top.0;
     Ok(format!(in alloc; "no 16 suspended {group} {top} {faults}")?.into_bytes())
+}
+
+/// The member's number stands where its device's name isn't known.
+fn write_member_fault(alloc: Global, member: Guid) -> Result<Vec<u8>, MemFault>
+    ensures { IfOk result (λ bytes. bytes.items ≡ fault_text (decimal member.0)) }
+{
+    let member = member.0;
+    let name = format!(in alloc; "{member}")?;
+    write_fault(alloc, name.as_bytes())
+}
+
+fn write_fault(alloc: Global, name: &[u8]) -> Result<Vec<u8>, MemFault>
+    ensures { IfOk result (λ bytes. bytes.items ≡ fault_text name.now) }
+{
+    let mut text = Vec::from_slice(alloc, b"no 17 fault ")?;
+    text.extend_from_slice(name)?;
+    Ok(text)
+}
+
+fn write_limit(alloc: Global, limit: u64, count: u64) -> Result<Vec<u8>, MemFault>
+    ensures { IfOk result (λ bytes. bytes.items ≡ limit_text limit count) }
+{
+    Ok(format!(in alloc; "no 22 limit {limit} {count}")?.into_bytes())
 }
 
 fn write_exhausted(

@@ -6,6 +6,9 @@ use Rattle.host_front.proofs.host.Host.request.Goals as goal
 pub returns-in-Nothing-clause-answers : goal.returns-in-Nothing-clause-answers
 returns-in-Nothing-clause-answers g c = λ h stands. rw c.in-Nothing.is (answers_quiet h h (Some requests.Nothing) stands refl refl)
 
+pub returns-in-Import-clause-answers : goal.returns-in-Import-clause-answers
+returns-in-Import-clause-answers g c = λ h stands. rw c.in-Import.is (answers_quiet h h (Some (requests.Import c.in-Import.pool)) stands refl refl)
+
 pub returns-in-Create-clause-seated : goal.returns-in-Create-clause-seated
 returns-in-Create-clause-seated g c = c.create.ensures.seated _ c.requires.seated
 
