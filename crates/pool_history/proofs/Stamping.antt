@@ -1,5 +1,5 @@
 -- A pool whose members were stamped begins with the invariant, and a stamp leaves what that wants.
-use Rattle.std.proofs.Common.{◌≡◌, ◌⊎◌, ℕ, zero, suc, ◌+◌, ◌-◌, ◌*◌, ◌/◌, ◌%◌, ◌^◌, ◌<◌, ◌≤◌, ◌==◌, ◌&&◌, Bool, true, false, List, [], ◌∷◌, ◌++◌, length, take, drop, replicate, Option, Some, None, refl, sym, ap, ◌∙◌, subst, inl, inr, arith}
+use Rattle.std.proofs.Common.{◌≡◌, ◌≢◌, ◌⊎◌, ℕ, zero, suc, ◌+◌, ◌-◌, ◌*◌, ◌/◌, ◌%◌, ◌^◌, ◌<◌, ◌≤◌, ◌==◌, ◌&&◌, Bool, true, false, List, [], ◌∷◌, ◌++◌, length, take, drop, replicate, Option, Some, None, refl, sym, ap, ◌∙◌, subst, inl, inr, arith}
 use Rattle.std.proofs.lemmas.Bool.Decides.{nat_tests}
 use Rattle.std.proofs.lemmas.Grind.{common_steps}
 use Rattle.std.proofs.lemmas.List.{take-replicate, drop-replicate, length-replicate, take_all}
@@ -11,8 +11,8 @@ use Rattle.bank_core.specs.declared.bank.Fault.{Fault}
 use Rattle.bank_core.specs.Asks.{Ask, Writes, Flushes, IsPart}
 use Rattle.bank_core.specs.Disk.{Sector, Sectors, Noted, covers, sectors_in, sector_of, sector_size, replay, run}
 use Rattle.bank_core.specs.Memory.{zero_sector}
-use Rattle.bank_core.specs.Standing.{Stands, Spares}
-use Rattle.bank_core.proofs.Standing.{part_lands, spares_more}
+use Rattle.bank_core.specs.Standing.{Stands, Spares, Untouched}
+use Rattle.bank_core.proofs.Standing.{part_lands, part_spares, spares_more, untouched_stands}
 use Rattle.label_store.specs.declared.rule.Head.{Head}
 use Rattle.label_store.specs.declared.uberblock.Uberblock.{Uberblock}
 use Rattle.label_store.specs.Layout.{labels_of}
@@ -238,3 +238,31 @@ pub stamp_blanks : (dev size : ℕ) (pool member : Guid) (made : List Noted) (se
     → (place : ℕ) → place < 128 → IsBlank (run made sectors dev (place_at size place)) pool member
 stamp_blanks dev size pool member made sectors big part place inside =
     label_blank dev size pool member (place / 32) (place % 32) made (sectors dev) big (omega arith) (omega arith) part
+
+elsewhere : (dev d : ℕ) (x : Bool) → dev ≢ d → ((dev == d) && x) ≡ false
+elsewhere dev d x ne = ap (λ b. b && x) (let other : (dev == d) ≡ false = grind (arith, nat_tests) in other)
+
+writes_elsewhere : (dev : ℕ) (labels : List ℕ) (offset : ℕ) (bytes : List ℕ) (d s : ℕ) → dev ≢ d → Spares (label_writes dev labels offset bytes) d s
+writes_elsewhere dev [] offset bytes d s ne = tt
+writes_elsewhere dev (at ∷ labels) offset bytes d s ne = (elsewhere dev d _ ne, writes_elsewhere dev labels offset bytes d s ne)
+
+-- A stamp puts nothing on another device, however far it came.
+pub stamp_elsewhere : (dev size : ℕ) (pool member : Guid) (made : List Noted) (outcome : Option Fault) (d s : ℕ) → dev ≢ d
+    → IsPart (stamp_plan dev size pool member) made outcome → Untouched made d s
+stamp_elsewhere dev size pool member made outcome d s ne part =
+    let u = uberblock_bytes (blank_uberblock pool member) in
+    part_spares (stamp_plan dev size pool member) made outcome d s part
+    (spares_more (label_writes dev (labels_of size) 32 zero_ring) (label_writes dev (labels_of size) 32 u ++ Flushes dev ∷ []) d s
+    (writes_elsewhere dev (labels_of size) 32 zero_ring d s ne)
+    (spares_more (label_writes dev (labels_of size) 32 u) (Flushes dev ∷ []) d s (writes_elsewhere dev (labels_of size) 32 u d s ne) (refl, tt)))
+
+-- What is blank stays so behind calls that put nothing there.
+pub untouched_blank : (made : List Noted) (d s : ℕ) (x : Sector) (pool member : Guid) → Untouched made d s → IsBlank x pool member → IsBlank (replay made d s x) pool member
+untouched_blank made d s x pool member u blank = of blank.stands
+  where
+    stays : (b : List ℕ) → x.stable ≡ b → Stands (replay made d s x) b
+    stays b e = untouched_stands made d s x b u (record { stable = e; still = blank.still })
+
+    of : (x.stable ≡ zero_sector) ⊎ (x.stable ≡ uberblock_bytes (blank_uberblock pool member)) → IsBlank (replay made d s x) pool member
+    of (inl e) = let st = stays zero_sector e in record { still = st.still; stands = inl st.stable }
+    of (inr e) = let st = stays (uberblock_bytes (blank_uberblock pool member)) e in record { still = st.still; stands = inr st.stable }
