@@ -1,1 +1,5 @@
-
+pub mod Folding
+pub mod Holding
+pub mod Moving
+pub mod Stamping
+pub mod Surviving
