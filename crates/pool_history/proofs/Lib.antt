@@ -1,1 +1,5 @@
 pub mod Folding
+pub mod RoundParts
+pub mod RoundPlaces
+pub mod RoundShapes
+pub mod Sparing
