@@ -1,5 +1,7 @@
 pub mod Folding
+pub mod Phases
 pub mod RoundParts
 pub mod RoundPlaces
 pub mod RoundShapes
 pub mod Sparing
+pub mod Thirds
