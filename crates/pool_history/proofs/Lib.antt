@@ -1,5 +1,6 @@
 pub mod Folding
 pub mod Phases
+pub mod RoundMoves
 pub mod RoundParts
 pub mod RoundPlaces
 pub mod RoundShapes

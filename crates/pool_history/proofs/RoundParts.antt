@@ -66,7 +66,7 @@ odd_fits : (head_of : List ℕ → Option Head) (p : Pool) (status : Status) (r 
 odd_fits head_of p status r e is = (subst (IsOf head_of p) e is).1
 
 -- the new record's blocks lie there, and those of the old ones
-front_places : (head_of : List ℕ → Option Head) (p : Pool) (q : Rec) (d : ℕ) → Survives head_of p → Fits head_of p q → p.member d ≡ true
+pub front_places : (head_of : List ℕ → Option Head) (p : Pool) (q : Rec) (d : ℕ) → Survives head_of p → Fits head_of p q → p.member d ≡ true
     → HasPlaces (after (Begins q) p) d
 front_places head_of p q d s fits is r a cell (inl e) at = fits.places a cell (ap (λ x. x.cells a) (sym e) ∙ at) d is
 front_places head_of p q d s fits is r a cell (inr old) at = s.places r a cell d old at is
@@ -136,7 +136,7 @@ known_new : (p : Pool) (q : Rec) (m : Member) (bytes : List ℕ) → IsIn q (dra
 known_new p q m bytes is_in range seat_is e v is some =
     (q, is_in, sym (is_of_fields v bytes is) ∙ (ap fields_of e ∙ fields_are (uberblock_of q.commit m) range) ∙ ap (uberblock_of q.commit) seat_is)
 
-member_range : (head_of : List ℕ → Option Head) (p : Pool) (q : Rec) (m : Member) → Fits head_of p q → IsSeated p m → IsInRange (uberblock_of q.commit m)
+pub member_range : (head_of : List ℕ → Option Head) (p : Pool) (q : Rec) (m : Member) → Fits head_of p q → IsSeated p m → IsInRange (uberblock_of q.commit m)
 member_range head_of p q m fits seated =
     subst (λ n. IsInRange (uberblock_of q.commit n)) (sym seated.seat_is) (fits.is_record m.dev seated.is_member).in_range
 
