@@ -1,15 +1,13 @@
 -- A round of a record that is drawn up is allowed, event by event, and what it leaves of the pool.
-use Rattle.std.proofs.Common.{◌≡◌, ◌≢◌, ℕ, ◌+◌, ◌%◌, ◌<◌, ◌≤◌, ◌&&◌, zero, suc, cond, Bool, true, false, List, [], ◌∷◌, ◌++◌, map, Option, Some, None, refl, sym, ap, ◌∙◌, subst, arith, inl, inr, append-nil}
+use Rattle.std.proofs.Common.{◌≡◌, ℕ, ◌+◌, ◌<◌, ◌≤◌, zero, suc, Bool, true, false, List, [], ◌∷◌, ◌++◌, map, Option, Some, None, refl, sym, ap, ◌∙◌, subst, arith, inl, inr, append-nil}
 use Rattle.std.specs.Prelude.{slice_get}
 use Rattle.std.proofs.lemmas.Bool.{and_parts}
-use Rattle.bank_core.specs.Asks.{Ask, IsPart}
-use Rattle.bank_core.specs.Disk.{Sectors, Noted, run, replay, sectors_in, sector_of}
-use Rattle.bank_core.specs.Standing.{Stands, Untouched, Spares}
-use Rattle.bank_core.proofs.Composing.{replay_more, run_more}
+use Rattle.bank_core.specs.Disk.{Sectors, Noted, run, sectors_in}
+use Rattle.bank_core.specs.Standing.{Stands, Untouched}
+use Rattle.bank_core.proofs.Composing.{run_more}
 use Rattle.bank_core.proofs.Standing.{untouched_stands}
 use Rattle.label_store.specs.declared.member.Member.{Member}
 use Rattle.label_store.specs.declared.rule.Head.{Head}
-use Rattle.label_store.specs.declared.uberblock.Uberblock.{Uberblock}
 use Rattle.label_store.specs.Layout.{slot_of}
 use Rattle.label_store.specs.Phases.{IsPhase}
 use Rattle.label_store.specs.Rounds.{uberblock_of, first_plan, second_plan, third_plan}
@@ -66,6 +64,7 @@ front_stands head_of p q ms results vs st r j m at on s bytes (inl (e, b)) =
   where
     seated : IsSeated p m
     seated = seated_of head_of p q ms st j m at
+
     there : s ≡ 0 + (32 + slot_of (number_of q))
     there = omega (arith, e)
 front_stands head_of p q ms results vs st r j m at on s bytes (inr (i, lt, e, b)) =
@@ -79,6 +78,7 @@ front_stands head_of p q ms results vs st r j m at on s bytes (inr (i, lt, e, b)
   where
     seated : IsSeated p m
     seated = seated_of head_of p q ms st j m at
+
     few : sectors_in q.commit.blob ≤ 28
     few = (st.drawn_up.fits.is_record m.dev seated.is_member).most
 
@@ -141,18 +141,19 @@ round_allowed : (head_of : List ℕ → Option Head) (p : Pool) (q : Rec) (ms : 
     → IsRoundEvents p.size q ms results vs → Mays head_of p vs
 round_allowed head_of p q ms results vs st r =
     let begun = after (Begins q) p in
-    subst (Mays head_of p) (sym r.all)
-    (st.drawn_up,
-    mays_calls head_of r.first (as_events r.second ++ (r.thirds ++ acks_if (all_true results) q)) begun
-    (phase_may head_of (first_plan p.size q.commit) ms (map (λ m. true) ms) r.in_first r.first begun
-    (λ j m e. first_sparing head_of p q m st.survives st.drawn_up.fits (seated_of head_of p q ms st j m e)) r.configs)
-    (mays_calls head_of r.second (r.thirds ++ acks_if (all_true results) q) (with_calls r.first begun)
-    (phase_may head_of (second_plan p.size q.commit) ms r.in_first r.in_second r.second (with_calls r.first begun)
-    (λ j m e. still_sparing r.first begun (second_plan p.size q.commit m)
-    (second_sparing head_of p q m st.survives st.drawn_up.fits (seated_of head_of p q ms st j m e))) r.uberblocks)
-    (mays_more head_of r.thirds (acks_if (all_true results) q) (front q r.first r.second p)
-    (thirds_may head_of q ms r.in_second results r.thirds (front q r.first r.second p) (front_ready head_of p q ms results vs st r) r.copies)
-    (acks_may head_of q (all_true results) (pool_after r.thirds (front q r.first r.second p)) (may_ack head_of p q ms results vs st r)))))
+    subst (Mays head_of p) (sym r.all) (
+      st.drawn_up,
+      mays_calls head_of r.first (as_events r.second ++ (r.thirds ++ acks_if (all_true results) q)) begun
+          (phase_may head_of (first_plan p.size q.commit) ms (map (λ m. true) ms) r.in_first r.first begun
+          (λ j m e. first_sparing head_of p q m st.survives st.drawn_up.fits (seated_of head_of p q ms st j m e)) r.configs)
+          (mays_calls head_of r.second (r.thirds ++ acks_if (all_true results) q) (with_calls r.first begun)
+          (phase_may head_of (second_plan p.size q.commit) ms r.in_first r.in_second r.second (with_calls r.first begun)
+          (λ j m e. still_sparing r.first begun (second_plan p.size q.commit m)
+          (second_sparing head_of p q m st.survives st.drawn_up.fits (seated_of head_of p q ms st j m e))) r.uberblocks)
+          (mays_more head_of r.thirds (acks_if (all_true results) q) (front q r.first r.second p)
+          (thirds_may head_of q ms r.in_second results r.thirds (front q r.first r.second p) (front_ready head_of p q ms results vs st r) r.copies)
+          (acks_may head_of q (all_true results) (pool_after r.thirds (front q r.first r.second p)) (may_ack head_of p q ms results vs st r)))),
+    )
 
 -- A round of a record that is drawn up is allowed.
 pub round_may : (head_of : List ℕ → Option Head) (p : Pool) (q : Rec) (members : List Member) (results : List Bool) (vs : List Event)

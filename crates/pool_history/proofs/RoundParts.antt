@@ -1,14 +1,12 @@
 -- Each part of a round spares what is needed while it is made.
-use Rattle.std.proofs.Common.{◌≡◌, ◌≢◌, ◌⊎◌, ℕ, ◌+◌, ◌-◌, ◌*◌, ◌/◌, ◌%◌, ◌<◌, ◌≤◌, ◌==◌, ◌&&◌, nat_le, nat_lt, cond, Bool, true, false, List, [], ◌∷◌, ◌++◌, length, take, drop, get_or, Option, Some, refl, sym, ap, ◌∙◌, subst, arith, inl, inr, ⊎_elim}
+use Rattle.std.proofs.Common.{◌≡◌, ◌≢◌, ℕ, ◌+◌, ◌-◌, ◌*◌, ◌/◌, ◌%◌, ◌<◌, ◌≤◌, ◌==◌, ◌&&◌, nat_le, nat_lt, cond, Bool, true, false, List, length, take, drop, Option, Some, refl, sym, ap, ◌∙◌, subst, arith, inl, inr, ⊎_elim}
 use Rattle.std.proofs.lemmas.Bool.{cases_eq, eqb-false, and_parts, leb-true, ltb-true}
 use Rattle.std.proofs.lemmas.List.{take_all}
-use Rattle.bank_core.specs.Asks.{Ask}
 use Rattle.bank_core.specs.Disk.{covers, sectors_in, sector_of, sector_size}
 use Rattle.bank_core.specs.Standing.{Spares}
 use Rattle.label_store.specs.declared.member.Member.{Member}
 use Rattle.label_store.specs.declared.rule.Head.{Head}
-use Rattle.label_store.specs.declared.uberblock.Uberblock.{Uberblock}
-use Rattle.label_store.specs.Layout.{labels_of, even_labels, odd_labels, slot_of}
+use Rattle.label_store.specs.Layout.{slot_of}
 use Rattle.label_store.specs.Records.{place_at}
 use Rattle.label_store.specs.Rounds.{uberblock_of, first_plan, second_plan, third_plan}
 use Rattle.label_store.specs.Uberblock.{IsInRange, uberblock_bytes, fields_of}
@@ -145,23 +143,34 @@ pub second_sparing : (head_of : List ℕ → Option Head) (p : Pool) (q : Rec) (
 second_sparing head_of p q m sv fits seated = record {
   plain = tt;
   off = by_all;
-  known = λ d place is inside. by_device (λ e. AreKnown (after (Begins q) p) e (place_at (p.size e) place) (second_plan p.size q.commit m)) m.dev d
-      (puts_it 0 (place_at (p.size m.dev) place), (puts_it 64 (place_at (p.size m.dev) place), (puts_it (p.size m.dev - 128) (place_at (p.size m.dev) place),
-      (puts_it (p.size m.dev - 64) (place_at (p.size m.dev) place), (λ aimed. absurd (no_aim aimed), tt)))))
+  known = λ d place is inside. by_device (λ e. AreKnown (after (Begins q) p) e (place_at (p.size e) place) (second_plan p.size q.commit m)) m.dev d (
+    puts_it 0 (place_at (p.size m.dev) place),
+    (
+      puts_it 64 (place_at (p.size m.dev) place),
+      (
+        puts_it (p.size m.dev - 128) (place_at (p.size m.dev) place),
+        (puts_it (p.size m.dev - 64) (place_at (p.size m.dev) place), (λ aimed. absurd (no_aim aimed), tt)),
+      ),
+    ),
+  )
       (λ ne. spared_known (after (Begins q) p) (second_plan p.size q.commit m) d (place_at (p.size d) place)
       (ring_elsewhere m.dev (p.size m.dev) (uberblock_of q.commit m) d _ ne));
 }
   where
     range : IsInRange (uberblock_of q.commit m)
     range = member_range head_of p q m fits seated
+
     one : sectors_in (uberblock_bytes (uberblock_of q.commit m)) ≡ 1
     one = uberblock_sectors (uberblock_of q.commit m) range.sum
+
     by_all : (d s : ℕ) (bytes : List ℕ) → Needs (after (Begins q) p) d s bytes → Spares (second_plan p.size q.commit m) d s
     by_all d = by_device (λ e. (s : ℕ) (bytes : List ℕ) → Needs (after (Begins q) p) e s bytes → Spares (second_plan p.size q.commit m) e s) m.dev d
         (λ s bytes needs. second_spares m.dev (p.size m.dev) (uberblock_of q.commit m) m.dev s seated.big one (needs_front head_of p q m.dev s bytes sv fits needs))
         (λ ne s bytes needs. ring_elsewhere m.dev (p.size m.dev) (uberblock_of q.commit m) d s ne)
+
     no_aim : false ≡ true → ⊥
     no_aim e = cc
+
     puts_it : (label s : ℕ)
         → ((m.dev == m.dev) && covers (label + (32 + slot_of (number_of q))) (sectors_in (uberblock_bytes (uberblock_of q.commit m))) s) ≡ true
         → IsKnownUber (after (Begins q) p) m.dev (sector_of (s - (label + (32 + slot_of (number_of q)))) (uberblock_bytes (uberblock_of q.commit m)))

@@ -1,8 +1,8 @@
 -- Which sectors of a device are needed in each phase of a round, and that the phase's part spares them.
-use Rattle.std.proofs.Common.{◌≡◌, ◌≢◌, ◌⊎◌, ℕ, ◌+◌, ◌-◌, ◌%◌, ◌<◌, ◌≤◌, ◌==◌, ◌&&◌, nat_le, nat_lt, Bool, true, false, List, [], ◌∷◌, length, refl, sym, ap, ◌∙◌, subst, arith, inl, inr}
-use Rattle.std.proofs.lemmas.Bool.{and_left, and_right, le-leb, lt-leb, le-ltb}
+use Rattle.std.proofs.Common.{◌≡◌, ◌≢◌, ◌⊎◌, ℕ, ◌+◌, ◌-◌, ◌%◌, ◌<◌, ◌≤◌, ◌==◌, ◌&&◌, nat_le, nat_lt, false, List, refl, sym, ap, ◌∙◌, subst, arith, inl, inr}
+use Rattle.std.proofs.lemmas.Bool.{and_left, and_right, lt-leb, le-ltb}
 use Rattle.bank_core.specs.Asks.{Ask}
-use Rattle.bank_core.specs.Disk.{covers, sectors_in, sector_of}
+use Rattle.bank_core.specs.Disk.{covers, sectors_in}
 use Rattle.bank_core.specs.Standing.{Spares}
 use Rattle.label_store.specs.declared.uberblock.Uberblock.{Uberblock}
 use Rattle.label_store.specs.Layout.{even_labels, odd_labels}

@@ -1,11 +1,11 @@
 -- The calls of a round as events, and what a round leaves of a pool.
-use Rattle.std.proofs.Common.{◌≡◌, ℕ, Bool, true, false, List, [], ◌∷◌, ◌++◌, map, refl, sym, ap, ◌∙◌, append-nil}
+use Rattle.std.proofs.Common.{◌≡◌, ℕ, Bool, true, false, List, [], ◌∷◌, ◌++◌, refl, sym, ap, ◌∙◌, append-nil}
 use Rattle.bank_core.specs.Asks.{Ask}
 use Rattle.bank_core.specs.Disk.{Noted}
 use Rattle.label_store.specs.declared.member.Member.{Member}
-use Rattle.label_store.specs.Phases.{IsTurn, IsPhase}
+use Rattle.label_store.specs.Phases.{IsPhase}
 use Rattle.label_store.specs.Rounds.{IsRound, third_plan}
-use Rattle.pool_history.specs.Events.{Event, Begins, Third, Ends, Acks, calls_of, as_events}
+use Rattle.pool_history.specs.Events.{Event, Begins, Third, calls_of, as_events}
 use Rattle.pool_history.specs.Records.{Rec}
 use Rattle.pool_history.specs.Rounds.{ends_if, IsThirds, all_true, acks_if, IsRoundEvents}
 use Rattle.pool_history.proofs.Folding.{calls_more, calls_are}
@@ -48,9 +48,9 @@ round_marked size q members results made r =
     let acks = acks_if (all_true results) q in (
       Begins q ∷ (as_events r.first ++ (as_events r.second ++ (marked.0 ++ acks))),
       calls_then_of r.first (as_events r.second ++ (marked.0 ++ acks))
-      ∙ ap (λ l. r.first ++ l) (calls_then_of r.second (marked.0 ++ acks)
-      ∙ ap (λ l. r.second ++ l) (calls_more marked.0 acks ∙ ap (λ l. calls_of marked.0 ++ l) (acks_no_call (all_true results) q) ∙ append-nil (calls_of marked.0) ∙ marked.1))
-      ∙ sym r.all,
+          ∙ ap (λ l. r.first ++ l) (calls_then_of r.second (marked.0 ++ acks)
+          ∙ ap (λ l. r.second ++ l) (calls_more marked.0 acks ∙ ap (λ l. calls_of marked.0 ++ l) (acks_no_call (all_true results) q) ∙ append-nil (calls_of marked.0) ∙ marked.1))
+          ∙ sym r.all,
       record {
         first = r.first;
         second = r.second;

@@ -1,11 +1,11 @@
 -- The third phase of a round: its moves are allowed, and each member that ends it holds the new record.
-use Rattle.std.proofs.Common.{◌≡◌, ◌≢◌, ℕ, ◌+◌, ◌%◌, ◌==◌, ◌<◌, ◌≤◌, zero, suc, cond, Bool, true, false, List, [], ◌∷◌, ◌++◌, Option, Some, None, refl, sym, ap, ◌∙◌, subst, arith, inl, inr}
+use Rattle.std.proofs.Common.{◌≡◌, ◌≢◌, ℕ, ◌+◌, ◌≤◌, zero, suc, cond, Bool, true, false, List, [], ◌∷◌, ◌++◌, Option, Some, refl, sym, ap, ◌∙◌, subst, arith, inl, inr}
 use Rattle.std.specs.Prelude.{slice_get}
 use Rattle.std.proofs.lemmas.Bool.{ne_eqb, eq-eqb}
-use Rattle.bank_core.specs.Asks.{Ask, IsPart}
+use Rattle.bank_core.specs.Asks.{Ask}
 use Rattle.bank_core.specs.Disk.{Sector, Noted, run, replay, sectors_in}
-use Rattle.bank_core.specs.Standing.{Stands, Untouched, Spares}
-use Rattle.bank_core.proofs.Standing.{untouched_stands, part_spares}
+use Rattle.bank_core.specs.Standing.{Stands, Spares}
+use Rattle.bank_core.proofs.Standing.{untouched_stands}
 use Rattle.label_store.specs.declared.member.Member.{Member}
 use Rattle.label_store.specs.declared.rule.Head.{Head}
 use Rattle.label_store.specs.Layout.{slot_of}
@@ -22,7 +22,7 @@ use Rattle.pool_history.specs.Records.{Rec, IsIn, number_of}
 use Rattle.pool_history.specs.Rounds.{ends_if, IsThirds}
 use Rattle.pool_history.specs.Survival.{Fits}
 use Rattle.pool_history.proofs.Folding.{since_after, with_calls, calls_then, mays_calls}
-use Rattle.pool_history.proofs.Phases.{same_member, same_bool, no_member, others, turn_spares, whole_part}
+use Rattle.pool_history.proofs.Phases.{same_member, no_member, others, turn_spares, whole_part}
 use Rattle.pool_history.proofs.RoundParts.{IsSeated, HasPlaces, third_sparing}
 use Rattle.pool_history.proofs.Sparing.{turn_may}
 
@@ -112,8 +112,10 @@ odd_stands head_of p q m ms was made turn r = record {
   where
     seated : IsSeated p m
     seated = r.seated zero m refl
+
     few : sectors_in q.commit.blob ≤ 28
     few = (r.fits.is_record m.dev seated.is_member).most
+
     by_part : (s : ℕ) (bytes : List ℕ) → NeedsLabel (seat p m.dev) (Odd q) s bytes → Stands (replay made m.dev s (p.sectors m.dev s)) bytes
     by_part s bytes (inl (e, b)) = untouched_stands made m.dev s (p.sectors m.dev s) bytes
         (turn_spares (third_plan p.size q.commit m) true true made m.dev s
@@ -135,18 +137,21 @@ thirds_may head_of q [] (b ∷ was) is vs p r t = absurd t
 thirds_may head_of q (m ∷ ms) [] is vs p r t = absurd t
 thirds_may head_of q (m ∷ ms) (b ∷ was) [] vs p r t = absurd t
 thirds_may head_of q (m ∷ ms) (true ∷ was) (true ∷ is) vs p r t =
-    subst (Mays head_of p) (sym t.2)
-    (even_stands head_of p q m ms was r,
-    mays_calls head_of t.0 (Ends q m.dev ∷ t.1) (after (Third q m.dev) p) (part_sparing head_of p q m ms true was t.0 t.3 r)
-    (odd_stands head_of p q m ms was t.0 t.3 r,
-    thirds_may head_of q ms was is t.1 (after (Ends q m.dev) (with_calls t.0 (after (Third q m.dev) p)))
-    (ready_rest head_of p q m ms true true was t.0 _ t.3 r) t.4))
+    subst (Mays head_of p) (sym t.2) (
+      even_stands head_of p q m ms was r,
+      mays_calls head_of t.0 (Ends q m.dev ∷ t.1) (after (Third q m.dev) p) (part_sparing head_of p q m ms true was t.0 t.3 r) (
+        odd_stands head_of p q m ms was t.0 t.3 r,
+        thirds_may head_of q ms was is t.1 (after (Ends q m.dev) (with_calls t.0 (after (Third q m.dev) p)))
+            (ready_rest head_of p q m ms true true was t.0 _ t.3 r) t.4,
+      ),
+    )
 thirds_may head_of q (m ∷ ms) (true ∷ was) (false ∷ is) vs p r t =
-    subst (Mays head_of p) (sym t.2)
-    (even_stands head_of p q m ms was r,
-    mays_calls head_of t.0 t.1 (after (Third q m.dev) p) (part_sparing head_of p q m ms false was t.0 t.3 r)
-    (thirds_may head_of q ms was is t.1 (with_calls t.0 (after (Third q m.dev) p))
-    (ready_rest head_of p q m ms true false was t.0 _ t.3 r) t.4))
+    subst (Mays head_of p) (sym t.2) (
+      even_stands head_of p q m ms was r,
+      mays_calls head_of t.0 t.1 (after (Third q m.dev) p) (part_sparing head_of p q m ms false was t.0 t.3 r)
+          (thirds_may head_of q ms was is t.1 (with_calls t.0 (after (Third q m.dev) p))
+          (ready_rest head_of p q m ms true false was t.0 _ t.3 r) t.4),
+    )
 thirds_may head_of q (m ∷ ms) (false ∷ was) (c ∷ is) vs p r t =
     thirds_may head_of q ms was is vs p (ready_off head_of p q m ms false was r) t.1
 
