@@ -3,3 +3,10 @@ pub mod Holding
 pub mod Moving
 pub mod Stamping
 pub mod Surviving
+pub mod Phases
+pub mod RoundMoves
+pub mod RoundParts
+pub mod RoundPlaces
+pub mod RoundShapes
+pub mod Sparing
+pub mod Thirds

@@ -1,14 +1,14 @@
 -- The events of a round, and which rounds a pool may make.
-use Rattle.std.specs.Prelude.{◌≡◌, ℕ, Bool, true, false, List, [], ◌∷◌, ◌++◌, map, Some, slice_get}
+use Rattle.std.specs.Prelude.{◌≡◌, ℕ, Bool, true, false, List, [], ◌∷◌, ◌++◌, cond, map, Some, slice_get}
 use Rattle.std.specs.List.{list_all}
 use Rattle.bank_core.specs.Asks.{Ask}
-use Rattle.bank_core.specs.Disk.{Noted}
+use Rattle.bank_core.specs.Disk.{Noted, run}
 use Rattle.label_store.specs.declared.member.Member.{Member}
 use Rattle.label_store.specs.Phases.{IsTurn, IsPhase}
 use Rattle.label_store.specs.Rounds.{first_plan, second_plan, third_plan}
 use Rattle.pool_history.specs.Events.{Event, Begins, Third, Ends, Acks, as_events}
 use Rattle.pool_history.specs.Pools.{Pool, seat}
-use Rattle.pool_history.specs.Records.{Rec}
+use Rattle.pool_history.specs.Records.{Rec, number_of}
 
 abbrev pub ends_if : Bool → Rec → ℕ → List Event
 ends_if true q d = Ends q d ∷ []
@@ -50,3 +50,20 @@ pub record IsRoundEvents (size : ℕ → ℕ) (q : Rec) (members : List Member) 
 pub record AreMembersOf (p : Pool) (members : List Member) : Type 0 where
   pub seated : (i : ℕ) (m : Member) → slice_get members i ≡ Some m → (p.member m.dev ≡ true) × (m ≡ seat p m.dev)
   pub all : (d : ℕ) → p.member d ≡ true → (i : ℕ) × (slice_get members i ≡ Some (seat p d))
+
+-- What the events of a round leave of a pool, by whether it was whole, that is whether no member failed, and
+-- by its calls. The record of a whole round is the acknowledged one, the pool reads it, and no other is live.
+-- Else it is live beside those that were.
+pub record RoundEnds (p behind : Pool) (q : Rec) (whole : Bool) (made : List Noted) : Type 0 where
+  pub name : behind.name ≡ p.name
+  pub pool : behind.pool ≡ p.pool
+  pub member : behind.member ≡ p.member
+  pub guid : behind.guid ≡ p.guid
+  pub size : behind.size ≡ p.size
+  pub written : behind.written ≡ p.written
+  pub top : behind.top ≡ number_of q
+  pub sectors : behind.sectors ≡ run made p.sectors
+  pub acked : behind.acked ≡ cond whole q p.acked
+  pub reads : behind.reads ≡ cond whole q p.reads
+  pub idle : behind.idle ≡ whole
+  pub live : behind.live ≡ q ∷ cond whole [] p.live
