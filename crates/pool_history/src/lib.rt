@@ -1,3 +1,7 @@
 //! The history of a pool over any number of runs, and what its devices keep through it
 //! (docs/MODEL.md, "Stops and openings").
 #![tactic(auto)]
+
+mod openings;
+
+pub use openings::openings_find_a_live_record;
