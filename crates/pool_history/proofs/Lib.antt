@@ -10,3 +10,5 @@ pub mod RoundPlaces
 pub mod RoundShapes
 pub mod Sparing
 pub mod Thirds
+pub mod Verified
+pub mod Yields

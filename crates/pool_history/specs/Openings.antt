@@ -3,16 +3,18 @@ use Rattle.std.specs.Prelude.{◌≡◌, ℕ, ◌+◌, ◌<◌, ◌≤◌, List,
 use Rattle.label_store.specs.declared.rule.Head.{Head}
 use Rattle.label_store.specs.declared.uberblock.Uberblock.{Uberblock}
 use Rattle.label_store.specs.Layout.{labels_of}
-use Rattle.label_store.specs.Records.{IsVerified}
+use Rattle.label_store.specs.Records.{IsVerified, config_at}
 use Rattle.label_store.specs.Rounds.{config_of}
 use Rattle.pool_history.specs.Events.{Known}
 use Rattle.pool_history.specs.Pools.{Pool, drawn}
 use Rattle.pool_history.specs.Records.{Rec, IsIn, number_of}
 
--- By what was read, this device has a verified record of the name.
+-- By what was read, this device has a verified record of the name. Its label's configuration part was read,
+-- also where the configuration is empty.
 pub record IsVerifiedOn (head_of : List ℕ → Option Head) (size : ℕ → ℕ) (known : Known) (name : List ℕ) (d : ℕ) (u : Uberblock) (config : List ℕ) : Type 0 where
   pub place : ℕ
   pub verified : IsVerified head_of (size d) (known d) place u config
+  pub is_read : (bytes : List ℕ) × (known d (config_at (size d) verified.label) ≡ Some bytes)
   pub head : Head
   pub reads : head_of config ≡ Some head
   pub name_is : head.name ≡ name

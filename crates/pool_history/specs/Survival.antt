@@ -8,6 +8,7 @@
 -- 4. No live record has a number below the acknowledged one's, nor above the highest drawn, but those that
 --    an opening missed (`not_below`, `acked_top`, `live_top`, `newest_above`).
 -- 5. A record that was given up has a number below the acknowledged one's, but those (`given_below`).
+-- 6. All drawn records are this pool's (`pools`).
 use Rattle.std.specs.Prelude.{◌≡◌, ◌⊎◌, ℕ, ◌+◌, ◌<◌, ◌≤◌, true, List, [], ◌∷◌, length, Option, Some}
 use Rattle.bank_core.specs.Disk.{Pending, Nothing, Written, Failing}
 use Rattle.label_store.specs.declared.rule.Head.{Head}
@@ -74,3 +75,4 @@ pub record Survives (head_of : List ℕ → Option Head) (p : Pool) : Type 0 whe
   pub newest_above : (q : Rec) (rest : List Rec) → p.live ≡ q ∷ rest → (r : Rec) → IsIn r rest → (number_of r < number_of q) ⊎ IsIn r p.missed
   pub given_below : (r : Rec) → IsIn r p.given → (number_of r < number_of p.acked) ⊎ IsIn r p.missed
   pub idle_alone : p.idle ≡ true → (r : Rec) → IsIn r p.live → r ≡ p.reads
+  pub pools : (r : Rec) → IsIn r (drawn p) → r.commit.pool ≡ p.pool
