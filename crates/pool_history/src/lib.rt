@@ -3,9 +3,9 @@
 #![tactic(auto)]
 
 mod moves;
+mod openings;
+mod rounds;
 
 pub use moves::{histories_keep_their_records, stamped_pools_survive};
-mod rounds;
-pub use rounds::rounds_may_be_made;
-mod openings;
 pub use openings::openings_find_a_live_record;
+pub use rounds::rounds_may_be_made;
