@@ -4,4 +4,4 @@
 
 mod openings;
 
-pub use openings::openings_find_a_live_record;
+pub use openings::{looks_show_the_labels, openings_find_a_live_record};

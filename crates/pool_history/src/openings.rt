@@ -1,10 +1,14 @@
 //! Laws of openings (docs/MODEL.md, "Stops and openings").
-ghost use Rattle.std.specs.Prelude.{ℕ, List, Option};
+ghost use Rattle.std.specs.Prelude.{◌≡◌, ℕ, ◌*◌, ◌≤◌, List, length, Option, Some, None, slice_get};
+ghost use Rattle.bank_core.specs.Disk.{Sectors, Noted, AllAnswer, run};
+ghost use Rattle.label_store.specs.Newest.{Parts, IsLook, IsBest};
+ghost use Rattle.label_store.specs.declared.found.Found.{Found};
 ghost use Rattle.label_store.specs.declared.rule.Head.{Head};
 ghost use Rattle.label_store.specs.declared.uberblock.Uberblock.{Uberblock};
 ghost use Rattle.pool_history.specs.Events.{Known};
+ghost use Rattle.pool_history.specs.Looks.{known_by, AreDistinct, HaveRoom, NoneFailed};
 ghost use Rattle.pool_history.specs.Moves.{ReadsTrue};
-ghost use Rattle.pool_history.specs.Openings.{IsVerifiedOn, IsYield, FindsLive};
+ghost use Rattle.pool_history.specs.Openings.{IsVerifiedOn, IsYield, IsReadWhole, FindsLive};
 ghost use Rattle.pool_history.specs.Pools.{Pool};
 ghost use Rattle.pool_history.specs.Premises.{Premises};
 ghost use Rattle.pool_history.specs.Survival.{Survives};
@@ -21,4 +25,24 @@ pub fn openings_find_a_live_record()
         → (d : ℕ) × (u : Uberblock) × (config : List ℕ) × IsVerifiedOn head_of p.size known p.name d u config }
     ensures each { (head_of : List ℕ → Option Head) (p : Pool) (known : Known) (u : Uberblock) (config : List ℕ) → Survives head_of p → ReadsTrue p.sectors known → Premises head_of p known
         → IsYield head_of p.size known p.name u config → FindsLive p u config }
+{}
+
+/// What a search for the newest record says of the parts that it read is so of the labels' sectors. It
+/// computes nothing: its clauses are the law.
+///
+/// `found` says that the record which the search gives is one that an opening may take, and `none` that
+/// where it gives none no record of the name is verified. `true_to` says that what was read of a sector is
+/// what stands there, where it is clean behind the reads, and `whole` that a device was read whole where
+/// none of its reads failed. The devices differ, and each has the room of four labels, of 320 sectors.
+pub fn looks_show_the_labels()
+    ensures found { (head_of : List ℕ → Option Head) (size : ℕ → ℕ) (devs : List ℕ) (looks : List Parts) (made : List Noted) (sectors : Sectors) (name : List ℕ) (found : Found)
+        → IsLook size devs looks made → AreDistinct devs → HaveRoom size devs → AllAnswer sectors made → IsBest head_of looks name (128 * length devs) (Some found)
+        → (u : Uberblock) × (found.number ≡ u.number) × (found.pool ≡ u.pool) × IsYield head_of size (known_by size devs looks) name u found.blob.items }
+    ensures none { (head_of : List ℕ → Option Head) (size : ℕ → ℕ) (devs : List ℕ) (looks : List Parts) (made : List Noted) (sectors : Sectors) (name : List ℕ)
+        → IsLook size devs looks made → HaveRoom size devs → AllAnswer sectors made → IsBest head_of looks name (128 * length devs) None
+        → (d : ℕ) (u : Uberblock) (config : List ℕ) → IsVerifiedOn head_of size (known_by size devs looks) name d u config → ⊥ }
+    ensures true_to { (size : ℕ → ℕ) (devs : List ℕ) (looks : List Parts) (made : List Noted) (sectors : Sectors) → IsLook size devs looks made → AllAnswer sectors made
+        → ReadsTrue (run made sectors) (known_by size devs looks) }
+    ensures whole { (size : ℕ → ℕ) (devs : List ℕ) (looks : List Parts) (made : List Noted) (i d : ℕ) → IsLook size devs looks made → slice_get devs i ≡ Some d → 320 ≤ size d
+        → NoneFailed d made → IsReadWhole (size d) (known_by size devs looks d) }
 {}
