@@ -1,7 +1,9 @@
-pub mod Folding
-pub mod Verified
-pub mod Yields
-pub mod LookedParts
+pub mod Calming
 pub mod DeviceSectors
+pub mod Folding
+pub mod LookedParts
 pub mod LooksFound
 pub mod LooksShow
+pub mod Tracked
+pub mod Verified
+pub mod Yields

@@ -4,4 +4,6 @@
 
 mod openings;
 
-pub use openings::{looks_show_the_labels, openings_find_a_live_record};
+pub use openings::{
+    labels_stay_sound, looks_show_the_labels, openings_find_a_live_record, premises_can_be_met,
+};
