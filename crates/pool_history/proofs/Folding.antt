@@ -170,3 +170,63 @@ member_before v p d is = is
 pub member_ever : (vs : List Event) (p : Pool) (d : ℕ) → (pool_after vs p).member d ≡ true → p.member d ≡ true
 member_ever [] p d is = is
 member_ever (v ∷ vs) p d is = member_before v p d (member_ever vs (after v p) d is)
+
+-- Each front of the calls is that of some front of the events, so a law at each front of these holds at each moment of the bank.
+pub moment_of : (vs : List Event) (k : ℕ) → (j : ℕ) × (calls_of (take j vs) ≡ take k (calls_of vs))
+moment_of vs zero = (0, refl)
+moment_of [] (suc k) = (0, refl)
+moment_of (Calls noted ∷ vs) (suc k) = let m = moment_of vs k in (suc m.0, ap (λ made. noted ∷ made) m.1)
+moment_of (Accepts a block ∷ vs) (suc k) = let m = moment_of vs (suc k) in (suc m.0, m.1)
+moment_of (Looks known ∷ vs) (suc k) = let m = moment_of vs (suc k) in (suc m.0, m.1)
+moment_of (Opens r ∷ vs) (suc k) = let m = moment_of vs (suc k) in (suc m.0, m.1)
+moment_of (Begins q ∷ vs) (suc k) = let m = moment_of vs (suc k) in (suc m.0, m.1)
+moment_of (Third q d ∷ vs) (suc k) = let m = moment_of vs (suc k) in (suc m.0, m.1)
+moment_of (Ends q d ∷ vs) (suc k) = let m = moment_of vs (suc k) in (suc m.0, m.1)
+moment_of (Acks q ∷ vs) (suc k) = let m = moment_of vs (suc k) in (suc m.0, m.1)
+moment_of (Loses d ∷ vs) (suc k) = let m = moment_of vs (suc k) in (suc m.0, m.1)
+moment_of (Stops images ∷ vs) (suc k) = let m = moment_of vs (suc k) in (suc m.0, m.1)
+
+-- no stop is among them
+abbrev pub StopsNever : List Event → Type 0
+StopsNever [] = Unit {0}
+StopsNever (Calls noted ∷ vs) = StopsNever vs
+StopsNever (Accepts a block ∷ vs) = StopsNever vs
+StopsNever (Looks known ∷ vs) = StopsNever vs
+StopsNever (Opens r ∷ vs) = StopsNever vs
+StopsNever (Begins q ∷ vs) = StopsNever vs
+StopsNever (Third q d ∷ vs) = StopsNever vs
+StopsNever (Ends q d ∷ vs) = StopsNever vs
+StopsNever (Acks q ∷ vs) = StopsNever vs
+StopsNever (Loses d ∷ vs) = StopsNever vs
+StopsNever (Stops images ∷ vs) = ⊥
+
+-- within one run the devices are as its calls leave them
+pub run_sectors : (vs : List Event) (p : Pool) → StopsNever vs → (pool_after vs p).sectors ≡ run (calls_of vs) p.sectors
+run_sectors [] p one = refl
+run_sectors (Calls noted ∷ vs) p one = run_sectors vs (after (Calls noted) p) one
+run_sectors (Accepts a block ∷ vs) p one = run_sectors vs (after (Accepts a block) p) one
+run_sectors (Looks known ∷ vs) p one = run_sectors vs p one
+run_sectors (Opens r ∷ vs) p one = run_sectors vs (after (Opens r) p) one
+run_sectors (Begins q ∷ vs) p one = run_sectors vs (after (Begins q) p) one
+run_sectors (Third q d ∷ vs) p one = run_sectors vs (after (Third q d) p) one
+run_sectors (Ends q d ∷ vs) p one = run_sectors vs (after (Ends q d) p) one
+run_sectors (Acks q ∷ vs) p one = run_sectors vs (after (Acks q) p) one
+run_sectors (Loses d ∷ vs) p one = run_sectors vs (after (Loses d) p) one
+run_sectors (Stops images ∷ vs) p one = absurd one
+
+pub stops_never_more : (first second : List Event) → StopsNever first → StopsNever second → StopsNever (first ++ second)
+stops_never_more [] second a b = b
+stops_never_more (Calls noted ∷ first) second a b = stops_never_more first second a b
+stops_never_more (Accepts x block ∷ first) second a b = stops_never_more first second a b
+stops_never_more (Looks known ∷ first) second a b = stops_never_more first second a b
+stops_never_more (Opens r ∷ first) second a b = stops_never_more first second a b
+stops_never_more (Begins q ∷ first) second a b = stops_never_more first second a b
+stops_never_more (Third q d ∷ first) second a b = stops_never_more first second a b
+stops_never_more (Ends q d ∷ first) second a b = stops_never_more first second a b
+stops_never_more (Acks q ∷ first) second a b = stops_never_more first second a b
+stops_never_more (Loses d ∷ first) second a b = stops_never_more first second a b
+stops_never_more (Stops images ∷ first) second a b = absurd a
+
+pub calls_never_stop : (made : List Noted) → StopsNever (as_events made)
+calls_never_stop [] = tt
+calls_never_stop (noted ∷ made) = calls_never_stop made

@@ -1,9 +1,14 @@
 pub mod Calming
 pub mod DeviceSectors
 pub mod Folding
+pub mod Holding
 pub mod LookedParts
 pub mod LooksFound
 pub mod LooksShow
+pub mod Moving
+pub mod OnePool
+pub mod Stamping
+pub mod Surviving
 pub mod Tracked
 pub mod Verified
 pub mod Yields

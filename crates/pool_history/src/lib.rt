@@ -2,8 +2,10 @@
 //! (docs/MODEL.md, "Stops and openings").
 #![tactic(auto)]
 
+mod moves;
 mod openings;
 
+pub use moves::{histories_keep_their_records, stamped_pools_survive};
 pub use openings::{
     labels_stay_sound, looks_show_the_labels, openings_find_a_live_record, premises_can_be_met,
 };
