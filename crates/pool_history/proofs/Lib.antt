@@ -1,6 +1,12 @@
+pub mod Calming
+pub mod DeviceSectors
 pub mod Folding
 pub mod Holding
+pub mod LookedParts
+pub mod LooksFound
+pub mod LooksShow
 pub mod Moving
+pub mod OnePool
 pub mod Stamping
 pub mod Surviving
 pub mod Phases
@@ -10,5 +16,6 @@ pub mod RoundPlaces
 pub mod RoundShapes
 pub mod Sparing
 pub mod Thirds
+pub mod Tracked
 pub mod Verified
 pub mod Yields
