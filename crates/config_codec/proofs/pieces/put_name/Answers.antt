@@ -1,7 +1,0 @@
-use Rattle.std.proofs.Common.{ap, ◌∷◌, sym, length}
-use Rattle.config_codec.specs.Spelling.{text_bytes}
-use Rattle.config_codec.proofs.Placing.{puts_next, puts_text}
-use Rattle.config_codec.proofs.pieces.put_name.Goals as goal
-
-pub returns-clause-piece : goal.returns-clause-piece
-returns-clause-piece c = puts_text c.as_bytes-bytes.ensures (puts_next c.put_u8-at.ensures.piece c.put.ensures.piece)
