@@ -1,0 +1,8 @@
+use Rattle.config_codec.specs.Spelling.{pointer_bytes}
+use Rattle.config_codec.proofs.Placing.{puts_next}
+use Rattle.config_codec.proofs.encoding.put_place.Goals as goal
+
+pub returns-clause-piece : goal.returns-clause-piece
+unfolding pointer_bytes
+returns-clause-piece c =
+    puts_next (puts_next (puts_next c.put_u64-at.ensures.piece c.put_u32-at.ensures.piece) c.put_u64-at-2.ensures.piece) c.put.ensures.piece

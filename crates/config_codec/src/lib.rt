@@ -1,0 +1,21 @@
+//! The bytes of a pool's configuration (docs/FORMATS.md, "Configuration").
+#![tactic(auto)]
+
+mod config;
+mod cursor;
+mod decoding;
+mod encoding;
+mod laws;
+mod parts;
+mod pieces;
+#[cfg(test)]
+mod tests;
+mod unread;
+mod validity;
+
+pub use config::{Config, LeafConfig, Pointer};
+pub use decoding::decode;
+pub use encoding::encode_into;
+pub use laws::{each_has_one_spelling, validity_is_tested};
+pub use parts::{LeafParts, Parts};
+pub use validity::MOST_BLOCKS;

@@ -1,0 +1,34 @@
+//! Why bytes gave no configuration.
+ghost use Rattle.std.specs.Prelude.{◌≡◌};
+ghost use Rattle.config_codec.specs.declared.unread.Unread.TheVariants.{Memory};
+
+use mp_base::{MemFault, NameFault};
+
+/// What ends a reading.
+pub(crate) enum Unread {
+    /// The bytes are no configuration.
+    NoConfig,
+    /// There was no memory.
+    Memory,
+}
+
+impl From<MemFault> for Unread {
+    ghost from_gives = { λ _ e. e ≡ Memory };
+
+    fn from(_: MemFault) -> Unread {
+        Unread::Memory
+    }
+}
+
+impl From<NameFault> for Unread {
+    ghost use Rattle.config_codec.specs.Faults.{unread_of};
+
+    ghost from_gives = { λ fault e. e ≡ unread_of fault };
+
+    fn from(fault: NameFault) -> Unread {
+        match fault {
+            NameFault::Bad => Unread::NoConfig,
+            NameFault::Memory => Unread::Memory,
+        }
+    }
+}
