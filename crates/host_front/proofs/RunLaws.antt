@@ -16,9 +16,6 @@ pub ran_some : {h : HostState} {status : Status} {old new : Option Story} {f g :
     → Ran h status old new f g left left' sink sink' → status ≡ statuses.Usage → ⊥
 ran_some {left' = left'} r e = subst (λ status. IsUpTo status r.text left' r.lines) e r.up_to
 
-same_at_most : (a b : ℕ) → a ≡ b → b ≤ a
-same_at_most a b e = omega arith
-
 -- the calls began from the same counts and story
 pub ran_from : {h : HostState} {status : Status} {old old' new : Option Story} {f f' g : ℕ → ℕ} {left left' sink sink' : Option (List ℕ)}
     → old' ≡ old → ((d : ℕ) → f d ≡ f' d) → Ran h status old new f g left left' sink sink' → Ran h status old' new f' g left left' sink sink'
@@ -35,7 +32,7 @@ ran_from {old = old} {old' = old'} {new = new} {f = f} {f' = f'} {g = g} told fa
     calls = r.handles.calls;
     asked = r.handles.asked;
     replay = r.handles.replay;
-    made = made_from old old' new f f' g r.handles.calls told (λ d. same_at_most (f d) (f' d) (faults d)) r.handles.made;
+    made = made_from old old' new f f' g r.handles.calls told faults r.handles.made;
     written = r.handles.written;
   };
   is_written = r.is_written;

@@ -4,7 +4,10 @@ use Rattle.bank_core.specs.declared.bank.Fault.{Fault}
 use Rattle.bank_core.specs.Asks.{Reads, ask_of}
 use Rattle.bank_core.specs.Calls.{fault_of}
 use Rattle.bank_core.specs.Disk.{Sector, Sectors, AllAnswer, Nothing, Noted, run, as_found}
+use Rattle.mp_base.specs.declared.number.Group.{Group}
+use Rattle.mp_base.specs.declared.number.Guid.{Guid}
 use Rattle.mp_base.specs.declared.refusal.Refusal.TheVariants as refusals
+use Rattle.mp_base.specs.Outside.{Rose}
 use Rattle.pool_wire.specs.declared.reply.NamedLeaf.{NamedLeaf}
 use Rattle.pool_wire.specs.declared.reply.Reply.{Reply}
 use Rattle.pool_wire.specs.declared.reply.Reply.TheVariants as replies
@@ -103,6 +106,15 @@ abbrev pub EndsWell : Sectors → List Leaf → Version → List Noted → Reply
 EndsWell sectors leaves version made reply =
     (reply ≡ replies.Data version.block) ⊎ (AllMiss sectors (data_start + version.sector) leaves made
     ⊎ ((reply ≡ replies.Refused refusals.Memory) ⊎ Clash made version.block))
+
+-- How a sync of a pool with numbers left ends, by the counts before and behind it: it is refused as suspended
+-- where a device's count rose, and only there, and it commits where none did, unless there was no memory.
+pub record EndsByCounts (s : PoolState) (before after : ℕ → ℕ) (reply : Reply) : Type 0 where
+  pub suspended : (group : Group) (top : Guid) (faults : ℕ) → reply ≡ replies.Refused (refusals.Suspended group top faults) → (d : ℕ) × Rose (before d) (after d)
+  pub rose : (d : ℕ) → before d < after d
+      → (reply ≡ replies.Refused (refusals.Suspended (record { 0 = s.number + 1 }) (record { 0 = 1 }) 1)) ⊎ (reply ≡ replies.Refused refusals.Memory)
+  pub quiet : ((d : ℕ) → ¬ (Rose (before d) (after d)))
+      → (reply ≡ replies.Committed (record { 0 = s.number + 1 })) ⊎ (reply ≡ replies.Refused refusals.Memory)
 
 -- A line was handled behind these entries of a host that started on these sectors.
 pub record IsReached (sectors : Sectors) (table : List HostDevice) (entries : List Entry) (calls : List Noted) (h : HostState) (entry : Entry) (made : List Noted) (next : HostState) : Type 0 where

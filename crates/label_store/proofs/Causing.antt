@@ -31,11 +31,11 @@ device_asked (Admit dev holds) = refl
 device_asked (Eject dev) = refl
 
 pub caused_counts : (made : List Noted) (f g : ℕ → ℕ) → AllCaused made f g → (d : ℕ) → f d ≤ g d
-caused_counts [] f g c d = c d
+caused_counts [] f g c d = let same = c d in omega arith
 caused_counts (noted ∷ made) f g c d = let x = c.1.counts d in let y = caused_counts made c.0 g c.2 d in omega arith
 
 pub caused_split : (first second : List Noted) (f h : ℕ → ℕ) → AllCaused (first ++ second) f h → (g : ℕ → ℕ) × AllCaused first f g × AllCaused second g h
-caused_split [] second f h c = (f, (λ d. omega arith), c)
+caused_split [] second f h c = (f, (λ d. refl), c)
 caused_split (noted ∷ first) second f h c =
     let r = caused_split first second c.0 h c.2 in (r.0, (c.0, c.1, r.1), r.2)
 
