@@ -1,3 +1,6 @@
+pub mod Births
 pub mod Devices
+pub mod Fitness
 pub mod Machine
 pub mod Records
+pub mod Tracking

@@ -3,5 +3,7 @@
 #![tactic(auto)]
 
 mod device;
+mod laws;
 
 pub use device::HostDevice;
+pub use laws::{hosts_stay_fit, imports_find_the_pool, lines_follow_each_pool};

@@ -1,0 +1,36 @@
+-- Pools that a history creates, and what stands between two runs.
+use Rattle.std.specs.Prelude.{◌≡◌, ℕ, ◌==◌, ◌||◌, cond, List, [], ◌++◌, take, length, ◌≤◌}
+use Rattle.mp_base.specs.declared.number.Guid.{Guid}
+use Rattle.bank_core.specs.Disk.{Noted, Sectors, run}
+use Rattle.pool_history.specs.Events.{Event, calls_of}
+use Rattle.pool_history.specs.Moves.{Mays}
+use Rattle.pool_history.specs.Pools.{Pool, pool_after, stamped}
+use Rattle.pool_history.specs.Survival.{Survives}
+use Rattle.pool_core.specs.Heads.{head_of}
+use Rattle.pool_core.specs.State.{LeafState, PoolState}
+use Rattle.host_machine.specs.Machine.{HostState, Entry}
+use Rattle.host_machine.specs.Tracking.{Follows}
+
+-- the pool of this state behind the stamps of its leaves, on these sectors
+abbrev pub new_pool : (size : ℕ → ℕ) → PoolState → Sectors → Pool
+new_pool size s sectors = stamped s.name s.pool (λ d. (d == s.first.dev) || (d == s.second.dev))
+    (λ d. cond (d == s.first.dev) s.first.member s.second.member) size sectors (λ d t. [])
+
+-- Both leaves were stamped by the first of these calls, and a pool began: it survives, and the calls behind are of its history.
+pub record IsBorn (size : ℕ → ℕ) (s : PoolState) (sectors : Sectors) (made : List Noted) (next : HostState) : Type 0 where
+  pub stamps : List Noted
+  pub rest : List Noted
+  pub all : made ≡ stamps ++ rest
+  pub survives : Survives head_of (new_pool size s (run stamps sectors))
+  pub follows : Follows (new_pool size s (run stamps sectors)) rest next
+
+-- What may stand on the devices, by what a pool's history was: it began as a pool that survives, each of
+-- its events was allowed, and these are the sectors behind them.
+pub record LeavesPool (first : Pool) (past : List Event) (sectors : Sectors) : Type 0 where
+  pub begins : Survives head_of first
+  pub allowed : Mays head_of first past
+  pub devices : (pool_after past first).sectors ≡ sectors
+
+-- It is so at each moment of these calls, with the history so far.
+pub record LeavesThroughout (first : Pool) (past : List Event) (sectors : Sectors) (vs : List Event) (made : List Noted) : Type 0 where
+  pub at : (k : ℕ) → k ≤ length made → (j : ℕ) × (calls_of (take j vs) ≡ take k made) × LeavesPool first (past ++ take j vs) (run (take k made) sectors)

@@ -1,0 +1,78 @@
+-- How a pool of the history stands in a host of the machine.
+use Rattle.std.specs.Prelude.{◌≡◌, ◌≢◌, ◌⊎◌, ℕ, ◌+◌, ◌≤◌, true, false, List, Option, Some, None}
+use Rattle.sha2.specs.Sha256.{sha256}
+use Rattle.mp_base.specs.declared.number.Group.{Group}
+use Rattle.mp_base.specs.declared.refusal.Refusal.TheVariants as refusals
+use Rattle.bank_core.specs.Disk.{Noted, run}
+use Rattle.pool_wire.specs.declared.reply.Reply.{Reply}
+use Rattle.pool_wire.specs.declared.reply.Reply.TheVariants as replies
+use Rattle.config_codec.specs.Fields.{Fields}
+use Rattle.pool_history.specs.Events.{Event, calls_of}
+use Rattle.pool_history.specs.Moves.{Mays}
+use Rattle.pool_history.specs.Pools.{Pool, drawn, pool_after}
+use Rattle.pool_history.specs.Premises.{AreGood}
+use Rattle.pool_history.specs.Records.{Rec, Cell, IsIn, number_of, block_at}
+use Rattle.pool_history.specs.Survival.{Survives}
+use Rattle.pool_core.specs.Heads.{head_of}
+use Rattle.pool_core.specs.Reading.{wanted}
+use Rattle.pool_core.specs.Recorded.{leaf_config}
+use Rattle.pool_core.specs.State.{LeafState, Known, PoolState}
+use Rattle.host_machine.specs.Devices.{number_in}
+use Rattle.host_machine.specs.Machine.{HostState}
+use Rattle.host_machine.specs.Records.{IsDrawn, versions_of}
+
+-- The pool is open, as this state: it reads the record that it acknowledged last, and answers each
+-- address with what was written there last.
+pub record IsOpenAs (p : Pool) (s : PoolState) : Type 0 where
+  pub name : s.name ≡ p.name
+  pub pool : s.pool ≡ p.pool
+  pub idle : p.idle ≡ true
+  pub number : s.number ≡ p.top
+  pub acked : s.number ≡ number_of p.acked
+  pub committed : (a : ℕ) → s.committed a ≡ versions_of p.reads a
+  pub written : (a : ℕ) → wanted s a ≡ Known (p.written a)
+
+-- The open pool is another one, on other devices.
+pub record IsElsewhere (p : Pool) (s : PoolState) : Type 0 where
+  pub first : p.member s.first.dev ≡ false
+  pub second : p.member s.second.dev ≡ false
+
+abbrev pub StandsIn : Pool → (first second : LeafState) → Option PoolState → Type 0
+StandsIn p first second None = Unit {0}
+StandsIn p first second (Some s) = ((s.first ≡ first) × (s.second ≡ second) × IsOpenAs p s) ⊎ IsElsewhere p s
+
+-- The pool's members are on the devices of these two leaves, which have the same numbers in this run; the
+-- machine knows each record that was drawn of it; and it is open, or it is closed.
+pub record Tracks (p : Pool) (h : HostState) : Type 0 where
+  pub sizes : (d : ℕ) → p.size d ≡ h.size d
+  pub first : LeafState
+  pub second : LeafState
+  pub apart : first.dev ≢ second.dev
+  pub members : (d : ℕ) → p.member d ≡ true → (d ≡ first.dev) ⊎ (d ≡ second.dev)
+  pub first_guid : p.guid first.dev ≡ first.member
+  pub second_guid : p.guid second.dev ≡ second.member
+  pub first_number : (d : ℕ) → number_in first.name h.table ≡ Some d → d ≡ first.dev
+  pub second_number : (d : ℕ) → number_in second.name h.table ≡ Some d → d ≡ second.dev
+  pub known : (r : Rec) → IsIn r (drawn p) → 1 ≤ number_of r → IsIn r h.records
+  pub own : (r : Rec) (c : Fields) → IsIn r (drawn p) → IsDrawn r c → (c.name ≡ p.name) × (c.first ≡ leaf_config first) × (c.second ≡ leaf_config second)
+  pub stands : StandsIn p first second h.pool
+
+-- No two different blocks of these records have one sum.
+pub record HasNoTwins (records : List Rec) : Type 0 where
+  pub by : (r q : Rec) (a b : ℕ) (cell other : Cell) → IsIn r records → IsIn q records → r.cells a ≡ Some cell → q.cells b ≡ Some other
+      → sha256 cell.block ≡ sha256 other.block → cell.block ≡ other.block
+
+-- These calls, which led the machine to this host, are those of a history of the pool: the events of it
+-- are moves that the pool may make, and it stands in the new host as they leave it.
+pub record Follows (p : Pool) (made : List Noted) (next : HostState) : Type 0 where
+  pub vs : List Event
+  pub calls : calls_of vs ≡ made
+  pub sectors : (pool_after vs p).sectors ≡ run made p.sectors
+  pub safe : HasNoTwins next.records → Survives head_of p → AreGood head_of p vs → Mays head_of p vs × Tracks (pool_after vs p) next
+
+-- The reply to an opening of the pool: never that there is no record; and where it opened, the record that
+-- was found is live, at least as new as the acknowledged one, and each read answers its block.
+pub record FindsPool (p : Pool) (reply : Reply) (next : HostState) : Type 0 where
+  pub never : reply ≢ replies.Refused refusals.NoRecord
+  pub found : (n : Group) → reply ≡ replies.Committed n → (r : Rec) × (s : PoolState) × IsIn r p.live × (n.0 ≡ number_of r + 1)
+      × (number_of p.acked ≤ number_of r) × (next.pool ≡ Some s) × ((a : ℕ) → wanted s a ≡ Known (block_at r a))
