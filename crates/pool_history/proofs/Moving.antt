@@ -16,6 +16,7 @@ use Rattle.pool_history.specs.Needs.{Held, NeedsLabel, NeedsCell}
 use Rattle.pool_history.specs.Pools.{Pool, drawn, seat, after, noted_since, at_device}
 use Rattle.pool_history.specs.Records.{Rec, IsIn, number_of, data_start, above, rest_of}
 use Rattle.pool_history.specs.Survival.{Survives, Fits, IsOf, IsAmong, IsDrawnUber, IsKnownUber, IsNoted, IsKnownRing}
+use Rattle.pool_history.proofs.OnePool.{pools_kept}
 use Rattle.pool_history.proofs.Folding.{taken_false}
 use Rattle.pool_history.proofs.Holding.{AreAll, hurt_held, call_held, stop_held, noted_all}
 
@@ -110,6 +111,7 @@ calls_survive head_of p noted sv m = record {
   newest_above = sv.newest_above;
   given_below = sv.given_below;
   idle_alone = sv.idle_alone;
+  pools = pools_kept head_of p (Calls noted) sv.pools m;
 }
   where
     back : (d s : ℕ) → AreAll (IsKnownUber p d) (after_call noted d s (p.sectors d s)) (noted_since noted.call p.since d s) → IsKnownRing (after (Calls noted) p) d s
@@ -134,6 +136,7 @@ accepts_survive head_of p a block sv = record {
   newest_above = sv.newest_above;
   given_below = sv.given_below;
   idle_alone = sv.idle_alone;
+  pools = pools_kept head_of p (Accepts a block) sv.pools tt;
 }
 
 -- An opening reads a live record; those above it are missed from now on.
@@ -152,6 +155,7 @@ opens_survive head_of p r sv live = record {
   newest_above = λ q rest e other i. passed other (sv.newest_above q rest e other i);
   given_below = λ q i. passed q (sv.given_below q i);
   idle_alone = λ e. false_true e;
+  pools = pools_kept head_of p (Opens r) sv.pools live;
 }
   where
     passed : {A : Type 0} (q : Rec) → A ⊎ IsIn q p.missed → A ⊎ IsIn q (above (number_of r) p.live ++ p.missed)
@@ -206,6 +210,7 @@ begins_survive head_of p q sv m = record {
   newest_above = λ q' rest e r i. ⊎_elim (λ le. inl (above_all q' rest e r le)) (λ i. inr i) (sv.live_top r (subst (IsIn r) (sym (same_rest q q' p.live rest e)) i));
   given_below = sv.given_below;
   idle_alone = λ e. false_true e;
+  pools = pools_kept head_of p (Begins q) sv.pools m;
 }
   where
     low : number_of p.acked ≤ number_of q
@@ -255,6 +260,7 @@ third_survive head_of p q d sv m = record {
   newest_above = sv.newest_above;
   given_below = sv.given_below;
   idle_alone = sv.idle_alone;
+  pools = pools_kept head_of p (Third q d) sv.pools m;
 }
 
 ends_survive : (head_of : List ℕ → Option Head) (p : Pool) (q : Rec) (d : ℕ) → Survives head_of p → MayStand head_of p q d (Odd q) → Survives head_of (after (Ends q d) p)
@@ -272,6 +278,7 @@ ends_survive head_of p q d sv m = record {
   newest_above = sv.newest_above;
   given_below = sv.given_below;
   idle_alone = sv.idle_alone;
+  pools = pools_kept head_of p (Ends q d) sv.pools m;
 }
 
 -- A round is acknowledged.
@@ -293,6 +300,7 @@ acks_survive head_of p q sv m = record {
   given_below = λ r i. ⊎_elim (λ i. sv.newest_above q m.rest m.newest r (subst (λ rs. IsIn r (rest_of rs)) m.newest i))
       (λ i. ⊎_elim (λ lt. inl (below r lt)) (λ i. inr i) (sv.given_below r i)) (in_append r (rest_of p.live) p.given i);
   idle_alone = λ e r i. ⊎_elim (λ e. e) (λ none. absurd none) i;
+  pools = pools_kept head_of p (Acks q) sv.pools m;
 }
   where
     live : IsIn q p.live
@@ -331,6 +339,7 @@ loses_survive head_of p d sv = record {
   newest_above = sv.newest_above;
   given_below = sv.given_below;
   idle_alone = sv.idle_alone;
+  pools = pools_kept head_of p (Loses d) sv.pools tt;
 }
   where
     was : (e : ℕ) → (after (Loses d) p).member e ≡ true → p.member e ≡ true
@@ -363,6 +372,7 @@ stops_survive head_of p images sv m = record {
   newest_above = sv.newest_above;
   given_below = sv.given_below;
   idle_alone = λ e. false_true e;
+  pools = pools_kept head_of p (Stops images) sv.pools m;
 }
   where
     shown : (d s : ℕ) (u : Uberblock) → IsUberblock u (images d s) → 1 ≤ u.number.0 → IsKnownRing p d s

@@ -91,8 +91,13 @@ stamped_survives head_of name pool member guids size sectors st = record {
   newest_above = λ q rest e r i. absurd (subst (IsIn r) (sym (no_rest _ q rest e)) i);
   given_below = λ r i. absurd i;
   idle_alone = λ e. absurd (cc);
+  pools = λ r i. this r i;
 }
   where
+    this : (r : Rec) → IsIn r (nothing pool ∷ []) → r.commit.pool ≡ pool
+    this r (inl e) = ap (λ r. r.commit.pool) e
+    this r (inr i) = absurd i
+
     no_cell_of : (r : Rec) (a : ℕ) (cell : Cell) → IsIn r (nothing pool ∷ []) → r.cells a ≡ Some cell → ⊥
     no_cell_of r a cell (inl e) at = no_cell cell (sym (ap (λ r. r.cells a) e) ∙ at)
     no_cell_of r a cell (inr i) at = i

@@ -1,16 +1,16 @@
 -- What an opening takes is a live record.
-use Rattle.std.proofs.Common.{◌≡◌, ◌⊎◌, ℕ, ◌<◌, ◌≤◌, Bool, true, false, List, [], ◌∷◌, ◌++◌, Option, refl, sym, ap, ◌∙◌, subst, arith, inl, inr}
+use Rattle.std.proofs.Common.{◌≡◌, ◌⊎◌, ℕ, ◌<◌, ◌≤◌, Bool, true, false, List, [], ◌∷◌, ◌++◌, Option, refl, ap, ◌∙◌, subst, arith, inl, inr}
 use Rattle.label_store.specs.declared.rule.Head.{Head}
 use Rattle.label_store.specs.declared.uberblock.Uberblock.{Uberblock}
 use Rattle.label_store.specs.Records.{place_at}
 use Rattle.label_store.specs.Rounds.{config_of, uberblock_of}
 use Rattle.label_store.specs.Uberblock.{IsUberblock, uberblock_bytes}
-use Rattle.pool_history.specs.Events.{Event, Known, Calls, Accepts, Looks, Opens, Begins, Third, Ends, Acks, Loses, Stops}
-use Rattle.pool_history.specs.Moves.{ReadsTrue, May}
+use Rattle.pool_history.specs.Events.{Known}
+use Rattle.pool_history.specs.Moves.{ReadsTrue}
 use Rattle.pool_history.specs.Openings.{IsVerifiedOn, IsYield, IsDrawnRecord, FindsLive}
-use Rattle.pool_history.specs.Pools.{Pool, drawn, seat, after}
+use Rattle.pool_history.specs.Pools.{Pool, seat}
 use Rattle.pool_history.specs.Premises.{HasNoClash, HasNoStray, Premises}
-use Rattle.pool_history.specs.Records.{Rec, IsIn, number_of, rest_of}
+use Rattle.pool_history.specs.Records.{Rec, IsIn, number_of}
 use Rattle.pool_history.specs.Survival.{IsAmong, IsDrawnUber, IsKnownRing, Survives}
 use Rattle.pool_history.proofs.Verified.{promises, good_verified}
 
@@ -88,21 +88,3 @@ pub finds_some : (head_of : List ℕ → Option Head) (p : Pool) (known : Known)
 finds_some head_of p known s true_to premises =
     let good = premises.sound_labels in
     (premises.good, uberblock_of good.promised.commit (seat p premises.good), config_of good.promised.commit, good_verified head_of p known premises.good s true_to good)
-
--- an event keeps all drawn records of the pool
-pub pools_kept : (head_of : List ℕ → Option Head) (p : Pool) (v : Event) → ((r : Rec) → IsIn r (drawn p) → r.commit.pool ≡ p.pool) → May head_of p v
-    → (r : Rec) → IsIn r (drawn (after v p)) → r.commit.pool ≡ (after v p).pool
-pools_kept head_of p (Calls noted) all may r i = all r i
-pools_kept head_of p (Accepts a block) all may r i = all r i
-pools_kept head_of p (Looks known) all may r i = all r i
-pools_kept head_of p (Opens q) all may r i = all r i
-pools_kept head_of p (Begins q) all may r (inl e) = ap (λ x. x.commit.pool) e ∙ may.fits.pool_is
-pools_kept head_of p (Begins q) all may r (inr i) = all r i
-pools_kept head_of p (Third q d) all may r i = all r i
-pools_kept head_of p (Ends q d) all may r i = all r i
-pools_kept head_of p (Acks q) all may r i = all r (subst (λ l. IsIn r (l ++ p.given)) (sym may.newest) (again p.live may.newest i))
-  where
-    again : (live : List Rec) → live ≡ q ∷ may.rest → IsIn r ((q ∷ []) ++ (rest_of live ++ p.given)) → IsIn r ((q ∷ may.rest) ++ p.given)
-    again live e i = subst (λ l. IsIn r ((q ∷ []) ++ (rest_of l ++ p.given))) e i
-pools_kept head_of p (Loses d) all may r i = all r i
-pools_kept head_of p (Stops images) all may r i = all r i

@@ -1,3 +1,4 @@
+pub mod Calm
 pub mod Events
 pub mod Labels
 pub mod Looks
@@ -11,3 +12,4 @@ pub mod Rounds
 pub mod Sound
 pub mod Stamps
 pub mod Survival
+pub mod Tracking

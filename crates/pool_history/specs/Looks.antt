@@ -1,6 +1,7 @@
 -- What the parts that an opening read of the devices' labels say of single sectors.
-use Rattle.std.specs.Prelude.{ℕ, ◌+◌, ◌-◌, ◌*◌, ◌==◌, nat_le, nat_lt, if◌then◌else◌, List, [], ◌∷◌, Option, Some, None, slice_get}
-use Rattle.bank_core.specs.Disk.{sector_of}
+use Rattle.std.specs.Prelude.{◌≡◌, ◌≢◌, ℕ, ◌+◌, ◌-◌, ◌*◌, ◌<◌, ◌≤◌, ◌==◌, nat_le, nat_lt, if◌then◌else◌, List, [], ◌∷◌, Option, Some, None, slice_get}
+use Rattle.bank_core.specs.Calls.{device_of, fault_of}
+use Rattle.bank_core.specs.Disk.{Noted, sector_of}
 use Rattle.label_store.specs.Newest.{Parts}
 use Rattle.pool_history.specs.Events.{Known}
 
@@ -30,3 +31,16 @@ known_by size [] looks d s = None
 known_by size (dev ∷ devs) [] d s = None
 known_by size (dev ∷ devs) (parts ∷ looks) d s =
     if dev == d then device_sector (size d) parts s else known_by size devs looks d s
+
+-- no two of these devices are one
+abbrev pub AreDistinct : List ℕ → Type 0
+AreDistinct devs = (i j d e : ℕ) → slice_get devs i ≡ Some d → slice_get devs j ≡ Some e → i < j → d ≢ e
+
+-- each of them has the room of four labels
+abbrev pub HaveRoom : (ℕ → ℕ) → List ℕ → Type 0
+HaveRoom size devs = (i dev : ℕ) → slice_get devs i ≡ Some dev → 320 ≤ size dev
+
+-- no call on this device failed
+abbrev pub NoneFailed : (d : ℕ) → List Noted → Type 0
+NoneFailed d [] = Unit {0}
+NoneFailed d (noted ∷ more) = (device_of noted.call ≡ d → fault_of noted.call ≡ None) × NoneFailed d more

@@ -7,5 +7,7 @@ mod openings;
 mod rounds;
 
 pub use moves::{histories_keep_their_records, stamped_pools_survive};
-pub use openings::openings_find_a_live_record;
+pub use openings::{
+    labels_stay_sound, looks_show_the_labels, openings_find_a_live_record, premises_can_be_met,
+};
 pub use rounds::rounds_may_be_made;

@@ -1,0 +1,174 @@
+-- The labels of a member go on promising a record.
+use Rattle.std.proofs.Common.{◌≡◌, ◌≢◌, ◌⊎◌, ℕ, ◌+◌, ◌%◌, ◌<◌, ◌≤◌, ◌==◌, Bool, true, false, cond, List, [], ◌∷◌, Option, refl, sym, ap, ◌∙◌, subst, arith, inl, inr}
+use Rattle.std.proofs.lemmas.Bool.Decides.{nat_tests}
+use Rattle.label_store.specs.declared.rule.Head.{Head}
+use Rattle.pool_history.specs.Events.{Event, Calls, Accepts, Looks, Opens, Begins, Third, Ends, Acks, Loses, Stops}
+use Rattle.pool_history.specs.Labels.{Status, Odd, Even, Lost, begun}
+use Rattle.pool_history.specs.Moves.{Mays, IsDrawnUp, MayAck}
+use Rattle.pool_history.specs.Pools.{Pool, after, pool_after}
+use Rattle.pool_history.specs.Records.{Rec, IsIn, number_of}
+use Rattle.pool_history.specs.Survival.{Survives, IsOf}
+use Rattle.pool_history.specs.Tracking.{MayBegin, Keeps, KeepsLabels, AreNear, HasPromise}
+
+-- two numbers less than 32 apart have two slots
+slots_differ : (n a b : ℕ) → n ≤ a → a < n + 32 → n ≤ b → b < n + 32 → b ≢ a → (a % 32 == b % 32) ≡ false
+slots_differ n a b la ha lb hb ne = let other : a % 32 ≢ b % 32 = λ e. ne (omega arith) in grind (arith, nat_tests)
+
+-- the labels hold a live record
+abbrev IsLive : List Rec → Status → Type 0
+IsLive live (Odd r) = IsIn r live
+IsLive live (Even r) = IsIn r live
+IsLive live Lost = ⊥
+
+-- A member whose labels hold this, and the numbers of the live records are near the acknowledged one's.
+record IsTracked (p : Pool) (d : ℕ) (status : Status) : Type 0 where
+  member : p.member d ≡ true
+  status_is : p.status d ≡ status
+  is_live : IsLive p.live status
+  above : (r : Rec) → IsIn r p.live → number_of p.acked ≤ number_of r
+  near : AreNear p
+  top : number_of p.acked ≤ p.top
+
+more_live : (q : Rec) (live : List Rec) (status : Status) → IsLive live status → IsLive (q ∷ live) status
+more_live q live (Odd r) l = inr l
+more_live q live (Even r) l = inr l
+more_live q live Lost l = l
+
+still_odd : (t : Bool) (r : Rec) → t ≡ false → cond t Lost (Odd r) ≡ Odd r
+still_odd t r e = rw e refl
+
+-- a round that begins leaves them
+begins_tracked : (head_of : List ℕ → Option Head) (p : Pool) (d : ℕ) (status : Status) (q : Rec) → IsTracked p d status → IsDrawnUp head_of p q → MayBegin p.acked status q
+    → IsTracked (after (Begins q) p) d status
+begins_tracked head_of p d (Odd r) q t drawn may =
+    let next : number_of q ≡ p.top + 1 = drawn.number_is in
+    let top : number_of p.acked ≤ p.top = t.top in
+    let over : number_of p.acked ≤ number_of q = omega arith in
+    let low : number_of p.acked ≤ number_of r = t.above r t.is_live in
+    let other = slots_differ (number_of p.acked) (number_of r) (number_of q) low (t.near r t.is_live) over may.0 may.1 in
+    record {
+      member = t.member;
+      status_is = ap (λ s. begun s q) t.status_is ∙ still_odd _ r other;
+      is_live = inr t.is_live;
+      above = above over;
+      near = near;
+      top = over;
+    }
+  where
+    above : number_of p.acked ≤ number_of q → (k : Rec) → IsIn k (q ∷ p.live) → number_of p.acked ≤ number_of k
+    above over k (inl e) = subst (λ x. number_of p.acked ≤ number_of x) (sym e) over
+    above over k (inr i) = t.above k i
+
+    near : (k : Rec) → IsIn k (q ∷ p.live) → number_of k < number_of p.acked + 32
+    near k (inl e) = subst (λ x. number_of x < number_of p.acked + 32) (sym e) may.0
+    near k (inr i) = t.near k i
+begins_tracked head_of p d (Even r) q t drawn may = absurd may
+begins_tracked head_of p d Lost q t drawn may = absurd may
+
+live_if : (b : Bool) (live : List Rec) (new old : Status) → IsLive live new → IsLive live old → IsLive live (cond b new old)
+live_if true live new old a b = a
+live_if false live new old a b = b
+
+-- a third phase that begins or ends leaves this in them
+stands_tracked : (p : Pool) (d e : ℕ) (status new : Status) → IsTracked p d status → IsLive p.live new
+    → IsTracked (record p { status = λ x. cond (e == x) new (p.status x) }) d (cond (e == d) new status)
+stands_tracked p d e status new t live = record {
+  member = t.member;
+  status_is = ap (λ s. cond (e == d) new s) t.status_is;
+  is_live = live_if (e == d) p.live new status live t.is_live;
+  above = t.above;
+  near = t.near;
+  top = t.top;
+}
+
+only_one : (P : Rec → Type 0) (q r : Rec) → P q → IsIn r (q ∷ []) → P r
+only_one P q r is (inl e) = subst P (sym e) is
+only_one P q r is (inr i) = absurd i
+
+acks_tracked : (p : Pool) (d : ℕ) (status : Status) (q : Rec) → IsTracked p d status → MayAck p q → IsTracked (after (Acks q) p) d (Odd q)
+acks_tracked p d status q t may = record {
+  member = t.member;
+  status_is = may.all d t.member;
+  is_live = inl refl;
+  above = λ r i. only_one (λ x. number_of q ≤ number_of x) q r (omega arith) i;
+  near = λ r i. only_one (λ x. number_of x < number_of q + 32) q r (omega arith) i;
+  top = let e : number_of q ≡ p.top = may.number_is in omega arith;
+}
+
+not_lost : {A : Type 0} (b : Bool) (x y : A) → b ≡ false → cond b x y ≡ y
+not_lost b x y e = rw e refl
+
+other_test : (e d : ℕ) → e ≢ d → (e == d) ≡ false
+other_test e d ne = grind (arith, nat_tests)
+
+loses_tracked : (p : Pool) (d e : ℕ) (status : Status) → IsTracked p d status → e ≢ d → IsTracked (after (Loses e) p) d status
+loses_tracked p d e status t ne = record {
+  member = not_lost (e == d) false (p.member d) (other_test e d ne) ∙ t.member;
+  status_is = not_lost (e == d) Lost (p.status d) (other_test e d ne) ∙ t.status_is;
+  is_live = t.is_live;
+  above = t.above;
+  near = t.near;
+  top = t.top;
+}
+
+promise_of : (p : Pool) (d : ℕ) (status : Status) → IsTracked p d status → HasPromise p d
+promise_of p d (Odd r) t = record { is_member = t.member; promised = r; status_is = inl t.status_is }
+promise_of p d (Even r) t = record { is_member = t.member; promised = r; status_is = inr t.status_is }
+promise_of p d Lost t = absurd t.is_live
+
+-- they keep a record through all such events
+tracked : (head_of : List ℕ → Option Head) (vs : List Event) (p : Pool) (d : ℕ) (status : Status) → IsTracked p d status → Mays head_of p vs → Keeps d p.acked status vs
+    → HasPromise (pool_after vs p) d
+tracked head_of [] p d status t mays keeps = promise_of p d status t
+tracked head_of (Calls noted ∷ vs) p d status t mays keeps =
+    tracked head_of vs (after (Calls noted) p) d status (record { member = t.member; status_is = t.status_is; is_live = t.is_live; above = t.above; near = t.near; top = t.top }) mays.1 keeps
+tracked head_of (Accepts a block ∷ vs) p d status t mays keeps =
+    tracked head_of vs (after (Accepts a block) p) d status (record { member = t.member; status_is = t.status_is; is_live = t.is_live; above = t.above; near = t.near; top = t.top }) mays.1 keeps
+tracked head_of (Looks known ∷ vs) p d status t mays keeps = tracked head_of vs p d status t mays.1 keeps
+tracked head_of (Opens r ∷ vs) p d status t mays keeps =
+    tracked head_of vs (after (Opens r) p) d status (record { member = t.member; status_is = t.status_is; is_live = t.is_live; above = t.above; near = t.near; top = t.above r mays.0 }) mays.1 keeps
+tracked head_of (Begins q ∷ vs) p d status t mays keeps =
+    tracked head_of vs (after (Begins q) p) d status (begins_tracked head_of p d status q t mays.0 keeps.0) mays.1 keeps.1
+tracked head_of (Third q e ∷ vs) p d status t mays keeps =
+    tracked head_of vs (after (Third q e) p) d _ (stands_tracked p d e status (Even q) t mays.0.is_live) mays.1 keeps
+tracked head_of (Ends q e ∷ vs) p d status t mays keeps =
+    tracked head_of vs (after (Ends q e) p) d _ (stands_tracked p d e status (Odd q) t mays.0.is_live) mays.1 keeps
+tracked head_of (Acks q ∷ vs) p d status t mays keeps =
+    tracked head_of vs (after (Acks q) p) d (Odd q) (acks_tracked p d status q t mays.0) mays.1 keeps
+tracked head_of (Loses e ∷ vs) p d status t mays keeps =
+    tracked head_of vs (after (Loses e) p) d status (loses_tracked p d e status t keeps.0) mays.1 keeps.1
+tracked head_of (Stops images ∷ vs) p d status t mays keeps =
+    tracked head_of vs (after (Stops images) p) d status (record { member = t.member; status_is = t.status_is; is_live = t.is_live; above = t.above; near = t.near; top = t.top }) mays.1 keeps
+
+-- From a status with a record.
+pub labels_stay : (head_of : List ℕ → Option Head) (p : Pool) (d : ℕ) (vs : List Event) → Survives head_of p → AreNear p → HasPromise p d → Mays head_of p vs → KeepsLabels p d vs
+    → HasPromise (pool_after vs p) d
+labels_stay head_of p d vs s near has mays keeps = tracked head_of vs p d (p.status d) (record {
+  member = has.is_member;
+  status_is = refl;
+  is_live = by_status (p.status d) refl has.status_is;
+  above = s.not_below;
+  near = near;
+  top = s.acked_top;
+}) mays keeps
+  where
+    of : (status : Status) → p.status d ≡ status → IsOf head_of p status
+    of status e = subst (IsOf head_of p) e (s.status_live d has.is_member)
+
+    by_status : (status : Status) → p.status d ≡ status → (status ≡ Odd has.promised) ⊎ (status ≡ Even has.promised) → IsLive p.live status
+    by_status (Odd r) e is = (of (Odd r) e).0
+    by_status (Even r) e is = (of (Even r) e).0
+    by_status Lost e (inl is) = absurd (cc)
+    by_status Lost e (inr is) = absurd (cc)
+
+-- And from an acknowledgement on.
+pub labels_stay_since : (head_of : List ℕ → Option Head) (p : Pool) (d : ℕ) (q : Rec) (vs : List Event) → p.member d ≡ true → Mays head_of p (Acks q ∷ vs)
+    → KeepsLabels (after (Acks q) p) d vs → HasPromise (pool_after (Acks q ∷ vs) p) d
+labels_stay_since head_of p d q vs member mays keeps = tracked head_of vs (after (Acks q) p) d (p.status d) (record {
+  member = member;
+  status_is = refl;
+  is_live = subst (IsLive (q ∷ [])) (sym (mays.0.all d member)) (inl refl);
+  above = λ r i. only_one (λ x. number_of q ≤ number_of x) q r (omega arith) i;
+  near = λ r i. only_one (λ x. number_of x < number_of q + 32) q r (omega arith) i;
+  top = let e : number_of q ≡ p.top = mays.0.number_is in omega arith;
+}) mays.1 keeps

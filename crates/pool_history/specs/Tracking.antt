@@ -1,0 +1,43 @@
+-- What may happen to a member since the last acknowledgement, if its labels are to go on holding a record:
+-- told by the events alone, with the record that the labels hold at that moment.
+use Rattle.std.specs.Prelude.{◌≡◌, ◌≢◌, ◌⊎◌, ℕ, ◌+◌, ◌<◌, ◌==◌, true, cond, List, [], ◌∷◌}
+use Rattle.pool_history.specs.Events.{Event, Calls, Accepts, Looks, Opens, Begins, Third, Ends, Acks, Loses, Stops}
+use Rattle.pool_history.specs.Labels.{Status, Odd, Even, Lost}
+use Rattle.pool_history.specs.Pools.{Pool}
+use Rattle.pool_history.specs.Records.{Rec, IsIn, number_of}
+
+-- A round may begin: its number is less than 32 above the acknowledged one and not that of the record which
+-- the labels hold, so it takes another slot; and the last third phase here, if any, has ended.
+abbrev pub MayBegin : (acked : Rec) → Status → Rec → Type 0
+MayBegin acked (Odd r) q = (number_of q < number_of acked + 32) × (number_of q ≢ number_of r)
+MayBegin acked (Even r) q = ⊥
+MayBegin acked Lost q = ⊥
+
+-- These events, while the labels of d hold this. Only third phases and acknowledgements change it, and with
+-- an acknowledgement the count of numbers begins anew.
+abbrev pub Keeps : (d : ℕ) → (acked : Rec) → Status → List Event → Type 0
+Keeps d acked status [] = Unit {0}
+Keeps d acked status (Calls noted ∷ vs) = Keeps d acked status vs
+Keeps d acked status (Accepts a block ∷ vs) = Keeps d acked status vs
+Keeps d acked status (Looks known ∷ vs) = Keeps d acked status vs
+Keeps d acked status (Opens r ∷ vs) = Keeps d acked status vs
+Keeps d acked status (Begins q ∷ vs) = MayBegin acked status q × Keeps d acked status vs
+Keeps d acked status (Third q e ∷ vs) = Keeps d acked (cond (e == d) (Even q) status) vs
+Keeps d acked status (Ends q e ∷ vs) = Keeps d acked (cond (e == d) (Odd q) status) vs
+Keeps d acked status (Acks q ∷ vs) = Keeps d q (Odd q) vs
+Keeps d acked status (Loses e ∷ vs) = (e ≢ d) × Keeps d acked status vs
+Keeps d acked status (Stops images ∷ vs) = Keeps d acked status vs
+
+-- the events from here on
+abbrev pub KeepsLabels : Pool → (d : ℕ) → List Event → Type 0
+KeepsLabels p d vs = Keeps d p.acked (p.status d) vs
+
+-- no live record's number is 32 or more above the acknowledged one's, as behind each acknowledgement
+abbrev pub AreNear : Pool → Type 0
+AreNear p = (r : Rec) → IsIn r p.live → number_of r < number_of p.acked + 32
+
+-- The labels of a member promise a record.
+pub record HasPromise (p : Pool) (d : ℕ) : Type 0 where
+  pub is_member : p.member d ≡ true
+  pub promised : Rec
+  pub status_is : (p.status d ≡ Odd promised) ⊎ (p.status d ≡ Even promised)
