@@ -1,7 +1,9 @@
 pub mod Calming
+pub mod DataSparing
 pub mod DeviceSectors
 pub mod Folding
 pub mod Holding
+pub mod Landing
 pub mod LookedParts
 pub mod LooksFound
 pub mod LooksShow

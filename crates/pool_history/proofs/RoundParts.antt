@@ -58,7 +58,7 @@ cell_between p d s bytes places n =
     let below = places n.r n.a n.cell n.is_live n.cell_is in
     (omega (arith, n.sector_is), omega (arith, n.sector_is, below))
 
-few_of : (head_of : List ℕ → Option Head) (p : Pool) (r : Rec) (d : ℕ) → Fits head_of p r → p.member d ≡ true → sectors_in r.commit.blob ≤ 28
+pub few_of : (head_of : List ℕ → Option Head) (p : Pool) (r : Rec) (d : ℕ) → Fits head_of p r → p.member d ≡ true → sectors_in r.commit.blob ≤ 28
 few_of head_of p r d fits is = (fits.is_record d is).most
 
 odd_fits : (head_of : List ℕ → Option Head) (p : Pool) (status : Status) (r : Rec) → status ≡ Odd r → IsOf head_of p status → Fits head_of p r
@@ -91,10 +91,10 @@ pub by_device : (P : ℕ → Type 0) (dev d : ℕ) → P dev → ((dev ≢ d) �
 by_device P dev d here away = ⊎_elim {A = dev ≡ d} {B = dev ≢ d} (λ e. subst P e here) away (cases_eq dev d)
 
 -- places of uberblocks
-ring_of : (size place : ℕ) → place < 128 → place / 32 < 4
+pub ring_of : (size place : ℕ) → place < 128 → place / 32 < 4
 ring_of size place lt = omega arith
 
-slot_below : (place : ℕ) → place % 32 < 32
+pub slot_below : (place : ℕ) → place % 32 < 32
 slot_below place = omega arith
 
 pub first_sparing : (head_of : List ℕ → Option Head) (p : Pool) (q : Rec) (m : Member) → Survives head_of p → Fits head_of p q → (p.member m.dev ≡ true → IsSeated p m)
@@ -115,7 +115,7 @@ first_sparing head_of p q m sv fits seated = record {
         (needs_front head_of p q m.dev s bytes sv fits needs))
         (λ ne s bytes needs. config_elsewhere_even m.dev (p.size m.dev) q.commit.blob d s ne)
 
-first_bytes : (k : ℕ) (bytes : List ℕ) → length bytes ≡ 4096 → k ≡ 0 → sector_of k bytes ≡ bytes
+pub first_bytes : (k : ℕ) (bytes : List ℕ) → length bytes ≡ 4096 → k ≡ 0 → sector_of k bytes ≡ bytes
 unfolding sector_size
 first_bytes k bytes long none = ap (λ i. take 4096 (drop (i * 4096) bytes)) none ∙ take_all 4096 bytes (omega arith)
 
