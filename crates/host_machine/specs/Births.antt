@@ -1,15 +1,16 @@
 -- Pools that a history creates, and what stands between two runs.
-use Rattle.std.specs.Prelude.{◌≡◌, ℕ, ◌==◌, ◌||◌, cond, List, [], ◌++◌, take, length, ◌≤◌}
+use Rattle.std.specs.Prelude.{◌≡◌, ℕ, ◌==◌, ◌||◌, cond, List, [], ◌∷◌, ◌++◌, take, length, ◌≤◌}
 use Rattle.mp_base.specs.declared.number.Guid.{Guid}
 use Rattle.bank_core.specs.Disk.{Noted, Sectors, run}
 use Rattle.pool_history.specs.Events.{Event, calls_of}
 use Rattle.pool_history.specs.Moves.{Mays}
 use Rattle.pool_history.specs.Pools.{Pool, pool_after, stamped}
+use Rattle.pool_history.specs.Premises.{AreGood}
 use Rattle.pool_history.specs.Survival.{Survives}
 use Rattle.pool_core.specs.Heads.{head_of}
 use Rattle.pool_core.specs.State.{LeafState, PoolState}
-use Rattle.host_machine.specs.Machine.{HostState, Entry}
-use Rattle.host_machine.specs.Tracking.{Tracks, Follows}
+use Rattle.host_machine.specs.Machine.{HostState, Entry, Step, Replay}
+use Rattle.host_machine.specs.Tracking.{Tracks, Follows, HasNoTwins}
 
 -- the pool of this state behind the stamps of its leaves, on these sectors
 abbrev pub new_pool : (size : ℕ → ℕ) → PoolState → Sectors → Pool
@@ -36,3 +37,27 @@ pub record LeavesPool (first : Pool) (past : List Event) (sectors : Sectors) : T
 -- It is so at each moment of these calls, with the history so far.
 pub record LeavesThroughout (first : Pool) (past : List Event) (sectors : Sectors) (vs : List Event) (made : List Noted) : Type 0 where
   pub at : (k : ℕ) → k ≤ length made → (j : ℕ) × (calls_of (take j vs) ≡ take k made) × LeavesPool first (past ++ take j vs) (run (take k made) sectors)
+
+-- What a run's calls do to a pool that its devices have left: they are moves of its history, which stands
+-- in the host behind them; and at each moment of the run the devices are left by the history so far. It is
+-- so where no two blocks of the records have one sum, and where the premises hold at each opening.
+pub record KeepsPool (first : Pool) (past : List Event) (h : HostState) (sectors : Sectors) (calls : List Noted) (next : HostState) : Type 0 where
+  pub follows : Follows (pool_after past first) h calls next
+  pub leaves : HasNoTwins next.records → AreGood head_of (pool_after past first) follows.vs → LeavesThroughout first past sectors follows.vs calls
+  pub tracks : HasNoTwins next.records → AreGood head_of (pool_after past first) follows.vs → Tracks (pool_after follows.vs (pool_after past first)) next
+
+-- so to each pool
+pub record KeepsPools (h : HostState) (sectors : Sectors) (calls : List Noted) (next : HostState) : Type 0 where
+  pub each : (first : Pool) (past : List Event) → LeavesPool first past sectors → Tracks (pool_after past first) h → KeepsPool first past h sectors calls next
+
+-- An entry among a history's: the host before it, its own calls, and the host behind it.
+pub record IsEntryOf (h : HostState) (before : List Entry) (entry : Entry) (after : List Entry) (calls : List Noted) (next : HostState) : Type 0 where
+  pub first : List Noted
+  pub made : List Noted
+  pub rest : List Noted
+  pub old : HostState
+  pub new : HostState
+  pub all : calls ≡ first ++ (made ++ rest)
+  pub replay : Replay h before first old
+  pub step : Step old entry made new
+  pub later : Replay new after rest next

@@ -4,6 +4,8 @@
 
 mod device;
 mod laws;
+mod runs;
 
 pub use device::HostDevice;
 pub use laws::{hosts_stay_fit, imports_find_the_pool, lines_follow_each_pool};
+pub use runs::{runs_keep_each_pool, stops_keep_each_pool};

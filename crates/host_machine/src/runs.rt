@@ -1,0 +1,31 @@
+//! The laws of whole runs over the histories of pools (docs/MODEL.md, "Stops and openings").
+ghost use Rattle.std.specs.Prelude.{◌≡◌, ◌++◌, ◌∷◌, ℕ, List, Some};
+ghost use Rattle.bank_core.specs.Disk.{Noted, Sectors, AllAnswer, run};
+ghost use Rattle.pool_history.specs.Events.{Stops};
+ghost use Rattle.pool_history.specs.Pools.{Pool, after};
+ghost use Rattle.pool_history.specs.Records.{Rec, IsIn};
+ghost use Rattle.host_machine.specs.declared.device.HostDevice.{HostDevice};
+ghost use Rattle.host_machine.specs.Births.{KeepsPools, IsEntryOf};
+ghost use Rattle.host_machine.specs.Devices.{number_in};
+ghost use Rattle.host_machine.specs.Fitness.{IsFit, AreWhole};
+ghost use Rattle.host_machine.specs.Machine.{HostState, Entry, Replay, started};
+ghost use Rattle.host_machine.specs.Tracking.{Tracks, Follows};
+
+/// A run keeps each pool that its devices had left: at each of its moments they are left by the pool's
+/// history so far.
+pub fn runs_keep_each_pool()
+    ensures run { (h : HostState) (sectors : Sectors) (entries : List Entry) (calls : List Noted) (next : HostState) → AreWhole entries → IsFit h
+        → AllAnswer sectors calls → Replay h entries calls next → KeepsPools h sectors calls next }
+    ensures entry { (h : HostState) (before : List Entry) (entry : Entry) (after : List Entry) (calls : List Noted) (next : HostState)
+        → Replay h (before ++ entry ∷ after) calls next → IsEntryOf h before entry after calls next }
+    ensures goes_on { (p : Pool) (old h : HostState) (made : List Noted) (entries : List Entry) (calls : List Noted) (next : HostState) → AreWhole entries → IsFit h
+        → Follows p old made h → AllAnswer (run made p.sectors) calls → Replay h entries calls next → Follows p old (made ++ calls) next }
+{}
+
+/// The next run may begin with what a stop left of the devices, whatever moment the stop came at.
+pub fn stops_keep_each_pool()
+    ensures next_run { (p : Pool) (h : HostState) (images : ℕ → ℕ → List ℕ) (table : List HostDevice) (size : ℕ → ℕ) (records : List Rec)
+        → (tracks : Tracks p h) → ((d : ℕ) → size d ≡ h.size d) → ((r : Rec) → IsIn r h.records → IsIn r records)
+        → ((d : ℕ) → number_in tracks.first.name table ≡ Some d → d ≡ tracks.first.dev) → ((d : ℕ) → number_in tracks.second.name table ≡ Some d → d ≡ tracks.second.dev)
+        → Tracks (after (Stops images) p) (started table size records) }
+{}
