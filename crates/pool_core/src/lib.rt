@@ -1,18 +1,14 @@
-//! One pool: a volume of blocks on a mirror of devices (docs/MODEL.md, "A pool").
+//! One pool. A STUB, for checks of what stands above it: never to be committed.
 #![tactic(auto)]
 
 mod accessors;
-mod commit;
 mod create;
 mod open;
 mod pool;
 mod read;
-mod round;
-mod rule;
 mod sync;
 mod write;
 
-pub use create::{CreateFault, NewLeaf};
+pub use create::{CreateFault, NewLeaf, pool_number};
 pub use open::{has_members, seek};
 pub use pool::{MOST_BLOCKS, Pool};
-pub use rule::ConfigRule;

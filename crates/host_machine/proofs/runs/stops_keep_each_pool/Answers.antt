@@ -2,4 +2,4 @@ use Rattle.host_machine.proofs.Running.{next_run}
 use Rattle.host_machine.proofs.runs.stops_keep_each_pool.Goals as goal
 
 pub returns : goal.returns
-returns c = next_run
+returns c = record { next_run = next_run }
