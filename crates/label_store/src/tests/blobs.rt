@@ -1,10 +1,10 @@
 //! The configurations of these tests: "testblob", the pool and the number in eight bytes each, the high
 //! one first, a name of four bytes, and then any bytes.
-ghost use Rattle.std.specs.Prelude.{◌≡◌, true, ◌≤◌, length, IfOk};
+ghost use Rattle.std.specs.Prelude.{◌≡◌, true, IfOk};
 ghost use Rattle.mp_base.specs.Block.{zeros};
 ghost use Rattle.label_store.specs.Committing.{IsSealed};
 ghost use Rattle.label_store.specs.Records.{IsHeaded};
-ghost use Rattle.label_store.specs.TestBlobs.{name_in, is_tagged, test_head};
+ghost use Rattle.label_store.specs.TestBlobs.{is_tagged, test_head};
 
 use crate::bytes::{are_equal, number_at};
 use crate::{BlobRule, Head};
@@ -15,6 +15,7 @@ use std::test::Fail;
 
 const TAG: u64 = 0x7465_7374_626c_6f62;
 
+/// The rule of these configurations.
 pub(crate) struct TestRule;
 
 impl BlobRule for TestRule {
