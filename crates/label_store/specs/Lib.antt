@@ -8,5 +8,6 @@ pub mod Plans
 pub mod Records
 pub mod Rounds
 pub mod Seats
+pub mod TestBlobs
 pub mod Turns
 pub mod Uberblock

@@ -19,10 +19,14 @@ use bank_core::{Bank, Fault};
 use mp_base::{Group, Guid};
 use sha2::{Digest, Sha256};
 
-/// Commits a configuration, the first `config_bytes` of `blob`, on each of these members, in order. A
-/// member whose call failed leaves the round, and its result is false; the others go on. Whatever moment
-/// a crash comes at, a member that had a record has it still or has the new one, as long as none of its
-/// label sectors is damaged then (docs/MODEL.md, "Labels"). One whose result is true has the new one.
+/// Commits a configuration, the first `config_bytes` of `blob`, on each of these members, in order.
+/// `blob` is whole sectors, at most 28: the configuration ends in the last one, and zeros follow it. The
+/// number is 1 to 2^62, and `results` has a place for each member.
+///
+/// A member whose call failed leaves the round, and its result is false; the others go on. Whatever moment
+/// a crash comes at, a member that had a record at rest, its uberblock in another slot, has it still or
+/// has the new one, as long as none of its label sectors is damaged then (docs/MODEL.md, "Labels"). One
+/// whose result is true has the new one.
 pub fn commit_record<B: Bank, R: BlobRule>(
     bank: &mut B,
     devs: &[Member],

@@ -13,8 +13,9 @@ use mp_base::{MemFault, Name};
 use std::alloc::Global;
 
 /// The record of this name with the greatest number that is verified on one of these devices; of two with
-/// one number that of the first device, and on one device that of the first label and slot. Every label
-/// sector is read once for each device in the list, and one is left out only where its read failed.
+/// one number that of the first device, and on one device that of the first label and slot. The ring and
+/// the configuration part of each label are read once for each time that the device stands in the list,
+/// one read each, and are left out only where that read failed.
 /// `None` comes only where no record of the name is verified by what was read. Where there is no memory,
 /// no device was written.
 pub fn newest<B: Bank, R: BlobRule>(
