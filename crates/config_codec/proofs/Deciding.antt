@@ -49,6 +49,9 @@ pub kept_some : (bytes : List ℕ) (c : Fields) → c ≡ fields_of bytes → (i
 unfolding config_in
 kept_some bytes c same t = cond-true _ _ _ (ap (λ f. is_valid f && bytes_eq (config_bytes f) bytes) (sym same) ∙ t) ∙ ap Some (sym same)
 
+pub kept_valid : (c : Fields) (b : Bool) → (is_valid c && b) ≡ true → IsValid c
+kept_valid c b t = valid_from c (and_parts (is_valid c) b t).0
+
 pub kept_none : (bytes : List ℕ) (c : Fields) → c ≡ fields_of bytes → (is_valid c && bytes_eq (config_bytes c) bytes) ≡ false → config_in bytes ≡ None
 unfolding config_in
 kept_none bytes c same t = cond-false _ _ _ (ap (λ f. is_valid f && bytes_eq (config_bytes f) bytes) (sym same) ∙ t)
