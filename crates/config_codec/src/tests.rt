@@ -128,75 +128,83 @@ fn what_was_read_is_written_so(rt: HostRuntime) -> Result<(), Fail> {
 }
 
 #[test]
-fn a_field_out_of_range_is_no_configuration(rt: HostRuntime) -> Result<(), Fail> {
-    // version; pool 0; name; blocks 0, 1, 33 and many; number 0, below a birth and above 2^62; next member
-    // number 3 and above 2^62; birth 0 and above the number; top; sector 2 of block 0; a hole's first and
-    // last byte, and a birth without a sector
-    for (at, byte) in [
-        (3, 2),
-        (11, 0),
-        (12, 0),
-        (12, 2),
-        (13, b'T'),
-        (21, 0),
-        (21, 1),
-        (21, 33),
-        (14, 0x80),
-        (29, 0),
-        (29, 1),
-        (22, 0x40),
-        (37, 3),
-        (30, 0x40),
-        (45, 0),
-        (45, 4),
-        (49, 1),
-        (57, 2),
-        (90, 1),
-        (141, 1),
-        (97, 1),
+fn a_wrong_head_or_pointer_is_no_configuration(rt: HostRuntime) -> Result<(), Fail> {
+    for (at, values) in [
+        // version, pool, name
+        (3, b"\x00\x02".as_slice()),
+        (11, b"\x00"),
+        (12, b"\x00\x02"),
+        (13, b"T-"),
+        // blocks, number, next member number
+        (14, b"\x80"),
+        (21, b"\x00\x01\x21"),
+        (22, b"\x40"),
+        (29, b"\x00\x01"),
+        (30, b"\x40"),
+        (37, b"\x00\x03"),
+        // birth, top and sector of a pointer
+        (45, b"\x00\x04"),
+        (49, b"\x01"),
+        (57, b"\x02"),
+        // a hole's first and last byte, and what would be its birth
+        (90, b"\x01"),
+        (97, b"\x01"),
+        (141, b"\x01"),
     ] {
-        assert!(rt; is_refused(rt.alloc(), at, byte)?);
+        assert!(rt; are_refused(rt.alloc(), at, values)?);
     }
-    // tops; sectors 63 and 1,048,640; kind; mirror 0 and as a leaf; children; the leaves' kinds, members,
-    // names, flags and runs; spares
-    for (at, byte) in [
-        (145, 0),
-        (145, 2),
-        (153, 63),
-        (151, 0x10),
-        (154, 0),
-        (154, 2),
-        (162, 0),
-        (162, 2),
-        (163, 1),
-        (163, 3),
-        (164, 1),
-        (172, 0),
-        (172, 3),
-        (172, 4),
-        (174, b'b'),
-        (174, b'-'),
-        (175, 1),
-        (175, 8),
-        (179, 1),
-        (180, 1),
-        (188, 1),
-        (188, 2),
-        (190, b'a'),
-        (191, 2),
-        (195, 1),
-        (199, 1),
+    Ok(())
+}
+
+#[test]
+fn a_wrong_top_is_no_configuration(rt: HostRuntime) -> Result<(), Fail> {
+    for (at, values) in [
+        // tops, their sectors (63, and 1,048,640), kind
+        (145, b"\x00\x02".as_slice()),
+        (153, b"\x3f"),
+        (151, b"\x10"),
+        (154, b"\x00\x02"),
+        // the mirror's number, its children
+        (162, b"\x00\x02\x03\x04"),
+        (163, b"\x01\x03"),
+        // kind, number, name, flags and runs of the leaves
+        (164, b"\x01"),
+        (172, b"\x00\x01\x03\x04"),
+        (174, b"b-"),
+        (175, b"\x01\x08"),
+        (179, b"\x01"),
+        (180, b"\x01"),
+        (188, b"\x00\x01\x02\x04"),
+        (190, b"a-"),
+        (191, b"\x01\x08"),
+        (195, b"\x01"),
+        // spares
+        (199, b"\x01"),
     ] {
-        assert!(rt; is_refused(rt.alloc(), at, byte)?);
+        assert!(rt; are_refused(rt.alloc(), at, values)?);
     }
-    // and what is in range: the other sector, the birth of the number itself, another sum
-    for (at, byte) in [(57, 0), (45, 3), (45, 1), (58, 8)] {
+    Ok(())
+}
+
+#[test]
+fn another_value_in_range_is_a_configuration(rt: HostRuntime) -> Result<(), Fail> {
+    // a pool, the other sector of block 0, a birth up to the number, a sum
+    for (at, byte) in [(4, 0xff), (57, 0), (45, 1), (45, 3), (58, 8)] {
         assert!(rt; !is_refused(rt.alloc(), at, byte)?);
     }
     Ok(())
 }
 
-// Whether the small configuration is none any more with this byte.
+// Whether the small configuration is none any more with each of these bytes.
+fn are_refused(alloc: Global, at: usize, values: &[u8]) -> Result<bool, Fail> {
+    for byte in values {
+        if !is_refused(alloc, at, *byte)? {
+            return Ok(false);
+        }
+    }
+    Ok(true)
+}
+
 fn is_refused(alloc: Global, at: usize, byte: u8) -> Result<bool, Fail> {
     let mut bytes = small(alloc)?;
     if at < bytes.len() {
