@@ -1,6 +1,0 @@
-use Rattle.std.proofs.Common.{rules, arith, refl}
-use Rattle.pool_core.proofs.Representing.{puts}
-use Rattle.pool_core.proofs.pool.Pool.put.Goals as goal
-
-pub returns-clause-put : goal.returns-clause-put
-returns-clause-put c = λ s r. puts c.args.self.now s c.args.address c.args.block.now r (omega arith) (search rules) refl refl refl refl (search rules)
