@@ -1,7 +1,6 @@
 -- Pieces that are put one behind another, and how long they are.
-use Rattle.std.proofs.Common.{◌≡◌, ℕ, zero, suc, ◌+◌, ◌*◌, ◌-◌, ◌≤◌, ◌<◌, List, [], ◌∷◌, ◌++◌, length, take, drop, refl, sym, ap, ◌∙◌, arith, replicate, append_assoc, length-append, Option, Some, None, true, subst}
-use Rattle.std.specs.List.{flat_map}
-use Rattle.std.proofs.lemmas.List.{length-replicate, take_more}
+use Rattle.std.proofs.Common.{◌≡◌, ℕ, ◌+◌, ◌-◌, ◌≤◌, List, [], ◌∷◌, ◌++◌, length, take, refl, sym, ap, ◌∙◌, arith, replicate, append_assoc, length-append, Option, None, true, subst}
+use Rattle.std.proofs.lemmas.List.{length-replicate, take_all}
 use Rattle.std.proofs.lemmas.Slice.{take-put_mid}
 use borrow.Rule.Slice.PartMut.{put_mid}
 use Rattle.std.proofs.lemmas.Bool.{and_parts, leb-true}
@@ -9,10 +8,8 @@ use Rattle.std.specs.Prelude.{nat_le}
 use Rattle.mp_base.specs.Block.{zeros}
 use Rattle.mp_base.specs.Name.{is_name}
 use Rattle.config_codec.specs.Pieces.{Puts}
-use Rattle.config_codec.specs.Spelling.{be32, be64, text_bytes, pointer_bytes, leaf_bytes, head_bytes, tops_bytes, config_bytes}
+use Rattle.config_codec.specs.Spelling.{be32, be64, text_bytes, pointer_bytes}
 use Rattle.config_codec.specs.declared.config.Pointer.{Pointer}
-use Rattle.config_codec.specs.declared.config.LeafConfig.{LeafConfig}
-use Rattle.config_codec.specs.Fields.{Fields}
 
 pub length-be32 : (n : ℕ) → length (be32 n) ≡ 4
 unfolding be32
@@ -58,3 +55,12 @@ puts_text {old} {new} {text} {text'} {at} {e} same p = subst (λ t. Puts old at 
 pub puts_hole : {old new : List ℕ} {at e : ℕ} (slot : Option Pointer) → slot ≡ None → Puts old at (zeros 52) new e → Puts old at (pointer_bytes slot) new e
 unfolding pointer_bytes
 puts_hole {old} {new} {at} {e} slot is p = subst (λ s. Puts old at (pointer_bytes s) new e) (sym is) p
+
+-- bytes at the front, and zeros to the end of the sector
+pub fills_sector : {old mid new bytes : List ℕ} {n e e' : ℕ} → Puts old 0 bytes mid e → Puts mid e (zeros n) new e' → e ≤ 4096 → n ≡ 4096 - e → length new ≡ 4096
+    → new ≡ bytes ++ zeros (4096 - length bytes)
+fills_sector {old} {mid} {new} {bytes} {n} {e} {e'} p q inside is long =
+    let end : e' ≡ 4096 = omega (arith, q.stop, length-zeros n) in
+    let count : n ≡ 4096 - length bytes = omega (arith, p.stop) in
+    let all : take e' new ≡ new = take_all e' new (omega arith) in
+    sym all ∙ q.front ∙ ap (λ s. s ++ zeros n) p.front ∙ ap (λ k. bytes ++ zeros k) count

@@ -68,20 +68,22 @@ from_pointers bytes = drop 8 (from_next_member bytes)
 unfoldable pub from_tops : List ℕ → List ℕ
 from_tops bytes = drop (52 * number_in (from_blocks bytes)) (from_pointers bytes)
 
--- behind the number of tops
+-- The bytes of the tops from a field on.
+
+-- behind their number
 unfoldable pub from_sectors : List ℕ → List ℕ
-from_sectors bytes = drop 4 (from_tops bytes)
+from_sectors tops = drop 4 tops
 
 -- behind the sectors and a kind
 unfoldable pub from_mirror : List ℕ → List ℕ
-from_mirror bytes = drop 1 (drop 8 (from_sectors bytes))
+from_mirror tops = drop 1 (drop 8 (from_sectors tops))
 
 -- behind the mirror's number and the number of its children
 unfoldable pub from_first : List ℕ → List ℕ
-from_first bytes = drop 1 (drop 8 (from_mirror bytes))
+from_first tops = drop 1 (drop 8 (from_mirror tops))
 
 unfoldable pub from_second : List ℕ → List ℕ
-from_second bytes = behind_leaf (from_first bytes)
+from_second tops = behind_leaf (from_first tops)
 
 -- the fields as they stand in the bytes, valid or not
 unfoldable pub fields_of : List ℕ → Fields
@@ -92,10 +94,10 @@ fields_of bytes = record {
   number = record { 0 = number_in (from_number bytes) };
   next_member = number_in (from_next_member bytes);
   pointers = pointers_in (number_in (from_blocks bytes)) (from_pointers bytes);
-  sectors = number_in (from_sectors bytes);
-  mirror = record { 0 = number_in (from_mirror bytes) };
-  first = leaf_in (from_first bytes);
-  second = leaf_in (from_second bytes);
+  sectors = number_in (from_sectors (from_tops bytes));
+  mirror = record { 0 = number_in (from_mirror (from_tops bytes)) };
+  first = leaf_in (from_first (from_tops bytes));
+  second = leaf_in (from_second (from_tops bytes));
 }
 
 -- Bytes are a configuration where their fields are valid, and they are just the bytes of these fields.

@@ -6,7 +6,7 @@ ghost use Rattle.std.specs.Str.{bytes_eq};
 ghost use Rattle.mp_base.specs.Name.{is_name};
 ghost use Rattle.config_codec.specs.declared.unread.Unread.TheVariants.{NoConfig};
 ghost use Rattle.config_codec.specs.Fields.{config_fields};
-ghost use Rattle.config_codec.specs.Reading.{pointer_in, pointers_in, leaf_in, behind_leaf, fields_of, config_in};
+ghost use Rattle.config_codec.specs.Reading.{number_in, text_in, from_pool, from_name, from_blocks, from_number, from_next_member, from_pointers, from_sectors, from_mirror, from_first, from_second, pointer_in, pointers_in, leaf_in, behind_leaf, fields_of, config_in};
 ghost use Rattle.config_codec.specs.Spelling.{config_bytes};
 ghost use Rattle.config_codec.specs.Validity.{is_valid, are_names};
 
@@ -28,6 +28,25 @@ const KIND_BYTES: usize = 1;
 const CHILDREN_BYTES: usize = 1;
 
 const FLAGS_BYTES: usize = 1;
+
+// What stands before the pointers.
+#[derive(Drop)]
+struct Head<'a> {
+    pool: Guid,
+    name: &'a [u8],
+    blocks: u64,
+    number: Group,
+    next_member: u64,
+}
+
+// What stands behind them.
+#[derive(Drop)]
+struct Top {
+    sectors: u64,
+    mirror: Guid,
+    first: LeafConfig,
+    second: LeafConfig,
+}
 
 /// The configuration that the bytes are. `None` comes exactly where they are none.
 pub fn decode(alloc: Global, bytes: &[u8]) -> Result<Option<Config>, MemFault>
@@ -73,30 +92,64 @@ fn read(alloc: Global, bytes: &[u8]) -> Result<Config, Unread>
     ensures none { IsErrOf result NoConfig → is_valid (fields_of bytes.now) ≡ false }
 {
     let mut cursor = Cursor::new(bytes);
-    cursor.skip(COUNT_BYTES);
-    let pool = Guid(cursor.number());
-    let name = cursor.text();
-    let blocks = cursor.number();
-    let number = Group(cursor.number());
-    let next_member = cursor.number();
-    if blocks > MOST_BLOCKS {
+    let head = read_head(&mut cursor);
+    if head.blocks > MOST_BLOCKS {
         return Err(Unread::NoConfig);
     }
-    let pointers = read_pointers(alloc, &mut cursor, blocks as usize)?;
+    let pointers = read_pointers(alloc, &mut cursor, head.blocks as usize)?;
+    let top = read_top(alloc, &mut cursor)?;
+    let name = Name::new(alloc, head.name)?;
+    Ok(Config {
+        pool: head.pool,
+        name,
+        blocks: head.blocks,
+        number: head.number,
+        next_member: head.next_member,
+        pointers,
+        sectors: top.sectors,
+        mirror: top.mirror,
+        first: top.first,
+        second: top.second,
+    })
+}
+
+#[tactic(auto, unfolding(crate::specs::Reading::from_pool, crate::specs::Reading::from_name, crate::specs::Reading::from_blocks, crate::specs::Reading::from_number, crate::specs::Reading::from_next_member, crate::specs::Reading::from_pointers))]
+fn read_head<'a>(cursor: &mut Cursor<'a>) -> Head<'a>
+    ensures pool { result.pool.0 ≡ number_in (from_pool cursor.old) }
+    ensures name { result.name.now ≡ text_in (from_name cursor.old) }
+    ensures blocks { result.blocks ≡ number_in (from_blocks cursor.old) }
+    ensures number { result.number.0 ≡ number_in (from_number cursor.old) }
+    ensures next_member { result.next_member ≡ number_in (from_next_member cursor.old) }
+    ensures rest { cursor.new ≡ from_pointers cursor.old }
+{
+    cursor.skip(COUNT_BYTES);
+    Head {
+        pool: Guid(cursor.number()),
+        name: cursor.text(),
+        blocks: cursor.number(),
+        number: Group(cursor.number()),
+        next_member: cursor.number(),
+    }
+}
+
+#[tactic(auto, unfolding(crate::specs::Reading::from_sectors, crate::specs::Reading::from_mirror, crate::specs::Reading::from_first, crate::specs::Reading::from_second))]
+fn read_top(alloc: Global, cursor: &mut Cursor) -> Result<Top, Unread>
+    ensures sectors { IfOk result (λ top. top.sectors ≡ number_in (from_sectors cursor.old)) }
+    ensures mirror { IfOk result (λ top. top.mirror.0 ≡ number_in (from_mirror cursor.old)) }
+    ensures first { IfOk result (λ top. top.first ≡ leaf_in (from_first cursor.old)) }
+    ensures second { IfOk result (λ top. top.second ≡ leaf_in (from_second cursor.old)) }
+    ensures names { IfOk result (λ top. IsTrue (is_name top.first.name && is_name top.second.name)) }
+    ensures none { IsErrOf result NoConfig
+        → (is_name (leaf_in (from_first cursor.old)).name && is_name (leaf_in (from_second cursor.old)).name) ≡ false }
+{
     cursor.skip(COUNT_BYTES);
     let sectors = cursor.number();
     cursor.skip(KIND_BYTES);
     let mirror = Guid(cursor.number());
     cursor.skip(CHILDREN_BYTES);
-    let first = read_leaf(alloc, &mut cursor)?;
-    let second = read_leaf(alloc, &mut cursor)?;
-    Ok(Config {
-        pool,
-        name: Name::new(alloc, name)?,
-        blocks,
-        number,
-        next_member,
-        pointers,
+    let first = read_leaf(alloc, cursor)?;
+    let second = read_leaf(alloc, cursor)?;
+    Ok(Top {
         sectors,
         mirror,
         first,

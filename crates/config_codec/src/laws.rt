@@ -12,11 +12,9 @@ pub fn each_has_one_spelling()
     ensures valid { (bytes : List ℕ) (c : Fields) → config_in bytes ≡ Some c → IsValid c }
     ensures spelled { (bytes : List ℕ) (c : Fields) → config_in bytes ≡ Some c → bytes ≡ config_bytes c }
     ensures fits { (c : Fields) → IsValid c → length (config_bytes c) ≤ 4096 }
-{
-}
+{}
 
 /// The test tells what is valid.
 pub fn validity_is_tested()
     ensures { (c : Fields) → IsTrue (is_valid c) ↔ IsValid c }
-{
-}
+{}

@@ -8,9 +8,9 @@ mod encoding;
 mod laws;
 mod parts;
 mod pieces;
-mod unread;
 #[cfg(test)]
 mod tests;
+mod unread;
 mod validity;
 
 pub use config::{Config, LeafConfig, Pointer};

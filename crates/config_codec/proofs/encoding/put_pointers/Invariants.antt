@@ -7,5 +7,5 @@ use Rattle.config_codec.proofs.encoding.put_pointers.Given as goal
 abbrev pub invariant-loop-slot : goal.invariant-loop-slot
 invariant-loop-slot l = record {
   piece : Puts l.initial.out l.at (flat_map pointer_bytes (take l.slot-index l.pointers)) l.out l.stop;
-  stop : l.stop ≡ l.at + 52 * l.slot-index
+  stop : l.stop ≡ l.at + 52 * l.slot-index;
 }

@@ -1,5 +1,3 @@
-use Rattle.std.proofs.Common.{ap, ◌∷◌, sym, length}
-use Rattle.config_codec.specs.Spelling.{text_bytes}
 use Rattle.config_codec.proofs.Placing.{puts_next, puts_text}
 use Rattle.config_codec.proofs.pieces.put_name.Goals as goal
 
