@@ -1,5 +1,5 @@
 -- What the steps of a pool's calls did.
-use Rattle.std.specs.Prelude.{◌≡◌, ℕ, Bool, List, Option, None, Result, slice_get}
+use Rattle.std.specs.Prelude.{◌≡◌, ℕ, Bool, List, Option, Some, None, Result, slice_get}
 use Rattle.mp_base.specs.declared.number.Group.{Group}
 use Rattle.mp_base.specs.declared.refusal.Refusal.{Refusal}
 use Rattle.bank_core.specs.declared.bank.Fault.{Fault}

@@ -1,5 +1,5 @@
 //! The next record: the pointers in memory become those of the blocks that were written.
-ghost use Rattle.std.specs.Prelude.{◌≡◌, ◌<◌, ◌^◌, length};
+ghost use Rattle.std.specs.Prelude.{◌≡◌, ◌/◌, ◌<◌, ◌^◌, length};
 ghost use Rattle.pool_core.specs.Committing.{free_sector};
 
 use crate::Pool;
@@ -63,7 +63,8 @@ impl Pool {
 // The data sector of an address that its committed block isn't on.
 pub(crate) fn free_sector(address: usize, pointer: Option<Pointer>) -> u64
     requires { address < 32 }
-    ensures { result ≡ free_sector address pointer }
+    ensures is { result ≡ free_sector address pointer }
+    ensures home { result / 2 ≡ address }
 {
     let even = 2 * address as u64;
     match pointer {
