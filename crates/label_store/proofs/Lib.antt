@@ -6,6 +6,7 @@ pub mod Openings
 pub mod Phasing
 pub mod Pieces
 pub mod Places
+pub mod Reading
 pub mod Rounding
 pub mod Searching
 pub mod Writing

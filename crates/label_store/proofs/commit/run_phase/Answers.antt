@@ -8,6 +8,7 @@ loop-i-preserved g c =
     record {
       size = λ d. c.take_turn.ensures.size d ∙ c.loop-i.invariant.size d;
       numbers = λ name. c.take_turn.ensures.numbers name ∙ c.loop-i.invariant.numbers name;
+      lookups = c.take_turn.ensures.lookups ∙ c.loop-i.invariant.lookups;
       left = left_next c.loop-i.i c.loop-i.board c.args.board.now c.take_turn.result c.loop-i.invariant.left;
       phase = phase_turns c.args.phase (g.B.Bank.size c.args.bank.now) (g.B.Bank.size c.loop-i.bank) (commit_of c.args.round.now) c.args.members.now
           c.args.board.now c.loop-i.board c.loop-i.i _ c.take_turn.result c.loop-i-test.true (omega arith) c.loop-i.auto.board (got_there c.args.members.now c.loop-i.i _ _ c.loop-i-test.true)

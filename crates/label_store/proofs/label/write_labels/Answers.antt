@@ -20,6 +20,7 @@ loop-at-preserved g c =
     record {
       size = λ d. c.write.ensures.size d ∙ c.loop-at.invariant.size d;
       numbers = λ name. c.write.ensures.numbers name ∙ c.loop-at.invariant.numbers name;
+      lookups = c.write.ensures.lookups ∙ c.loop-at.invariant.lookups;
       counts = λ d. omega (arith, c.write.ensures.counts d, c.loop-at.invariant.counts d);
       part = one_more c.args.dev c.args.labels.now c.args.offset c.args.bytes.now c.loop-at.at-index lt c.loop-at.invariant.part
           (part_ok (Write c.args.dev (get_or c.args.labels.now c.loop-at.at-index 0 + c.args.offset) c.args.bytes.now None) refl

@@ -14,6 +14,7 @@ pub loop-at-preserved : goal.loop-at-preserved
 loop-at-preserved g c = let lt : c.loop-at.at-index < length c.labels_of-labels.result = omega (arith, ap length c.labels_of-labels.ensures) in record {
   size = λ d. c.read_ring-found.ensures.size d ∙ c.loop-at.invariant.size d;
   numbers = λ name. c.read_ring-found.ensures.numbers name ∙ c.loop-at.invariant.numbers name;
+  lookups = c.read_ring-found.ensures.lookups ∙ c.loop-at.invariant.lookups;
   counts = λ d. omega (arith, c.read_ring-found.ensures.counts d, c.loop-at.invariant.counts d);
   cause = λ fault e. fault_cause c.loop-at.failed c.read_ring-found.result c.first_fault-failed.result fault _ _ _ c.first_fault-failed.ensures e
       c.loop-at.invariant.cause (c.loop-at.invariant.counts c.args.dev) (c.read_ring-found.ensures.counts c.args.dev) c.read_ring-found.ensures.cause;
