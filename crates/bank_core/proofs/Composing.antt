@@ -1,6 +1,6 @@
 -- Calls one after another.
 use mathlib.Core.Path.{fun_ext}
-use Rattle.std.proofs.Common.{◌≡◌, ℕ, ◌≤◌, List, [], ◌∷◌, ◌++◌, Option, Some, None, Result, Ok, Err, OnErr, refl, sym, ◌∙◌, ap, arith, append_assoc, append-nil, subst, Bool, false}
+use Rattle.std.proofs.Common.{◌≡◌, ◌≢◌, ℕ, ◌≤◌, List, [], ◌∷◌, ◌++◌, Option, Some, None, Result, Ok, Err, OnOk, OnErr, refl, sym, ◌∙◌, ap, arith, append_assoc, append-nil, subst, Bool, false}
 use Rattle.bank_core.specs.declared.bank.Fault.{Fault}
 use Rattle.mp_base.specs.Outside.{Rose}
 use Rattle.bank_core.specs.Disk.{Sector, Sectors, Call, Noted, run, replay, AllAnswer}
@@ -40,30 +40,29 @@ answers_at : (later begun : Story) (first second : List Noted) → later ≡ goe
 answers_at later begun first second e a =
     subst (λ sectors. AllAnswer sectors second) (ap now e ∙ run_more begun.calls first begun.start) a
 
-no_fall : (f g h : ℕ → ℕ) → ((d : ℕ) → f d ≤ g d) → ((d : ℕ) → g d ≤ h d) → (d : ℕ) → f d ≤ h d
-no_fall f g h a b d = let first = a d in let second = b d in omega arith
-
-rose_earlier : (f g h : ℕ) → f ≤ g → Rose g h → Rose f h
-rose_earlier f g h le r = omega arith
-
-caused_earlier : (noted : Noted) (f g h : ℕ → ℕ) → ((d : ℕ) → f d ≤ g d) → IsCaused noted.call g h → IsCaused noted.call f h
-caused_earlier noted f g h le c = record {
-  counts = no_fall f g h le c.counts;
-  cause = λ fault e. rose_earlier (f (device_of noted.call)) (g (device_of noted.call)) (h (device_of noted.call)) (le (device_of noted.call)) (c.cause fault e);
-}
-
-all_caused_earlier : (made : List Noted) (f g h : ℕ → ℕ) → ((d : ℕ) → f d ≤ g d) → AllCaused made g h → AllCaused made f h
-all_caused_earlier [] f g h le c = no_fall f g h le c
-all_caused_earlier (noted ∷ made) f g h le c = (c.0, caused_earlier noted f g c.0 le c.1, c.2)
+-- counts that are equal may be named otherwise
+caused_from : (made : List Noted) (f f' g : ℕ → ℕ) → ((d : ℕ) → f d ≡ f' d) → AllCaused made f g → AllCaused made f' g
+caused_from made f f' g same c = subst (λ k. AllCaused made k g) (fun_ext same) c
 
 pub caused_more : (first second : List Noted) (f g h : ℕ → ℕ) → AllCaused first f g → AllCaused second g h → AllCaused (first ++ second) f h
-caused_more [] second f g h a b = all_caused_earlier second f g h a b
+caused_more [] second f g h a b = caused_from second g f h a b
 caused_more (noted ∷ first) second f g h a b = (a.0, a.1, caused_more first second a.0 g h a.2 b)
+
+-- no count fell
+pub caused_counts : (made : List Noted) (f g : ℕ → ℕ) → AllCaused made f g → (d : ℕ) → f d ≤ g d
+caused_counts [] f g c d = let same = c d in omega arith
+caused_counts (noted ∷ made) f g c d = let x = c.1.counts d in let y = caused_counts made c.0 g c.2 d in omega arith
+
+-- the counts between calls
+pub caused_split : (first second : List Noted) (f h : ℕ → ℕ) → AllCaused (first ++ second) f h → (g : ℕ → ℕ) × AllCaused first f g × AllCaused second g h
+caused_split [] second f h c = (f, (λ d. refl), c)
+caused_split (noted ∷ first) second f h c =
+    let r = caused_split first second c.0 h c.2 in (r.0, (c.0, c.1, r.1), r.2)
 
 -- No call was made.
 pub made_none : (told : Option Story) (faults : ℕ → ℕ) → Made told told faults faults []
 made_none told faults = record {
-  caused = λ d. omega arith;
+  caused = λ d. refl;
   told = λ story' e. record { story = story'; before = e; after = same_story story'; answers = tt };
 }
 
@@ -88,9 +87,9 @@ made_more old mid new f g h first second a b = record {
 
 -- The counts and the story that calls leave may be named otherwise.
 pub made_from : (old old' new : Option Story) (f f' g : ℕ → ℕ) (made : List Noted)
-    → old' ≡ old → ((d : ℕ) → f' d ≤ f d) → Made old new f g made → Made old' new f' g made
-made_from old old' new f f' g made e le m = record {
-  caused = all_caused_earlier made f' f g le m.caused;
+    → old' ≡ old → ((d : ℕ) → f d ≡ f' d) → Made old new f g made → Made old' new f' g made
+made_from old old' new f f' g made e same m = record {
+  caused = caused_from made f f' g same m.caused;
   told = λ story' is. rw e (m.told story' is);
 }
 
@@ -103,7 +102,7 @@ no_damage : ℕ → ℕ → Bool
 no_damage d s = false
 
 one_caused : (noted : Noted) (f g : ℕ → ℕ) → IsCaused noted.call f g → AllCaused (noted ∷ []) f g
-one_caused noted f g c = (g, c, λ d. omega arith)
+one_caused noted f g c = (g, c, λ d. refl)
 
 -- from what the bank tells: nothing, or this story
 one_made_at : (old new : Option Story) (f g : ℕ → ℕ) (call : Call) → IsCaused call f g → Tells old new call
@@ -129,6 +128,23 @@ one_made old new f g call c tells = one_made_at old new f g call c tells new ref
 
 -- what a bank's clauses on counts say of a call
 pub call_caused : {A : Type 0} (call : Call) (r : Result A Fault) (f g : ℕ → ℕ) → fault_of call ≡ fault_in r
-    → ((d : ℕ) → f d ≤ g d) → OnErr r (Rose (f (device_of call)) (g (device_of call))) → IsCaused call f g
-call_caused call (Ok x) f g e counts cause = record { counts = counts; cause = λ fault is. absurd (none_fault fault (sym e ∙ is)) }
-call_caused call (Err fault) f g e counts cause = record { counts = counts; cause = λ _ _. cause }
+    → ((d : ℕ) → f d ≤ g d) → OnErr r (Rose (f (device_of call)) (g (device_of call))) → OnOk r ((d : ℕ) → g d ≡ f d)
+    → ((d : ℕ) → d ≢ device_of call → g d ≡ f d) → IsCaused call f g
+call_caused call (Ok x) f g e counts cause still others =
+    record { counts = counts; cause = λ fault is. absurd (none_fault fault (sym e ∙ is)); still = λ _. still; others = others }
+call_caused call (Err fault) f g e counts cause still others =
+    record { counts = counts; cause = λ _ _. cause; still = λ is. absurd (none_fault fault (sym is ∙ e)); others = others }
+
+-- a call that answered Ok moved no count
+pub ok_caused : (call : Call) (f g : ℕ → ℕ) → fault_of call ≡ None → ((d : ℕ) → g d ≡ f d) → IsCaused call f g
+ok_caused call f g e still = record {
+  counts = λ d. let same = still d in omega arith;
+  cause = λ fault is. absurd (none_fault fault (sym e ∙ is));
+  still = λ _. still;
+  others = λ d _. still d;
+}
+
+-- a call that failed moved the count of its device alone
+pub failed_caused : (call : Call) (fault : Fault) (f g : ℕ → ℕ) → fault_of call ≡ Some fault → ((d : ℕ) → f d ≤ g d)
+    → Rose (f (device_of call)) (g (device_of call)) → ((d : ℕ) → d ≢ device_of call → g d ≡ f d) → IsCaused call f g
+failed_caused call fault f g e counts cause others = call_caused {A = Unit {0}} call (Err fault) f g e counts cause tt others

@@ -1,5 +1,5 @@
 -- Parts of a plan, one after another.
-use Rattle.std.proofs.Common.{◌≡◌, ℕ, ◌≤◌, List, [], ◌∷◌, ◌++◌, Bool, Option, Some, None, Result, Ok, Err, OnErr, refl, inl, inr, ◌⊎◌, sym}
+use Rattle.std.proofs.Common.{◌≡◌, ◌≢◌, ℕ, ◌≤◌, List, [], ◌∷◌, ◌++◌, Bool, Option, Some, None, Result, Ok, Err, OnOk, OnErr, refl, arith, inl, inr, ◌⊎◌, sym}
 use Rattle.mp_base.specs.Outside.{Rose}
 use Rattle.bank_core.specs.declared.bank.Fault.{Fault}
 use Rattle.bank_core.specs.Disk.{Call, Noted}
@@ -71,18 +71,20 @@ one_part ask call damage (Some fault) is failed = (is, inr (fault, failed, refl,
 
 -- one call
 pub part_one : {A : Type 0} {old new : Option Story} {f g : ℕ → ℕ} (call : Call) (r : Result A Fault) → fault_of call ≡ fault_in r
-    → ((d : ℕ) → f d ≤ g d) → OnErr r (Rose (f (device_of call)) (g (device_of call))) → Tells old new call
-    → MakesPart (ask_of call ∷ []) old new f g (fault_in r)
-part_one {old = old} {new = new} {f = f} {g = g} call r is counts cause tells =
-    let one = one_made old new f g call (call_caused call r f g is counts cause) tells in
+    → ((d : ℕ) → f d ≤ g d) → OnErr r (Rose (f (device_of call)) (g (device_of call))) → OnOk r ((d : ℕ) → g d ≡ f d)
+    → ((d : ℕ) → d ≢ device_of call → g d ≡ f d) → Tells old new call → MakesPart (ask_of call ∷ []) old new f g (fault_in r)
+part_one {old = old} {new = new} {f = f} {g = g} call r is counts cause still others tells =
+    let one = one_made old new f g call (call_caused call r f g is counts cause still others) tells in
     record { made = record { call = call; damage = one.damage } ∷ []; calls = one.made; part = one_part (ask_of call) call one.damage (fault_in r) refl is }
 
 -- one call that answered Ok
-pub part_ok : {old new : Option Story} {f g : ℕ → ℕ} (call : Call) → fault_of call ≡ None → ((d : ℕ) → f d ≤ g d) → Tells old new call
+pub part_ok : {old new : Option Story} {f g : ℕ → ℕ} (call : Call) → fault_of call ≡ None → ((d : ℕ) → g d ≡ f d) → Tells old new call
     → MakesPart (ask_of call ∷ []) old new f g None
-part_ok {old} {new} {f} {g} call is counts tells = part_one {A = Unit {0}} call (Ok tt) is counts tt tells
+part_ok {old} {new} {f} {g} call is still tells =
+    part_one {A = Unit {0}} call (Ok tt) is (λ d. let same = still d in omega arith) tt still (λ d _. still d) tells
 
 -- one call that failed
 pub part_failed : {old new : Option Story} {f g : ℕ → ℕ} (call : Call) (fault : Fault) → fault_of call ≡ Some fault → ((d : ℕ) → f d ≤ g d)
-    → Rose (f (device_of call)) (g (device_of call)) → Tells old new call → MakesPart (ask_of call ∷ []) old new f g (Some fault)
-part_failed {old} {new} {f} {g} call fault is counts cause tells = part_one {A = Unit {0}} call (Err fault) is counts cause tells
+    → Rose (f (device_of call)) (g (device_of call)) → ((d : ℕ) → d ≢ device_of call → g d ≡ f d) → Tells old new call
+    → MakesPart (ask_of call ∷ []) old new f g (Some fault)
+part_failed {old} {new} {f} {g} call fault is counts cause others tells = part_one {A = Unit {0}} call (Err fault) is counts cause tt others tells

@@ -1,5 +1,5 @@
 -- What a function did with a bank: the calls that it made, with their answers and causes.
-use Rattle.std.specs.Prelude.{◌≡◌, ℕ, ◌≤◌, List, [], ◌∷◌, Option, Some, None}
+use Rattle.std.specs.Prelude.{◌≡◌, ◌≢◌, ℕ, ◌≤◌, List, [], ◌∷◌, Option, Some, None}
 use Rattle.mp_base.specs.Outside.{Rose}
 use Rattle.bank_core.specs.declared.bank.Fault.{Fault}
 use Rattle.bank_core.specs.Disk.{Call, Read, Write, Flush, Admit, Eject, Noted}
@@ -19,17 +19,20 @@ fault_of (Flush dev fault) = fault
 fault_of (Admit dev holds) = None
 fault_of (Eject dev) = None
 
--- A failed call has its cause: the count of its device rose, and no count fell.
+-- A count tells of failed calls and of nothing else: the count of a failed call's device rose, and every
+-- other count stayed. Where the call answered Ok, each count stayed.
 pub record IsCaused (call : Call) (before after : ℕ → ℕ) : Type 0 where
   pub counts : (d : ℕ) → before d ≤ after d
   pub cause : (fault : Fault) → fault_of call ≡ Some fault → Rose (before (device_of call)) (after (device_of call))
+  pub still : fault_of call ≡ None → (d : ℕ) → after d ≡ before d
+  pub others : (d : ℕ) → d ≢ device_of call → after d ≡ before d
 
--- so has each of these calls, one after another
+-- so each of these calls, one after another, and no count moved otherwise
 abbrev pub AllCaused : List Noted → (before after : ℕ → ℕ) → Type 0
-AllCaused [] before after = (d : ℕ) → before d ≤ after d
+AllCaused [] before after = (d : ℕ) → after d ≡ before d
 AllCaused (noted ∷ more) before after = (between : ℕ → ℕ) × IsCaused noted.call before between × AllCaused more between after
 
--- These calls were made, and no other: each that failed has its cause, and where the bank tells at the
+-- These calls were made, and no other: a count rose only where one of them failed, and where the bank tells at the
 -- end, its story goes on by just them.
 pub record Made (old new : Option Story) (before after : ℕ → ℕ) (made : List Noted) : Type 0 where
   pub caused : AllCaused made before after

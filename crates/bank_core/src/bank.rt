@@ -1,5 +1,5 @@
 //! The trait of a bank of devices.
-ghost use Rattle.std.specs.Prelude.{◌≡◌, ℕ, ◌+◌, ◌%◌, ◌<◌, ◌≤◌, List, Option, Some, None, length, IfOk, OnErr, IfSome, IfNone, IsErrOf};
+ghost use Rattle.std.specs.Prelude.{◌≡◌, ◌≢◌, ℕ, ◌+◌, ◌%◌, ◌<◌, ◌≤◌, List, Option, Some, None, length, IfOk, OnOk, OnErr, IfSome, IfNone, IsErrOf};
 ghost use Rattle.mp_base.specs.Outside.{Rose};
 ghost use Rattle.bank_core.specs.Absent.{IsAbsent};
 
@@ -25,7 +25,8 @@ pub enum FindFault {
 /// The devices of a host. Each has a number below 64, and is a list of sectors of 4,096 bytes, which are
 /// read and written in whole pieces. What was written is safe from a crash only after a flush.
 ///
-/// A bank has a count of faults for each device, and one for look-ups. None of them falls.
+/// A bank has a count of faults for each device, and one for look-ups. None of them falls. A device's
+/// count rises where a call on it fails, and stays at every other call.
 pub trait Bank {
     ghost use Rattle.bank_core.specs.Disk.{Read, Write, Flush, sector_size, sectors_in};
     ghost use Rattle.bank_core.specs.Story.{Story, Tells, fault_in};
@@ -78,6 +79,8 @@ pub trait Bank {
         ensures lookups { lookup_faults self.new ≡ lookup_faults self.old }
         ensures counts { (d : ℕ) → faults self.old d ≤ faults self.new d }
         ensures cause { OnErr result (Rose (faults self.old dev) (faults self.new dev)) }
+        ensures still { OnOk result ((d : ℕ) → faults self.new d ≡ faults self.old d) }
+        ensures others { (d : ℕ) → d ≢ dev → faults self.new d ≡ faults self.old d }
         ensures told { Tells (told self.old) (told self.new) (Read dev at out.new (fault_in result)) };
 
     /// Writes whole sectors from `at` on. They are pending until a flush that answers `Ok`, also where
@@ -92,6 +95,8 @@ pub trait Bank {
         ensures lookups { lookup_faults self.new ≡ lookup_faults self.old }
         ensures counts { (d : ℕ) → faults self.old d ≤ faults self.new d }
         ensures cause { OnErr result (Rose (faults self.old dev) (faults self.new dev)) }
+        ensures still { OnOk result ((d : ℕ) → faults self.new d ≡ faults self.old d) }
+        ensures others { (d : ℕ) → d ≢ dev → faults self.new d ≡ faults self.old d }
         ensures told { Tells (told self.old) (told self.new) (Write dev at bytes.now (fault_in result)) };
 
     /// Makes what was written to the device stable. At `Ok` each sector whose last write answered `Ok`
@@ -104,5 +109,7 @@ pub trait Bank {
         ensures lookups { lookup_faults self.new ≡ lookup_faults self.old }
         ensures counts { (d : ℕ) → faults self.old d ≤ faults self.new d }
         ensures cause { OnErr result (Rose (faults self.old dev) (faults self.new dev)) }
+        ensures still { OnOk result ((d : ℕ) → faults self.new d ≡ faults self.old d) }
+        ensures others { (d : ℕ) → d ≢ dev → faults self.new d ≡ faults self.old d }
         ensures told { Tells (told self.old) (told self.new) (Flush dev (fault_in result)) };
 }

@@ -1,5 +1,5 @@
 //! How a bank in memory notes a call: in its list, and in the count of faults of the device.
-ghost use Rattle.std.specs.Prelude.{◌≡◌, ℕ, ◌+◌, ◌<◌, ◌≤◌, ◌++◌, [], ◌∷◌, None, OnOk, OnErr};
+ghost use Rattle.std.specs.Prelude.{◌≡◌, ◌≢◌, ℕ, ◌+◌, ◌<◌, ◌≤◌, ◌++◌, [], ◌∷◌, None, OnOk, OnErr};
 ghost use Rattle.mp_base.specs.Outside.{Rose};
 ghost use Rattle.bank_core.specs.Disk.{sectors_in};
 ghost use Rattle.bank_core.specs.MemBank.{bank_size, bank_told, bank_faults};
@@ -20,6 +20,7 @@ impl MemBank {
         ensures tells { self.new.tells ≡ self.old.tells }
         ensures counts { (d : ℕ) → bank_faults self.old d ≤ bank_faults self.new d }
         ensures rose { Rose (bank_faults self.old dev) (bank_faults self.new dev) }
+        ensures others { (d : ℕ) → d ≢ dev → bank_faults self.new d ≡ bank_faults self.old d }
     {
         self.faults[dev as usize] = self.faults[dev as usize].saturating_add(1);
     }
@@ -45,6 +46,7 @@ impl MemBank {
         ensures told { bank_told self.new ≡ None }
         ensures counts { (d : ℕ) → bank_faults self.old d ≤ bank_faults self.new d }
         ensures rose { Rose (bank_faults self.old dev) (bank_faults self.new dev) }
+        ensures others { (d : ℕ) → d ≢ dev → bank_faults self.new d ≡ bank_faults self.old d }
     {
         self.tells = false;
         self.count(dev);
@@ -59,6 +61,8 @@ impl MemBank {
         ensures devices { self.new.devices ≡ self.old.devices }
         ensures counts { (d : ℕ) → bank_faults self.old d ≤ bank_faults self.new d }
         ensures cause { OnErr result (Rose (bank_faults self.old call.dev) (bank_faults self.new call.dev)) }
+        ensures still { OnOk result ((d : ℕ) → bank_faults self.new d ≡ bank_faults self.old d) }
+        ensures others { (d : ℕ) → d ≢ call.dev → bank_faults self.new d ≡ bank_faults self.old d }
         ensures told { Tells (bank_told self.old) (bank_told self.new)
             (call_as call.kind call.dev call.at call.bytes.items (fault_in result)) }
     {

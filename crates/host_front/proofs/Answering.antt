@@ -151,7 +151,7 @@ read_cases h name a pool reply made n (inr (inl memory)) = record {
 }
 read_cases h name a pool reply made n (inr (inr clash)) = record {
   outside = rw n.named refl;
-  step = inr (inr (record { same = refl; clash = rw n.named clash }));
+  step = inr (inr (record { name = name; a = a; asked = refl; same = refl; clash = rw n.named clash }));
 }
 
 -- a read of the pool

@@ -181,8 +181,11 @@ pub record WantsMemory (old : HostState) (entry : Entry) (made : List Noted) (ne
   pub same : new ≡ old
   pub reads : AreReads made
 
--- A read took wrong bytes for the block, since both have one sum.
+-- The line is a read, and took wrong bytes for the block, since both have one sum.
 pub record Clashes (old : HostState) (entry : Entry) (made : List Noted) (new : HostState) : Type 0 where
+  pub name : List ℕ
+  pub a : ℕ
+  pub asked : entry.asked ≡ Some (requests.Read name a)
   pub same : new ≡ old
   pub clash : Clash made (line_wants old entry.asked)
 

@@ -1,5 +1,5 @@
 -- Reads of the parts of labels, one after another.
-use Rattle.std.proofs.Common.{◌≡◌, ℕ, ◌+◌, ◌*◌, ◌/◌, ◌%◌, ◌<◌, ◌≤◌, List, [], ◌∷◌, ◌++◌, length, take, get_or, Option, Some, None, Ok, Err, refl, sym, ap, ◌∙◌, subst, arith, append_assoc, append-nil}
+use Rattle.std.proofs.Common.{◌≡◌, ◌≢◌, ℕ, ◌+◌, ◌*◌, ◌/◌, ◌%◌, ◌<◌, ◌≤◌, List, [], ◌∷◌, ◌++◌, length, take, get_or, Option, Some, None, refl, sym, ap, ◌∙◌, subst, arith, append_assoc, append-nil}
 use Rattle.std.specs.Prelude.{slice_get}
 use Rattle.std.specs.List.{flat_map}
 use Rattle.std.proofs.lemmas.List.{map-append, take_more, take_all, take_at, length_push}
@@ -11,7 +11,7 @@ use Rattle.bank_core.specs.Calls.{Made}
 use Rattle.bank_core.specs.Disk.{Call, Read, Noted, sector_size, sectors_in}
 use Rattle.bank_core.specs.Story.{Story, Tells}
 use Rattle.bank_core.proofs.Adding.{get_front, get_last}
-use Rattle.bank_core.proofs.Composing.{made_none, made_more, one_made, call_caused}
+use Rattle.bank_core.proofs.Composing.{made_none, made_more, one_made, ok_caused, failed_caused}
 use Rattle.label_store.specs.declared.found.Found.{Found}
 use Rattle.label_store.specs.declared.rule.Head.{Head}
 use Rattle.label_store.specs.declared.uberblock.Uberblock.{Uberblock}
@@ -28,17 +28,17 @@ unfolding sector_size
 many_sectors bytes n long = rw long (omega arith)
 
 pub part_answered : {old new : Option Story} {f g : ℕ → ℕ} (dev at n : ℕ) (bytes : List ℕ) (part : Option (List ℕ)) → length bytes ≡ n * 4096 → part ≡ Some bytes
-    → ((d : ℕ) → f d ≤ g d) → Tells old new (Read dev at bytes None) → ReadsPart dev at n old new f g part
-part_answered {old} {new} {f} {g} dev at n bytes part long is counts tells =
+    → ((d : ℕ) → g d ≡ f d) → Tells old new (Read dev at bytes None) → ReadsPart dev at n old new f g part
+part_answered {old} {new} {f} {g} dev at n bytes part long is still tells =
     let call : Call = Read dev at bytes None in
-    let one = one_made old new f g call (call_caused {A = Unit {0}} call (Ok tt) f g refl counts tt) tells in
+    let one = one_made old new f g call (ok_caused call f g refl still) tells in
     record { noted = record { call = call; damage = one.damage }; calls = one.made; ask = ap (Reads dev at) (many_sectors bytes n long); part_is = is }
 
 pub part_failed : {old new : Option Story} {f g : ℕ → ℕ} (dev at n : ℕ) (bytes : List ℕ) (fault : Fault) (part : Option (List ℕ)) → length bytes ≡ n * 4096 → part ≡ None
-    → ((d : ℕ) → f d ≤ g d) → Rose (f dev) (g dev) → Tells old new (Read dev at bytes (Some fault)) → ReadsPart dev at n old new f g part
-part_failed {old} {new} {f} {g} dev at n bytes fault part long is counts cause tells =
+    → ((d : ℕ) → f d ≤ g d) → Rose (f dev) (g dev) → ((d : ℕ) → d ≢ dev → g d ≡ f d) → Tells old new (Read dev at bytes (Some fault)) → ReadsPart dev at n old new f g part
+part_failed {old} {new} {f} {g} dev at n bytes fault part long is counts cause others tells =
     let call : Call = Read dev at bytes (Some fault) in
-    let one = one_made old new f g call (call_caused {A = Unit {0}} call (Err fault) f g refl counts cause) tells in
+    let one = one_made old new f g call (failed_caused call fault f g refl counts cause others) tells in
     record { noted = record { call = call; damage = one.damage }; calls = one.made; ask = ap (Reads dev at) (many_sectors bytes n long); part_is = is }
 
 pub looks_none : {told : Option Story} {faults : ℕ → ℕ} → Looks [] told told faults faults []

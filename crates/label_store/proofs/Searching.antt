@@ -1,5 +1,5 @@
 -- Rings that are searched one after another.
-use Rattle.std.proofs.Common.{◌≡◌, ℕ, zero, suc, ◌+◌, ◌-◌, ◌*◌, ◌%◌, ◌<◌, ◌≤◌, Bool, true, false, List, [], ◌∷◌, ◌++◌, map, length, take, drop, get_or, Option, Some, None, Result, Ok, Err, OnErr, refl, sym, ap, ◌∙◌, subst, arith}
+use Rattle.std.proofs.Common.{◌≡◌, ◌≢◌, ℕ, zero, suc, ◌+◌, ◌-◌, ◌*◌, ◌%◌, ◌<◌, ◌≤◌, Bool, true, false, List, [], ◌∷◌, ◌++◌, map, length, take, drop, get_or, Option, Some, None, Result, Ok, Err, OnErr, refl, sym, ap, ◌∙◌, subst, arith}
 use Rattle.std.proofs.lemmas.List.{take_more, map-append, take_all}
 use Rattle.mp_base.specs.Outside.{Rose}
 use Rattle.mp_base.specs.declared.number.Guid.{Guid}
@@ -8,7 +8,7 @@ use Rattle.bank_core.specs.Asks.{Reads, ask_of}
 use Rattle.bank_core.specs.Calls.{fault_of}
 use Rattle.bank_core.specs.Disk.{Call, Read, Noted, sector_of, sectors_in, sector_size}
 use Rattle.bank_core.specs.Story.{Story, Tells, fault_in}
-use Rattle.bank_core.proofs.Composing.{made_none, made_more, one_made, call_caused}
+use Rattle.bank_core.proofs.Composing.{made_none, made_more, one_made, ok_caused, failed_caused}
 use Rattle.bank_core.proofs.Sectors.{piece_is}
 use Rattle.label_store.specs.Layout.{labels_of}
 use Rattle.label_store.proofs.Writing.{label_room}
@@ -46,10 +46,10 @@ pub ring_inside : (bytes : List ℕ) (at size : ℕ) → length bytes ≡ 131072
 ring_inside bytes at size long inside = rw (ring_sectors bytes long) inside
 
 pub ring_failed : {old new : Option Story} {f g : ℕ → ℕ} (pool member : Guid) (dev at : ℕ) (bytes : List ℕ) (fault : Fault) → length bytes ≡ 131072
-    → ((d : ℕ) → f d ≤ g d) → Rose (f dev) (g dev) → Tells old new (Read dev at bytes (Some fault)) → ReadsRing pool member dev at old new f g (Err fault)
-ring_failed {old} {new} {f} {g} pool member dev at bytes fault long counts cause tells =
+    → ((d : ℕ) → f d ≤ g d) → Rose (f dev) (g dev) → ((d : ℕ) → d ≢ dev → g d ≡ f d) → Tells old new (Read dev at bytes (Some fault)) → ReadsRing pool member dev at old new f g (Err fault)
+ring_failed {old} {new} {f} {g} pool member dev at bytes fault long counts cause others tells =
     let call : Call = Read dev at bytes (Some fault) in
-    let one = one_made old new f g call (call_caused {A = Unit {0}} call (Err fault) f g refl counts cause) tells in
+    let one = one_made old new f g call (failed_caused call fault f g refl counts cause others) tells in
     record { noted = record { call = call; damage = one.damage }; calls = one.made; ask = ap (Reads dev at) (ring_sectors bytes long); found = (refl, λ h. h) }
 
 answered : (pool member : Guid) (dev at : ℕ) (bytes : List ℕ) (found : Bool) → (found ≡ true → HasIdentity pool member bytes)
@@ -59,10 +59,10 @@ answered pool member dev at bytes false has non = (refl, non refl)
 
 pub ring_answered : {old new : Option Story} {f g : ℕ → ℕ} (pool member : Guid) (dev at : ℕ) (bytes : List ℕ) (found : Bool) → length bytes ≡ 131072
     → (found ≡ true → HasIdentity pool member bytes) → (found ≡ false → ¬ (HasIdentity pool member bytes))
-    → ((d : ℕ) → f d ≤ g d) → Tells old new (Read dev at bytes None) → ReadsRing pool member dev at old new f g (Ok found)
-ring_answered {old} {new} {f} {g} pool member dev at bytes found long has non counts tells =
+    → ((d : ℕ) → g d ≡ f d) → Tells old new (Read dev at bytes None) → ReadsRing pool member dev at old new f g (Ok found)
+ring_answered {old} {new} {f} {g} pool member dev at bytes found long has non still tells =
     let call : Call = Read dev at bytes None in
-    let one = one_made old new f g call (call_caused {A = Unit {0}} call (Ok tt) f g refl counts tt) tells in
+    let one = one_made old new f g call (ok_caused call f g refl still) tells in
     record { noted = record { call = call; damage = one.damage }; calls = one.made; ask = ap (Reads dev at) (ring_sectors bytes long); found = answered pool member dev at bytes found has non }
 
 misses_snoc : (pool member : Guid) (dev : ℕ) (rings : List ℕ) (made : List Noted) (at : ℕ) (noted : Noted) → AreMisses pool member dev rings made

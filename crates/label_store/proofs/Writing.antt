@@ -1,5 +1,5 @@
 -- Writes into one label after another.
-use Rattle.std.proofs.Common.{◌≡◌, ℕ, zero, suc, ◌+◌, ◌%◌, ◌<◌, ◌≤◌, List, [], ◌∷◌, ◌++◌, length, take, drop, replicate, get_or, refl, sym, ap, ◌∙◌, subst, arith, Option, Some, None, Result, Ok, Err, OnErr}
+use Rattle.std.proofs.Common.{◌≡◌, ◌≢◌, ℕ, zero, suc, ◌+◌, ◌%◌, ◌<◌, ◌≤◌, List, [], ◌∷◌, ◌++◌, length, take, drop, replicate, get_or, refl, sym, ap, ◌∙◌, subst, arith, Option, Some, None, Result, Ok, Err, OnOk, OnErr}
 use Rattle.std.proofs.lemmas.List.{length-replicate, map-append, take_more, take-append-drop}
 use Rattle.bank_core.specs.declared.bank.Fault.{Fault}
 use Rattle.bank_core.specs.Asks.{Ask, Writes, Flushes}
@@ -66,9 +66,10 @@ writes_as {old} {new} {f} {g} {outcome} dev labels labels' offset bytes bytes' a
 
 -- and then a flush
 pub flushed : {old mid new : Option Story} {f g h : ℕ → ℕ} (asks : List Ask) (dev : ℕ) (r : Result (Unit {0}) Fault)
-    → MakesPart asks old mid f g None → ((d : ℕ) → g d ≤ h d) → OnErr r (Rose (g dev) (h dev)) → Tells mid new (Flush dev (fault_in r))
+    → MakesPart asks old mid f g None → ((d : ℕ) → g d ≤ h d) → OnErr r (Rose (g dev) (h dev)) → OnOk r ((d : ℕ) → h d ≡ g d)
+    → ((d : ℕ) → d ≢ dev → h d ≡ g d) → Tells mid new (Flush dev (fault_in r))
     → MakesPart (asks ++ Flushes dev ∷ []) old new f h (fault_in r)
-flushed asks dev r a counts cause told = part_more a (part_one (Flush dev (fault_in r)) r refl counts cause told)
+flushed asks dev r a counts cause still others told = part_more a (part_one (Flush dev (fault_in r)) r refl counts cause still others told)
 
 pub later_cause : (r : Result (Unit {0}) Fault) (x y z : ℕ) → x ≤ y → OnErr r (Rose y z) → OnErr r (Rose x z)
 later_cause (Ok x') x y z le cause = tt

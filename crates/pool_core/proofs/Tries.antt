@@ -1,5 +1,5 @@
 -- A copy that was tried, by its calls.
-use Rattle.std.proofs.Common.{◌≡◌, ◌≢◌, ℕ, ◌≤◌, Bool, true, false, List, Option, Result, Ok, Err, OnErr, length, refl, is_err}
+use Rattle.std.proofs.Common.{◌≡◌, ◌≢◌, ℕ, ◌≤◌, Bool, true, false, List, Option, Result, Ok, Err, OnOk, OnErr, length, refl, is_err}
 use Rattle.std.specs.Prelude.{not}
 use Rattle.std.specs.Str.{bytes_eq}
 use Rattle.std.proofs.lemmas.Slice.Eq.{bytes_eq-Decides}
@@ -19,11 +19,12 @@ copy_tried dev at sum old new f g bytes result fault whole one is = record { who
 
 -- a read of a copy, and what was said of it
 pub tries_copy : {dev at : ℕ} {sum : List ℕ} {old new : Option Story} {f g : ℕ → ℕ} {bytes : List ℕ} {result : Result (Unit {0}) Seen}
-    (r : Result (Unit {0}) Fault) → length bytes ≡ 4096 → ((d : ℕ) → f d ≤ g d) → OnErr r (Rose (f dev) (g dev)) → Tells old new (Read dev at bytes (fault_in r))
+    (r : Result (Unit {0}) Fault) → length bytes ≡ 4096 → ((d : ℕ) → f d ≤ g d) → OnErr r (Rose (f dev) (g dev)) → OnOk r ((d : ℕ) → g d ≡ f d)
+    → ((d : ℕ) → d ≢ dev → g d ≡ f d) → Tells old new (Read dev at bytes (fault_in r))
     → IsSeen (fault_in r) bytes sum result → TriesCopy dev at sum old new f g bytes result
-tries_copy {dev} {at} {sum} {old} {new} {f} {g} {bytes} {result} r whole counts cause tells is =
+tries_copy {dev} {at} {sum} {old} {new} {f} {g} {bytes} {result} r whole counts cause still others tells is =
     copy_tried dev at sum old new f g bytes result (fault_in r) whole
-    (one_made old new f g (Read dev at bytes (fault_in r)) (call_caused (Read dev at bytes (fault_in r)) r f g refl counts cause) tells) is
+    (one_made old new f g (Read dev at bytes (fault_in r)) (call_caused (Read dev at bytes (fault_in r)) r f g refl counts cause still others) tells) is
 
 pub failed_copy : (r : Result (Unit {0}) Fault) (bytes sum : List ℕ) → is_err r ≡ true → IsSeen (fault_in r) bytes sum (Err seen.Failed)
 failed_copy (Ok done) bytes sum e = absurd (cc)

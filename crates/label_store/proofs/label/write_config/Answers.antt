@@ -17,4 +17,4 @@ returns-clause-cause g c = later_cause c.flush.result _ _ _ (c.in_ok-write_label
 pub returns-clause-part : goal.returns-clause-part
 returns-clause-part g c =
     flushed (label_writes c.args.dev c.args.labels.now 4 c.args.blob.now) c.args.dev c.flush.result c.in_ok-write_labels.ensures.part
-    c.flush.ensures.counts c.flush.ensures.cause c.flush.ensures.told
+    c.flush.ensures.counts c.flush.ensures.cause c.flush.ensures.still c.flush.ensures.others c.flush.ensures.told

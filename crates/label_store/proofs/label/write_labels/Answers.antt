@@ -12,7 +12,7 @@ returns-in_err-write-clause-part g c =
     rw (p.1, p.2) (stops_there c.args.dev c.args.labels.now c.args.offset c.args.bytes.now (c.loop-at.at-index + 1)
     (one_more c.args.dev c.args.labels.now c.args.offset c.args.bytes.now c.loop-at.at-index lt c.loop-at.invariant.part
     (part_failed (Write c.args.dev (get_or c.args.labels.now c.loop-at.at-index 0 + c.args.offset) c.args.bytes.now (Some c.in_err-write.field-0.0)) c.in_err-write.field-0.0 refl
-    c.in_err-write.ensures.counts c.in_err-write.ensures.cause c.in_err-write.ensures.told)))
+    c.in_err-write.ensures.counts c.in_err-write.ensures.cause c.in_err-write.ensures.others c.in_err-write.ensures.told)))
 
 pub loop-at-preserved : goal.loop-at-preserved
 loop-at-preserved g c =
@@ -24,5 +24,5 @@ loop-at-preserved g c =
       counts = λ d. omega (arith, c.write.ensures.counts d, c.loop-at.invariant.counts d);
       part = one_more c.args.dev c.args.labels.now c.args.offset c.args.bytes.now c.loop-at.at-index lt c.loop-at.invariant.part
           (part_ok (Write c.args.dev (get_or c.args.labels.now c.loop-at.at-index 0 + c.args.offset) c.args.bytes.now None) refl
-          c.in_ok-write.ensures.counts c.in_ok-write.ensures.told);
+          c.in_ok-write.ensures.still c.in_ok-write.ensures.told);
     }

@@ -32,4 +32,4 @@ returns-clause-part g c =
     flushed (label_writes c.args.dev (labels_of (g.B.Bank.size c.args.bank.now c.args.dev)) (32 + c.args.u.now.number.0 % 32) (uberblock_bytes c.args.u.now)) c.args.dev c.flush.result
     (writes_as c.args.dev c.labels_of-labels.result (labels_of (g.B.Bank.size c.args.bank.now c.args.dev)) (32 + c.args.u.now.number.0 % 32) c.write_uberblock.new.out (uberblock_bytes c.args.u.now)
     (c.labels_of-labels.ensures ∙ ap labels_of c.sectors.ensures) c.write_uberblock.ensures c.in_ok-write_labels.ensures.part)
-    c.flush.ensures.counts c.flush.ensures.cause c.flush.ensures.told
+    c.flush.ensures.counts c.flush.ensures.cause c.flush.ensures.still c.flush.ensures.others c.flush.ensures.told
