@@ -10,10 +10,10 @@ use Rattle.mp_base.specs.declared.number.Group.{Group}
 use Rattle.config_codec.specs.declared.config.Pointer.{Pointer}
 use Rattle.pool_core.specs.declared.pool.Pool.{Pool}
 use Rattle.pool_core.specs.Committing.{IsNext, SameOtherwise, CommitsAt, CommitsBelow, next_pointer, free_sector}
-use Rattle.pool_core.specs.Keeping.{Represents, leaves_of}
+use Rattle.pool_core.specs.Keeping.{Represents}
 use Rattle.pool_core.specs.Opening.{recommitted}
 use Rattle.pool_core.specs.Recorded.{pointer_of}
-use Rattle.pool_core.specs.State.{LeafState, PoolState, Version, Content, Known, other_sector}
+use Rattle.pool_core.specs.State.{LeafState, PoolState, Version, Known, other_sector}
 use Rattle.pool_core.specs.Syncing.{next_version, synced}
 use Rattle.pool_core.proofs.Lists.{same_some, set_get_same, set_get_other, get_set_other}
 use Rattle.pool_core.proofs.SyncSteps.{pointer_is, free_is}
@@ -103,6 +103,7 @@ commits_more old mid new n below at = record {
         let here : slice_get (set mid.config.pointers.items n at.next) n ≡ Some p = subst (λ i. slice_get (set mid.config.pointers.items n at.next) i ≡ Some p) (sym same) e in
         let is : IsNext old n p = subst (IsNext old n) (sym (set_get_same mid.config.pointers.items n at.next p here)) (next_from old mid n at.next below at.is_next) in
         subst (λ i. IsNext old i p) same is
+
     cleared_at : (a : ℕ) (b : Option (List ℕ)) → a < n + 1 → slice_get (set mid.writes.items n None) a ≡ Some b → (a < n) ⊎ (n ≤ a) → b ≡ None
     cleared_at a b under e (inl less) =
         let other : a ≢ n = omega arith in

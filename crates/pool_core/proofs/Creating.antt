@@ -1,8 +1,7 @@
 -- The making of a pool: its state in memory, its stamps and its round.
-use Rattle.std.proofs.Common.{◌≡◌, ◌≢◌, ℕ, ◌+◌, ◌-◌, ◌^◌, ◌<◌, ◌≤◌, Bool, true, false, List, [], ◌∷◌, ◌++◌, Option, Some, None, Result, Ok, Err, IfOk, refl, sym, ◌∙◌, ap, subst, append-nil, arith, replicate, length}
+use Rattle.std.proofs.Common.{◌≡◌, ◌≢◌, ℕ, ◌^◌, ◌<◌, ◌≤◌, Bool, true, false, List, [], ◌∷◌, ◌++◌, Option, Some, None, Result, Ok, Err, IfOk, refl, sym, ◌∙◌, ap, subst, append-nil, arith, replicate, length}
 use Rattle.std.proofs.Math.Path.{fun_ext}
-use Rattle.std.specs.Prelude.{is_err, slice_get, IsTrue}
-use Rattle.std.specs.Option.{option_map}
+use Rattle.std.specs.Prelude.{is_err, IsTrue}
 use Rattle.std.proofs.lemmas.List.{length-replicate}
 use Rattle.mp_base.specs.Name.{is_name}
 use Rattle.mp_base.specs.declared.fault.MemFault.{MemFault}
@@ -17,13 +16,12 @@ use Rattle.config_codec.specs.declared.config.Pointer.{Pointer}
 use Rattle.config_codec.specs.declared.config.Config.{Config}
 use Rattle.config_codec.specs.Fields.{Fields, config_fields}
 use Rattle.config_codec.specs.Validity.{IsValid}
-use Rattle.pool_core.specs.Commits.{IsStampedFirst, FirstRound, AreMade, first_failed}
-use Rattle.pool_core.specs.Making.{Creates, top_sectors, made_state}
+use Rattle.pool_core.specs.Commits.{IsStampedFirst, FirstRound, first_failed}
+use Rattle.pool_core.specs.Making.{Creates}
 use Rattle.pool_core.specs.declared.pool.Pool.{Pool}
 use Rattle.pool_core.specs.Keeping.{Represents}
 use Rattle.pool_core.specs.Opening.{IsCommitted, found_state}
-use Rattle.pool_core.specs.Recorded.{pointer_of}
-use Rattle.pool_core.specs.State.{LeafState, PoolState, Version, leaves, created}
+use Rattle.pool_core.specs.State.{LeafState, PoolState, Version, leaves}
 use Rattle.pool_core.specs.Steps.{IsUnwritten, MakesOwnRound}
 use Rattle.pool_core.proofs.Lists.{replicate_get, replicate_at}
 use Rattle.pool_core.proofs.Representing.{found_represents}

@@ -1,5 +1,5 @@
 -- How a commit ends, and what a sync and an opening did by it.
-use Rattle.std.proofs.Common.{◌≡◌, ℕ, zero, suc, ◌+◌, ◌^◌, ◌-◌, ◌<◌, ◌≤◌, Bool, true, false, List, [], ◌∷◌, ◌++◌, Option, Some, None, Result, Ok, Err, inl, inr, ◌⊎◌, refl, sym, ◌∙◌, ap, subst, le-leb}
+use Rattle.std.proofs.Common.{◌≡◌, ℕ, zero, suc, ◌+◌, ◌^◌, ◌-◌, ◌<◌, ◌≤◌, Bool, true, false, List, [], ◌∷◌, ◌++◌, Option, Result, Ok, Err, inl, refl, sym, ◌∙◌, ap, subst, le-leb}
 use Rattle.std.proofs.Math.Path.{fun_ext}
 use Rattle.std.specs.Prelude.{is_err}
 use Rattle.std.proofs.lemmas.Bool.{lt-leb}
@@ -14,7 +14,7 @@ use Rattle.bank_core.specs.Story.{Story, fault_in}
 use Rattle.bank_core.proofs.Composing.{made_none, made_more}
 use Rattle.pool_core.specs.declared.pool.Pool.{Pool}
 use Rattle.pool_core.specs.Commits.{IsCommit, IsRoundBehind, failures}
-use Rattle.pool_core.specs.Done.{commit_answer, Syncs, SyncsIf, IsOpened, Opens, OpensIf}
+use Rattle.pool_core.specs.Done.{commit_answer, Syncs, SyncsIf, IsOpened, OpensIf}
 use Rattle.pool_core.specs.Keeping.{Represents}
 use Rattle.pool_core.specs.Opening.{recommitted}
 use Rattle.pool_core.specs.State.{PoolState, is_spent, last_number}

@@ -1,10 +1,10 @@
 -- The search for both leaves' identities.
-use Rattle.std.proofs.Common.{◌≡◌, ℕ, Bool, true, false, List, [], ◌∷◌, ◌++◌, Option, refl, sym, append-nil, subst}
+use Rattle.std.proofs.Common.{◌≡◌, ℕ, Bool, true, false, [], ◌++◌, Option, refl, sym, append-nil, subst}
 use Rattle.bank_core.specs.Story.{Story}
 use Rattle.bank_core.proofs.Composing.{made_more}
 use Rattle.config_codec.specs.Fields.{Fields}
 use Rattle.pool_core.specs.Done.{Identifies}
-use Rattle.pool_core.specs.Opening.{IsLooked, IsLookedBehind, IsIdentified}
+use Rattle.pool_core.specs.Opening.{IsLooked}
 use Rattle.pool_core.specs.Steps.{LooksFor}
 
 -- the first leaf's wasn't found

@@ -20,7 +20,7 @@ use Rattle.bank_core.proofs.Composing.{made_none, made_more}
 use Rattle.bank_core.proofs.Blocks.{block_sectors}
 use Rattle.config_codec.specs.declared.config.Pointer.{Pointer}
 use Rattle.pool_core.specs.declared.pool.Pool.{Pool}
-use Rattle.pool_core.specs.Clash.{Clash, ClashesWith, IsFound}
+use Rattle.pool_core.specs.Clash.{ClashesWith, IsFound}
 use Rattle.pool_core.specs.Copies.{IsSeen, TriesCopy}
 use Rattle.pool_core.specs.Done.{IsRead, Reads}
 use Rattle.pool_core.specs.Keeping.{Represents, first_of, second_of}

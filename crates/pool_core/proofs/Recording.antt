@@ -1,7 +1,6 @@
 -- The configuration that a pool keeps is that of the state that it stands for, and its round writes it.
-use Rattle.std.proofs.Common.{◌≡◌, ◌≢◌, ℕ, ◌+◌, ◌-◌, ◌%◌, ◌<◌, ◌≤◌, Bool, false, get_or, List, [], ◌∷◌, ◌++◌, Option, Some, None, length, take, drop, refl, arith, sym, ◌∙◌, ap, subst, length-append}
+use Rattle.std.proofs.Common.{◌≡◌, ℕ, ◌-◌, ◌<◌, ◌≤◌, Bool, false, get_or, List, [], ◌∷◌, ◌++◌, Option, length, take, refl, arith, sym, ◌∙◌, ap, length-append}
 use Rattle.std.proofs.Math.Seq.{take-append_seam, drop-append_seam}
-use Rattle.std.specs.Prelude.{slice_get}
 use Rattle.std.specs.Option.{option_map}
 use Rattle.mp_base.specs.Block.{zeros}
 use Rattle.mp_base.specs.declared.number.Guid.{Guid}
@@ -12,7 +11,6 @@ use Rattle.label_store.specs.Committing.{IsSealed, Commits}
 use Rattle.label_store.specs.Records.{IsHeaded}
 use Rattle.label_store.specs.Rounds.{Commit}
 use Rattle.config_codec.specs.Fields.{Fields, config_fields}
-use Rattle.config_codec.specs.Reading.{config_in}
 use Rattle.config_codec.specs.Spelling.{config_bytes}
 use Rattle.config_codec.specs.Validity.{IsValid}
 use Rattle.config_codec.proofs.Deciding.{back, fits, some}
@@ -20,9 +18,9 @@ use Rattle.config_codec.proofs.Placing.{length-zeros}
 use Rattle.config_codec.proofs.Returning.{same_fields}
 use Rattle.pool_core.specs.declared.pool.Pool.{Pool}
 use Rattle.pool_core.specs.Heads.{head_of, head_from}
-use Rattle.pool_core.specs.Keeping.{Represents, first_of, second_of, leaves_of}
-use Rattle.pool_core.specs.Recorded.{addresses, pointer_of, pointers_of, leaf_config, fields_in, sealed, commit_of, members_of}
-use Rattle.pool_core.specs.State.{LeafState, PoolState, leaves}
+use Rattle.pool_core.specs.Keeping.{Represents, leaves_of}
+use Rattle.pool_core.specs.Recorded.{pointer_of, pointers_of, leaf_config, fields_in, sealed, commit_of, members_of}
+use Rattle.pool_core.specs.State.{PoolState, leaves}
 use Rattle.pool_core.specs.Steps.{MakesOwnRound}
 use Rattle.pool_core.proofs.Lists.{all_addresses}
 

@@ -8,9 +8,10 @@ use Rattle.pool_core.specs.Steps.{IsUnwritten}
 
 -- sizes that stay keep a pool seated
 pub seated_on : (size size' : ℕ → ℕ) (pool : Pool) → ((d : ℕ) → size' d ≡ size d) → IsSeated size pool → IsSeated size' pool
-seated_on size size' pool same seated =
-    (subst (λ n. pool.config.sectors + 256 ≤ n) (sym (same pool.first_dev)) seated.0,
-    subst (λ n. pool.config.sectors + 256 ≤ n) (sym (same pool.second_dev)) seated.1)
+seated_on size size' pool same seated = (
+  subst (λ n. pool.config.sectors + 256 ≤ n) (sym (same pool.first_dev)) seated.0,
+  subst (λ n. pool.config.sectors + 256 ≤ n) (sym (same pool.second_dev)) seated.1,
+)
 
 -- the pool of a configuration is seated where there is room for its sectors
 pub seated_by : (size : ℕ → ℕ) (config : Config) (first second : ℕ) (pool : Pool) → config.sectors + 256 ≤ size first → config.sectors + 256 ≤ size second

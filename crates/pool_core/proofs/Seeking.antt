@@ -1,6 +1,5 @@
 -- What a search for the newest record says of its configuration.
-use Rattle.std.proofs.Common.{◌≡◌, ◌≢◌, ℕ, Bool, true, false, List, [], ◌∷◌, ◌++◌, Option, Some, None, Result, Ok, Err, IfOk, OnErr, refl, sym, ◌∙◌, ap, subst, length, ◌*◌}
-use Rattle.std.specs.Prelude.{IfSome}
+use Rattle.std.proofs.Common.{◌≡◌, ℕ, List, [], ◌∷◌, ◌++◌, Option, Some, None, Result, Ok, Err, IfOk, OnErr, sym, subst, length, ◌*◌}
 use Rattle.std.specs.Option.{option_map}
 use Rattle.std.specs.List.{flat_map}
 use Rattle.mp_base.specs.declared.fault.MemFault.{MemFault}
@@ -14,17 +13,8 @@ use Rattle.label_store.specs.Newest.{Parts, label_asks, IsLook, IsRead, AreReads
 use Rattle.config_codec.specs.declared.config.Config.{Config}
 use Rattle.config_codec.specs.Fields.{Fields, config_fields}
 use Rattle.config_codec.specs.Reading.{config_in}
-use Rattle.config_codec.specs.Validity.{IsValid}
-use Rattle.config_codec.proofs.Deciding.{is_config}
 use Rattle.pool_core.specs.Done.{Seeks, IsConfigOf}
 use Rattle.pool_core.specs.Heads.{head_of, head_from}
-
--- what a decoder answered is valid
-pub decoded_valid : (bytes : List ℕ) (r : Result (Option Config) MemFault) → IfOk r (λ found. option_map config_fields found ≡ config_in bytes)
-    → IfOk r (λ found. IfSome found (λ config. IsValid (config_fields config)))
-decoded_valid bytes (Err e) is = tt
-decoded_valid bytes (Ok None) is = tt
-decoded_valid bytes (Ok (Some config)) is = (is_config bytes (config_fields config) (sym is)).valid
 
 -- a record that was found has a configuration
 config_of_best : (looks : List Parts) (name : List ℕ) (n : ℕ) (found : Found) (found_config : Option Config) → IsBest head_of looks name n (Some found)

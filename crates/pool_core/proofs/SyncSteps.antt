@@ -1,5 +1,5 @@
 -- The calls of a sync, against its plan.
-use Rattle.std.proofs.Common.{◌≡◌, ℕ, zero, suc, ◌+◌, ◌<◌, ◌≤◌, List, [], ◌∷◌, ◌++◌, Option, Some, None, map, refl, arith, inl, inr, ◌⊎◌, sym, ◌∙◌, ap, subst, append_assoc, append-nil, add-one}
+use Rattle.std.proofs.Common.{◌≡◌, ℕ, zero, suc, ◌+◌, ◌<◌, ◌≤◌, List, [], ◌∷◌, ◌++◌, Option, Some, None, refl, arith, inl, inr, ◌⊎◌, sym, ◌∙◌, ap, subst, append_assoc, append-nil, add-one}
 use Rattle.std.specs.Prelude.{slice_get}
 use Rattle.std.specs.Option.{option_map}
 use Rattle.std.specs.List.{flat_map}
@@ -16,7 +16,7 @@ use Rattle.pool_core.specs.Committing.{free_sector}
 use Rattle.pool_core.specs.Keeping.{Represents, leaves_of}
 use Rattle.pool_core.specs.Recorded.{addresses, pointer_of}
 use Rattle.pool_core.specs.State.{PoolState, Version, data_start, other_sector}
-use Rattle.pool_core.specs.Syncing.{writes_to, writes_at, flush_plan, sync_plan}
+use Rattle.pool_core.specs.Syncing.{writes_to, writes_at, flush_plan}
 use Rattle.pool_core.proofs.Lists.{same_some}
 
 -- the free sector of an address, by the pointer and by the version

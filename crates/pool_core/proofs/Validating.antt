@@ -1,5 +1,5 @@
 -- What stays valid of a configuration where its number rises or a pointer changes.
-use Rattle.std.proofs.Common.{◌≡◌, ◌≢◌, ℕ, ◌+◌, ◌*◌, ◌/◌, ◌^◌, ◌<◌, ◌≤◌, Bool, true, false, List, Option, Some, None, length, set, replicate, refl, arith, inl, inr, ◌⊎◌, sym, ◌∙◌, ap, subst, cond}
+use Rattle.std.proofs.Common.{◌≡◌, ℕ, ◌+◌, ◌*◌, ◌/◌, ◌^◌, ◌<◌, ◌≤◌, Bool, true, false, List, Option, Some, None, length, set, refl, arith, sym, ◌∙◌, ap, subst, cond}
 use Rattle.std.specs.Prelude.{slice_get, IfSome}
 use Rattle.sha2.specs.Sha256.{sha256}
 use Rattle.sha2.proofs.Facts256.{length-sha256}

@@ -13,9 +13,8 @@ mod rule;
 mod sync;
 mod write;
 
-pub use config_codec::MOST_BLOCKS;
 pub use create::{CreateFault, NewLeaf};
 pub use number::pool_number;
 pub use open::{has_members, seek};
-pub use pool::Pool;
+pub use pool::{MOST_BLOCKS, Pool};
 pub use rule::ConfigRule;

@@ -8,6 +8,9 @@ use config_codec::{Config, Pointer};
 use mp_base::{Block, MemFault};
 use std::alloc::Global;
 
+/// The most blocks of a volume, as long as its pointers stand in the configuration itself.
+pub const MOST_BLOCKS: u64 = 32;
+
 /// A pool: a volume of at most 32 blocks on a mirror of two leaves, which are on two devices.
 #[derive(Drop)]
 pub struct Pool {

@@ -28,7 +28,10 @@ fn head_from(config: Config) -> Head
     ensures { result ≡ head_from (config_fields config) }
 {
     let Config {
-        pool, name, number, ..
+        pool,
+        name,
+        number,
+        ..
     } = config;
     Head { pool, name, number }
 }

@@ -1,4 +1,3 @@
-use Rattle.std.proofs.Common.{ℕ, Bool, length, ap}
 use Rattle.pool_core.proofs.Recording.{encoded_sealed, encoded_headed, own_round}
 use Rattle.config_codec.specs.Fields.{parts_fields, config_fields}
 use Rattle.pool_core.proofs.pool.Pool.commit_round.Goals as goal
