@@ -13,17 +13,21 @@ impl Pool {
 
     /// Whether this is the pool's name.
     pub fn is_named(&self, name: &Name) -> bool
-        requires stub { ⊥ }
         ensures { (s : PoolState) → Represents self.now s → result ≡ bytes_eq s.name name.now }
     {
-        true
+        &self.config.name == name
     }
 
-    /// The name of the leaf of this member number.
+    /// The name of the device of the leaf of this member number.
     pub fn leaf_name(&self, member: Guid) -> Option<&Name>
-        requires stub { ⊥ }
         ensures { option_copied result ≡ option_map (λ leaf. leaf.name) (leaf_of (leaves_of self.now) member) }
     {
+        if self.config.first.member.0 == member.0 {
+            return Some(&self.config.first.name);
+        }
+        if self.config.second.member.0 == member.0 {
+            return Some(&self.config.second.name);
+        }
         None
     }
 }
