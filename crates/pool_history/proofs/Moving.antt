@@ -223,35 +223,35 @@ begins_survive head_of p q sv m = record {
     above_all q' rest e r le = omega (arith, le, m.number_is, ap number_of (same_head q q' p.live rest e))
 
 -- A member's labels hold a record: the status is another.
-at_held : (p : Pool) (status : Status) (d e : ℕ) (s : ℕ) (bytes : List ℕ) → (NeedsLabel (seat p d) status s bytes → Held (p.sectors d s) bytes)
-    → (NeedsLabel (seat p e) (p.status e) s bytes → Held (p.sectors e s) bytes) → NeedsLabel (seat p e) (at_device d status p.status e) s bytes → Held (p.sectors e s) bytes
-at_held p status d e s bytes here away n = by_test (d == e) refl n
+at_held : (p : Pool) (status : Status) (d e : ℕ) (s : ℕ) (bytes : List ℕ) → (p.member d ≡ true → NeedsLabel (seat p d) status s bytes → Held (p.sectors d s) bytes)
+    → (NeedsLabel (seat p e) (p.status e) s bytes → Held (p.sectors e s) bytes) → p.member e ≡ true → NeedsLabel (seat p e) (at_device d status p.status e) s bytes → Held (p.sectors e s) bytes
+at_held p status d e s bytes here away is_member n = by_test (d == e) refl n
   where
     by_test : (t : Bool) → (d == e) ≡ t → NeedsLabel (seat p e) (cond t status (p.status e)) s bytes → Held (p.sectors e s) bytes
     by_test true is n = let same : d ≡ e = grind (arith, nat_tests) in
-        subst (λ e. NeedsLabel (seat p e) status s bytes → Held (p.sectors e s) bytes) same here n
+        subst (λ e. p.member e ≡ true → NeedsLabel (seat p e) status s bytes → Held (p.sectors e s) bytes) same here is_member n
     by_test false is n = away n
 
-at_live : (head_of : List ℕ → Option Head) (p : Pool) (status : Status) (d e : ℕ) → IsOf head_of p status → IsOf head_of p (p.status e)
-    → IsOf head_of p (at_device d status p.status e)
-at_live head_of p status d e here away = by_test (d == e)
+at_live : (head_of : List ℕ → Option Head) (p : Pool) (status : Status) (d e : ℕ) → (p.member d ≡ true → IsOf head_of p status) → IsOf head_of p (p.status e)
+    → p.member e ≡ true → IsOf head_of p (at_device d status p.status e)
+at_live head_of p status d e here away is_member = by_test (d == e) refl
   where
-    by_test : (t : Bool) → IsOf head_of p (cond t status (p.status e))
-    by_test true = here
-    by_test false = away
+    by_test : (t : Bool) → (d == e) ≡ t → IsOf head_of p (cond t status (p.status e))
+    by_test true is = let same : d ≡ e = grind (arith, nat_tests) in here (ap p.member same ∙ is_member)
+    by_test false is = away
 
-stand_held : (head_of : List ℕ → Option Head) (p : Pool) (q : Rec) (d : ℕ) (status : Status) → Survives head_of p → MayStand head_of p q d status
+stand_held : (head_of : List ℕ → Option Head) (p : Pool) (q : Rec) (d : ℕ) (status : Status) → Survives head_of p → (p.member d ≡ true → MayStand head_of p q d status)
     → (e s : ℕ) (bytes : List ℕ) → p.member e ≡ true → NeedsLabel (seat p e) (at_device d status p.status e) s bytes ⊎ NeedsCell p.live s bytes → Held (p.sectors e s) bytes
 stand_held head_of p q d status sv m e s bytes is n =
-    ⊎_elim (λ label. at_held p status d e s bytes (m.held s bytes) (λ label. sv.held e s bytes (is, inl label)) label) (λ cell. sv.held e s bytes (is, inr cell)) n
+    ⊎_elim (λ label. at_held p status d e s bytes (λ member. (m member).held s bytes) (λ label. sv.held e s bytes (is, inl label)) is label) (λ cell. sv.held e s bytes (is, inr cell)) n
 
-third_survive : (head_of : List ℕ → Option Head) (p : Pool) (q : Rec) (d : ℕ) → Survives head_of p → MayStand head_of p q d (Even q) → Survives head_of (after (Third q d) p)
+third_survive : (head_of : List ℕ → Option Head) (p : Pool) (q : Rec) (d : ℕ) → Survives head_of p → (p.member d ≡ true → MayStand head_of p q d (Even q)) → Survives head_of (after (Third q d) p)
 third_survive head_of p q d sv m = record {
   sizes = sv.sizes;
   held = λ e s bytes n. stand_held head_of p q d (Even q) sv m e s bytes n.0 n.1;
   rings = λ d' place is inside. ring_as p (after (Third q d) p) d' (place_at (p.size d') place) refl refl (λ bytes known. known) (sv.rings d' place is inside);
   places = sv.places;
-  status_live = λ e is. status_after head_of (Third q d) p (at_device d (Even q) p.status e) (λ r i. i) (at_live head_of p (Even q) d e (m.is_live, m.fits) (sv.status_live e is));
+  status_live = λ e is. status_after head_of (Third q d) p (at_device d (Even q) p.status e) (λ r i. i) (at_live head_of p (Even q) d e (λ member. ((m member).is_live, (m member).fits)) (sv.status_live e is) is);
   acked_live = sv.acked_live;
   reads_live = sv.reads_live;
   not_below = sv.not_below;
@@ -263,13 +263,13 @@ third_survive head_of p q d sv m = record {
   pools = pools_kept head_of p (Third q d) sv.pools m;
 }
 
-ends_survive : (head_of : List ℕ → Option Head) (p : Pool) (q : Rec) (d : ℕ) → Survives head_of p → MayStand head_of p q d (Odd q) → Survives head_of (after (Ends q d) p)
+ends_survive : (head_of : List ℕ → Option Head) (p : Pool) (q : Rec) (d : ℕ) → Survives head_of p → (p.member d ≡ true → MayStand head_of p q d (Odd q)) → Survives head_of (after (Ends q d) p)
 ends_survive head_of p q d sv m = record {
   sizes = sv.sizes;
   held = λ e s bytes n. stand_held head_of p q d (Odd q) sv m e s bytes n.0 n.1;
   rings = λ d' place is inside. ring_as p (after (Ends q d) p) d' (place_at (p.size d') place) refl refl (λ bytes known. known) (sv.rings d' place is inside);
   places = sv.places;
-  status_live = λ e is. status_after head_of (Ends q d) p (at_device d (Odd q) p.status e) (λ r i. i) (at_live head_of p (Odd q) d e (m.is_live, m.fits) (sv.status_live e is));
+  status_live = λ e is. status_after head_of (Ends q d) p (at_device d (Odd q) p.status e) (λ r i. i) (at_live head_of p (Odd q) d e (λ member. ((m member).is_live, (m member).fits)) (sv.status_live e is) is);
   acked_live = sv.acked_live;
   reads_live = sv.reads_live;
   not_below = sv.not_below;
@@ -330,7 +330,7 @@ loses_survive head_of p d sv = record {
   held = λ e s bytes n. sv.held e s bytes (was e n.0, ⊎_elim (λ label. inl (label_was e s bytes label)) (λ cell. inr cell) n.1);
   rings = λ e place is inside. ring_as p (after (Loses d) p) e (place_at (p.size e) place) refl refl (λ bytes known. known) (sv.rings e place (was e is) inside);
   places = λ r a cell e i at is. sv.places r a cell e i at (was e is);
-  status_live = λ e is. status_after head_of (Loses d) p (at_device d Lost p.status e) (λ r i. i) (at_live head_of p Lost d e tt (sv.status_live e (was e is)));
+  status_live = λ e is. status_after head_of (Loses d) p (at_device d Lost p.status e) (λ r i. i) (at_live head_of p Lost d e (λ member. tt) (sv.status_live e (was e is)) (was e is));
   acked_live = sv.acked_live;
   reads_live = sv.reads_live;
   not_below = sv.not_below;

@@ -3,7 +3,7 @@ use Rattle.std.proofs.Common.{◌≡◌, ℕ, ◌+◌, ◌<◌, ◌≤◌, zero,
 use Rattle.std.specs.Prelude.{slice_get}
 use Rattle.std.proofs.lemmas.Bool.{and_parts}
 use Rattle.bank_core.specs.Disk.{Sectors, Noted, run, sectors_in}
-use Rattle.bank_core.specs.Standing.{Stands, Untouched}
+use Rattle.bank_core.specs.Standing.{Stands, Untouched, Spares}
 use Rattle.bank_core.proofs.Composing.{run_more}
 use Rattle.bank_core.proofs.Standing.{untouched_stands}
 use Rattle.label_store.specs.declared.member.Member.{Member}
@@ -24,7 +24,7 @@ use Rattle.pool_history.specs.Rounds.{all_true, acks_if, IsRoundEvents, AreMembe
 use Rattle.pool_history.specs.Survival.{Fits, Survives}
 use Rattle.pool_history.proofs.Folding.{since_after, with_calls, pool_more, calls_then, mays_more, mays_calls, calls_more, calls_are}
 use Rattle.pool_history.proofs.Phases.{others, phase_spares, phase_lands, phase_was}
-use Rattle.pool_history.proofs.RoundParts.{IsSeated, first_sparing, second_sparing, front_places, member_range}
+use Rattle.pool_history.proofs.RoundParts.{IsSeated, by_device, first_sparing, second_sparing, front_places, member_range}
 use Rattle.pool_history.proofs.Sparing.{phase_may, still_sparing}
 use Rattle.pool_history.proofs.Thirds.{AreReady, thirds_may, turns_pool, thirds_turns, thirds_result, thirds_odd}
 
@@ -35,26 +35,26 @@ record Setting (head_of : List ℕ → Option Head) (p : Pool) (q : Rec) (ms : L
   members : AreMembersOf p ms
   apart : AreApart ms
 
-seated_of : (head_of : List ℕ → Option Head) (p : Pool) (q : Rec) (ms : List Member) → Setting head_of p q ms → (j : ℕ) (m : Member) → slice_get ms j ≡ Some m → IsSeated p m
-seated_of head_of p q ms s j m e =
-    let is = s.members.seated j m e in
-    record { is_member = is.0; big = s.survives.sizes m.dev is.0; seat_is = is.1 }
+seated_of : (head_of : List ℕ → Option Head) (p : Pool) (q : Rec) (ms : List Member) → Setting head_of p q ms → (j : ℕ) (m : Member) → slice_get ms j ≡ Some m → p.member m.dev ≡ true → IsSeated p m
+seated_of head_of p q ms s j m e is = record { is_member = is; big = s.survives.sizes m.dev is; seat_is = s.members.seated j m e is }
 
--- the second phase leaves the configuration of label 0
+-- the second phase leaves the configuration of a member's label 0
 second_off_part : (head_of : List ℕ → Option Head) (p : Pool) (q : Rec) (ms : List Member) (was is : List Bool) (made : List Noted) (d i : ℕ)
-    → Setting head_of p q ms → i < 28 → IsPhase (second_plan p.size q.commit) ms was is made → Untouched made d (4 + i)
-second_off_part head_of p q ms was is made d i s lt ph =
+    → Setting head_of p q ms → p.member d ≡ true → i < 28 → IsPhase (second_plan p.size q.commit) ms was is made → Untouched made d (4 + i)
+second_off_part head_of p q ms was is made d i s is_member lt ph =
     phase_spares (second_plan p.size q.commit) ms was is made d (4 + i)
-    (λ j n e. let seated = seated_of head_of p q ms s j n e in
-    ring_spares_config n.dev (p.size n.dev) (uberblock_of q.commit n) d 0 i seated.big
+    (λ j n e. by_device (λ x. p.member x ≡ true → Spares (second_plan p.size q.commit n) x (4 + i)) n.dev d
+    (λ here. let seated = seated_of head_of p q ms s j n e here in
+    ring_spares_config n.dev (p.size n.dev) (uberblock_of q.commit n) n.dev 0 i seated.big
     (uberblock_sectors (uberblock_of q.commit n) (member_range head_of p q n s.drawn_up.fits seated).sum)
-    (label_is (p.size n.dev) 0 (omega arith)) lt) ph
+    (label_is (p.size n.dev) 0 (omega arith)) lt)
+    (λ ne other. ring_elsewhere n.dev (p.size n.dev) (uberblock_of q.commit n) d (4 + i) ne) is_member) ph
 
 -- Behind the first two phases, what the even labels of a member that is still in the round promise stands.
 front_stands : (head_of : List ℕ → Option Head) (p : Pool) (q : Rec) (ms : List Member) (results : List Bool) (vs : List Event) → Setting head_of p q ms
-    → (r : IsRoundEvents p.size q ms results vs) → (j : ℕ) (m : Member) → slice_get ms j ≡ Some m → slice_get r.in_second j ≡ Some true
+    → (r : IsRoundEvents p.size q ms results vs) → (j : ℕ) (m : Member) → slice_get ms j ≡ Some m → slice_get r.in_second j ≡ Some true → p.member m.dev ≡ true
     → (s : ℕ) (bytes : List ℕ) → NeedsLabel (seat p m.dev) (Even q) s bytes → Stands (run r.second (run r.first p.sectors) m.dev s) bytes
-front_stands head_of p q ms results vs st r j m at on s bytes (inl (e, b)) =
+front_stands head_of p q ms results vs st r j m at on is s bytes (inl (e, b)) =
     subst (λ t. Stands (run r.second (run r.first p.sectors) m.dev t) bytes) (sym there)
     (subst (Stands (run r.second (run r.first p.sectors) m.dev (0 + (32 + slot_of (number_of q))))) (ap (λ n. uberblock_bytes (uberblock_of q.commit n)) seated.seat_is ∙ sym b)
     (phase_lands (second_plan p.size q.commit) ms r.in_first r.in_second r.second j m m.dev (0 + (32 + slot_of (number_of q))) _ _ at on
@@ -63,21 +63,21 @@ front_stands head_of p q ms results vs st r j m at on s bytes (inl (e, b)) =
     (member_range head_of p q m st.drawn_up.fits seated).sum part) r.uberblocks))
   where
     seated : IsSeated p m
-    seated = seated_of head_of p q ms st j m at
+    seated = seated_of head_of p q ms st j m at is
 
     there : s ≡ 0 + (32 + slot_of (number_of q))
     there = omega (arith, e)
-front_stands head_of p q ms results vs st r j m at on s bytes (inr (i, lt, e, b)) =
+front_stands head_of p q ms results vs st r j m at on is s bytes (inr (i, lt, e, b)) =
     subst (λ t. Stands (run r.second (run r.first p.sectors) m.dev t) bytes) (sym e)
     (subst (Stands (run r.second (run r.first p.sectors) m.dev (4 + i))) (sym b)
-    (untouched_stands r.second m.dev (4 + i) _ _ (second_off_part head_of p q ms r.in_first r.in_second r.second m.dev i st (omega (arith, lt, few)) r.uberblocks)
+    (untouched_stands r.second m.dev (4 + i) _ _ (second_off_part head_of p q ms r.in_first r.in_second r.second m.dev i st is (omega (arith, lt, few)) r.uberblocks)
     (phase_lands (first_plan p.size q.commit) ms (map (λ n. true) ms) r.in_first r.first j m m.dev (4 + i) _ _ at
     (phase_was (second_plan p.size q.commit) ms r.in_first r.in_second r.second j on r.uberblocks)
     (λ i' n e' ne. config_elsewhere_even n.dev (p.size n.dev) q.commit.blob m.dev _ (others ms j i' m n st.apart at e' ne))
     (λ mine y part. even_lands m.dev (p.size m.dev) q.commit.blob i mine y seated.big few lt part) r.configs)))
   where
     seated : IsSeated p m
-    seated = seated_of head_of p q ms st j m at
+    seated = seated_of head_of p q ms st j m at is
 
     few : sectors_in q.commit.blob ≤ 28
     few = (st.drawn_up.fits.is_record m.dev seated.is_member).most
@@ -98,7 +98,7 @@ front_ready : (head_of : List ℕ → Option Head) (p : Pool) (q : Rec) (ms : Li
 front_ready head_of p q ms results vs st r = record {
   is_live = inl refl;
   fits = fits_front head_of p q r.first r.second st.drawn_up.fits;
-  seated = λ j m e. seated_front p m q r.first r.second (seated_of head_of p q ms st j m e);
+  seated = λ j m e is. seated_front p m q r.first r.second (seated_of head_of p q ms st j m e is);
   places = λ d is. front_places head_of p q d st.survives st.drawn_up.fits is;
   apart = st.apart;
   stands = front_stands head_of p q ms results vs st r;
@@ -213,6 +213,9 @@ acknowledges p q first second thirds true = record {
   reads = refl;
   idle = refl;
   live = refl;
+  missed = refl;
+  drawn_q = inl refl;
+  drawn_in = λ r i. i;
 }
 acknowledges p q first second thirds false = record {
   name = refl;
@@ -227,6 +230,9 @@ acknowledges p q first second thirds false = record {
   reads = refl;
   idle = refl;
   live = refl;
+  missed = refl;
+  drawn_q = inl refl;
+  drawn_in = λ r i. i;
 }
 
 -- What the events of a round leave.

@@ -14,14 +14,15 @@ use Rattle.label_store.proofs.Fields.{fields_are, is_of_fields}
 use Rattle.label_store.proofs.Places.{label_is, even_spares_ring, odd_spares_ring, config_elsewhere_even, config_elsewhere_odd, ring_elsewhere, length-uberblock, uberblock_sectors}
 use Rattle.pool_history.specs.Events.{Begins}
 use Rattle.pool_history.specs.Labels.{Status, Odd, Even, Lost, begun}
+use Rattle.pool_history.specs.Moves.{AreKnown, AreSparing}
 use Rattle.pool_history.specs.Needs.{NeedsLabel, NeedsCell, Needs}
 use Rattle.pool_history.specs.Pools.{Pool, after, drawn, seat}
 use Rattle.pool_history.specs.Records.{Rec, Cell, IsIn, number_of, data_start}
 use Rattle.pool_history.specs.Survival.{Fits, IsKnownUber, IsOf, Survives}
 use Rattle.pool_history.proofs.RoundPlaces.{InFront, FrontRing, FrontPart, FrontData, InBack, BackRing, BackPart, BackData, first_spares, second_spares, third_spares}
-use Rattle.pool_history.proofs.Sparing.{AreKnown, AreSparing, spared_known}
+use Rattle.pool_history.proofs.Sparing.{spared_known}
 
--- A member of the pool, on its device.
+-- A member of the pool, on its device. A device in the list that the pool has lost is no member.
 pub record IsSeated (p : Pool) (m : Member) : Type 0 where
   pub is_member : p.member m.dev ≡ true
   pub big : 320 ≤ p.size m.dev
@@ -57,7 +58,7 @@ cell_between p d s bytes places n =
     let below = places n.r n.a n.cell n.is_live n.cell_is in
     (omega (arith, n.sector_is), omega (arith, n.sector_is, below))
 
-few_of : (head_of : List ℕ → Option Head) (p : Pool) (r : Rec) (d : ℕ) → Fits head_of p r → p.member d ≡ true → sectors_in r.commit.blob ≤ 28
+pub few_of : (head_of : List ℕ → Option Head) (p : Pool) (r : Rec) (d : ℕ) → Fits head_of p r → p.member d ≡ true → sectors_in r.commit.blob ≤ 28
 few_of head_of p r d fits is = (fits.is_record d is).most
 
 odd_fits : (head_of : List ℕ → Option Head) (p : Pool) (status : Status) (r : Rec) → status ≡ Odd r → IsOf head_of p status → Fits head_of p r
@@ -86,36 +87,35 @@ needs_back head_of p q d s bytes fits status places (is, inl label) =
 needs_back head_of p q d s bytes fits status places (is, inr cell) = let b = cell_between p d s bytes places cell in BackData b.0 b.1
 
 -- the sectors of this device or of another
-by_device : (P : ℕ → Type 0) (dev d : ℕ) → P dev → ((dev ≢ d) → P d) → P d
+pub by_device : (P : ℕ → Type 0) (dev d : ℕ) → P dev → ((dev ≢ d) → P d) → P d
 by_device P dev d here away = ⊎_elim {A = dev ≡ d} {B = dev ≢ d} (λ e. subst P e here) away (cases_eq dev d)
 
 -- places of uberblocks
-ring_of : (size place : ℕ) → place < 128 → place / 32 < 4
+pub ring_of : (size place : ℕ) → place < 128 → place / 32 < 4
 ring_of size place lt = omega arith
 
-slot_below : (place : ℕ) → place % 32 < 32
+pub slot_below : (place : ℕ) → place % 32 < 32
 slot_below place = omega arith
 
-pub first_sparing : (head_of : List ℕ → Option Head) (p : Pool) (q : Rec) (m : Member) → Survives head_of p → Fits head_of p q → IsSeated p m
+pub first_sparing : (head_of : List ℕ → Option Head) (p : Pool) (q : Rec) (m : Member) → Survives head_of p → Fits head_of p q → (p.member m.dev ≡ true → IsSeated p m)
     → AreSparing (after (Begins q) p) (first_plan p.size q.commit m)
-first_sparing head_of p q m sv fits seated =
-    let few = few_of head_of p q m.dev fits seated.is_member in
-    record {
-      plain = tt;
-      off = by_all;
-      known = λ d place is inside. spared_known (after (Begins q) p) (first_plan p.size q.commit m) d (place_at (p.size d) place)
-          (by_device (λ e. Spares (first_plan p.size q.commit m) e (place_at (p.size e) place)) m.dev d
-          (even_spares_ring m.dev (p.size m.dev) q.commit.blob m.dev _ (place % 32) seated.big few (label_is (p.size m.dev) (place / 32) (ring_of (p.size m.dev) place inside)) (slot_below place))
-          (λ ne. config_elsewhere_even m.dev (p.size m.dev) q.commit.blob d _ ne));
-    }
+first_sparing head_of p q m sv fits seated = record {
+  plain = tt;
+  off = by_all;
+  known = λ d place is inside. spared_known (after (Begins q) p) (first_plan p.size q.commit m) d (place_at (p.size d) place)
+      (by_device (λ e. p.member e ≡ true → Spares (first_plan p.size q.commit m) e (place_at (p.size e) place)) m.dev d
+      (λ here. even_spares_ring m.dev (p.size m.dev) q.commit.blob m.dev _ (place % 32) (seated here).big (few_of head_of p q m.dev fits here)
+      (label_is (p.size m.dev) (place / 32) (ring_of (p.size m.dev) place inside)) (slot_below place))
+      (λ ne other. config_elsewhere_even m.dev (p.size m.dev) q.commit.blob d _ ne) is);
+}
   where
     by_all : (d s : ℕ) (bytes : List ℕ) → Needs (after (Begins q) p) d s bytes → Spares (first_plan p.size q.commit m) d s
     by_all d = by_device (λ e. (s : ℕ) (bytes : List ℕ) → Needs (after (Begins q) p) e s bytes → Spares (first_plan p.size q.commit m) e s) m.dev d
-        (λ s bytes needs. first_spares m.dev (p.size m.dev) (slot_of (number_of q)) q.commit.blob m.dev s seated.big (few_of head_of p q m.dev fits seated.is_member)
+        (λ s bytes needs. first_spares m.dev (p.size m.dev) (slot_of (number_of q)) q.commit.blob m.dev s (seated needs.0).big (few_of head_of p q m.dev fits needs.0)
         (needs_front head_of p q m.dev s bytes sv fits needs))
         (λ ne s bytes needs. config_elsewhere_even m.dev (p.size m.dev) q.commit.blob d s ne)
 
-first_bytes : (k : ℕ) (bytes : List ℕ) → length bytes ≡ 4096 → k ≡ 0 → sector_of k bytes ≡ bytes
+pub first_bytes : (k : ℕ) (bytes : List ℕ) → length bytes ≡ 4096 → k ≡ 0 → sector_of k bytes ≡ bytes
 unfolding sector_size
 first_bytes k bytes long none = ap (λ i. take 4096 (drop (i * 4096) bytes)) none ∙ take_all 4096 bytes (omega arith)
 
@@ -138,61 +138,62 @@ pub member_range : (head_of : List ℕ → Option Head) (p : Pool) (q : Rec) (m 
 member_range head_of p q m fits seated =
     subst (λ n. IsInRange (uberblock_of q.commit n)) (sym seated.seat_is) (fits.is_record m.dev seated.is_member).in_range
 
-pub second_sparing : (head_of : List ℕ → Option Head) (p : Pool) (q : Rec) (m : Member) → Survives head_of p → Fits head_of p q → IsSeated p m
+pub second_sparing : (head_of : List ℕ → Option Head) (p : Pool) (q : Rec) (m : Member) → Survives head_of p → Fits head_of p q → (p.member m.dev ≡ true → IsSeated p m)
     → AreSparing (after (Begins q) p) (second_plan p.size q.commit m)
 second_sparing head_of p q m sv fits seated = record {
   plain = tt;
   off = by_all;
-  known = λ d place is inside. by_device (λ e. AreKnown (after (Begins q) p) e (place_at (p.size e) place) (second_plan p.size q.commit m)) m.dev d (
-    puts_it 0 (place_at (p.size m.dev) place),
-    (
-      puts_it 64 (place_at (p.size m.dev) place),
-      (
-        puts_it (p.size m.dev - 128) (place_at (p.size m.dev) place),
-        (puts_it (p.size m.dev - 64) (place_at (p.size m.dev) place), (λ aimed. absurd (no_aim aimed), tt)),
-      ),
-    ),
-  )
-      (λ ne. spared_known (after (Begins q) p) (second_plan p.size q.commit m) d (place_at (p.size d) place)
-      (ring_elsewhere m.dev (p.size m.dev) (uberblock_of q.commit m) d _ ne));
+  known = λ d place is inside. by_device (λ e. p.member e ≡ true → AreKnown (after (Begins q) p) e (place_at (p.size e) place) (second_plan p.size q.commit m)) m.dev d
+      (λ here. (
+        puts_it here 0 (place_at (p.size m.dev) place),
+        (
+          puts_it here 64 (place_at (p.size m.dev) place),
+          (
+            puts_it here (p.size m.dev - 128) (place_at (p.size m.dev) place),
+            (puts_it here (p.size m.dev - 64) (place_at (p.size m.dev) place), (λ aimed. absurd (no_aim aimed), tt)),
+          ),
+        ),
+      ))
+      (λ ne other. spared_known (after (Begins q) p) (second_plan p.size q.commit m) d (place_at (p.size d) place)
+      (ring_elsewhere m.dev (p.size m.dev) (uberblock_of q.commit m) d _ ne)) is;
 }
   where
-    range : IsInRange (uberblock_of q.commit m)
-    range = member_range head_of p q m fits seated
+    range : p.member m.dev ≡ true → IsInRange (uberblock_of q.commit m)
+    range here = member_range head_of p q m fits (seated here)
 
-    one : sectors_in (uberblock_bytes (uberblock_of q.commit m)) ≡ 1
-    one = uberblock_sectors (uberblock_of q.commit m) range.sum
+    one : p.member m.dev ≡ true → sectors_in (uberblock_bytes (uberblock_of q.commit m)) ≡ 1
+    one here = uberblock_sectors (uberblock_of q.commit m) (range here).sum
 
     by_all : (d s : ℕ) (bytes : List ℕ) → Needs (after (Begins q) p) d s bytes → Spares (second_plan p.size q.commit m) d s
     by_all d = by_device (λ e. (s : ℕ) (bytes : List ℕ) → Needs (after (Begins q) p) e s bytes → Spares (second_plan p.size q.commit m) e s) m.dev d
-        (λ s bytes needs. second_spares m.dev (p.size m.dev) (uberblock_of q.commit m) m.dev s seated.big one (needs_front head_of p q m.dev s bytes sv fits needs))
+        (λ s bytes needs. second_spares m.dev (p.size m.dev) (uberblock_of q.commit m) m.dev s (seated needs.0).big (one needs.0)
+        (needs_front head_of p q m.dev s bytes sv fits needs))
         (λ ne s bytes needs. ring_elsewhere m.dev (p.size m.dev) (uberblock_of q.commit m) d s ne)
 
     no_aim : false ≡ true → ⊥
     no_aim e = cc
 
-    puts_it : (label s : ℕ)
+    puts_it : p.member m.dev ≡ true → (label s : ℕ)
         → ((m.dev == m.dev) && covers (label + (32 + slot_of (number_of q))) (sectors_in (uberblock_bytes (uberblock_of q.commit m))) s) ≡ true
         → IsKnownUber (after (Begins q) p) m.dev (sector_of (s - (label + (32 + slot_of (number_of q)))) (uberblock_bytes (uberblock_of q.commit m)))
-    puts_it label s aimed = known_new (after (Begins q) p) q m _ (inl refl) range seated.seat_is
+    puts_it here label s aimed = known_new (after (Begins q) p) q m _ (inl refl) (range here) (seated here).seat_is
         (one_there m.dev (label + (32 + slot_of (number_of q))) m.dev s (uberblock_bytes (uberblock_of q.commit m))
-        (length-uberblock (uberblock_of q.commit m) range.sum) one aimed)
+        (length-uberblock (uberblock_of q.commit m) (range here).sum) (one here) aimed)
 
-pub third_sparing : (head_of : List ℕ → Option Head) (p : Pool) (q : Rec) (m : Member) → Fits head_of p q → IsSeated p m → p.status m.dev ≡ Even q
-    → HasPlaces p m.dev → AreSparing p (third_plan p.size q.commit m)
-third_sparing head_of p q m fits seated status places =
-    let few = few_of head_of p q m.dev fits seated.is_member in
-    record {
-      plain = tt;
-      off = by_all;
-      known = λ d place is inside. spared_known p (third_plan p.size q.commit m) d (place_at (p.size d) place)
-          (by_device (λ e. Spares (third_plan p.size q.commit m) e (place_at (p.size e) place)) m.dev d
-          (odd_spares_ring m.dev (p.size m.dev) q.commit.blob m.dev _ (place % 32) seated.big few (label_is (p.size m.dev) (place / 32) (ring_of (p.size m.dev) place inside)) (slot_below place))
-          (λ ne. config_elsewhere_odd m.dev (p.size m.dev) q.commit.blob d _ ne));
-    }
+pub third_sparing : (head_of : List ℕ → Option Head) (p : Pool) (q : Rec) (m : Member) → Fits head_of p q → (p.member m.dev ≡ true → IsSeated p m) → p.status m.dev ≡ Even q
+    → (p.member m.dev ≡ true → HasPlaces p m.dev) → AreSparing p (third_plan p.size q.commit m)
+third_sparing head_of p q m fits seated status places = record {
+  plain = tt;
+  off = by_all;
+  known = λ d place is inside. spared_known p (third_plan p.size q.commit m) d (place_at (p.size d) place)
+      (by_device (λ e. p.member e ≡ true → Spares (third_plan p.size q.commit m) e (place_at (p.size e) place)) m.dev d
+      (λ here. odd_spares_ring m.dev (p.size m.dev) q.commit.blob m.dev _ (place % 32) (seated here).big (few_of head_of p q m.dev fits here)
+      (label_is (p.size m.dev) (place / 32) (ring_of (p.size m.dev) place inside)) (slot_below place))
+      (λ ne other. config_elsewhere_odd m.dev (p.size m.dev) q.commit.blob d _ ne) is);
+}
   where
     by_all : (d s : ℕ) (bytes : List ℕ) → Needs p d s bytes → Spares (third_plan p.size q.commit m) d s
     by_all d = by_device (λ e. (s : ℕ) (bytes : List ℕ) → Needs p e s bytes → Spares (third_plan p.size q.commit m) e s) m.dev d
-        (λ s bytes needs. third_spares m.dev (p.size m.dev) q.commit.blob m.dev s seated.big (few_of head_of p q m.dev fits seated.is_member)
-        (needs_back head_of p q m.dev s bytes fits status places needs))
+        (λ s bytes needs. third_spares m.dev (p.size m.dev) q.commit.blob m.dev s (seated needs.0).big (few_of head_of p q m.dev fits needs.0)
+        (needs_back head_of p q m.dev s bytes fits status (places needs.0) needs))
         (λ ne s bytes needs. config_elsewhere_odd m.dev (p.size m.dev) q.commit.blob d s ne)

@@ -31,7 +31,7 @@ outside : (dev at n d s : ℕ) → (s < at) ⊎ (at + n ≤ s) → ((dev == d) &
 outside dev at n d s (inl lt) = and_right (dev == d) (covers at n s) (and_left (nat_le at s) (nat_lt s (at + n)) (lt-leb at s lt))
 outside dev at n d s (inr le) = and_right (dev == d) (covers at n s) (and_right (nat_le at s) (nat_lt s (at + n)) (le-ltb s (at + n) le))
 
-outside_one : (dev at d s : ℕ) (bytes : List ℕ) → sectors_in bytes ≡ 1 → (s < at) ⊎ (at + 1 ≤ s) → ((dev == d) && covers at (sectors_in bytes) s) ≡ false
+pub outside_one : (dev at d s : ℕ) (bytes : List ℕ) → sectors_in bytes ≡ 1 → (s < at) ⊎ (at + 1 ≤ s) → ((dev == d) && covers at (sectors_in bytes) s) ≡ false
 outside_one dev at d s bytes one off = ap (λ n. (dev == d) && covers at n s) one ∙ outside dev at 1 d s off
 
 even_spares_data : (dev size : ℕ) (blob : List ℕ) (d s : ℕ) → 320 ≤ size → sectors_in blob ≤ 28 → 128 ≤ s → s + 128 < size

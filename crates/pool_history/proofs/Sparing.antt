@@ -1,48 +1,19 @@
 -- A part whose asks spare what is needed makes calls that the pool may make.
-use Rattle.std.proofs.Common.{◌≡◌, ℕ, ◌<◌, zero, suc, Bool, true, false, List, [], ◌∷◌, Option, Some, refl, sym, ap, ◌∙◌, subst, inl, inr}
-use Rattle.std.specs.Prelude.{slice_get, ◌-◌}
+use Rattle.std.proofs.Common.{◌≡◌, ℕ, zero, suc, Bool, true, false, List, [], ◌∷◌, Option, Some, refl, sym, ap, ◌∙◌, subst, inl, inr}
+use Rattle.std.specs.Prelude.{slice_get}
 use Rattle.bank_core.specs.declared.bank.Fault.{Fault}
 use Rattle.bank_core.specs.Asks.{Ask, Reads, Writes, Flushes, Admits, Ejects, ask_of, IsPart}
-use Rattle.bank_core.specs.Disk.{Call, Read, Write, Flush, Admit, Eject, Noted, sector_of}
+use Rattle.bank_core.specs.Disk.{Call, Read, Write, Flush, Admit, Eject, Noted}
 use Rattle.bank_core.specs.Standing.{touches, aims, Spares}
 use Rattle.label_store.specs.declared.member.Member.{Member}
 use Rattle.label_store.specs.declared.rule.Head.{Head}
 use Rattle.label_store.specs.Phases.{IsTurn, IsPhase}
 use Rattle.label_store.specs.Records.{place_at}
 use Rattle.pool_history.specs.Events.{Calls, as_events}
-use Rattle.pool_history.specs.Moves.{IsPlain, puts, IsSparing, Mays}
-use Rattle.pool_history.specs.Needs.{Needs}
+use Rattle.pool_history.specs.Moves.{IsPlain, puts, IsSparing, ArePlain, lays, AreKnown, AreSparing, Mays}
 use Rattle.pool_history.specs.Pools.{Pool, after}
 use Rattle.pool_history.specs.Survival.{IsKnownUber}
 use Rattle.pool_history.proofs.Folding.{events_more, with_calls, mays_calls}
-
--- a write or a flush is asked
-abbrev pub ArePlain : List Ask → Type 0
-ArePlain [] = Unit {0}
-ArePlain (Reads dev at sectors ∷ asks) = ArePlain asks
-ArePlain (Writes dev at bytes ∷ asks) = ArePlain asks
-ArePlain (Flushes dev ∷ asks) = ArePlain asks
-ArePlain (Admits dev ∷ asks) = ⊥
-ArePlain (Ejects dev ∷ asks) = ⊥
-
--- what an ask puts on sector s
-abbrev pub lays : Ask → ℕ → List ℕ
-lays (Reads dev at sectors) s = []
-lays (Writes dev at bytes) s = sector_of (s - at) bytes
-lays (Flushes dev) s = []
-lays (Admits dev) s = []
-lays (Ejects dev) s = []
-
--- each of these that aims at a sector puts there what may stand there
-abbrev pub AreKnown : Pool → (d s : ℕ) → List Ask → Type 0
-AreKnown p d s [] = Unit {0}
-AreKnown p d s (ask ∷ asks) = (aims ask d s ≡ true → IsKnownUber p d (lays ask s)) × AreKnown p d s asks
-
--- Asks whose calls all spare what is needed, and put no uberblock but a drawn record's into the rings.
-pub record AreSparing (p : Pool) (asks : List Ask) : Type 0 where
-  pub plain : ArePlain asks
-  pub off : (d s : ℕ) (bytes : List ℕ) → Needs p d s bytes → Spares asks d s
-  pub known : (d place : ℕ) → p.member d ≡ true → place < 128 → AreKnown p d (place_at (p.size d) place) asks
 
 -- asks that aim at none of a sector
 pub spared_known : (p : Pool) (asks : List Ask) (d s : ℕ) → Spares asks d s → AreKnown p d s asks

@@ -121,7 +121,7 @@ no_fault : (fault : Fault) → None ≡ Some fault → ⊥
 no_fault fault e = cc
 
 -- What the end of a whole plan brings, whatever was asked before it.
-behind : (before asks : List Ask) (made : List Noted) (d s : ℕ) (x : Sector) (P : Sector → Type 0)
+pub behind : (before asks : List Ask) (made : List Noted) (d s : ℕ) (x : Sector) (P : Sector → Type 0)
     → ((made' : List Noted) (y : Sector) → IsPart asks made' None → P (replay made' d s y)) → IsPart (before ++ asks) made None → P (replay made d s x)
 behind [] asks made d s x P brings part = brings made x part
 behind (ask ∷ before) asks [] d s x P brings part = absurd part
@@ -156,7 +156,7 @@ writes_spare dev (at ∷ labels) bytes n s fill m = (
 )
 
 -- What one of a whole plan's writes brings stands behind it, if no later one goes there.
-lands : (dev : ℕ) (before : List Ask) (at : ℕ) (bytes : List ℕ) (rest : List Ask) (made : List Noted) (n s : ℕ) (x : Sector) → sectors_in bytes ≡ n → at ≤ s → s < at + n
+pub lands : (dev : ℕ) (before : List Ask) (at : ℕ) (bytes : List ℕ) (rest : List Ask) (made : List Noted) (n s : ℕ) (x : Sector) → sectors_in bytes ≡ n → at ≤ s → s < at + n
     → Spares rest dev s → IsPart (before ++ Writes dev at bytes ∷ (rest ++ Flushes dev ∷ [])) made None → Stands (replay made dev s x) (sector_of (s - at) bytes)
 lands dev before at bytes rest made n s x fill le lt sp part =
     behind before _ made dev s x (λ y. Stands y (sector_of (s - at) bytes))

@@ -33,10 +33,10 @@ stands_held st = record { still = st.still; stands = inl st.stable }
 pub record AreReady (head_of : List ℕ → Option Head) (p : Pool) (q : Rec) (ms : List Member) (was : List Bool) : Type 0 where
   pub is_live : IsIn q p.live
   pub fits : Fits head_of p q
-  pub seated : (j : ℕ) (m : Member) → slice_get ms j ≡ Some m → IsSeated p m
+  pub seated : (j : ℕ) (m : Member) → slice_get ms j ≡ Some m → p.member m.dev ≡ true → IsSeated p m
   pub places : (d : ℕ) → p.member d ≡ true → HasPlaces p d
   pub apart : AreApart ms
-  pub stands : (j : ℕ) (m : Member) → slice_get ms j ≡ Some m → slice_get was j ≡ Some true
+  pub stands : (j : ℕ) (m : Member) → slice_get ms j ≡ Some m → slice_get was j ≡ Some true → p.member m.dev ≡ true
       → (s : ℕ) (bytes : List ℕ) → NeedsLabel (seat p m.dev) (Even q) s bytes → Stands (p.sectors m.dev s) bytes
 
 fits_turned : (head_of : List ℕ → Option Head) (p : Pool) (q : Rec) (made : List Noted) (status : ℕ → Status) → Fits head_of p q
@@ -58,13 +58,13 @@ ready_rest : (head_of : List ℕ → Option Head) (p : Pool) (q : Rec) (m : Memb
 ready_rest head_of p q m ms b c was made status turn r = record {
   is_live = r.is_live;
   fits = fits_turned head_of p q made status r.fits;
-  seated = λ j n e. seated_turned p n made status (r.seated (suc j) n e);
+  seated = λ j n e is. seated_turned p n made status (r.seated (suc j) n e is);
   places = r.places;
   apart = apart_rest m ms r.apart;
-  stands = λ j n e on s bytes needs. untouched_stands made n.dev s (p.sectors n.dev s) bytes
+  stands = λ j n e on is s bytes needs. untouched_stands made n.dev s (p.sectors n.dev s) bytes
       (turn_spares (third_plan p.size q.commit m) b c made n.dev s
       (config_elsewhere_odd m.dev (p.size m.dev) q.commit.blob n.dev s (others (m ∷ ms) (suc j) zero n m r.apart e refl (omega arith))) turn)
-      (r.stands (suc j) n e on s bytes needs);
+      (r.stands (suc j) n e on is s bytes needs);
 }
 
 -- one that isn't in it makes no call
@@ -80,11 +80,11 @@ ready_off head_of p q m ms b was r = record {
 }
 
 even_stands : (head_of : List ℕ → Option Head) (p : Pool) (q : Rec) (m : Member) (ms : List Member) (was : List Bool) → AreReady head_of p q (m ∷ ms) (true ∷ was)
-    → MayStand head_of p q m.dev (Even q)
-even_stands head_of p q m ms was r = record {
+    → p.member m.dev ≡ true → MayStand head_of p q m.dev (Even q)
+even_stands head_of p q m ms was r is = record {
   is_live = r.is_live;
   fits = r.fits;
-  held = λ s bytes needs. stands_held (r.stands zero m refl refl s bytes needs);
+  held = λ s bytes needs. stands_held (r.stands zero m refl refl is s bytes needs);
 }
 
 -- the first member's calls
@@ -92,36 +92,35 @@ part_sparing : (head_of : List ℕ → Option Head) (p : Pool) (q : Rec) (m : Me
     → IsTurn (third_plan p.size q.commit m) true c made → AreReady head_of p q (m ∷ ms) (true ∷ was)
     → Mays head_of (after (Third q m.dev) p) (as_events made)
 part_sparing head_of p q m ms c was made turn r =
-    let seated = r.seated zero m refl in
     turn_may head_of (third_plan p.size q.commit m) true c made (after (Third q m.dev) p)
     (third_sparing head_of (after (Third q m.dev) p) q m
     (fits_turned head_of p q [] (at_device m.dev (Even q) p.status) r.fits)
-    (seated_turned p m [] (at_device m.dev (Even q) p.status) seated)
+    (λ is. seated_turned p m [] (at_device m.dev (Even q) p.status) (r.seated zero m refl is))
     (ap (λ t. cond t (Even q) (p.status m.dev)) (eq-eqb m.dev m.dev refl))
-    (r.places m.dev seated.is_member)) turn
+    (r.places m.dev)) turn
 
 -- A whole turn: the odd labels hold the new record too.
 odd_stands : (head_of : List ℕ → Option Head) (p : Pool) (q : Rec) (m : Member) (ms : List Member) (was : List Bool) (made : List Noted)
     → IsTurn (third_plan p.size q.commit m) true true made → AreReady head_of p q (m ∷ ms) (true ∷ was)
-    → MayStand head_of (with_calls made (after (Third q m.dev) p)) q m.dev (Odd q)
-odd_stands head_of p q m ms was made turn r = record {
+    → p.member m.dev ≡ true → MayStand head_of (with_calls made (after (Third q m.dev) p)) q m.dev (Odd q)
+odd_stands head_of p q m ms was made turn r is = record {
   is_live = r.is_live;
   fits = fits_turned head_of p q made (at_device m.dev (Even q) p.status) r.fits;
   held = λ s bytes needs. stands_held (by_part s bytes needs);
 }
   where
     seated : IsSeated p m
-    seated = r.seated zero m refl
+    seated = r.seated zero m refl is
 
     few : sectors_in q.commit.blob ≤ 28
-    few = (r.fits.is_record m.dev seated.is_member).most
+    few = (r.fits.is_record m.dev is).most
 
     by_part : (s : ℕ) (bytes : List ℕ) → NeedsLabel (seat p m.dev) (Odd q) s bytes → Stands (replay made m.dev s (p.sectors m.dev s)) bytes
     by_part s bytes (inl (e, b)) = untouched_stands made m.dev s (p.sectors m.dev s) bytes
         (turn_spares (third_plan p.size q.commit m) true true made m.dev s
         (subst (Spares (third_plan p.size q.commit m) m.dev) (omega (arith, e))
         (odd_spares_ring m.dev (p.size m.dev) q.commit.blob m.dev 0 (slot_of (number_of q)) seated.big few (label_is (p.size m.dev) 0 (omega arith)) (omega arith))) turn)
-        (r.stands zero m refl refl s bytes (inl (e, b)))
+        (r.stands zero m refl refl is s bytes (inl (e, b)))
     by_part s bytes (inr (i, lt, e, b)) =
         subst (λ t. Stands (replay made m.dev t (p.sectors m.dev t)) bytes) (sym e)
         (subst (Stands (replay made m.dev (68 + i) (p.sectors m.dev (68 + i)))) (sym b)

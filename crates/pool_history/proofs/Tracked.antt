@@ -65,17 +65,20 @@ begins_tracked head_of p d (Odd r) q t drawn may =
 begins_tracked head_of p d (Even r) q t drawn may = absurd may
 begins_tracked head_of p d Lost q t drawn may = absurd may
 
-live_if : (b : Bool) (live : List Rec) (new old : Status) → IsLive live new → IsLive live old → IsLive live (cond b new old)
-live_if true live new old a b = a
+live_if : (b : Bool) (live : List Rec) (new old : Status) → (b ≡ true → IsLive live new) → IsLive live old → IsLive live (cond b new old)
+live_if true live new old a b = a refl
 live_if false live new old a b = b
 
+same_device : (e d : ℕ) → (e == d) ≡ true → e ≡ d
+same_device e d is = grind (arith, nat_tests)
+
 -- a third phase that begins or ends leaves this in them
-stands_tracked : (p : Pool) (d e : ℕ) (status new : Status) → IsTracked p d status → IsLive p.live new
+stands_tracked : (p : Pool) (d e : ℕ) (status new : Status) → IsTracked p d status → (p.member e ≡ true → IsLive p.live new)
     → IsTracked (record p { status = λ x. cond (e == x) new (p.status x) }) d (cond (e == d) new status)
 stands_tracked p d e status new t live = record {
   member = t.member;
   status_is = ap (λ s. cond (e == d) new s) t.status_is;
-  is_live = live_if (e == d) p.live new status live t.is_live;
+  is_live = live_if (e == d) p.live new status (λ is. live (ap p.member (same_device e d is) ∙ t.member)) t.is_live;
   above = t.above;
   near = t.near;
   top = t.top;
@@ -130,9 +133,9 @@ tracked head_of (Opens r ∷ vs) p d status t mays keeps =
 tracked head_of (Begins q ∷ vs) p d status t mays keeps =
     tracked head_of vs (after (Begins q) p) d status (begins_tracked head_of p d status q t mays.0 keeps.0) mays.1 keeps.1
 tracked head_of (Third q e ∷ vs) p d status t mays keeps =
-    tracked head_of vs (after (Third q e) p) d _ (stands_tracked p d e status (Even q) t mays.0.is_live) mays.1 keeps
+    tracked head_of vs (after (Third q e) p) d _ (stands_tracked p d e status (Even q) t (λ is. (mays.0 is).is_live)) mays.1 keeps
 tracked head_of (Ends q e ∷ vs) p d status t mays keeps =
-    tracked head_of vs (after (Ends q e) p) d _ (stands_tracked p d e status (Odd q) t mays.0.is_live) mays.1 keeps
+    tracked head_of vs (after (Ends q e) p) d _ (stands_tracked p d e status (Odd q) t (λ is. (mays.0 is).is_live)) mays.1 keeps
 tracked head_of (Acks q ∷ vs) p d status t mays keeps =
     tracked head_of vs (after (Acks q) p) d (Odd q) (acks_tracked p d status q t mays.0) mays.1 keeps
 tracked head_of (Loses e ∷ vs) p d status t mays keeps =

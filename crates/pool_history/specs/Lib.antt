@@ -1,4 +1,5 @@
 pub mod Calm
+pub mod Commits
 pub mod Events
 pub mod Labels
 pub mod Looks

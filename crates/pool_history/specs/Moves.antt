@@ -1,7 +1,8 @@
 -- Which events keep the invariant: the moves that a pool, its devices and a stop may make.
 use Rattle.std.specs.Prelude.{◌≡◌, ◌⊎◌, ℕ, ◌+◌, ◌-◌, ◌<◌, ◌≤◌, true, false, List, [], ◌∷◌, Option, Some}
+use Rattle.bank_core.specs.Asks.{Ask, Reads, Writes, Flushes, Admits, Ejects}
 use Rattle.bank_core.specs.Disk.{Call, Read, Write, Flush, Admit, Eject, Sectors, IsClean, CrashImages, sector_of}
-use Rattle.bank_core.specs.Standing.{touches}
+use Rattle.bank_core.specs.Standing.{touches, aims, Spares}
 use Rattle.label_store.specs.declared.rule.Head.{Head}
 use Rattle.label_store.specs.declared.uberblock.Uberblock.{Uberblock}
 use Rattle.label_store.specs.Records.{place_at}
@@ -36,6 +37,35 @@ pub record IsSparing (p : Pool) (call : Call) : Type 0 where
   pub known : (d place : ℕ) → p.member d ≡ true → place < 128 → touches call d (place_at (p.size d) place) ≡ true
       → IsKnownUber p d (puts call (place_at (p.size d) place))
 
+-- each of these asks is one on a device that stays
+abbrev pub ArePlain : List Ask → Type 0
+ArePlain [] = Unit {0}
+ArePlain (Reads dev at sectors ∷ asks) = ArePlain asks
+ArePlain (Writes dev at bytes ∷ asks) = ArePlain asks
+ArePlain (Flushes dev ∷ asks) = ArePlain asks
+ArePlain (Admits dev ∷ asks) = ⊥
+ArePlain (Ejects dev ∷ asks) = ⊥
+
+-- what an ask puts on sector s
+abbrev pub lays : Ask → ℕ → List ℕ
+lays (Reads dev at sectors) s = []
+lays (Writes dev at bytes) s = sector_of (s - at) bytes
+lays (Flushes dev) s = []
+lays (Admits dev) s = []
+lays (Ejects dev) s = []
+
+-- each of these that aims at a sector puts there what may stand there
+abbrev pub AreKnown : Pool → (d s : ℕ) → List Ask → Type 0
+AreKnown p d s [] = Unit {0}
+AreKnown p d s (ask ∷ asks) = (aims ask d s ≡ true → IsKnownUber p d (lays ask s)) × AreKnown p d s asks
+
+-- Asks whose calls all spare what is needed, and put no uberblock but a drawn record's into a member's
+-- rings, whatever the calls answer.
+pub record AreSparing (p : Pool) (asks : List Ask) : Type 0 where
+  pub plain : ArePlain asks
+  pub off : (d s : ℕ) (bytes : List ℕ) → Needs p d s bytes → Spares asks d s
+  pub known : (d place : ℕ) → p.member d ≡ true → place < 128 → AreKnown p d (place_at (p.size d) place) asks
+
 -- What was read of a clean sector is what stands there.
 abbrev pub ReadsTrue : Sectors → Known → Type 0
 ReadsTrue sectors known = (d s : ℕ) (bytes : List ℕ) → known d s ≡ Some bytes → IsClean (sectors d s) → bytes ≡ (sectors d s).stable
@@ -69,14 +99,15 @@ pub record MayStop (p : Pool) (images : ℕ → ℕ → List ℕ) : Type 0 where
       → (images d (place_at (p.size d) place) ≡ (p.sectors d (place_at (p.size d) place)).stable)
       ⊎ IsAmong (images d (place_at (p.size d) place)) (p.since d (place_at (p.size d) place))
 
+-- The event is allowed. Of a device that the pool has lost, a third phase promises nothing.
 abbrev pub May : (List ℕ → Option Head) → Pool → Event → Type 0
 May head_of p (Calls noted) = IsSparing p noted.call
 May head_of p (Accepts a block) = Unit {0}
 May head_of p (Looks known) = ReadsTrue p.sectors known
 May head_of p (Opens r) = IsIn r p.live
 May head_of p (Begins q) = IsDrawnUp head_of p q
-May head_of p (Third q d) = MayStand head_of p q d (Even q)
-May head_of p (Ends q d) = MayStand head_of p q d (Odd q)
+May head_of p (Third q d) = p.member d ≡ true → MayStand head_of p q d (Even q)
+May head_of p (Ends q d) = p.member d ≡ true → MayStand head_of p q d (Odd q)
 May head_of p (Acks q) = MayAck p q
 May head_of p (Loses d) = Unit {0}
 May head_of p (Stops images) = MayStop p images

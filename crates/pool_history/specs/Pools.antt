@@ -27,7 +27,7 @@ pub record Pool : Type 0 where
   pub missed : List Rec
   -- the record that the pool reads, the last one it read where it is closed
   pub reads : Rec
-  -- it is open, and no round is under way
+  -- it is open, and neither a round nor an opening is under way
   pub idle : Bool
   -- a read's answer: the last write accepted since the opening, else the record's block
   pub written : ℕ → List ℕ

@@ -1,5 +1,5 @@
 -- The events of a round, and which rounds a pool may make.
-use Rattle.std.specs.Prelude.{◌≡◌, ℕ, Bool, true, false, List, [], ◌∷◌, ◌++◌, cond, map, Some, slice_get}
+use Rattle.std.specs.Prelude.{◌≡◌, ◌⊎◌, ℕ, Bool, true, false, List, [], ◌∷◌, ◌++◌, cond, map, Some, slice_get}
 use Rattle.std.specs.List.{list_all}
 use Rattle.bank_core.specs.Asks.{Ask}
 use Rattle.bank_core.specs.Disk.{Noted, run}
@@ -7,8 +7,8 @@ use Rattle.label_store.specs.declared.member.Member.{Member}
 use Rattle.label_store.specs.Phases.{IsTurn, IsPhase}
 use Rattle.label_store.specs.Rounds.{first_plan, second_plan, third_plan}
 use Rattle.pool_history.specs.Events.{Event, Begins, Third, Ends, Acks, as_events}
-use Rattle.pool_history.specs.Pools.{Pool, seat}
-use Rattle.pool_history.specs.Records.{Rec, number_of}
+use Rattle.pool_history.specs.Pools.{Pool, drawn, seat}
+use Rattle.pool_history.specs.Records.{Rec, IsIn, number_of}
 
 abbrev pub ends_if : Bool → Rec → ℕ → List Event
 ends_if true q d = Ends q d ∷ []
@@ -46,9 +46,9 @@ pub record IsRoundEvents (size : ℕ → ℕ) (q : Rec) (members : List Member) 
   pub uberblocks : IsPhase (second_plan size q.commit) members in_first in_second second
   pub copies : IsThirds (third_plan size q.commit) q members in_second results thirds
 
--- These are the pool's members, each on a device of its own.
+-- Each member of the pool is in the list, under its own number. The list may have devices that the pool has lost.
 pub record AreMembersOf (p : Pool) (members : List Member) : Type 0 where
-  pub seated : (i : ℕ) (m : Member) → slice_get members i ≡ Some m → (p.member m.dev ≡ true) × (m ≡ seat p m.dev)
+  pub seated : (i : ℕ) (m : Member) → slice_get members i ≡ Some m → p.member m.dev ≡ true → m ≡ seat p m.dev
   pub all : (d : ℕ) → p.member d ≡ true → (i : ℕ) × (slice_get members i ≡ Some (seat p d))
 
 -- What the events of a round leave of a pool, by whether it was whole, that is whether no member failed, and
@@ -67,3 +67,7 @@ pub record RoundEnds (p behind : Pool) (q : Rec) (whole : Bool) (made : List Not
   pub reads : behind.reads ≡ cond whole q p.reads
   pub idle : behind.idle ≡ whole
   pub live : behind.live ≡ q ∷ cond whole [] p.live
+  pub missed : behind.missed ≡ p.missed
+  -- the round drew this record, and no other
+  pub drawn_q : IsIn q (drawn behind)
+  pub drawn_in : (r : Rec) → IsIn r (drawn behind) → (r ≡ q) ⊎ IsIn r (drawn p)

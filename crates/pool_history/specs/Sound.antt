@@ -27,5 +27,5 @@ pub record IsSound (p : Pool) : Type 0 where
   pub records_whole : (r : Rec) (d : ℕ) → IsIn r p.live → p.member d ≡ true → IsWhole p r d
   -- and all of the record that the pool reads
   pub current_whole : (d : ℕ) → p.member d ≡ true → IsWhole p p.reads d
-  -- while the pool is open and no round is under way, no place of a live record is free
+  -- while the pool is open, and neither a round nor an opening is under way, no place of a live record is free
   pub places_safe : p.idle ≡ true → (r : Rec) (a : ℕ) (cell : Cell) → IsIn r p.live → r.cells a ≡ Some cell → IsFree p cell.sector → ⊥

@@ -17,8 +17,9 @@ ghost use Rattle.pool_history.specs.Survival.{Survives};
 ///
 /// `marked`: the calls of a round are the calls of a round's events, so its marks stand where they belong.
 /// `allowed`: from a pool that keeps the invariant of all moments, each event of the round keeps it too, where
-/// the round is over all members of the pool, each on a device of its own. `ends`: what the events leave of
-/// the pool. The record is acknowledged exactly where no member failed.
+/// the round is over all members of the pool, each on a device of its own. It may be over devices that the pool
+/// has lost as well. `ends`: what the events leave of the pool. The record is acknowledged exactly where no
+/// member failed, and it is the only one that the round draws.
 pub fn rounds_may_be_made()
     ensures marked { (size : ℕ → ℕ) (q : Rec) (members : List Member) (results : List Bool) (made : List Noted) → IsRound size q.commit members results made
         → (vs : List Event) × (calls_of vs ≡ made) × IsRoundEvents size q members results vs }
