@@ -1,1 +1,3 @@
-
+pub mod Committing
+pub mod Settling
+pub mod Standings
