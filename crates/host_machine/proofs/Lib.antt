@@ -1,3 +1,5 @@
 pub mod Committing
+pub mod NextStates
+pub mod QuietLines
 pub mod Settling
 pub mod Standings
