@@ -3,3 +3,4 @@ pub mod NextStates
 pub mod QuietLines
 pub mod Settling
 pub mod Standings
+pub mod SyncPlans
