@@ -1,4 +1,5 @@
 pub mod Committing
+pub mod EachLine
 pub mod NextStates
 pub mod OtherDevices
 pub mod QuietLines
