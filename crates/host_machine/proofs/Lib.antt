@@ -1,1 +1,10 @@
 pub mod Running
+pub mod Committing
+pub mod EachLine
+pub mod NextStates
+pub mod OtherDevices
+pub mod QuietLines
+pub mod Settling
+pub mod Standings
+pub mod SyncLines
+pub mod SyncPlans
