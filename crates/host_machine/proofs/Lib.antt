@@ -1,1 +1,4 @@
-
+pub mod Away
+pub mod Following
+pub mod Committing
+pub mod Creating
