@@ -10,7 +10,7 @@ use Rattle.pool_core.specs.State.{LeafState, PoolState}
 use Rattle.host_machine.specs.declared.device.HostDevice.{HostDevice}
 use Rattle.host_machine.specs.Machine.{HostState, Quietly, is_bad_size, new_seats, new_state, create_outcome, CreatesOn, CreatesUnless, IsCreate, refused}
 use Rattle.host_machine.specs.Tracking.{Follows}
-use Rattle.host_machine.proofs.Committing.{making_away, drawn_stays}
+use Rattle.host_machine.proofs.CommitsAway.{making_away, drawn_stays}
 use Rattle.host_machine.proofs.Following.{IsOn, without, first_lost, second_lost, reads_follow, taken_follow}
 
 -- A line that makes no call and leaves the host as it was.

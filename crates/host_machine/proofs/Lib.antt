@@ -1,4 +1,5 @@
 pub mod Away
 pub mod Following
-pub mod Committing
+pub mod CommitsAway
 pub mod Creating
+pub mod Knowing
