@@ -1,5 +1,8 @@
 pub mod Away
-pub mod Following
 pub mod CommitsAway
+pub mod Committing
 pub mod Creating
+pub mod Following
 pub mod Knowing
+pub mod Settling
+pub mod Standings
