@@ -4,5 +4,6 @@ pub mod Committing
 pub mod Creating
 pub mod Following
 pub mod Knowing
+pub mod Seating
 pub mod Settling
 pub mod Standings
