@@ -4,6 +4,8 @@ pub mod Committing
 pub mod Creating
 pub mod Following
 pub mod Knowing
+pub mod Openings
+pub mod RoundRuns
 pub mod Seating
 pub mod Settling
 pub mod Standings
