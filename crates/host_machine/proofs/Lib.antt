@@ -4,6 +4,7 @@ pub mod Committing
 pub mod Creating
 pub mod Following
 pub mod Knowing
+pub mod Looking
 pub mod Openings
 pub mod RoundRuns
 pub mod Seating
