@@ -3,9 +3,11 @@ pub mod CommitsAway
 pub mod Committing
 pub mod Creating
 pub mod Following
+pub mod Importing
 pub mod Knowing
 pub mod Looking
 pub mod Openings
+pub mod Rereading
 pub mod RoundRuns
 pub mod Seating
 pub mod Settling
