@@ -81,11 +81,11 @@ good_behind : (made : List Noted) (vs : List Event) (p : Pool) → AreGood head_
 good_behind [] vs p good = good
 good_behind (noted ∷ made) vs p good = good_behind made vs (after (Calls noted) p) good
 
-twins_before : (old new : List Rec) → ((r : Rec) → IsIn r old → IsIn r new) → HasNoTwins new → HasNoTwins old
+pub twins_before : (old new : List Rec) → ((r : Rec) → IsIn r old → IsIn r new) → HasNoTwins new → HasNoTwins old
 twins_before old new kept twins = record { by = λ r q a b cell other i j x y sums. twins.by r q a b cell other (kept r i) (kept q j) x y sums }
 
 -- what a commit leaves of a host
-outcome_kept : (h : HostState) (t : PoolState) (failed : ℕ) (r : Rec) → IsIn r h.records → IsIn r (commit_outcome h t failed).0.records
+pub outcome_kept : (h : HostState) (t : PoolState) (failed : ℕ) (r : Rec) → IsIn r h.records → IsIn r (commit_outcome h t failed).0.records
 outcome_kept h t failed r i = subst (IsIn r) (sym (outcome_records h t failed)) (drawn_stays t h.records r i)
 
 outcome_table : (h : HostState) (t : PoolState) (failed : ℕ) → (commit_outcome h t failed).0.table ≡ h.table

@@ -2,6 +2,7 @@ pub mod Away
 pub mod CommitsAway
 pub mod Committing
 pub mod Creating
+pub mod Finding
 pub mod Following
 pub mod Importing
 pub mod Knowing
