@@ -1,3 +1,7 @@
+pub mod Ending
+pub mod Labelled
+pub mod Missing
+pub mod Rising
 pub mod Running
 pub mod Committing
 pub mod EachLine

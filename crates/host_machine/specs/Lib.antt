@@ -1,3 +1,4 @@
+pub mod Answering
 pub mod Births
 pub mod Devices
 pub mod Fitness
