@@ -1,8 +1,11 @@
 pub mod Committing
 pub mod EachLine
+pub mod FitHosts
+pub mod FoundStates
 pub mod NextStates
 pub mod OtherDevices
 pub mod QuietLines
+pub mod Seating
 pub mod Settling
 pub mod Standings
 pub mod SyncLines

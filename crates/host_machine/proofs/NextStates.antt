@@ -32,7 +32,7 @@ other_half a (Some version) = by (version.sector == 2 * a)
     by false = omega arith
 
 -- a pointer stays one under a greater number
-later_pointer : (n : ℕ) (a : ℕ) (p : Pointer) → IsPointer (record { 0 = n }) a p → IsPointer (record { 0 = n + 1 }) a p
+pub later_pointer : (n : ℕ) (a : ℕ) (p : Pointer) → IsPointer (record { 0 = n }) a p → IsPointer (record { 0 = n + 1 }) a p
 later_pointer n a p is = record { birth = (is.birth.0, let most = is.birth.1 in omega arith); sector = is.sector; sum = is.sum }
 
 -- the pointers of a state, by its versions

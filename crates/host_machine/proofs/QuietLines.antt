@@ -98,7 +98,7 @@ asked_reads : (made : List Noted) → AreReadAsks (asks_of made) → AreReads ma
 asked_reads [] are = tt
 asked_reads (noted ∷ made) are = (asked_read noted.call are.0, asked_reads made are.1)
 
-answer_host : (h : HostState) (pool : Option PoolState) (a : ℕ) (outside : List (Option Trouble)) (given : List ℕ) → (read_line_answer h pool a outside given).0 ≡ h
+pub answer_host : (h : HostState) (pool : Option PoolState) (a : ℕ) (outside : List (Option Trouble)) (given : List ℕ) → (read_line_answer h pool a outside given).0 ≡ h
 answer_host h None a outside given = refl
 answer_host h (Some s) a outside given = refl
 
@@ -164,7 +164,7 @@ same_pool : (h : HostState) (s : PoolState) → h.pool ≡ Some s → with_pool 
 same_pool h s is = ap (λ pool. record h { pool = pool }) (sym is)
 
 -- the answer of a write, by whether its address is within the volume
-abbrev put_if : Bool → PoolState → ℕ → List ℕ → Refusal → PoolState × Result (Unit {0}) Refusal
+abbrev pub put_if : Bool → PoolState → ℕ → List ℕ → Refusal → PoolState × Result (Unit {0}) Refusal
 put_if b s a block fault = if b then (written s a block, Ok tt) else (s, Err fault)
 
 put_follows : (p : Pool) (h : HostState) (s : PoolState) (a : ℕ) (block : List ℕ) (b : Bool) (fault : Refusal) → Tracks p h → h.pool ≡ Some s
