@@ -23,7 +23,7 @@ use Rattle.host_machine.specs.Records.{is_known, record_of, with_record, IsDrawn
 use Rattle.host_machine.proofs.FoundStates.{AreNames, opened_fit, created_fit}
 use Rattle.host_machine.proofs.NextStates.{fit_settled, written_fit, synced_fit}
 use Rattle.host_machine.proofs.QuietLines.{named_is, answer_host, put_if}
-use Rattle.host_machine.proofs.Seating.{both_ways}
+use Rattle.host_machine.proofs.NamedSeats.{both_ways}
 use Rattle.host_machine.proofs.Settling.{IsSettled, known_each, settled_drawn}
 
 same_fit : (h next : HostState) → IsFit h → next ≡ h → IsFit next

@@ -26,7 +26,7 @@ use Rattle.host_machine.specs.Fitness.{IsFitPool, IsFit}
 use Rattle.host_machine.specs.Machine.{HostState, open_seats, open_state, new_seats, new_state, is_bad_size}
 use Rattle.host_machine.specs.Records.{version_of, versions_of, slot_at, summed, committed_in, IsDrawn, AreDrawn}
 use Rattle.host_machine.proofs.NextStates.{below_spent, later_pointer, pointers_by}
-use Rattle.host_machine.proofs.Seating.{IsThere, both_ways, seat_there, member_there, open_seats_are, AreNewSeats, new_seats_are}
+use Rattle.host_machine.proofs.NamedSeats.{IsThere, both_ways, seat_there, member_there, open_seats_are, AreNewSeats, new_seats_are}
 use Rattle.host_machine.proofs.Settling.{same_some, none_some, pointers_long, map_twice}
 
 -- These versions are what a configuration commits.

@@ -2,10 +2,10 @@ pub mod Committing
 pub mod EachLine
 pub mod FitHosts
 pub mod FoundStates
+pub mod NamedSeats
 pub mod NextStates
 pub mod OtherDevices
 pub mod QuietLines
-pub mod Seating
 pub mod Settling
 pub mod Standings
 pub mod SyncLines
