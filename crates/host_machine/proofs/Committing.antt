@@ -13,14 +13,14 @@ use Rattle.label_store.specs.Rounds.{config_of, IsRound}
 use Rattle.label_store.specs.Seats.{AreApart}
 use Rattle.config_codec.specs.Fields.{Fields}
 use Rattle.config_codec.specs.Reading.{config_in}
-use Rattle.pool_history.specs.Events.{Event, as_events, calls_of}
+use Rattle.pool_history.specs.Events.{Event, IsOneRun, as_events, calls_of}
 use Rattle.pool_history.specs.Moves.{AreSparing, IsDrawnUp, Mays}
 use Rattle.pool_history.specs.Needs.{Held}
 use Rattle.pool_history.specs.Pools.{Pool, drawn, pool_after, seat}
 use Rattle.pool_history.specs.Records.{Rec, Cell, IsIn, number_of, block_of, data_start}
 use Rattle.pool_history.specs.Rounds.{all_true, IsRoundEvents, AreMembersOf, RoundEnds}
 use Rattle.pool_history.specs.Survival.{Fits, Survives}
-use Rattle.pool_history.proofs.Folding.{with_calls, calls_are, calls_more, calls_after, calls_sectors, calls_then, mays_calls}
+use Rattle.pool_history.proofs.Folding.{with_calls, calls_are, calls_more, calls_after, calls_sectors, calls_then, mays_calls, stops_never_more, calls_never_stop}
 use Rattle.pool_history.proofs.RoundMoves.{round_may, round_ends}
 use Rattle.pool_history.proofs.RoundShapes.{round_marked}
 use Rattle.pool_history.proofs.Sparing.{part_may}
@@ -33,6 +33,7 @@ use Rattle.pool_core.specs.State.{LeafState, Content, Known, Summed, Version, Po
 use Rattle.host_machine.specs.Machine.{HostState, commit_outcome}
 use Rattle.host_machine.specs.Records.{version_of, cell_with, cell_of, is_known_content, is_known_version, is_known, record_of, with_record, IsDrawn}
 use Rattle.host_machine.specs.Tracking.{IsOpenAs, StandsIn, Tracks}
+use Rattle.host_machine.proofs.RoundRuns.{round_one_run}
 use Rattle.host_machine.proofs.Settling.{IsSettled, AllKnown, same_some, none_some, cell_pointer, known_all, known_is, config_reads, settled_record}
 use Rattle.host_machine.proofs.Standings.{closed, tracks_move, in_record, stands_calls, tracks_calls}
 
@@ -61,6 +62,7 @@ pub record IsReady (p : Pool) (h : HostState) (plan : List Ask) (t : PoolState) 
 pub record CommitFollows (p : Pool) (h : HostState) (plan : List Ask) (t : PoolState) (made : List Noted) (next : HostState) : Type 0 where
   pub vs : List Event
   pub calls : calls_of vs ≡ made
+  pub one_run : IsOneRun vs
   pub sectors : (pool_after vs p).sectors ≡ run made p.sectors
   pub safe : IsReady p h plan t → Survives head_of p → Mays head_of p vs × Tracks (pool_after vs p) next
 
@@ -264,6 +266,7 @@ commit_by p h plan t before round None failed part (results, is_round, is) =
     record {
       vs = as_events before ++ vs;
       calls = calls_more (as_events before) vs ∙ ap (λ made. made ++ calls_of vs) (calls_are before) ∙ ap (λ made. before ++ made) marked.1;
+      one_run = stops_never_more (as_events before) vs (calls_never_stop before) (round_one_run h.size (record_of t) (members_of t) results vs marked.2);
       sectors = ap (λ (q : Pool). q.sectors) (calls_then before vs p) ∙ ends.sectors ∙ ap (λ made. run made (run before p.sectors)) marked.1 ∙ sym (run_more before round p.sectors);
       safe = λ ready sv. (
           round_moves p h plan t ready before results vs sv part marked.2,
@@ -273,6 +276,7 @@ commit_by p h plan t before round None failed part (results, is_round, is) =
 commit_by p h plan t before round (Some fault) failed part (none, one) = record {
   vs = as_events before;
   calls = calls_are before ∙ all;
+  one_run = calls_never_stop before;
   sectors = calls_sectors before p ∙ ap (λ made. run made p.sectors) all;
   safe = λ ready sv. (
       part_may head_of plan before (Some fault) p ready.sparing part,

@@ -9,7 +9,7 @@ use Rattle.pool_history.specs.Survival.{Survives}
 use Rattle.pool_core.specs.Heads.{head_of}
 use Rattle.pool_core.specs.State.{LeafState, PoolState}
 use Rattle.host_machine.specs.Machine.{HostState, Entry}
-use Rattle.host_machine.specs.Tracking.{Follows}
+use Rattle.host_machine.specs.Tracking.{Tracks, Follows}
 
 -- the pool of this state behind the stamps of its leaves, on these sectors
 abbrev pub new_pool : (size : ℕ → ℕ) → PoolState → Sectors → Pool
@@ -22,7 +22,9 @@ pub record IsBorn (size : ℕ → ℕ) (s : PoolState) (sectors : Sectors) (made
   pub rest : List Noted
   pub all : made ≡ stamps ++ rest
   pub survives : Survives head_of (new_pool size s (run stamps sectors))
-  pub follows : Follows (new_pool size s (run stamps sectors)) rest next
+  pub between : HostState
+  pub tracks : Tracks (new_pool size s (run stamps sectors)) between
+  pub follows : Follows (new_pool size s (run stamps sectors)) between rest next
 
 -- What may stand on the devices, by what a pool's history was: it began as a pool that survives, each of
 -- its events was allowed, and these are the sectors behind them.

@@ -1,6 +1,7 @@
 -- The devices of a host, by what each may serve for.
 use Rattle.std.specs.Prelude.{◌≡◌, ◌≢◌, ℕ, ◌+◌, nat_le, if◌then◌else◌, List, [], ◌∷◌, Option, Some, None}
 use Rattle.std.specs.Str.{bytes_eq}
+use Rattle.pool_history.specs.Looks.{AreDistinct}
 use Rattle.host_machine.specs.declared.device.HostDevice.{HostDevice}
 
 -- the number of a device that was found and has the labels' room: an opening is handed it
@@ -36,6 +37,7 @@ abbrev pub number_in : List ℕ → List HostDevice → Option ℕ
 number_in name [] = None
 number_in name (device ∷ table) = if bytes_eq device.name name then device.dev else number_in name table
 
--- no two names have one device
+-- no two names have one device, and no device is handed twice
 pub record AreApart (table : List HostDevice) : Type 0 where
   pub by : (one other : List ℕ) (d : ℕ) → number_in one table ≡ Some d → number_in other table ≡ Some d → one ≡ other
+  pub handed : AreDistinct (all_handed table)

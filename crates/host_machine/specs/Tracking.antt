@@ -1,13 +1,13 @@
 -- How a pool of the history stands in a host of the machine.
-use Rattle.std.specs.Prelude.{◌≡◌, ◌≢◌, ◌⊎◌, ℕ, ◌+◌, ◌≤◌, true, false, List, Option, Some, None}
+use Rattle.std.specs.Prelude.{◌≡◌, ◌≢◌, ◌⊎◌, ℕ, ◌+◌, ◌≤◌, Bool, true, false, ◌||◌, List, Option, Some, None}
 use Rattle.sha2.specs.Sha256.{sha256}
 use Rattle.mp_base.specs.declared.number.Group.{Group}
 use Rattle.mp_base.specs.declared.refusal.Refusal.TheVariants as refusals
-use Rattle.bank_core.specs.Disk.{Noted, run}
+use Rattle.bank_core.specs.Disk.{Noted}
 use Rattle.pool_wire.specs.declared.reply.Reply.{Reply}
 use Rattle.pool_wire.specs.declared.reply.Reply.TheVariants as replies
 use Rattle.config_codec.specs.Fields.{Fields}
-use Rattle.pool_history.specs.Events.{Event, calls_of}
+use Rattle.pool_history.specs.Events.{Event, IsOneRun, calls_of}
 use Rattle.pool_history.specs.Moves.{Mays}
 use Rattle.pool_history.specs.Pools.{Pool, drawn, pool_after}
 use Rattle.pool_history.specs.Premises.{AreGood}
@@ -37,6 +37,10 @@ pub record IsElsewhere (p : Pool) (s : PoolState) : Type 0 where
   pub first : p.member s.first.dev ≡ false
   pub second : p.member s.second.dev ≡ false
 
+-- one of the open pool's devices is a member of the pool: then it is this pool that is open
+abbrev pub is_ours : Pool → PoolState → Bool
+is_ours p s = p.member s.first.dev || p.member s.second.dev
+
 abbrev pub StandsIn : Pool → (first second : LeafState) → Option PoolState → Type 0
 StandsIn p first second None = Unit {0}
 StandsIn p first second (Some s) = ((s.first ≡ first) × (s.second ≡ second) × IsOpenAs p s) ⊎ IsElsewhere p s
@@ -62,13 +66,14 @@ pub record HasNoTwins (records : List Rec) : Type 0 where
   pub by : (r q : Rec) (a b : ℕ) (cell other : Cell) → IsIn r records → IsIn q records → r.cells a ≡ Some cell → q.cells b ≡ Some other
       → sha256 cell.block ≡ sha256 other.block → cell.block ≡ other.block
 
--- These calls, which led the machine to this host, are those of a history of the pool: the events of it
--- are moves that the pool may make, and it stands in the new host as they leave it.
-pub record Follows (p : Pool) (made : List Noted) (next : HostState) : Type 0 where
+-- These calls led the machine from one host to the next. They are those of a history of the pool without a
+-- stop: its events exist whatever the pool is; and where the pool stood in the old host, they are moves that it may
+-- make, and it stands in the new host as they leave it.
+pub record Follows (p : Pool) (h : HostState) (made : List Noted) (next : HostState) : Type 0 where
   pub vs : List Event
   pub calls : calls_of vs ≡ made
-  pub sectors : (pool_after vs p).sectors ≡ run made p.sectors
-  pub safe : HasNoTwins next.records → Survives head_of p → AreGood head_of p vs → Mays head_of p vs × Tracks (pool_after vs p) next
+  pub one_run : IsOneRun vs
+  pub safe : Tracks p h → HasNoTwins next.records → Survives head_of p → AreGood head_of p vs → Mays head_of p vs × Tracks (pool_after vs p) next
 
 -- The reply to an opening of the pool: never that there is no record; and where it opened, the record that
 -- was found is live, at least as new as the acknowledged one, and each read answers its block.

@@ -25,8 +25,8 @@ pub fn hosts_stay_fit()
 
 /// Each line's device calls are moves of each pool's history.
 pub fn lines_follow_each_pool()
-    ensures line { (p : Pool) (h : HostState) (entry : Entry) (made : List Noted) (next : HostState) → IsWhole entry.asked → IsFit h → Tracks p h
-        → AllAnswer p.sectors made → Step h entry made next → Follows p made next }
+    ensures line { (p : Pool) (h : HostState) (entry : Entry) (made : List Noted) (next : HostState) → IsWhole entry.asked → IsFit h
+        → AllAnswer p.sectors made → Step h entry made next → Follows p h made next }
 {}
 
 /// An opening of a pool finds it.

@@ -2,7 +2,7 @@
 use Rattle.std.proofs.Common.{◌≡◌, ℕ, ◌==◌, Bool, true, false, cond, List, [], ◌∷◌, ◌++◌, take, zero, suc, Option, refl, sym, ap, ◌∙◌, subst}
 use Rattle.bank_core.specs.Disk.{Noted, run}
 use Rattle.label_store.specs.declared.rule.Head.{Head}
-use Rattle.pool_history.specs.Events.{Event, Calls, Accepts, Looks, Opens, Begins, Third, Ends, Acks, Loses, Stops, calls_of, as_events}
+use Rattle.pool_history.specs.Events.{Event, Calls, Accepts, Looks, Opens, Begins, Third, Ends, Acks, Loses, Stops, calls_of, as_events, IsOneRun}
 use Rattle.pool_history.specs.Moves.{Mays}
 use Rattle.pool_history.specs.Pools.{Pool, noted_since, after, pool_after}
 
@@ -186,22 +186,8 @@ moment_of (Acks q ∷ vs) (suc k) = let m = moment_of vs (suc k) in (suc m.0, m.
 moment_of (Loses d ∷ vs) (suc k) = let m = moment_of vs (suc k) in (suc m.0, m.1)
 moment_of (Stops images ∷ vs) (suc k) = let m = moment_of vs (suc k) in (suc m.0, m.1)
 
--- no stop is among them
-abbrev pub StopsNever : List Event → Type 0
-StopsNever [] = Unit {0}
-StopsNever (Calls noted ∷ vs) = StopsNever vs
-StopsNever (Accepts a block ∷ vs) = StopsNever vs
-StopsNever (Looks known ∷ vs) = StopsNever vs
-StopsNever (Opens r ∷ vs) = StopsNever vs
-StopsNever (Begins q ∷ vs) = StopsNever vs
-StopsNever (Third q d ∷ vs) = StopsNever vs
-StopsNever (Ends q d ∷ vs) = StopsNever vs
-StopsNever (Acks q ∷ vs) = StopsNever vs
-StopsNever (Loses d ∷ vs) = StopsNever vs
-StopsNever (Stops images ∷ vs) = ⊥
-
 -- within one run the devices are as its calls leave them
-pub run_sectors : (vs : List Event) (p : Pool) → StopsNever vs → (pool_after vs p).sectors ≡ run (calls_of vs) p.sectors
+pub run_sectors : (vs : List Event) (p : Pool) → IsOneRun vs → (pool_after vs p).sectors ≡ run (calls_of vs) p.sectors
 run_sectors [] p one = refl
 run_sectors (Calls noted ∷ vs) p one = run_sectors vs (after (Calls noted) p) one
 run_sectors (Accepts a block ∷ vs) p one = run_sectors vs (after (Accepts a block) p) one
@@ -214,7 +200,7 @@ run_sectors (Acks q ∷ vs) p one = run_sectors vs (after (Acks q) p) one
 run_sectors (Loses d ∷ vs) p one = run_sectors vs (after (Loses d) p) one
 run_sectors (Stops images ∷ vs) p one = absurd one
 
-pub stops_never_more : (first second : List Event) → StopsNever first → StopsNever second → StopsNever (first ++ second)
+pub stops_never_more : (first second : List Event) → IsOneRun first → IsOneRun second → IsOneRun (first ++ second)
 stops_never_more [] second a b = b
 stops_never_more (Calls noted ∷ first) second a b = stops_never_more first second a b
 stops_never_more (Accepts x block ∷ first) second a b = stops_never_more first second a b
@@ -227,6 +213,6 @@ stops_never_more (Acks q ∷ first) second a b = stops_never_more first second a
 stops_never_more (Loses d ∷ first) second a b = stops_never_more first second a b
 stops_never_more (Stops images ∷ first) second a b = absurd a
 
-pub calls_never_stop : (made : List Noted) → StopsNever (as_events made)
+pub calls_never_stop : (made : List Noted) → IsOneRun (as_events made)
 calls_never_stop [] = tt
 calls_never_stop (noted ∷ made) = calls_never_stop made

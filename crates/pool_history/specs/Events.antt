@@ -48,3 +48,17 @@ calls_of (Stops images ∷ vs) = calls_of vs
 abbrev pub as_events : List Noted → List Event
 as_events [] = []
 as_events (noted ∷ more) = Calls noted ∷ as_events more
+
+-- no stop is among these events
+abbrev pub IsOneRun : List Event → Type 0
+IsOneRun [] = Unit {0}
+IsOneRun (Calls noted ∷ vs) = IsOneRun vs
+IsOneRun (Accepts a block ∷ vs) = IsOneRun vs
+IsOneRun (Looks known ∷ vs) = IsOneRun vs
+IsOneRun (Opens r ∷ vs) = IsOneRun vs
+IsOneRun (Begins q ∷ vs) = IsOneRun vs
+IsOneRun (Third q d ∷ vs) = IsOneRun vs
+IsOneRun (Ends q d ∷ vs) = IsOneRun vs
+IsOneRun (Acks q ∷ vs) = IsOneRun vs
+IsOneRun (Loses d ∷ vs) = IsOneRun vs
+IsOneRun (Stops images ∷ vs) = ⊥
