@@ -4,12 +4,13 @@ pub mod Committing
 pub mod Creating
 pub mod Finding
 pub mod Following
+pub mod HostSeats
 pub mod Importing
 pub mod Knowing
 pub mod Looking
+pub mod NewStates
 pub mod Openings
 pub mod Rereading
 pub mod RoundRuns
-pub mod Seating
 pub mod Settling
 pub mod Standings
