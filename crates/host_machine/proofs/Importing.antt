@@ -36,7 +36,7 @@ use Rattle.host_machine.proofs.Following.{IsOn, without, first_lost, second_lost
 use Rattle.host_machine.proofs.Looking.{IsLive, IsLater, looked_true, looked_live, away_survives, opens_survives}
 use Rattle.host_machine.proofs.Openings.{IsNewest, IsOpening, IsUnopened, opening_case}
 use Rattle.host_machine.proofs.Rereading.{IsKnownAs, known_as, ready_again}
-use Rattle.host_machine.proofs.Seating.{seats_found}
+use Rattle.host_machine.proofs.HostSeats.{seats_found}
 
 -- A search among records for one of this configuration, with a number.
 pub record IsOne (config : List ℕ) (r : Rec) : Type 0 where

@@ -27,7 +27,7 @@ use Rattle.host_machine.specs.Fitness.{IsFit}
 use Rattle.host_machine.specs.Machine.{HostState}
 use Rattle.host_machine.proofs.Away.{AreAway, away_may, look_reads, reads_away}
 use Rattle.host_machine.proofs.Openings.{IsNewest}
-use Rattle.host_machine.proofs.Seating.{handed_room}
+use Rattle.host_machine.proofs.HostSeats.{handed_room}
 
 -- calls that put nothing on members keep the invariant
 pub away_survives : (p : Pool) (made : List Noted) → AreAway p.member made → Survives head_of p → Survives head_of (with_calls made p)

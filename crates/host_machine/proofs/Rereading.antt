@@ -37,7 +37,7 @@ use Rattle.host_machine.proofs.Committing.{IsReady}
 use Rattle.host_machine.proofs.CommitsAway.{flushes_away}
 use Rattle.host_machine.proofs.Knowing.{IsTaken, taken_of, cells_same, cells_back, known_back}
 use Rattle.host_machine.proofs.Looking.{IsLive, away_survives}
-use Rattle.host_machine.proofs.Seating.{HasSeats, seats_found, seat_number, seat_room}
+use Rattle.host_machine.proofs.HostSeats.{HasSeats, seats_found, seat_number, seat_room}
 use Rattle.host_machine.proofs.Settling.{IsSettled, pointers_long, pointers_at, map_twice}
 
 same_some : {A : Type 0} (x y : A) → Some x ≡ Some y → x ≡ y
