@@ -1,7 +1,7 @@
 -- Each host that a line leads to is fit.
 use Rattle.std.proofs.Common.{◌≡◌, ◌⊎◌, ℕ, ◌<◌, zero, suc, Bool, true, false, cond, List, [], ◌∷◌, length, Option, Some, None, Result, Ok, refl, sym, ap, ◌∙◌, subst, inl, inr, ⊎_elim, ◌+◌, le-ltb}
 use Rattle.std.specs.Prelude.{nat_lt}
-use Rattle.std.proofs.lemmas.Bool.{cases_lt}
+use Rattle.std.proofs.lemmas.Bool.{ltb-true}
 use Rattle.bank_core.specs.Disk.{Noted}
 use Rattle.mp_base.specs.declared.refusal.Refusal.{Refusal}
 use Rattle.mp_base.specs.declared.refusal.Refusal.TheVariants as refusals
@@ -23,7 +23,6 @@ use Rattle.host_machine.specs.Records.{is_known, record_of, with_record, IsDrawn
 use Rattle.host_machine.proofs.FoundStates.{AreNames, opened_fit, created_fit}
 use Rattle.host_machine.proofs.NextStates.{fit_settled, written_fit, synced_fit}
 use Rattle.host_machine.proofs.QuietLines.{named_is, answer_host, put_if}
-use Rattle.host_machine.proofs.NamedSeats.{both_ways}
 use Rattle.host_machine.proofs.Settling.{IsSettled, known_each, settled_drawn}
 
 same_fit : (h next : HostState) → IsFit h → next ≡ h → IsFit next
@@ -60,7 +59,7 @@ put_fit : (h : HostState) (s : PoolState) (a : ℕ) (block : List ℕ) (b : Bool
 put_fit h s a block true fault fit pool long below = with_fit h (written s a block) fit (written_fit h.size s a block pool (less below) long)
   where
     less : nat_lt a s.blocks ≡ true → a < s.blocks
-    less e = ⊎_elim (λ lt. lt) (λ ge. absurd (both_ways (nat_lt a s.blocks) e (le-ltb a s.blocks ge))) (cases_lt a s.blocks)
+    less e = ltb-true a s.blocks e
 put_fit h s a block false fault fit pool long above = with_fit h s fit pool
 
 write_fit : (h next : HostState) (pool : Option PoolState) (a : ℕ) (block : List ℕ) (made : List Noted) (reply : Reply) → IsFit h → length block ≡ 4096

@@ -11,7 +11,6 @@ pub mod HostSeats
 pub mod Importing
 pub mod Knowing
 pub mod Looking
-pub mod NamedSeats
 pub mod NewStates
 pub mod NextStates
 pub mod Openings

@@ -108,7 +108,7 @@ next_pointer size s a version fit e =
     ⊎_elim
     (λ was. later_pointer s.number a (pointer_of version) (version_pointer s a version fit.valid (version_below size s a version fit was.1) was.1))
     (λ new. subst (λ v. IsPointer (record { 0 = s.number + 1 }) a (pointer_of v)) new.2
-      (record { birth = (omega arith, omega arith); sector = other_half a (s.committed a); sum = length-sha256 new.0 }))
+    (record { birth = (omega arith, omega arith); sector = other_half a (s.committed a); sum = length-sha256 new.0 }))
     (next_some (s.number + 1) a (s.committed a) (s.writes a) version e)
 
 pub synced_valid : (size : ℕ → ℕ) (s : PoolState) → IsFitPool size s → is_spent s.number ≡ false → IsValid (fields_in (synced s))

@@ -47,15 +47,19 @@ in_record t records r is = by (is_known t)
 -- calls change nothing of how it stands
 pub stands_calls : (made : List Noted) (p : Pool) (first second : LeafState) (pool : Option PoolState) → StandsIn p first second pool → StandsIn (with_calls made p) first second pool
 stands_calls made p first second None st = tt
-stands_calls made p first second (Some s) (inl (one, two, is)) = inl (one, two, record {
-  name = is.name;
-  pool = is.pool;
-  idle = is.idle;
-  number = is.number;
-  acked = is.acked;
-  committed = is.committed;
-  written = is.written;
-})
+stands_calls made p first second (Some s) (inl (one, two, is)) = inl (
+  one,
+  two,
+  record {
+    name = is.name;
+    pool = is.pool;
+    idle = is.idle;
+    number = is.number;
+    acked = is.acked;
+    committed = is.committed;
+    written = is.written;
+  },
+)
 stands_calls made p first second (Some s) (inr is) = inr (record { first = is.first; second = is.second })
 
 pub tracks_calls : (made : List Noted) (p : Pool) (h : HostState) → Tracks p h → Tracks (with_calls made p) h

@@ -150,9 +150,9 @@ commit_elsewhere p h plan t made failed one two away c = record {
   calls = calls_are made;
   one_run = calls_never_stop made;
   safe = λ tr twins sv good. (
-      away_may head_of made p (commit_away p.member h.size plan t made failed one two away c),
-      subst (λ q. Tracks q (commit_outcome h t failed).0) (sym (calls_after made p))
-      (tracks_move p (with_calls made p) h (commit_outcome h t failed).0 tr refl refl refl refl (outcome_table h t failed) (outcome_size h t failed)
+    away_may head_of made p (commit_away p.member h.size plan t made failed one two away c),
+    subst (λ q. Tracks q (commit_outcome h t failed).0) (sym (calls_after made p))
+        (tracks_move p (with_calls made p) h (commit_outcome h t failed).0 tr refl refl refl refl (outcome_table h t failed) (outcome_size h t failed)
         (λ r is some. subst (IsIn r) (sym (outcome_records h t failed)) (in_record t h.records r (tr.known r is some))) tr.own
         (elsewhere_stands (with_calls made p) h t tr.first tr.second failed one two)),
   );
