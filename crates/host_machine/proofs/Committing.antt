@@ -1,5 +1,5 @@
 -- A commit of a pool of the history: the calls of a plan, and the round of the state's record.
-use Rattle.std.proofs.Common.{◌≡◌, ◌≢◌, ◌⊎◌, ℕ, ◌+◌, ◌*◌, ◌/◌, ◌^◌, ◌<◌, ◌≤◌, zero, suc, Bool, true, false, cond, List, [], ◌∷◌, ◌++◌, Option, Some, None, refl, sym, ap, ◌∙◌, subst, arith, inl, inr, ⊎_elim, append-nil}
+use Rattle.std.proofs.Common.{◌≡◌, ◌≢◌, ◌⊎◌, ℕ, ◌+◌, ◌/◌, ◌^◌, ◌<◌, ◌≤◌, zero, suc, Bool, true, false, cond, List, [], ◌∷◌, ◌++◌, Option, Some, None, refl, sym, ap, ◌∙◌, subst, arith, inl, inr, ⊎_elim, append-nil}
 use Rattle.std.specs.Prelude.{slice_get}
 use Rattle.std.specs.Option.{option_map}
 use Rattle.std.proofs.Math.Path.{fun_ext}
@@ -9,7 +9,7 @@ use Rattle.bank_core.specs.Disk.{Noted, run}
 use Rattle.bank_core.proofs.Composing.{run_more}
 use Rattle.label_store.specs.declared.member.Member.{Member}
 use Rattle.label_store.specs.declared.rule.Head.{Head}
-use Rattle.label_store.specs.Rounds.{config_of, IsRound}
+use Rattle.label_store.specs.Rounds.{config_of}
 use Rattle.label_store.specs.Seats.{AreApart}
 use Rattle.config_codec.specs.Fields.{Fields}
 use Rattle.config_codec.specs.Reading.{config_in}
@@ -35,7 +35,7 @@ use Rattle.host_machine.specs.Records.{version_of, cell_with, cell_of, is_known_
 use Rattle.host_machine.specs.Tracking.{IsOpenAs, StandsIn, Tracks}
 use Rattle.host_machine.proofs.RoundRuns.{round_one_run}
 use Rattle.host_machine.proofs.Settling.{IsSettled, AllKnown, same_some, none_some, cell_pointer, known_all, known_is, config_reads, settled_record}
-use Rattle.host_machine.proofs.Standings.{closed, tracks_move, in_record, stands_calls, tracks_calls}
+use Rattle.host_machine.proofs.Standings.{closed, tracks_move, in_record}
 
 -- A commit of the state may be made by the pool, which stands in the host: the state is what the pool
 -- would answer, under the next number; the plan spares what is needed; and behind the plan each block

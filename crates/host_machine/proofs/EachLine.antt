@@ -1,15 +1,14 @@
 -- Each line follows each pool.
-use Rattle.std.proofs.Common.{◌≡◌, ◌⊎◌, ℕ, List, Option, Some, None, inl, inr}
+use Rattle.std.proofs.Common.{◌⊎◌, List, Option, Some, None, inl, inr}
 use Rattle.bank_core.specs.Disk.{Noted, AllAnswer}
-use Rattle.pool_wire.specs.declared.reply.Reply.{Reply}
 use Rattle.pool_wire.specs.declared.reply.Reply.TheVariants as replies
 use Rattle.pool_wire.specs.declared.request.Request.{Request}
 use Rattle.pool_wire.specs.declared.request.Request.TheVariants as requests
 use Rattle.mp_base.specs.declared.refusal.Refusal.TheVariants as refusals
 use Rattle.pool_history.specs.Pools.{Pool}
 use Rattle.host_machine.specs.Fitness.{IsFit}
-use Rattle.host_machine.specs.Machine.{HostState, Entry, IsCreate, IsImport, IsAnswered, WantsMemory, Clashes, Step, named_pool}
-use Rattle.host_machine.specs.Tracking.{Tracks, Follows}
+use Rattle.host_machine.specs.Machine.{HostState, Entry, IsAnswered, WantsMemory, Clashes, named_pool}
+use Rattle.host_machine.specs.Tracking.{Follows}
 use Rattle.host_machine.proofs.Creating.{quiet_follows, create_follows}
 use Rattle.host_machine.proofs.Following.{reads_follow}
 use Rattle.host_machine.proofs.Importing.{import_follows}

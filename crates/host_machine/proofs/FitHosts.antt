@@ -1,5 +1,5 @@
 -- Each host that a line leads to is fit.
-use Rattle.std.proofs.Common.{◌≡◌, ◌⊎◌, ℕ, ◌<◌, zero, suc, Bool, true, false, cond, List, [], ◌∷◌, length, Option, Some, None, Result, Ok, refl, sym, ap, ◌∙◌, subst, inl, inr, ⊎_elim, ◌+◌, le-ltb}
+use Rattle.std.proofs.Common.{◌≡◌, ◌⊎◌, ℕ, ◌<◌, zero, suc, Bool, true, false, cond, List, ◌∷◌, length, Option, Some, None, refl, sym, ap, ◌∙◌, subst, inl, inr, ◌+◌}
 use Rattle.std.specs.Prelude.{nat_lt}
 use Rattle.std.proofs.lemmas.Bool.{ltb-true}
 use Rattle.bank_core.specs.Disk.{Noted}
@@ -12,7 +12,7 @@ use Rattle.pool_wire.specs.declared.request.Request.{Request}
 use Rattle.pool_wire.specs.declared.request.Request.TheVariants as requests
 use Rattle.config_codec.specs.Fields.{Fields}
 use Rattle.config_codec.specs.Reading.{config_in}
-use Rattle.pool_history.specs.Records.{Rec, IsIn}
+use Rattle.pool_history.specs.Records.{Rec}
 use Rattle.pool_core.specs.Opening.{recommitted}
 use Rattle.pool_core.specs.Recorded.{fields_in}
 use Rattle.pool_core.specs.State.{LeafState, PoolState, written, is_spent, last_number}

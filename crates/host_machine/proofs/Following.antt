@@ -1,5 +1,5 @@
 -- How a pool stands in a host behind calls that put nothing on its members, and a line that makes no others.
-use Rattle.std.proofs.Common.{◌≡◌, ℕ, ◌==◌, Bool, true, false, cond, List, [], ◌∷◌, Option, Some, None, refl, sym, ap, ◌∙◌, subst, inl, inr}
+use Rattle.std.proofs.Common.{◌≡◌, ℕ, ◌==◌, Bool, true, false, cond, List, ◌∷◌, Option, Some, None, refl, sym, ap, ◌∙◌, subst, inl, inr}
 use Rattle.bank_core.specs.Disk.{Noted}
 use Rattle.label_store.specs.Newest.{AreReads}
 use Rattle.pool_history.specs.Events.{Loses, as_events}
@@ -11,7 +11,7 @@ use Rattle.pool_core.specs.Heads.{head_of}
 use Rattle.pool_core.specs.State.{LeafState, PoolState}
 use Rattle.host_machine.specs.Devices.{number_in}
 use Rattle.host_machine.specs.Machine.{HostState}
-use Rattle.host_machine.specs.Tracking.{IsOpenAs, IsElsewhere, StandsIn, Tracks, Follows}
+use Rattle.host_machine.specs.Tracking.{IsOpenAs, StandsIn, Tracks, Follows}
 use Rattle.host_machine.proofs.Away.{AreAway, away_may, reads_away}
 
 -- an open pool is so behind calls

@@ -1,35 +1,29 @@
 -- The states behind an opening and a create are fit.
-use Rattle.std.proofs.Common.{◌≡◌, ◌≢◌, ◌⊎◌, ℕ, ◌+◌, ◌-◌, ◌*◌, ◌/◌, ◌%◌, ◌^◌, ◌<◌, ◌≤◌, ◌==◌, ◌||◌, min, zero, suc, Bool, true, false, cond, List, [], ◌∷◌, ◌++◌, length, take, Option, Some, None, refl, sym, ap, ◌∙◌, subst, arith, inl, inr, ⊎_elim}
-use Rattle.std.specs.Prelude.{slice_get, slice_index, IsTrue, nat_lt}
+use Rattle.std.proofs.Common.{◌≡◌, ℕ, ◌+◌, ◌<◌, ◌≤◌, zero, suc, Bool, true, false, cond, List, [], ◌∷◌, length, Option, Some, None, refl, sym, ap, ◌∙◌, subst, arith, inl, inr}
+use Rattle.std.specs.Prelude.{slice_get, IsTrue}
 use Rattle.std.specs.Option.{option_map}
-use Rattle.std.specs.Int.{byte_at, bytes_high_first, from_be_bytes, w32, w64}
 use Rattle.std.specs.Str.{bytes_eq}
-use Rattle.std.proofs.lemmas.Bool.{cases_lt}
-use Rattle.std.proofs.lemmas.Bool.Decides.{eqb_tells}
 use Rattle.std.proofs.lemmas.Slice.Eq.{bytes_eq-Decides}
 use Rattle.std.proofs.lemmas.Option.{slice_get_past}
-use Rattle.sha2.specs.Sha256.{sha256, digest_bytes}
 use Rattle.mp_base.specs.Name.{is_name}
-use Rattle.mp_base.specs.declared.number.Group.{Group}
 use Rattle.label_store.specs.Rounds.{config_of}
 use Rattle.config_codec.specs.declared.config.Pointer.{Pointer}
 use Rattle.config_codec.specs.Fields.{Fields}
 use Rattle.config_codec.specs.Reading.{config_in}
-use Rattle.config_codec.specs.Validity.{IsPointer, IsValid}
+use Rattle.config_codec.specs.Validity.{IsValid}
 use Rattle.config_codec.proofs.Deciding.{is_config}
-use Rattle.pool_history.specs.Records.{Rec, Cell, IsIn}
-use Rattle.pool_core.specs.Making.{pool_sum, pool_number, top_sectors, made_state}
-use Rattle.pool_core.specs.Opening.{found_state, recommitted}
-use Rattle.pool_core.specs.Recorded.{pointer_of, fields_in}
-use Rattle.pool_core.specs.State.{Content, Known, Summed, Version, PoolState, is_spent}
+use Rattle.pool_history.specs.Records.{Rec, Cell}
+use Rattle.pool_core.specs.Making.{top_sectors}
+use Rattle.pool_core.specs.Opening.{recommitted}
+use Rattle.pool_core.specs.Recorded.{pointer_of}
+use Rattle.pool_core.specs.State.{Known, Summed, Version, is_spent}
 use Rattle.host_machine.specs.Fitness.{IsFitPool, IsFit}
 use Rattle.host_machine.specs.Machine.{HostState, open_seats, open_state, new_seats, new_state, is_bad_size}
 use Rattle.host_machine.specs.Records.{version_of, versions_of, slot_at, summed, committed_in, IsDrawn, AreDrawn}
-use Rattle.host_machine.proofs.NextStates.{below_spent, later_pointer, pointers_by}
 use Rattle.host_machine.proofs.HostSeats.{HasSeats, seats_found, seat_number, seat_room, member_room}
 use Rattle.host_machine.proofs.NewStates.{HasNewSeats, new_seats_found, seats_apart, some_blocks, top_room, made_valid}
 use Rattle.host_machine.proofs.Rereading.{valid_next}
-use Rattle.host_machine.proofs.Settling.{same_some, none_some, pointers_long, map_twice}
+use Rattle.host_machine.proofs.Settling.{same_some, none_some, map_twice}
 
 -- These versions are what a configuration commits.
 pub record AreCommitted (c : Fields) (committed : ℕ → Option Version) : Type 0 where

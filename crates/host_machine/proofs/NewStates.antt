@@ -1,16 +1,15 @@
 -- The state of a pool that is made: its configuration is valid.
-use Rattle.std.proofs.Common.{◌≡◌, ◌≢◌, ℕ, ◌+◌, ◌-◌, ◌*◌, ◌^◌, ◌<◌, ◌≤◌, ◌==◌, ◌||◌, ◌&&◌, zero, suc, Bool, true, false, not, cond, List, [], ◌∷◌, ◌++◌, length, take, Option, Some, None, refl, sym, ap, ◌∙◌, subst, arith}
-use Rattle.std.specs.Prelude.{IsTrue, min, nat_le, nat_lt, slice_get, slice_index, if◌then◌else◌}
+use Rattle.std.proofs.Common.{◌≡◌, ◌≢◌, ℕ, ◌+◌, ◌-◌, ◌^◌, ◌<◌, ◌≤◌, ◌==◌, ◌||◌, ◌&&◌, zero, suc, Bool, true, false, not, cond, List, [], ◌∷◌, ◌++◌, length, take, Option, Some, None, refl, sym, ap, ◌∙◌, subst, arith}
+use Rattle.std.specs.Prelude.{IsTrue, nat_le, nat_lt, slice_get, slice_index, if◌then◌else◌}
 use Rattle.std.specs.Int.{to_be_bytes, from_be_bytes, w32, w64}
 use Rattle.std.specs.Str.{bytes_eq}
-use Rattle.std.proofs.lemmas.Bool.{and_parts, leb-true, eqb-false, not-true}
+use Rattle.std.proofs.lemmas.Bool.{and_parts, leb-true, eqb-false}
 use Rattle.std.proofs.lemmas.List.{length-take-le}
 use Rattle.std.proofs.lemmas.Option.{slice_get_within}
 use Rattle.std.proofs.lemmas.Slice.Eq.{bytes_eq-Decides}
 use Rattle.sha2.specs.Sha256.{sha256, digest_bytes}
 use Rattle.sha2.proofs.Facts256.{length-sha256}
 use Rattle.mp_base.specs.Name.{is_name}
-use Rattle.mp_base.specs.declared.number.Guid.{Guid}
 use Rattle.config_codec.specs.declared.config.Pointer.{Pointer}
 use Rattle.config_codec.specs.Validity.{IsValid}
 use Rattle.pool_history.specs.Records.{Rec}
@@ -18,10 +17,9 @@ use Rattle.pool_core.specs.Making.{pool_sum, pool_number, top_sectors, made_stat
 use Rattle.pool_core.specs.Recorded.{fields_in, pointers_of}
 use Rattle.pool_core.specs.State.{Version, PoolState}
 use Rattle.host_machine.specs.declared.device.HostDevice.{HostDevice}
-use Rattle.host_machine.specs.Devices.{AreApart, member_of, number_in}
-use Rattle.host_machine.specs.Fitness.{IsFit}
-use Rattle.host_machine.specs.Machine.{HostState, is_bad_size, both, new_seats, new_state}
-use Rattle.host_machine.proofs.HostSeats.{both_are, member_number, member_room}
+use Rattle.host_machine.specs.Devices.{AreApart, member_of}
+use Rattle.host_machine.specs.Machine.{HostState, is_bad_size, both, new_seats}
+use Rattle.host_machine.proofs.HostSeats.{both_are, member_number}
 use Rattle.host_machine.proofs.Settling.{same_some, none_some, pointers_long, pointers_at}
 
 -- each of these is a byte

@@ -1,5 +1,5 @@
 -- Lines that write to no device: reads, quiet lines and accepted writes follow each pool.
-use Rattle.std.proofs.Common.{◌≡◌, ◌⊎◌, ℕ, ◌+◌, ◌<◌, ◌==◌, ◌||◌, Bool, true, false, cond, List, [], ◌∷◌, ◌++◌, Option, Some, None, Result, Ok, Err, refl, sym, ap, ◌∙◌, subst, inl, inr}
+use Rattle.std.proofs.Common.{◌≡◌, ℕ, ◌+◌, ◌==◌, ◌||◌, Bool, true, false, cond, List, [], ◌∷◌, ◌++◌, Option, Some, None, Result, Ok, Err, refl, sym, ap, ◌∙◌, subst, inl, inr}
 use Rattle.std.specs.Prelude.{if◌then◌else◌, nat_lt}
 use Rattle.std.specs.Str.{bytes_eq}
 use Rattle.mp_base.specs.declared.refusal.Refusal.{Refusal}
@@ -8,21 +8,17 @@ use Rattle.bank_core.specs.Asks.{Ask, Reads, Writes, Flushes, Admits, Ejects, as
 use Rattle.bank_core.specs.Disk.{Call, Read, Write, Flush, Admit, Eject, Noted}
 use Rattle.label_store.specs.Newest.{IsRead, AreReads}
 use Rattle.pool_wire.specs.declared.reply.Reply.{Reply}
-use Rattle.pool_history.specs.Events.{Accepts, Calls, as_events}
-use Rattle.pool_history.specs.Moves.{IsSparing, Mays}
+use Rattle.pool_history.specs.Events.{Accepts}
 use Rattle.pool_history.specs.Pools.{Pool, after, drawn}
 use Rattle.pool_history.specs.Records.{IsIn}
-use Rattle.pool_history.proofs.Folding.{calls_after, calls_are, calls_sectors}
-use Rattle.pool_core.specs.Heads.{head_of}
 use Rattle.pool_core.specs.Outside.{Trouble}
-use Rattle.pool_core.specs.Reading.{Source, Memory, Hole, Copies, source_of, source_at, block_from, asks_to, asks_from, read_asks}
+use Rattle.pool_core.specs.Reading.{Source, Memory, Hole, Copies, source_of, source_at, block_from, asks_to, asks_from}
 use Rattle.pool_core.specs.State.{LeafState, Known, PoolState, leaves, written, data_start}
-use Rattle.pool_core.specs.Writing.{put_answer}
 use Rattle.host_machine.specs.Machine.{HostState, named_pool, with_pool, refused, Quietly, write_answer, read_line_asks, read_line_answer}
 use Rattle.host_machine.specs.Tracking.{IsOpenAs, IsElsewhere, is_ours, StandsIn, Tracks, Follows}
 use Rattle.host_machine.proofs.Creating.{quiet_follows}
 use Rattle.host_machine.proofs.Following.{reads_follow}
-use Rattle.host_machine.proofs.Standings.{tracks_move, tracks_calls}
+use Rattle.host_machine.proofs.Standings.{tracks_move}
 
 -- The calls of a read line.
 

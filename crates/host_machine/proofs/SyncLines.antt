@@ -1,5 +1,5 @@
 -- A sync follows each pool.
-use Rattle.std.proofs.Common.{◌≡◌, ◌≢◌, ◌⊎◌, ℕ, ◌+◌, ◌≤◌, zero, suc, Bool, true, false, List, [], ◌∷◌, ◌++◌, Option, Some, None, refl, sym, ap, ◌∙◌, subst, inl, inr, ⊎_elim}
+use Rattle.std.proofs.Common.{◌≡◌, ◌⊎◌, ℕ, ◌+◌, ◌≤◌, zero, suc, Bool, true, false, List, [], ◌∷◌, ◌++◌, Option, Some, None, refl, sym, ap, ◌∙◌, subst, inl, inr, ⊎_elim}
 use Rattle.std.specs.List.{flat_map}
 use Rattle.std.specs.Option.{option_map}
 use Rattle.mp_base.specs.Block.{zero_block}
@@ -8,10 +8,10 @@ use Rattle.bank_core.specs.Asks.{Ask, IsPart}
 use Rattle.bank_core.specs.Disk.{Noted, run}
 use Rattle.pool_wire.specs.declared.reply.Reply.{Reply}
 use Rattle.pool_history.specs.Events.{as_events}
-use Rattle.pool_history.specs.Moves.{AreSparing, Mays}
+use Rattle.pool_history.specs.Moves.{AreSparing}
 use Rattle.pool_history.specs.Needs.{Held}
 use Rattle.pool_history.specs.Pools.{Pool}
-use Rattle.pool_history.specs.Records.{Rec, Cell, IsIn, block_of, data_start}
+use Rattle.pool_history.specs.Records.{Cell, IsIn, block_of, data_start}
 use Rattle.pool_history.specs.Survival.{Survives}
 use Rattle.pool_history.proofs.Folding.{with_calls, calls_after, calls_are, calls_never_stop}
 use Rattle.pool_core.specs.Commits.{IsCommit}
@@ -23,14 +23,14 @@ use Rattle.pool_core.specs.Syncing.{writes_to, writes_at, flush_plan, sync_plan,
 use Rattle.host_machine.specs.Fitness.{IsFitPool, PoolIsFit, IsFit}
 use Rattle.host_machine.specs.Machine.{HostState, named_pool, refused, commit_outcome, SyncsUnless, IsSync}
 use Rattle.host_machine.specs.Records.{version_of, cell_with, cell_of, is_known_version}
-use Rattle.host_machine.specs.Tracking.{IsOpenAs, IsElsewhere, is_ours, StandsIn, Tracks, Follows}
+use Rattle.host_machine.specs.Tracking.{IsOpenAs, is_ours, StandsIn, Tracks, Follows}
 use Rattle.host_machine.proofs.Away.{AreAsksAway, away_may}
 use Rattle.host_machine.proofs.CommitsAway.{commit_away, flushes_away}
 use Rattle.host_machine.proofs.Creating.{quiet_follows}
-use Rattle.host_machine.proofs.Committing.{IsReady, CommitFollows, commit_follows, outcome_table, outcome_size, outcome_records}
+use Rattle.host_machine.proofs.Committing.{IsReady, commit_follows, outcome_table, outcome_size, outcome_records}
 use Rattle.host_machine.proofs.NextStates.{fit_settled, synced_fit}
 use Rattle.host_machine.proofs.QuietLines.{ours_open, not_ours, named_is}
-use Rattle.host_machine.proofs.Settling.{AllKnown, same_some, none_some}
+use Rattle.host_machine.proofs.Settling.{same_some}
 use Rattle.host_machine.proofs.Standings.{tracks_move, in_record, tracks_closed}
 use Rattle.host_machine.proofs.SyncPlans.{free_at, sync_sparing, reads_held, sync_held}
 

@@ -1,5 +1,5 @@
 -- The plan of a sync spares what is needed, and brings each block to both leaves.
-use Rattle.std.proofs.Common.{◌≡◌, ◌≢◌, ◌⊎◌, ℕ, ◌+◌, ◌*◌, ◌/◌, ◌<◌, ◌≤◌, ◌==◌, ◌&&◌, zero, suc, Bool, true, false, cond, List, [], ◌∷◌, ◌++◌, length, map, Option, Some, None, refl, sym, ap, ◌∙◌, subst, arith, inl, inr, ⊎_elim}
+use Rattle.std.proofs.Common.{◌≡◌, ◌≢◌, ◌⊎◌, ℕ, ◌+◌, ◌<◌, ◌≤◌, ◌==◌, zero, suc, true, List, [], ◌∷◌, length, Option, Some, None, refl, sym, ap, ◌∙◌, subst, arith, inl, inr, ⊎_elim}
 use Rattle.std.specs.Prelude.{slice_get}
 use Rattle.std.specs.List.{flat_map}
 use Rattle.std.specs.Option.{option_map}
@@ -22,10 +22,10 @@ use Rattle.pool_history.proofs.Landing.{landed, writes_then_flushes, each_write_
 use Rattle.pool_history.proofs.RoundPlaces.{outside_one}
 use Rattle.pool_core.specs.Heads.{head_of}
 use Rattle.pool_core.specs.Recorded.{addresses}
-use Rattle.pool_core.specs.State.{LeafState, Version, PoolState, leaves, other_sector}
+use Rattle.pool_core.specs.State.{LeafState, PoolState, leaves, other_sector}
 use Rattle.pool_core.specs.Syncing.{writes_to, writes_at, flush_plan, sync_plan}
 use Rattle.host_machine.specs.Fitness.{IsFitPool}
-use Rattle.host_machine.specs.Records.{version_of, versions_of, cell_of}
+use Rattle.host_machine.specs.Records.{version_of, versions_of}
 use Rattle.host_machine.proofs.NextStates.{free_apart, free_differs, free_below}
 use Rattle.host_machine.proofs.Settling.{same_some, none_some, addresses_long, addresses_at}
 
