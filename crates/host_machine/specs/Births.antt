@@ -1,14 +1,13 @@
 -- Pools that a history creates, and what stands between two runs.
 use Rattle.std.specs.Prelude.{◌≡◌, ℕ, ◌==◌, ◌||◌, cond, List, [], ◌++◌, take, length, ◌≤◌}
-use Rattle.mp_base.specs.declared.number.Guid.{Guid}
 use Rattle.bank_core.specs.Disk.{Noted, Sectors, run}
 use Rattle.pool_history.specs.Events.{Event, calls_of}
 use Rattle.pool_history.specs.Moves.{Mays}
 use Rattle.pool_history.specs.Pools.{Pool, pool_after, stamped}
 use Rattle.pool_history.specs.Survival.{Survives}
 use Rattle.pool_core.specs.Heads.{head_of}
-use Rattle.pool_core.specs.State.{LeafState, PoolState}
-use Rattle.host_machine.specs.Machine.{HostState, Entry}
+use Rattle.pool_core.specs.State.{PoolState}
+use Rattle.host_machine.specs.Machine.{HostState}
 use Rattle.host_machine.specs.Tracking.{Tracks, Follows}
 
 -- the pool of this state behind the stamps of its leaves, on these sectors
