@@ -1,5 +1,5 @@
 -- A commit of a pool of the history: the calls of a plan, and the round of the state's record.
-use Rattle.std.proofs.Common.{◌≡◌, ◌≢◌, ◌⊎◌, ℕ, ◌+◌, ◌*◌, ◌/◌, ◌^◌, ◌<◌, ◌≤◌, zero, suc, Bool, true, false, cond, List, [], ◌∷◌, ◌++◌, Option, Some, None, refl, sym, ap, ◌∙◌, subst, arith, inl, inr, ⊎_elim, append-nil}
+use Rattle.std.proofs.Common.{◌≡◌, ◌≢◌, ◌⊎◌, ℕ, ◌+◌, ◌/◌, ◌^◌, ◌<◌, ◌≤◌, zero, suc, Bool, true, false, cond, List, [], ◌∷◌, ◌++◌, Option, Some, None, refl, sym, ap, ◌∙◌, subst, arith, inl, inr, ⊎_elim, append-nil}
 use Rattle.std.specs.Prelude.{slice_get}
 use Rattle.std.specs.Option.{option_map}
 use Rattle.std.proofs.Math.Path.{fun_ext}
@@ -9,7 +9,7 @@ use Rattle.bank_core.specs.Disk.{Noted, run}
 use Rattle.bank_core.proofs.Composing.{run_more}
 use Rattle.label_store.specs.declared.member.Member.{Member}
 use Rattle.label_store.specs.declared.rule.Head.{Head}
-use Rattle.label_store.specs.Rounds.{config_of, IsRound}
+use Rattle.label_store.specs.Rounds.{config_of}
 use Rattle.label_store.specs.Seats.{AreApart}
 use Rattle.config_codec.specs.Fields.{Fields}
 use Rattle.config_codec.specs.Reading.{config_in}
@@ -35,7 +35,7 @@ use Rattle.host_machine.specs.Records.{version_of, cell_with, cell_of, is_known_
 use Rattle.host_machine.specs.Tracking.{IsOpenAs, StandsIn, Tracks}
 use Rattle.host_machine.proofs.RoundRuns.{round_one_run}
 use Rattle.host_machine.proofs.Settling.{IsSettled, AllKnown, same_some, none_some, cell_pointer, known_all, known_is, config_reads, settled_record}
-use Rattle.host_machine.proofs.Standings.{closed, tracks_move, in_record, stands_calls, tracks_calls}
+use Rattle.host_machine.proofs.Standings.{closed, tracks_move, in_record}
 
 -- A commit of the state may be made by the pool, which stands in the host: the state is what the pool
 -- would answer, under the next number; the plan spares what is needed; and behind the plan each block
@@ -203,8 +203,12 @@ stands_by : (p p' behind : Pool) (h : HostState) (plan : List Ask) (t : PoolStat
     → p'.name ≡ p.name → p'.pool ≡ p.pool → p'.written ≡ p.written → failed ≡ failures results
     → RoundEnds p' behind (record_of t) (all_true results) made → StandsIn behind ready.tracks.first ready.tracks.second (commit_outcome h t failed).0.pool
 stands_by p p' behind h plan t made results zero ready name pool written is ends =
-    inl (ready.first, ready.second, opens_as p p' behind h plan t made ready name pool written
-    (subst (λ whole. RoundEnds p' behind (record_of t) whole made) (no_failures results (sym is)) ends))
+    inl (
+      ready.first,
+      ready.second,
+      opens_as p p' behind h plan t made ready name pool written
+          (subst (λ whole. RoundEnds p' behind (record_of t) whole made) (no_failures results (sym is)) ends),
+    )
 stands_by p p' behind h plan t made results (suc n) ready name pool written is ends = tt
 
 -- each outcome has the host's devices, and the record beside those that were drawn up
@@ -227,8 +231,7 @@ known_in t records r known same = subst (λ b. IsIn r (cond b (record_of t ∷ r
 own_record : (p : Pool) (h : HostState) (plan : List Ask) (t : PoolState) (r : Rec) (c : Fields) → (ready : IsReady p h plan t) → r ≡ record_of t → IsDrawn r c
     → (c.name ≡ p.name) × (c.first ≡ leaf_config ready.tracks.first) × (c.second ≡ leaf_config ready.tracks.second)
 own_record p h plan t r c ready same drawn =
-    let is : fields_in t ≡ c = same_some (fields_in t) c (sym (config_reads t ready.settled.valid) ∙ ap (λ (q : Rec). config_in (config_of q.commit)) (sym same) ∙ drawn.config) in
-    (
+    let is : fields_in t ≡ c = same_some (fields_in t) c (sym (config_reads t ready.settled.valid) ∙ ap (λ (q : Rec). config_in (config_of q.commit)) (sym same) ∙ drawn.config) in (
       sym (ap (λ (c : Fields). c.name) is) ∙ ready.name,
       sym (ap (λ (c : Fields). c.first) is) ∙ ap leaf_config ready.first,
       sym (ap (λ (c : Fields). c.second) is) ∙ ap leaf_config ready.second,
@@ -240,7 +243,7 @@ round_stands : (p : Pool) (h : HostState) (plan : List Ask) (t : PoolState) (bef
 round_stands p h plan t before results vs failed ready events is =
     tracks_move p behind (closed h) (commit_outcome h t failed).0 ready.tracks ends.name ends.member ends.guid ends.size (outcome_table h t failed) (outcome_size h t failed)
     (λ r drawn_there some. subst (IsIn r) (sym (outcome_records h t failed)) (⊎_elim
-      (λ same. known_in t h.records r (known_all t ready.known) same) (λ earlier. in_record t h.records r (ready.tracks.known r earlier some)) (ends.drawn_in r drawn_there)))
+    (λ same. known_in t h.records r (known_all t ready.known) same) (λ earlier. in_record t h.records r (ready.tracks.known r earlier some)) (ends.drawn_in r drawn_there)))
     (λ r c drawn_there drawn. ⊎_elim (λ same. own_record p h plan t r c ready same drawn) (λ earlier. ready.tracks.own r c earlier drawn) (ends.drawn_in r drawn_there))
     (stands_by p (with_calls before p) behind h plan t (calls_of vs) results failed ready refl refl refl is ends)
   where
@@ -269,9 +272,9 @@ commit_by p h plan t before round None failed part (results, is_round, is) =
       one_run = stops_never_more (as_events before) vs (calls_never_stop before) (round_one_run h.size (record_of t) (members_of t) results vs marked.2);
       sectors = ap (λ (q : Pool). q.sectors) (calls_then before vs p) ∙ ends.sectors ∙ ap (λ made. run made (run before p.sectors)) marked.1 ∙ sym (run_more before round p.sectors);
       safe = λ ready sv. (
-          round_moves p h plan t ready before results vs sv part marked.2,
-          subst (λ q. Tracks q (commit_outcome h t failed).0) (sym (calls_then before vs p)) (round_stands p h plan t before results vs failed ready marked.2 is),
-        );
+        round_moves p h plan t ready before results vs sv part marked.2,
+        subst (λ q. Tracks q (commit_outcome h t failed).0) (sym (calls_then before vs p)) (round_stands p h plan t before results vs failed ready marked.2 is),
+      );
     }
 commit_by p h plan t before round (Some fault) failed part (none, one) = record {
   vs = as_events before;
@@ -279,9 +282,9 @@ commit_by p h plan t before round (Some fault) failed part (none, one) = record 
   one_run = calls_never_stop before;
   sectors = calls_sectors before p ∙ ap (λ made. run made p.sectors) all;
   safe = λ ready sv. (
-      part_may head_of plan before (Some fault) p ready.sparing part,
-      subst (λ q. Tracks q (commit_outcome h t failed).0) (sym (calls_after before p)) (stopped_stands p h t before failed ready.tracks one),
-    );
+    part_may head_of plan before (Some fault) p ready.sparing part,
+    subst (λ q. Tracks q (commit_outcome h t failed).0) (sym (calls_after before p)) (stopped_stands p h t before failed ready.tracks one),
+  );
 }
   where
     all : before ≡ before ++ round

@@ -5,7 +5,10 @@ pub mod Creating
 pub mod EachLine
 pub mod Ending
 pub mod Finding
+pub mod FitHosts
 pub mod Following
+pub mod FoundStates
+pub mod HostSeats
 pub mod Importing
 pub mod Knowing
 pub mod Labelled
@@ -14,6 +17,7 @@ pub mod Missing
 pub mod NextStates
 pub mod Openings
 pub mod OtherDevices
+pub mod NewStates
 pub mod QuietLines
 pub mod Rereading
 pub mod Rising

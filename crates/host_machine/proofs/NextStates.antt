@@ -1,5 +1,5 @@
 -- The states behind a write, a sync and an opening: they stay fit, and their records may be drawn up.
-use Rattle.std.proofs.Common.{◌≡◌, ◌≢◌, ◌⊎◌, ℕ, ◌+◌, ◌-◌, nat_le, ◌*◌, ◌/◌, ◌^◌, ◌<◌, ◌≤◌, ◌==◌, zero, suc, Bool, true, false, cond, List, [], ◌∷◌, length, Option, Some, None, refl, sym, ap, ◌∙◌, subst, arith, inl, inr, ⊎_elim}
+use Rattle.std.proofs.Common.{◌≡◌, ◌≢◌, ◌⊎◌, ℕ, ◌+◌, ◌-◌, nat_le, ◌*◌, ◌/◌, ◌^◌, ◌<◌, ◌≤◌, ◌==◌, Bool, true, false, cond, List, length, Option, Some, None, refl, sym, ap, ◌∙◌, subst, arith, inl, inr, ⊎_elim}
 use Rattle.std.specs.Prelude.{slice_get}
 use Rattle.std.specs.Option.{option_map}
 use Rattle.std.proofs.lemmas.Bool.Decides.{eqb_tells, leb_tells}
@@ -8,12 +8,11 @@ use Rattle.sha2.proofs.Facts256.{length-sha256}
 use Rattle.mp_base.specs.declared.number.Group.{Group}
 use Rattle.config_codec.specs.declared.config.Pointer.{Pointer}
 use Rattle.config_codec.specs.Validity.{IsPointer, IsValid}
-use Rattle.pool_history.specs.Records.{Cell}
 use Rattle.pool_core.specs.Recorded.{pointer_of, pointers_of, fields_in}
-use Rattle.pool_core.specs.State.{Content, Known, Summed, Version, PoolState, other_sector, written, is_spent, last_number}
+use Rattle.pool_core.specs.State.{Known, Version, PoolState, other_sector, written, is_spent, last_number}
 use Rattle.pool_core.specs.Syncing.{next_version, synced}
 use Rattle.host_machine.specs.Fitness.{IsFitPool}
-use Rattle.host_machine.specs.Records.{version_of, cell_of, is_known_version}
+use Rattle.host_machine.specs.Records.{version_of}
 use Rattle.host_machine.proofs.Settling.{IsSettled, same_some, none_some, cell_is, pointers_long, pointers_at}
 
 pub below_spent : (n : ℕ) → is_spent n ≡ false → n < 2 ^ 62 - 64
@@ -32,7 +31,7 @@ other_half a (Some version) = by (version.sector == 2 * a)
     by false = omega arith
 
 -- a pointer stays one under a greater number
-later_pointer : (n : ℕ) (a : ℕ) (p : Pointer) → IsPointer (record { 0 = n }) a p → IsPointer (record { 0 = n + 1 }) a p
+pub later_pointer : (n : ℕ) (a : ℕ) (p : Pointer) → IsPointer (record { 0 = n }) a p → IsPointer (record { 0 = n + 1 }) a p
 later_pointer n a p is = record { birth = (is.birth.0, let most = is.birth.1 in omega arith); sector = is.sector; sum = is.sum }
 
 -- the pointers of a state, by its versions
@@ -108,7 +107,7 @@ next_pointer size s a version fit e =
     ⊎_elim
     (λ was. later_pointer s.number a (pointer_of version) (version_pointer s a version fit.valid (version_below size s a version fit was.1) was.1))
     (λ new. subst (λ v. IsPointer (record { 0 = s.number + 1 }) a (pointer_of v)) new.2
-      (record { birth = (omega arith, omega arith); sector = other_half a (s.committed a); sum = length-sha256 new.0 }))
+    (record { birth = (omega arith, omega arith); sector = other_half a (s.committed a); sum = length-sha256 new.0 }))
     (next_some (s.number + 1) a (s.committed a) (s.writes a) version e)
 
 pub synced_valid : (size : ℕ → ℕ) (s : PoolState) → IsFitPool size s → is_spent s.number ≡ false → IsValid (fields_in (synced s))

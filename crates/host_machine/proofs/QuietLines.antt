@@ -1,5 +1,5 @@
 -- Lines that write to no device: reads, quiet lines and accepted writes follow each pool.
-use Rattle.std.proofs.Common.{◌≡◌, ◌⊎◌, ℕ, ◌+◌, ◌<◌, ◌==◌, Bool, true, false, cond, List, [], ◌∷◌, ◌++◌, Option, Some, None, Result, Ok, Err, refl, sym, ap, ◌∙◌, subst, inl, inr}
+use Rattle.std.proofs.Common.{◌≡◌, ℕ, ◌+◌, ◌==◌, ◌||◌, Bool, true, false, cond, List, [], ◌∷◌, ◌++◌, Option, Some, None, Result, Ok, Err, refl, sym, ap, ◌∙◌, subst, inl, inr}
 use Rattle.std.specs.Prelude.{if◌then◌else◌, nat_lt}
 use Rattle.std.specs.Str.{bytes_eq}
 use Rattle.mp_base.specs.declared.refusal.Refusal.{Refusal}
@@ -8,52 +8,17 @@ use Rattle.bank_core.specs.Asks.{Ask, Reads, Writes, Flushes, Admits, Ejects, as
 use Rattle.bank_core.specs.Disk.{Call, Read, Write, Flush, Admit, Eject, Noted}
 use Rattle.label_store.specs.Newest.{IsRead, AreReads}
 use Rattle.pool_wire.specs.declared.reply.Reply.{Reply}
-use Rattle.pool_history.specs.Events.{Accepts, Calls, as_events}
-use Rattle.pool_history.specs.Moves.{IsSparing, Mays}
+use Rattle.pool_history.specs.Events.{Accepts}
 use Rattle.pool_history.specs.Pools.{Pool, after, drawn}
 use Rattle.pool_history.specs.Records.{IsIn}
-use Rattle.pool_history.proofs.Folding.{calls_after, calls_are, calls_sectors}
-use Rattle.pool_core.specs.Heads.{head_of}
 use Rattle.pool_core.specs.Outside.{Trouble}
-use Rattle.pool_core.specs.Reading.{Source, Memory, Hole, Copies, source_of, source_at, block_from, asks_to, asks_from, read_asks}
+use Rattle.pool_core.specs.Reading.{Source, Memory, Hole, Copies, source_of, source_at, block_from, asks_to, asks_from}
 use Rattle.pool_core.specs.State.{LeafState, Known, PoolState, leaves, written, data_start}
-use Rattle.pool_core.specs.Writing.{put_answer}
 use Rattle.host_machine.specs.Machine.{HostState, named_pool, with_pool, refused, Quietly, write_answer, read_line_asks, read_line_answer}
-use Rattle.host_machine.specs.Tracking.{IsOpenAs, IsElsewhere, StandsIn, Tracks, Follows}
-use Rattle.host_machine.proofs.Standings.{tracks_move, tracks_calls}
-
--- Reads.
-
-read_sparing : (p : Pool) (call : Call) → IsRead call → IsSparing p call
-read_sparing p (Read dev at bytes fault) is = record {
-  plain = tt;
-  off = λ d s needed needs. refl;
-  known = λ d place member inside touched. absurd (let no : false ≡ true = touched in cc);
-}
-read_sparing p (Write dev at bytes fault) is = absurd is
-read_sparing p (Flush dev fault) is = absurd is
-read_sparing p (Admit dev holds) is = absurd is
-read_sparing p (Eject dev) is = absurd is
-
-pub reads_may : (p : Pool) (made : List Noted) → AreReads made → Mays head_of p (as_events made)
-reads_may p [] are = tt
-reads_may p (noted ∷ made) are = (read_sparing p noted.call are.0, reads_may (after (Calls noted) p) made are.1)
-
-pub reads_follow : (p : Pool) (h next : HostState) (made : List Noted) → Tracks p h → next ≡ h → AreReads made → Follows p made next
-reads_follow p h next made tr same are = record {
-  vs = as_events made;
-  calls = calls_are made;
-  sectors = calls_sectors made p;
-  safe = λ twins sv good. (reads_may p made are, subst (λ q. Tracks q next) (sym (calls_after made p)) (tracks_calls made p next (subst (Tracks p) (sym same) tr)));
-}
-
--- No calls.
-
-no_reads : (made : List Noted) → made ≡ [] → AreReads made
-no_reads made none = subst AreReads (sym none) tt
-
-pub quiet_follow : (p : Pool) (h next : HostState) (made : List Noted) (said reply : Reply) → Tracks p h → Quietly made (h, said) next reply → Follows p made next
-quiet_follow p h next made said reply tr quiet = reads_follow p h next made tr (ap (λ x. x.0) quiet.1) (no_reads made quiet.0)
+use Rattle.host_machine.specs.Tracking.{IsOpenAs, IsElsewhere, is_ours, StandsIn, Tracks, Follows}
+use Rattle.host_machine.proofs.Creating.{quiet_follows}
+use Rattle.host_machine.proofs.Following.{reads_follow}
+use Rattle.host_machine.proofs.Standings.{tracks_move}
 
 -- The calls of a read line.
 
@@ -98,15 +63,14 @@ asked_reads : (made : List Noted) → AreReadAsks (asks_of made) → AreReads ma
 asked_reads [] are = tt
 asked_reads (noted ∷ made) are = (asked_read noted.call are.0, asked_reads made are.1)
 
-answer_host : (h : HostState) (pool : Option PoolState) (a : ℕ) (outside : List (Option Trouble)) (given : List ℕ) → (read_line_answer h pool a outside given).0 ≡ h
+pub answer_host : (h : HostState) (pool : Option PoolState) (a : ℕ) (outside : List (Option Trouble)) (given : List ℕ) → (read_line_answer h pool a outside given).0 ≡ h
 answer_host h None a outside given = refl
 answer_host h (Some s) a outside given = refl
 
-pub read_follows : (p : Pool) (h next : HostState) (pool : Option PoolState) (a : ℕ) (outside : List (Option Trouble)) (given : List ℕ) (made : List Noted) (reply : Reply) → Tracks p h
-    → asks_of made ≡ read_line_asks pool a outside → (next, reply) ≡ read_line_answer h pool a outside given → Follows p made next
-read_follows p h next pool a outside given made reply tr asks is =
-    reads_follow p h next made tr (ap (λ x. x.0) is ∙ answer_host h pool a outside given)
-    (asked_reads made (subst AreReadAsks (sym asks) (line_reads pool a outside)))
+pub read_follows : (p : Pool) (h next : HostState) (pool : Option PoolState) (a : ℕ) (outside : List (Option Trouble)) (given : List ℕ) (made : List Noted) (reply : Reply)
+    → asks_of made ≡ read_line_asks pool a outside → (next, reply) ≡ read_line_answer h pool a outside given → Follows p h made next
+read_follows p h next pool a outside given made reply asks is =
+    reads_follow p h made next (asked_reads made (subst AreReadAsks (sym asks) (line_reads pool a outside))) (ap (λ x. x.0) is ∙ answer_host h pool a outside given)
 
 -- A pool by its name.
 
@@ -146,39 +110,63 @@ accepts_open p s a block is = record {
   written = λ x. written_wanted (a == x) s x block (p.written x) (is.written x);
 }
 
-accept_follows : (p : Pool) (h : HostState) (s : PoolState) (a : ℕ) (block : List ℕ) (tr : Tracks p h) → StandsIn p tr.first tr.second (Some s) → Follows p [] (with_pool h (written s a block))
-accept_follows p h s a block tr (inl (one, two, is)) = record {
+-- What the machine's open pool is to the pool of the history: where one of its devices is a member it is
+-- this pool, and else it is another one.
+
+pub ours_open : (p : Pool) (first second : LeafState) (s : PoolState) → is_ours p s ≡ true → StandsIn p first second (Some s) → (s.first ≡ first) × (s.second ≡ second) × IsOpenAs p s
+ours_open p first second s ours (inl is) = is
+ours_open p first second s ours (inr is) = absurd (no (sym (ap (λ b. b || p.member s.second.dev) is.first ∙ is.second) ∙ ours))
+  where
+    no : false ≡ true → ⊥
+    no e = cc
+
+pub not_ours : (p : Pool) (s : PoolState) → is_ours p s ≡ false → IsElsewhere p s
+not_ours p s off = record { first = first_off (p.member s.first.dev) (p.member s.second.dev) off; second = second_off (p.member s.first.dev) (p.member s.second.dev) off }
+  where
+    first_off : (a b : Bool) → (a || b) ≡ false → a ≡ false
+    first_off true b e = e
+    first_off false b e = refl
+
+    second_off : (a b : Bool) → (a || b) ≡ false → b ≡ false
+    second_off true b e = absurd (let no : true ≡ false = e in cc)
+    second_off false b e = e
+
+accept_follows : (p : Pool) (h : HostState) (s : PoolState) (a : ℕ) (block : List ℕ) (ours : Bool) → is_ours p s ≡ ours → h.pool ≡ Some s → Follows p h [] (with_pool h (written s a block))
+accept_follows p h s a block true ours is = record {
   vs = Accepts a block ∷ [];
   calls = refl;
-  sectors = refl;
-  safe = λ twins sv good. ((tt, tt), tracks_with p (after (Accepts a block) p) h (written s a block) tr refl refl refl refl refl refl (inl (one, two, accepts_open p s a block is)));
+  one_run = tt;
+  safe = λ tr twins sv good.
+      let opened = ours_open p tr.first tr.second s ours (subst (StandsIn p tr.first tr.second) is tr.stands) in
+      ((tt, tt), tracks_with p (after (Accepts a block) p) h (written s a block) tr refl refl refl refl refl refl (inl (opened.0, opened.1, accepts_open p s a block opened.2)));
 }
-accept_follows p h s a block tr (inr is) = record {
+accept_follows p h s a block false off is = record {
   vs = [];
   calls = refl;
-  sectors = refl;
-  safe = λ twins sv good. (tt, tracks_with p p h (written s a block) tr refl refl refl refl refl refl (inr (record { first = is.first; second = is.second })));
+  one_run = tt;
+  safe = λ tr twins sv good.
+      let elsewhere = not_ours p s off in
+      (tt, tracks_with p p h (written s a block) tr refl refl refl refl refl refl (inr (record { first = elsewhere.first; second = elsewhere.second })));
 }
 
 same_pool : (h : HostState) (s : PoolState) → h.pool ≡ Some s → with_pool h s ≡ h
 same_pool h s is = ap (λ pool. record h { pool = pool }) (sym is)
 
 -- the answer of a write, by whether its address is within the volume
-abbrev put_if : Bool → PoolState → ℕ → List ℕ → Refusal → PoolState × Result (Unit {0}) Refusal
+abbrev pub put_if : Bool → PoolState → ℕ → List ℕ → Refusal → PoolState × Result (Unit {0}) Refusal
 put_if b s a block fault = if b then (written s a block, Ok tt) else (s, Err fault)
 
-put_follows : (p : Pool) (h : HostState) (s : PoolState) (a : ℕ) (block : List ℕ) (b : Bool) (fault : Refusal) → Tracks p h → h.pool ≡ Some s
-    → Follows p [] (with_pool h (put_if b s a block fault).0)
-put_follows p h s a block true fault tr is = accept_follows p h s a block tr (subst (StandsIn p tr.first tr.second) is tr.stands)
-put_follows p h s a block false fault tr is = reads_follow p h (with_pool h s) [] tr (same_pool h s is) tt
+put_follows : (p : Pool) (h : HostState) (s : PoolState) (a : ℕ) (block : List ℕ) (b : Bool) (fault : Refusal) → h.pool ≡ Some s → Follows p h [] (with_pool h (put_if b s a block fault).0)
+put_follows p h s a block true fault is = accept_follows p h s a block (is_ours p s) refl is
+put_follows p h s a block false fault is = reads_follow p h [] (with_pool h s) tt (same_pool h s is)
 
-write_by : (p : Pool) (h next : HostState) (pool : Option PoolState) (a : ℕ) (block : List ℕ) (made : List Noted) (reply : Reply) → Tracks p h
-    → ((s : PoolState) → pool ≡ Some s → h.pool ≡ Some s) → Quietly made (write_answer h pool a block) next reply → Follows p made next
-write_by p h next None a block made reply tr named quiet = quiet_follow p h next made (refused h refusals.NoPool).1 reply tr quiet
-write_by p h next (Some s) a block made reply tr named quiet =
-    subst (λ calls. Follows p calls next) (sym quiet.0) (subst (Follows p []) (sym (ap (λ x. x.0) quiet.1))
-    (put_follows p h s a block (nat_lt a s.blocks) (refusals.BadAddress s.blocks) tr (named s refl)))
+write_by : (p : Pool) (h next : HostState) (pool : Option PoolState) (a : ℕ) (block : List ℕ) (made : List Noted) (reply : Reply)
+    → ((s : PoolState) → pool ≡ Some s → h.pool ≡ Some s) → Quietly made (write_answer h pool a block) next reply → Follows p h made next
+write_by p h next None a block made reply named quiet = quiet_follows p h made next reply (refused h refusals.NoPool).1 quiet
+write_by p h next (Some s) a block made reply named quiet =
+    subst (λ calls. Follows p h calls next) (sym quiet.0) (subst (Follows p h []) (sym (ap (λ x. x.0) quiet.1))
+    (put_follows p h s a block (nat_lt a s.blocks) (refusals.BadAddress s.blocks) (named s refl)))
 
-pub write_follows : (p : Pool) (h next : HostState) (name : List ℕ) (a : ℕ) (block : List ℕ) (made : List Noted) (reply : Reply) → Tracks p h
-    → Quietly made (write_answer h (named_pool name h.pool) a block) next reply → Follows p made next
-write_follows p h next name a block made reply tr quiet = write_by p h next (named_pool name h.pool) a block made reply tr (λ s e. named_is name h.pool s e) quiet
+pub write_follows : (p : Pool) (h next : HostState) (name : List ℕ) (a : ℕ) (block : List ℕ) (made : List Noted) (reply : Reply)
+    → Quietly made (write_answer h (named_pool name h.pool) a block) next reply → Follows p h made next
+write_follows p h next name a block made reply quiet = write_by p h next (named_pool name h.pool) a block made reply (λ s e. named_is name h.pool s e) quiet

@@ -1,5 +1,5 @@
 -- How a pool stands in a host, when one of them changes.
-use Rattle.std.proofs.Common.{◌≡◌, ◌⊎◌, ℕ, ◌+◌, ◌≤◌, Bool, true, false, cond, List, ◌∷◌, Option, Some, None, refl, sym, ap, ◌∙◌, subst, inl, inr}
+use Rattle.std.proofs.Common.{◌≡◌, ◌≤◌, Bool, true, false, cond, List, ◌∷◌, Option, Some, None, refl, sym, ap, ◌∙◌, subst, inl, inr}
 use Rattle.bank_core.specs.Disk.{Noted}
 use Rattle.config_codec.specs.Fields.{Fields}
 use Rattle.pool_history.specs.Pools.{Pool, drawn}
@@ -10,7 +10,7 @@ use Rattle.pool_core.specs.State.{LeafState, PoolState}
 use Rattle.host_machine.specs.Devices.{number_in}
 use Rattle.host_machine.specs.Machine.{HostState}
 use Rattle.host_machine.specs.Records.{is_known, IsDrawn, record_of, with_record}
-use Rattle.host_machine.specs.Tracking.{IsOpenAs, IsElsewhere, StandsIn, Tracks}
+use Rattle.host_machine.specs.Tracking.{StandsIn, Tracks}
 
 -- the host, with no open pool
 abbrev pub closed : HostState → HostState
@@ -47,15 +47,19 @@ in_record t records r is = by (is_known t)
 -- calls change nothing of how it stands
 pub stands_calls : (made : List Noted) (p : Pool) (first second : LeafState) (pool : Option PoolState) → StandsIn p first second pool → StandsIn (with_calls made p) first second pool
 stands_calls made p first second None st = tt
-stands_calls made p first second (Some s) (inl (one, two, is)) = inl (one, two, record {
-  name = is.name;
-  pool = is.pool;
-  idle = is.idle;
-  number = is.number;
-  acked = is.acked;
-  committed = is.committed;
-  written = is.written;
-})
+stands_calls made p first second (Some s) (inl (one, two, is)) = inl (
+  one,
+  two,
+  record {
+    name = is.name;
+    pool = is.pool;
+    idle = is.idle;
+    number = is.number;
+    acked = is.acked;
+    committed = is.committed;
+    written = is.written;
+  },
+)
 stands_calls made p first second (Some s) (inr is) = inr (record { first = is.first; second = is.second })
 
 pub tracks_calls : (made : List Noted) (p : Pool) (h : HostState) → Tracks p h → Tracks (with_calls made p) h

@@ -1,5 +1,6 @@
 -- A sync follows each pool.
-use Rattle.std.proofs.Common.{◌≡◌, ◌≢◌, ◌⊎◌, ℕ, ◌+◌, ◌≤◌, zero, suc, Bool, true, false, List, [], ◌∷◌, Option, Some, None, refl, sym, ap, ◌∙◌, subst, inl, inr, ⊎_elim}
+use Rattle.std.proofs.Common.{◌≡◌, ◌⊎◌, ℕ, ◌+◌, ◌≤◌, zero, suc, Bool, true, false, List, [], ◌∷◌, ◌++◌, Option, Some, None, refl, sym, ap, ◌∙◌, subst, inl, inr, ⊎_elim}
+use Rattle.std.specs.List.{flat_map}
 use Rattle.std.specs.Option.{option_map}
 use Rattle.mp_base.specs.Block.{zero_block}
 use Rattle.mp_base.specs.declared.refusal.Refusal.TheVariants as refusals
@@ -7,26 +8,29 @@ use Rattle.bank_core.specs.Asks.{Ask, IsPart}
 use Rattle.bank_core.specs.Disk.{Noted, run}
 use Rattle.pool_wire.specs.declared.reply.Reply.{Reply}
 use Rattle.pool_history.specs.Events.{as_events}
-use Rattle.pool_history.specs.Moves.{AreSparing, Mays}
+use Rattle.pool_history.specs.Moves.{AreSparing}
 use Rattle.pool_history.specs.Needs.{Held}
 use Rattle.pool_history.specs.Pools.{Pool}
-use Rattle.pool_history.specs.Records.{Rec, Cell, IsIn, block_of, data_start}
+use Rattle.pool_history.specs.Records.{Cell, IsIn, block_of, data_start}
 use Rattle.pool_history.specs.Survival.{Survives}
-use Rattle.pool_history.proofs.Folding.{with_calls, calls_after, calls_are, calls_sectors}
+use Rattle.pool_history.proofs.Folding.{with_calls, calls_after, calls_are, calls_never_stop}
 use Rattle.pool_core.specs.Commits.{IsCommit}
 use Rattle.pool_core.specs.Heads.{head_of}
 use Rattle.pool_core.specs.Reading.{source_of, block_from}
+use Rattle.pool_core.specs.Recorded.{addresses}
 use Rattle.pool_core.specs.State.{LeafState, Content, Known, Summed, Version, PoolState, leaves, other_sector, is_spent, last_number}
-use Rattle.pool_core.specs.Syncing.{sync_plan, next_version, synced}
+use Rattle.pool_core.specs.Syncing.{writes_to, writes_at, flush_plan, sync_plan, next_version, synced}
 use Rattle.host_machine.specs.Fitness.{IsFitPool, PoolIsFit, IsFit}
 use Rattle.host_machine.specs.Machine.{HostState, named_pool, refused, commit_outcome, SyncsUnless, IsSync}
 use Rattle.host_machine.specs.Records.{version_of, cell_with, cell_of, is_known_version}
-use Rattle.host_machine.specs.Tracking.{IsOpenAs, IsElsewhere, StandsIn, Tracks, Follows}
-use Rattle.host_machine.proofs.Committing.{IsReady, CommitFollows, commit_follows, outcome_table, outcome_size, outcome_records}
+use Rattle.host_machine.specs.Tracking.{IsOpenAs, is_ours, StandsIn, Tracks, Follows}
+use Rattle.host_machine.proofs.Away.{AreAsksAway, away_may}
+use Rattle.host_machine.proofs.CommitsAway.{commit_away, flushes_away}
+use Rattle.host_machine.proofs.Creating.{quiet_follows}
+use Rattle.host_machine.proofs.Committing.{IsReady, commit_follows, outcome_table, outcome_size, outcome_records}
 use Rattle.host_machine.proofs.NextStates.{fit_settled, synced_fit}
-use Rattle.host_machine.proofs.OtherDevices.{AreAside, sync_aside, commit_aside}
-use Rattle.host_machine.proofs.QuietLines.{quiet_follow, named_is}
-use Rattle.host_machine.proofs.Settling.{AllKnown, same_some, none_some}
+use Rattle.host_machine.proofs.QuietLines.{ours_open, not_ours, named_is}
+use Rattle.host_machine.proofs.Settling.{same_some}
 use Rattle.host_machine.proofs.Standings.{tracks_move, in_record, tracks_closed}
 use Rattle.host_machine.proofs.SyncPlans.{free_at, sync_sparing, reads_held, sync_held}
 
@@ -119,17 +123,36 @@ elsewhere_stands : (p : Pool) (h : HostState) (t : PoolState) (first second : Le
 elsewhere_stands p h t first second zero one two = inr (record { first = one; second = two })
 elsewhere_stands p h t first second (suc n) one two = tt
 
+-- What a sync of it asks.
+
+asks_more : (member : ℕ → Bool) (first second : List Ask) → AreAsksAway member first → AreAsksAway member second → AreAsksAway member (first ++ second)
+asks_more member [] second a b = b
+asks_more member (ask ∷ first) second a b = (a.0, asks_more member first second a.1 b)
+
+writes_away : (member : ℕ → Bool) (s : PoolState) (at : ℕ) (block : Option (List ℕ)) → member s.first.dev ≡ false → member s.second.dev ≡ false → AreAsksAway member (writes_to (leaves s) at block)
+writes_away member s at None one two = tt
+writes_away member s at (Some block) one two = (one, (two, tt))
+
+all_away : (member : ℕ → Bool) (s : PoolState) (list : List ℕ) → member s.first.dev ≡ false → member s.second.dev ≡ false → AreAsksAway member (flat_map (writes_at s) list)
+all_away member s [] one two = tt
+all_away member s (a ∷ list) one two =
+    asks_more member (writes_at s a) (flat_map (writes_at s) list) (writes_away member s (free_at s a) (s.writes a) one two) (all_away member s list one two)
+
+sync_away : (member : ℕ → Bool) (s : PoolState) → member s.first.dev ≡ false → member s.second.dev ≡ false → AreAsksAway member (sync_plan s)
+sync_away member s one two =
+    asks_more member (flat_map (writes_at s) (addresses s.blocks)) (flush_plan s) (all_away member s (addresses s.blocks) one two) (flushes_away member s)
+
 -- A commit of a pool on other devices leaves this one as it stands.
-pub commit_elsewhere : (p : Pool) (h : HostState) (plan : List Ask) (t : PoolState) (made : List Noted) (failed : ℕ) → Tracks p h
-    → p.member t.first.dev ≡ false → p.member t.second.dev ≡ false → AreAside p.member plan → IsCommit h.size plan t made failed → Follows p made (commit_outcome h t failed).0
-commit_elsewhere p h plan t made failed tr one two aside c = record {
+pub commit_elsewhere : (p : Pool) (h : HostState) (plan : List Ask) (t : PoolState) (made : List Noted) (failed : ℕ)
+    → p.member t.first.dev ≡ false → p.member t.second.dev ≡ false → AreAsksAway p.member plan → IsCommit h.size plan t made failed → Follows p h made (commit_outcome h t failed).0
+commit_elsewhere p h plan t made failed one two away c = record {
   vs = as_events made;
   calls = calls_are made;
-  sectors = calls_sectors made p;
-  safe = λ twins sv good. (
-      commit_aside h.size p plan t made failed one two aside c,
-      subst (λ q. Tracks q (commit_outcome h t failed).0) (sym (calls_after made p))
-      (tracks_move p (with_calls made p) h (commit_outcome h t failed).0 tr refl refl refl refl (outcome_table h t failed) (outcome_size h t failed)
+  one_run = calls_never_stop made;
+  safe = λ tr twins sv good. (
+    away_may head_of made p (commit_away p.member h.size plan t made failed one two away c),
+    subst (λ q. Tracks q (commit_outcome h t failed).0) (sym (calls_after made p))
+        (tracks_move p (with_calls made p) h (commit_outcome h t failed).0 tr refl refl refl refl (outcome_table h t failed) (outcome_size h t failed)
         (λ r is some. subst (IsIn r) (sym (outcome_records h t failed)) (in_record t h.records r (tr.known r is some))) tr.own
         (elsewhere_stands (with_calls made p) h t tr.first tr.second failed one two)),
   );
@@ -137,30 +160,33 @@ commit_elsewhere p h plan t made failed tr one two aside c = record {
 
 -- The line.
 
-synced_follows : (p : Pool) (h : HostState) (s : PoolState) (made : List Noted) (failed : ℕ) (tr : Tracks p h) → IsFitPool h.size s → is_spent s.number ≡ false
-    → StandsIn p tr.first tr.second (Some s) → IsCommit h.size (sync_plan s) (synced s) made failed → Follows p made (commit_outcome h (synced s) failed).0
-synced_follows p h s made failed tr fit open_numbers (inl (one, two, is)) c =
+synced_follows : (p : Pool) (h : HostState) (s : PoolState) (made : List Noted) (failed : ℕ) (ours : Bool) → is_ours p s ≡ ours → h.pool ≡ Some s → IsFitPool h.size s → is_spent s.number ≡ false
+    → IsCommit h.size (sync_plan s) (synced s) made failed → Follows p h made (commit_outcome h (synced s) failed).0
+synced_follows p h s made failed true ours is fit open_numbers c =
     let follows = commit_follows p h (sync_plan s) (synced s) made failed c in
     record {
       vs = follows.vs;
       calls = follows.calls;
-      sectors = follows.sectors;
-      safe = λ twins sv good. follows.safe (sync_ready p h s tr one two is fit open_numbers sv) sv;
+      one_run = follows.one_run;
+      safe = λ tr twins sv good.
+          let opened = ours_open p tr.first tr.second s ours (subst (StandsIn p tr.first tr.second) is tr.stands) in
+          follows.safe (sync_ready p h s tr opened.0 opened.1 opened.2 fit open_numbers sv) sv;
     }
-synced_follows p h s made failed tr fit open_numbers (inr is) c =
-    commit_elsewhere p h (sync_plan s) (synced s) made failed tr is.first is.second (sync_aside p.member s is.first is.second) c
+synced_follows p h s made failed false off is fit open_numbers c =
+    let elsewhere = not_ours p s off in
+    commit_elsewhere p h (sync_plan s) (synced s) made failed elsewhere.first elsewhere.second (sync_away p.member s elsewhere.first elsewhere.second) c
 
-sync_by : (p : Pool) (h next : HostState) (s : PoolState) (spent : Bool) (made : List Noted) (reply : Reply) → IsFit h → Tracks p h → h.pool ≡ Some s → is_spent s.number ≡ spent
-    → SyncsUnless spent h s made next reply → Follows p made next
-sync_by p h next s true made reply fit tr is spent quiet = quiet_follow p h next made (refused h (refusals.TreeFull last_number (s.number + 1))).1 reply tr quiet
-sync_by p h next s false made reply fit tr is spent (failed, c, e) =
-    subst (Follows p made) (sym (ap (λ x. x.0) e))
-    (synced_follows p h s made failed tr (subst (PoolIsFit h.size) is fit.pool) spent (subst (StandsIn p tr.first tr.second) is tr.stands) c)
+sync_by : (p : Pool) (h next : HostState) (s : PoolState) (spent : Bool) (made : List Noted) (reply : Reply) → IsFit h → h.pool ≡ Some s → is_spent s.number ≡ spent
+    → SyncsUnless spent h s made next reply → Follows p h made next
+sync_by p h next s true made reply fit is spent quiet = quiet_follows p h made next reply (refused h (refusals.TreeFull last_number (s.number + 1))).1 quiet
+sync_by p h next s false made reply fit is spent (failed, c, e) =
+    subst (Follows p h made) (sym (ap (λ x. x.0) e))
+    (synced_follows p h s made failed (is_ours p s) refl is (subst (PoolIsFit h.size) is fit.pool) spent c)
 
-sync_named : (p : Pool) (h next : HostState) (pool : Option PoolState) (made : List Noted) (reply : Reply) → IsFit h → Tracks p h → ((s : PoolState) → pool ≡ Some s → h.pool ≡ Some s)
-    → IsSync h pool made next reply → Follows p made next
-sync_named p h next None made reply fit tr named quiet = quiet_follow p h next made (refused h refusals.NoPool).1 reply tr quiet
-sync_named p h next (Some s) made reply fit tr named syncs = sync_by p h next s (is_spent s.number) made reply fit tr (named s refl) refl syncs
+sync_named : (p : Pool) (h next : HostState) (pool : Option PoolState) (made : List Noted) (reply : Reply) → IsFit h → ((s : PoolState) → pool ≡ Some s → h.pool ≡ Some s)
+    → IsSync h pool made next reply → Follows p h made next
+sync_named p h next None made reply fit named quiet = quiet_follows p h made next reply (refused h refusals.NoPool).1 quiet
+sync_named p h next (Some s) made reply fit named syncs = sync_by p h next s (is_spent s.number) made reply fit (named s refl) refl syncs
 
-pub sync_follows : (p : Pool) (h next : HostState) (name : List ℕ) (made : List Noted) (reply : Reply) → IsFit h → Tracks p h → IsSync h (named_pool name h.pool) made next reply → Follows p made next
-sync_follows p h next name made reply fit tr syncs = sync_named p h next (named_pool name h.pool) made reply fit tr (λ s e. named_is name h.pool s e) syncs
+pub sync_follows : (p : Pool) (h next : HostState) (name : List ℕ) (made : List Noted) (reply : Reply) → IsFit h → IsSync h (named_pool name h.pool) made next reply → Follows p h made next
+sync_follows p h next name made reply fit syncs = sync_named p h next (named_pool name h.pool) made reply fit (λ s e. named_is name h.pool s e) syncs

@@ -1,5 +1,5 @@
 -- The plan of a sync spares what is needed, and brings each block to both leaves.
-use Rattle.std.proofs.Common.{◌≡◌, ◌≢◌, ◌⊎◌, ℕ, ◌+◌, ◌*◌, ◌/◌, ◌<◌, ◌≤◌, ◌==◌, ◌&&◌, zero, suc, Bool, true, false, cond, List, [], ◌∷◌, ◌++◌, length, map, Option, Some, None, refl, sym, ap, ◌∙◌, subst, arith, inl, inr, ⊎_elim}
+use Rattle.std.proofs.Common.{◌≡◌, ◌≢◌, ◌⊎◌, ℕ, ◌+◌, ◌<◌, ◌≤◌, ◌==◌, zero, suc, true, List, [], ◌∷◌, length, Option, Some, None, refl, sym, ap, ◌∙◌, subst, arith, inl, inr, ⊎_elim}
 use Rattle.std.specs.Prelude.{slice_get}
 use Rattle.std.specs.List.{flat_map}
 use Rattle.std.specs.Option.{option_map}
@@ -22,10 +22,10 @@ use Rattle.pool_history.proofs.Landing.{landed, writes_then_flushes, each_write_
 use Rattle.pool_history.proofs.RoundPlaces.{outside_one}
 use Rattle.pool_core.specs.Heads.{head_of}
 use Rattle.pool_core.specs.Recorded.{addresses}
-use Rattle.pool_core.specs.State.{LeafState, Version, PoolState, leaves, other_sector}
+use Rattle.pool_core.specs.State.{LeafState, PoolState, leaves, other_sector}
 use Rattle.pool_core.specs.Syncing.{writes_to, writes_at, flush_plan, sync_plan}
 use Rattle.host_machine.specs.Fitness.{IsFitPool}
-use Rattle.host_machine.specs.Records.{version_of, versions_of, cell_of}
+use Rattle.host_machine.specs.Records.{version_of, versions_of}
 use Rattle.host_machine.proofs.NextStates.{free_apart, free_differs, free_below}
 use Rattle.host_machine.proofs.Settling.{same_some, none_some, addresses_long, addresses_at}
 
@@ -66,7 +66,7 @@ pub sync_sparing : (size : ℕ → ℕ) (p : Pool) (s : PoolState) → IsFitPool
 sync_sparing size p s fit sv idle committed room =
     sparing_more p (flat_map (writes_at s) (addresses s.blocks)) (flush_plan s)
     (all_sparing p (writes_at s) (addresses s.blocks) (λ j a e. writes_sparing p s (free_at s a) (s.writes a) (λ leaf block is.
-      write_sparing head_of p leaf.dev (free_at s a) block sv (fit.whole a block is) (free leaf.dev a (fit.inside a block is)))))
+    write_sparing head_of p leaf.dev (free_at s a) block sv (fit.whole a block is) (free leaf.dev a (fit.inside a block is)))))
     (each_sparing p (λ (leaf : LeafState). Flushes leaf.dev) (leaves s) (λ j leaf e. flush_sparing p leaf.dev))
   where
     live_version : (r : Rec) (b : ℕ) (cell : Cell) → IsIn r p.live → r.cells b ≡ Some cell → s.committed b ≡ Some (version_of cell)
@@ -115,8 +115,8 @@ pub sync_brings : (size : ℕ → ℕ) (s : PoolState) (i a : ℕ) (leaf : LeafS
 sync_brings size s i a leaf block fit is e =
     writes_then_flushes (flat_map (writes_at s) (addresses s.blocks)) (flush_plan s) leaf.dev (free_at s a) block
     (all_write_last (writes_at s) (addresses s.blocks) a a leaf.dev (free_at s a) block (addresses_at s.blocks a (fit.inside a block is))
-      (block_last s i (free_at s a) leaf block (s.writes a) fit.apart (fit.whole a block is) is e)
-      (λ j b below f. writes_spare s (free_at s b) leaf.dev (free_at s a) (s.writes b) (λ some e. fit.whole b some e) (elsewhere j b below f)))
+    (block_last s i (free_at s a) leaf block (s.writes a) fit.apart (fit.whole a block is) is e)
+    (λ j b below f. writes_spare s (free_at s b) leaf.dev (free_at s a) (s.writes b) (λ some e. fit.whole b some e) (elsewhere j b below f)))
     (each_flushed (λ (l : LeafState). l.dev) (leaves s) i leaf e)
     (flushes_spare (λ (l : LeafState). l.dev) (leaves s) leaf.dev (free_at s a))
   where

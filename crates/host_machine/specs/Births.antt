@@ -1,6 +1,7 @@
 -- Pools that a history creates, and what stands between two runs.
 use Rattle.std.specs.Prelude.{◌≡◌, ℕ, ◌==◌, ◌||◌, cond, List, [], ◌∷◌, ◌++◌, take, length, ◌≤◌}
 use Rattle.mp_base.specs.declared.number.Guid.{Guid}
+use Rattle.std.specs.Prelude.{◌≡◌, ℕ, ◌==◌, ◌||◌, cond, List, [], ◌++◌, take, length, ◌≤◌}
 use Rattle.bank_core.specs.Disk.{Noted, Sectors, run}
 use Rattle.pool_history.specs.Events.{Event, calls_of}
 use Rattle.pool_history.specs.Moves.{Mays}
@@ -11,6 +12,9 @@ use Rattle.pool_core.specs.Heads.{head_of}
 use Rattle.pool_core.specs.State.{LeafState, PoolState}
 use Rattle.host_machine.specs.Machine.{HostState, Entry, Step, Replay}
 use Rattle.host_machine.specs.Tracking.{Tracks, Follows, HasNoTwins}
+use Rattle.pool_core.specs.State.{PoolState}
+use Rattle.host_machine.specs.Machine.{HostState}
+use Rattle.host_machine.specs.Tracking.{Tracks, Follows}
 
 -- the pool of this state behind the stamps of its leaves, on these sectors
 abbrev pub new_pool : (size : ℕ → ℕ) → PoolState → Sectors → Pool

@@ -1,5 +1,5 @@
 -- The devices of a host, by what each may serve for.
-use Rattle.std.specs.Prelude.{◌≡◌, ◌≢◌, ℕ, ◌+◌, nat_le, if◌then◌else◌, List, [], ◌∷◌, Option, Some, None}
+use Rattle.std.specs.Prelude.{◌≡◌, ℕ, ◌+◌, nat_le, if◌then◌else◌, List, [], ◌∷◌, Option, Some, None}
 use Rattle.std.specs.Str.{bytes_eq}
 use Rattle.pool_history.specs.Looks.{AreDistinct}
 use Rattle.host_machine.specs.declared.device.HostDevice.{HostDevice}

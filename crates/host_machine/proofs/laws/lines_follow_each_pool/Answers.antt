@@ -2,10 +2,4 @@ use Rattle.host_machine.proofs.EachLine.{line_follows}
 use Rattle.host_machine.proofs.laws.lines_follow_each_pool.Goals as goal
 
 pub returns : goal.returns
-returns c = record {
-  line = λ p h entry made next whole fit tr all step.
-      line_follows p h next entry made
-      (λ next second name blocks one other made reply is. ?)
-      (λ next name made reply all is. ?)
-      fit tr all step.step;
-}
+returns c = record { line = λ p h entry made next whole fit all step. line_follows p h next entry made fit all step.step }
