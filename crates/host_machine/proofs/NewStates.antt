@@ -118,7 +118,7 @@ pub seats_apart : (h : HostState) (blocks : ℕ) (first other : List ℕ) (seats
 seats_apart h blocks first other seats apart has same =
     has.differ (apart.by first other seats.0 (member_number first h.table seats.0 has.one) (member_number other h.table seats.1 has.two ∙ ap Some (sym same)))
 
-some_blocks : (blocks : ℕ) → is_bad_size blocks ≡ false → 1 ≤ blocks
+pub some_blocks : (blocks : ℕ) → is_bad_size blocks ≡ false → 1 ≤ blocks
 some_blocks blocks e = by (blocks == 0) refl e
   where
     by : (t : Bool) → (blocks == 0) ≡ t → (t || nat_lt 262144 blocks) ≡ false → 1 ≤ blocks
