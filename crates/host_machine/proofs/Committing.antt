@@ -208,11 +208,11 @@ stands_by p p' behind h plan t made results zero ready name pool written is ends
 stands_by p p' behind h plan t made results (suc n) ready name pool written is ends = tt
 
 -- each outcome has the host's devices, and the record beside those that were drawn up
-outcome_table : (h : HostState) (t : PoolState) (failed : ℕ) → (commit_outcome h t failed).0.table ≡ h.table
+pub outcome_table : (h : HostState) (t : PoolState) (failed : ℕ) → (commit_outcome h t failed).0.table ≡ h.table
 outcome_table h t zero = refl
 outcome_table h t (suc n) = refl
 
-outcome_size : (h : HostState) (t : PoolState) (failed : ℕ) → (commit_outcome h t failed).0.size ≡ h.size
+pub outcome_size : (h : HostState) (t : PoolState) (failed : ℕ) → (commit_outcome h t failed).0.size ≡ h.size
 outcome_size h t zero = refl
 outcome_size h t (suc n) = refl
 

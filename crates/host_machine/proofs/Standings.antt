@@ -63,5 +63,18 @@ tracks_calls made p h tr =
     tracks_move p (with_calls made p) h h tr refl refl refl refl refl refl tr.known tr.own (stands_calls made p tr.first tr.second h.pool tr.stands)
 
 -- nor how it stands with no open pool
-pub tracks_closed : (p : Pool) (h : HostState) → Tracks p h → Tracks p (closed h)
-tracks_closed p h tr = tracks_move p p h (closed h) tr refl refl refl refl refl refl tr.known tr.own tt
+abbrev pub tracks_closed : (p : Pool) (h : HostState) → Tracks p h → Tracks p (closed h)
+tracks_closed p h tr = record {
+  sizes = tr.sizes;
+  first = tr.first;
+  second = tr.second;
+  apart = tr.apart;
+  members = tr.members;
+  first_guid = tr.first_guid;
+  second_guid = tr.second_guid;
+  first_number = tr.first_number;
+  second_number = tr.second_number;
+  known = tr.known;
+  own = tr.own;
+  stands = tt;
+}
