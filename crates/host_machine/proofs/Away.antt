@@ -1,5 +1,5 @@
 -- Calls that put nothing on a pool's members: reads, and all calls of a pool that is on other devices.
-use Rattle.std.proofs.Common.{◌≡◌, ◌≢◌, ℕ, ◌+◌, ◌==◌, ◌&&◌, Bool, true, false, List, [], ◌∷◌, ◌++◌, map, Option, Some, None, Result, Ok, Err, refl, sym, ap, ◌∙◌, subst, inl, inr}
+use Rattle.std.proofs.Common.{◌≡◌, ◌≢◌, ℕ, ◌+◌, ◌==◌, Bool, true, false, List, [], ◌∷◌, ◌++◌, Option, Result, Ok, Err, refl, sym, ap, ◌∙◌, subst, inl, inr}
 use Rattle.std.specs.Prelude.{take}
 use Rattle.std.proofs.lemmas.Bool.{and_left, ne_eqb}
 use Rattle.mp_base.specs.declared.number.Guid.{Guid}
@@ -9,7 +9,7 @@ use Rattle.bank_core.specs.Disk.{Call, Read, Write, Flush, Admit, Eject, Noted, 
 use Rattle.bank_core.specs.Standing.{touches}
 use Rattle.label_store.specs.declared.member.Member.{Member}
 use Rattle.label_store.specs.declared.rule.Head.{Head}
-use Rattle.label_store.specs.Identities.{AreMisses, IsHit, IsSearch, rings_of}
+use Rattle.label_store.specs.Identities.{AreMisses, IsSearch, rings_of}
 use Rattle.label_store.specs.Layout.{labels_of, even_labels, odd_labels, config_offset, ring_offset, slot_of}
 use Rattle.label_store.specs.Newest.{Parts, IsRead, AreReads, IsLook}
 use Rattle.label_store.specs.Phases.{IsTurn, IsPhase}

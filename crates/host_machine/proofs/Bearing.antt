@@ -1,16 +1,15 @@
 -- A create whose devices are found begins a pool, or a stamp fails.
-use Rattle.std.proofs.Common.{◌≡◌, ◌≢◌, ◌⊎◌, ℕ, ◌+◌, ◌≤◌, zero, suc, Bool, true, false, List, [], ◌∷◌, ◌++◌, length, Option, Some, None, refl, sym, ap, ◌∙◌, subst, inl, inr, append_assoc, append-nil}
+use Rattle.std.proofs.Common.{◌≡◌, ◌⊎◌, ℕ, ◌+◌, suc, Bool, true, false, List, [], ◌∷◌, ◌++◌, length, Option, Some, None, refl, sym, ap, ◌∙◌, subst, inl, inr, append_assoc, append-nil}
 use Rattle.std.specs.Prelude.{IsTrue}
 use Rattle.mp_base.specs.Name.{is_name}
-use Rattle.bank_core.specs.declared.bank.Fault.{Fault}
-use Rattle.bank_core.specs.Asks.{Ask, IsPart}
+use Rattle.bank_core.specs.Asks.{Ask}
 use Rattle.bank_core.specs.Disk.{Sectors, Noted, run}
 use Rattle.label_store.specs.declared.member.Member.{Member}
 use Rattle.label_store.specs.Phases.{IsPhase}
-use Rattle.label_store.specs.Rounds.{IsRound, third_plan}
+use Rattle.label_store.specs.Rounds.{third_plan}
 use Rattle.pool_wire.specs.declared.reply.Reply.{Reply}
 use Rattle.pool_history.specs.Records.{Rec}
-use Rattle.pool_core.specs.Commits.{failures, IsCommit, first_failed, FirstRound, IsStampedFirst, AreMade}
+use Rattle.pool_core.specs.Commits.{failures, first_failed, FirstRound, IsStampedFirst, AreMade}
 use Rattle.pool_core.specs.Recorded.{commit_of, members_of}
 use Rattle.pool_core.specs.State.{LeafState, PoolState, leaves}
 use Rattle.host_machine.specs.Births.{new_pool, IsBorn, IsStamp, StampFails}
@@ -19,7 +18,7 @@ use Rattle.host_machine.specs.Machine.{HostState, commit_outcome, create_outcome
 use Rattle.host_machine.specs.Records.{with_record}
 use Rattle.host_machine.specs.Tracking.{Follows}
 use Rattle.host_machine.proofs.Beginning.{IsNew, made_survives, made_tracks, made_ready}
-use Rattle.host_machine.proofs.Committing.{CommitFollows, commit_follows}
+use Rattle.host_machine.proofs.Committing.{commit_follows}
 use Rattle.host_machine.proofs.HostSeats.{member_number, member_room}
 use Rattle.host_machine.proofs.NewStates.{HasNewSeats, new_seats_found, seats_apart, some_blocks, top_room, made_valid}
 use Rattle.host_machine.proofs.Standings.{closed}

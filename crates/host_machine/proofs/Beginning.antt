@@ -1,7 +1,6 @@
 -- A pool that was just made: behind the stamps of its leaves it keeps the invariant, and may commit its first record.
-use Rattle.std.proofs.Common.{◌≡◌, ◌≢◌, ◌⊎◌, ℕ, ◌+◌, ◌-◌, ◌^◌, ◌<◌, ◌≤◌, ◌==◌, ◌||◌, Bool, true, false, cond, List, [], ◌∷◌, ◌++◌, length, Option, Some, None, refl, sym, ap, ◌∙◌, subst, inl, inr, arith, ⊎_elim}
+use Rattle.std.proofs.Common.{◌≡◌, ◌≢◌, ◌⊎◌, ℕ, ◌+◌, ◌-◌, ◌^◌, ◌<◌, ◌≤◌, ◌==◌, ◌||◌, Bool, true, false, cond, List, [], ◌∷◌, ◌++◌, length, Some, None, refl, sym, ap, ◌∙◌, subst, inl, inr, arith, ⊎_elim}
 use Rattle.std.proofs.lemmas.Bool.{eqb-true, ne_eqb}
-use Rattle.bank_core.specs.declared.bank.Fault.{Fault}
 use Rattle.bank_core.specs.Asks.{IsPart}
 use Rattle.bank_core.specs.Disk.{Sectors, Noted, run, replay}
 use Rattle.bank_core.proofs.Composing.{replay_more}
@@ -12,20 +11,20 @@ use Rattle.config_codec.specs.Fields.{Fields}
 use Rattle.config_codec.specs.Spelling.{config_bytes}
 use Rattle.config_codec.specs.Validity.{IsValid}
 use Rattle.config_codec.proofs.Deciding.{is_config, some}
-use Rattle.pool_history.specs.Pools.{Pool, drawn}
-use Rattle.pool_history.specs.Records.{Rec, Cell, IsIn, nothing, number_of, block_of}
+use Rattle.pool_history.specs.Pools.{Pool}
+use Rattle.pool_history.specs.Records.{Rec, IsIn, nothing, number_of, block_of}
 use Rattle.pool_history.specs.Stamps.{IsBlank, AreStamped}
 use Rattle.pool_history.specs.Survival.{Survives}
 use Rattle.pool_history.proofs.DataSparing.{no_asks_spare}
 use Rattle.pool_history.proofs.LooksFound.{alike}
 use Rattle.pool_history.proofs.Stamping.{stamped_survives, stamp_blanks, stamp_elsewhere, untouched_blank}
 use Rattle.pool_core.specs.Heads.{head_of}
-use Rattle.pool_core.specs.Recorded.{leaf_config, fields_in}
+use Rattle.pool_core.specs.Recorded.{fields_in}
 use Rattle.pool_core.specs.State.{PoolState}
 use Rattle.host_machine.specs.Births.{new_pool}
 use Rattle.host_machine.specs.Devices.{number_in}
 use Rattle.host_machine.specs.Machine.{HostState}
-use Rattle.host_machine.specs.Records.{cell_of, is_known_version, IsDrawn}
+use Rattle.host_machine.specs.Records.{cell_of, is_known_version}
 use Rattle.host_machine.specs.Tracking.{Tracks}
 use Rattle.host_machine.proofs.Committing.{IsReady}
 use Rattle.host_machine.proofs.Settling.{same_some, none_some}

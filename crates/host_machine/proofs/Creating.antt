@@ -1,5 +1,5 @@
 -- A create takes its two devices from each pool.
-use Rattle.std.proofs.Common.{◌≡◌, ℕ, Bool, true, false, List, [], ◌∷◌, Option, Some, None, refl, sym, ap, ◌∙◌, subst, inl, inr}
+use Rattle.std.proofs.Common.{◌≡◌, ℕ, Bool, true, false, List, Option, Some, None, refl, sym, ap, subst}
 use Rattle.bank_core.specs.Disk.{Noted}
 use Rattle.label_store.specs.Newest.{AreReads}
 use Rattle.pool_wire.specs.declared.reply.Reply.{Reply}
@@ -8,7 +8,7 @@ use Rattle.pool_history.specs.Records.{Rec}
 use Rattle.pool_core.specs.Commits.{AreMade}
 use Rattle.pool_core.specs.State.{LeafState, PoolState}
 use Rattle.host_machine.specs.declared.device.HostDevice.{HostDevice}
-use Rattle.host_machine.specs.Machine.{HostState, Quietly, is_bad_size, new_seats, new_state, create_outcome, CreatesOn, CreatesUnless, IsCreate, refused}
+use Rattle.host_machine.specs.Machine.{HostState, Quietly, is_bad_size, new_seats, new_state, create_outcome, CreatesOn, CreatesUnless, IsCreate}
 use Rattle.host_machine.specs.Tracking.{Follows}
 use Rattle.host_machine.proofs.CommitsAway.{making_away, drawn_stays}
 use Rattle.host_machine.proofs.Following.{IsOn, without, first_lost, second_lost, reads_follow, taken_follow}

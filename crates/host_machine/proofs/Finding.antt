@@ -1,6 +1,5 @@
 -- An import of a pool finds it.
-use Rattle.std.proofs.Common.{◌≡◌, ◌≢◌, ◌⊎◌, ℕ, ◌+◌, ◌≤◌, zero, suc, List, Option, Some, None, refl, sym, ap, ◌∙◌, subst, inl, inr}
-use Rattle.std.specs.Option.{option_map}
+use Rattle.std.proofs.Common.{◌≡◌, ◌⊎◌, ℕ, ◌+◌, zero, suc, List, None, refl, sym, ap, ◌∙◌, subst, inl, inr}
 use Rattle.mp_base.specs.declared.number.Group.{Group}
 use Rattle.mp_base.specs.declared.number.Guid.{Guid}
 use Rattle.mp_base.specs.declared.refusal.Refusal.{Refusal}
@@ -13,7 +12,7 @@ use Rattle.pool_history.specs.Events.{as_events}
 use Rattle.pool_history.specs.Looks.{known_by}
 use Rattle.pool_history.specs.Pools.{Pool, pool_after}
 use Rattle.pool_history.specs.Premises.{Premises}
-use Rattle.pool_history.specs.Records.{Rec, IsIn, number_of, block_of, block_at}
+use Rattle.pool_history.specs.Records.{Rec, IsIn, block_of, block_at}
 use Rattle.pool_history.specs.Survival.{Survives}
 use Rattle.pool_history.proofs.Folding.{calls_after, with_calls}
 use Rattle.pool_history.proofs.LookedParts.{answer_first}
@@ -25,13 +24,13 @@ use Rattle.pool_core.specs.State.{Known, PoolState}
 use Rattle.host_machine.specs.Devices.{all_handed}
 use Rattle.host_machine.specs.Fitness.{IsFit}
 use Rattle.host_machine.specs.Machine.{HostState, commit_outcome, open_state, IsImport}
-use Rattle.host_machine.specs.Records.{version_of, is_known_version, cell_of}
+use Rattle.host_machine.specs.Records.{is_known_version, cell_of}
 use Rattle.host_machine.specs.Tracking.{Tracks, HasNoTwins, FindsPool}
 use Rattle.host_machine.proofs.Committing.{known_wanted}
 use Rattle.host_machine.proofs.Importing.{twins_before, outcome_kept}
 use Rattle.host_machine.proofs.Knowing.{cells_back, known_back}
 use Rattle.host_machine.proofs.Looking.{IsLater, looked_live, looked_some}
-use Rattle.host_machine.proofs.Openings.{IsNewest, IsOpening, IsUnopened, opening_case}
+use Rattle.host_machine.proofs.Openings.{IsOpening, IsUnopened, opening_case}
 use Rattle.host_machine.proofs.Rereading.{IsKnownAs, known_as}
 
 refused_same : (one other : Refusal) → replies.Refused one ≡ replies.Refused other → one ≡ other

@@ -1,5 +1,5 @@
 -- How a pool stands in a host behind calls that put nothing on its members, and a line that makes no others.
-use Rattle.std.proofs.Common.{◌≡◌, ℕ, ◌==◌, Bool, true, false, cond, List, [], ◌∷◌, Option, Some, None, refl, sym, ap, ◌∙◌, subst, inl, inr}
+use Rattle.std.proofs.Common.{◌≡◌, ℕ, ◌==◌, Bool, true, false, cond, List, ◌∷◌, Option, Some, None, refl, sym, ap, ◌∙◌, subst, inl, inr}
 use Rattle.bank_core.specs.Disk.{Noted}
 use Rattle.label_store.specs.Newest.{AreReads}
 use Rattle.pool_history.specs.Events.{Loses, as_events}
@@ -11,7 +11,7 @@ use Rattle.pool_core.specs.Heads.{head_of}
 use Rattle.pool_core.specs.State.{LeafState, PoolState}
 use Rattle.host_machine.specs.Devices.{number_in}
 use Rattle.host_machine.specs.Machine.{HostState}
-use Rattle.host_machine.specs.Tracking.{IsOpenAs, IsElsewhere, StandsIn, Tracks, Follows}
+use Rattle.host_machine.specs.Tracking.{IsOpenAs, StandsIn, Tracks, Follows}
 use Rattle.host_machine.proofs.Away.{AreAway, away_may, reads_away}
 
 -- an open pool is so behind calls
@@ -55,9 +55,9 @@ reads_follow p h made next reads same = record {
   calls = calls_are made;
   one_run = calls_never_stop made;
   safe = λ t twins sv good. (
-      away_may head_of made p (reads_away p.member made reads),
-      subst (λ n. Tracks (pool_after (as_events made) p) n) (sym same) (subst (λ x. Tracks x h) (sym (calls_after made p)) (tracks_calls p h made t)),
-    );
+    away_may head_of made p (reads_away p.member made reads),
+    subst (λ n. Tracks (pool_after (as_events made) p) n) (sym same) (subst (λ x. Tracks x h) (sym (calls_after made p)) (tracks_calls p h made t)),
+  );
 }
 
 -- a pool that has lost these devices
@@ -101,20 +101,20 @@ taken_follow p h a b made next away table size kept on = record {
   calls = calls_are made;
   one_run = calls_never_stop made;
   safe = λ t twins sv good. (
-      (tt, (tt, away_may head_of made (without p a b) away)),
-      subst (λ x. Tracks x next) (sym (calls_after made (without p a b))) (record {
-        sizes = λ d. t.sizes d ∙ ap (λ f. f d) (sym size);
-        first = t.first;
-        second = t.second;
-        apart = t.apart;
-        members = λ d is. t.members d (taken_false a d p.member (taken_false b d (at_device a false p.member) is));
-        first_guid = t.first_guid;
-        second_guid = t.second_guid;
-        first_number = λ d e. t.first_number d (ap (number_in t.first.name) (sym table) ∙ e);
-        second_number = λ d e. t.second_number d (ap (number_in t.second.name) (sym table) ∙ e);
-        known = λ r i some. kept r (t.known r i some);
-        own = t.own;
-        stands = stands_without p a b made t.first t.second next.pool on;
-      }),
-    );
+    (tt, (tt, away_may head_of made (without p a b) away)),
+    subst (λ x. Tracks x next) (sym (calls_after made (without p a b))) (record {
+      sizes = λ d. t.sizes d ∙ ap (λ f. f d) (sym size);
+      first = t.first;
+      second = t.second;
+      apart = t.apart;
+      members = λ d is. t.members d (taken_false a d p.member (taken_false b d (at_device a false p.member) is));
+      first_guid = t.first_guid;
+      second_guid = t.second_guid;
+      first_number = λ d e. t.first_number d (ap (number_in t.first.name) (sym table) ∙ e);
+      second_number = λ d e. t.second_number d (ap (number_in t.second.name) (sym table) ∙ e);
+      known = λ r i some. kept r (t.known r i some);
+      own = t.own;
+      stands = stands_without p a b made t.first t.second next.pool on;
+    }),
+  );
 }

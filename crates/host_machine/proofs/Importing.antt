@@ -1,14 +1,13 @@
 -- An import follows each pool: where it opens the pool itself, by the events of an opening and a commit; where it
 -- opens another, that one takes its devices.
-use Rattle.std.proofs.Common.{◌≡◌, ◌⊎◌, ℕ, zero, suc, ◌+◌, ◌*◌, ◌≤◌, Bool, true, false, cond, List, [], ◌∷◌, ◌++◌, length, Option, Some, None, refl, sym, ap, ◌∙◌, subst, inl, inr, append-nil}
+use Rattle.std.proofs.Common.{◌≡◌, ◌⊎◌, ℕ, zero, suc, ◌+◌, ◌≤◌, Bool, true, false, List, [], ◌∷◌, ◌++◌, Some, refl, sym, ap, ◌∙◌, subst, inl, inr}
 use Rattle.std.specs.Prelude.{nat_le, ◌&&◌}
 use Rattle.std.specs.Str.{bytes_eq}
 use Rattle.std.proofs.lemmas.Bool.{and_parts, and_from, leb-true, le-leb}
 use Rattle.std.proofs.lemmas.Slice.Eq.{bytes_eq-Decides}
-use Rattle.bank_core.specs.Disk.{Noted, AllAnswer, run}
+use Rattle.bank_core.specs.Disk.{Noted, AllAnswer}
 use Rattle.label_store.specs.Newest.{Parts, AreReads, IsLook}
 use Rattle.label_store.specs.Rounds.{config_of}
-use Rattle.config_codec.specs.Fields.{Fields}
 use Rattle.config_codec.proofs.Deciding.{is_config}
 use Rattle.pool_wire.specs.declared.reply.Reply.{Reply}
 use Rattle.pool_history.specs.Events.{Event, Known, Calls, Looks, Opens, as_events, calls_of, IsOneRun}
@@ -33,9 +32,9 @@ use Rattle.host_machine.proofs.Away.{AreAway, away_more, away_may, reads_away, r
 use Rattle.host_machine.proofs.Committing.{CommitFollows, commit_follows, outcome_records}
 use Rattle.host_machine.proofs.CommitsAway.{commit_away, flushes_away, drawn_stays}
 use Rattle.host_machine.proofs.Following.{IsOn, without, first_lost, second_lost, reads_follow, taken_follow}
-use Rattle.host_machine.proofs.Looking.{IsLive, IsLater, looked_true, looked_live, away_survives, opens_survives}
+use Rattle.host_machine.proofs.Looking.{looked_true, looked_live, away_survives, opens_survives}
 use Rattle.host_machine.proofs.Openings.{IsNewest, IsOpening, IsUnopened, opening_case}
-use Rattle.host_machine.proofs.Rereading.{IsKnownAs, known_as, ready_again}
+use Rattle.host_machine.proofs.Rereading.{known_as, ready_again}
 use Rattle.host_machine.proofs.HostSeats.{seats_found}
 
 -- A search among records for one of this configuration, with a number.

@@ -1,7 +1,6 @@
 -- What the machine takes for the blocks of a record that an opening found: those of a record that the history
 -- drew up, where it drew up one of this configuration. All such have the same blocks.
-use Rattle.std.proofs.Common.{◌≡◌, ◌⊎◌, ℕ, ◌<◌, ◌≤◌, Bool, true, false, cond, List, [], ◌∷◌, Option, Some, None, refl, sym, ap, ◌∙◌, subst, inl, inr, ⊎_elim}
-use Rattle.std.specs.Prelude.{slice_get}
+use Rattle.std.proofs.Common.{◌≡◌, ◌⊎◌, ℕ, ◌<◌, ◌≤◌, Bool, true, false, cond, List, [], ◌∷◌, Option, Some, None, refl, sym, ap, ◌∙◌, inl, inr, ⊎_elim}
 use Rattle.std.specs.List.{list_all}
 use Rattle.std.specs.Option.{option_map}
 use Rattle.std.specs.Str.{bytes_eq}
@@ -9,12 +8,11 @@ use Rattle.std.proofs.lemmas.Bool.{cases_lt, and_from}
 use Rattle.std.proofs.lemmas.Slice.Eq.{bytes_eq-Decides}
 use Rattle.sha2.specs.Sha256.{sha256}
 use Rattle.label_store.specs.Rounds.{config_of}
-use Rattle.config_codec.specs.declared.config.Pointer.{Pointer}
 use Rattle.config_codec.specs.Fields.{Fields}
 use Rattle.pool_history.specs.Records.{Rec, Cell, IsIn}
 use Rattle.pool_core.specs.Recorded.{addresses, pointer_of}
 use Rattle.pool_core.specs.State.{Version, PoolState}
-use Rattle.host_machine.specs.Records.{version_of, versions_of, cell_of, is_known_version, is_known, committed_in, IsDrawn, AreDrawn}
+use Rattle.host_machine.specs.Records.{version_of, versions_of, cell_of, is_known_version, is_known, committed_in, IsDrawn}
 
 -- the test of two byte strings
 same_bytes : (xs ys : List ℕ) → bytes_eq xs ys ≡ true → xs ≡ ys

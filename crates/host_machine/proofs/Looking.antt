@@ -1,22 +1,21 @@
 -- What an opening of a pool finds, by its reads: a live record.
-use Rattle.std.proofs.Common.{◌≡◌, ◌⊎◌, ℕ, ◌+◌, ◌*◌, ◌≤◌, Bool, true, false, List, [], ◌∷◌, ◌++◌, length, Option, Some, None, refl, sym, ap, ◌∙◌, subst, inl, inr, arith}
+use Rattle.std.proofs.Common.{◌≡◌, ℕ, ◌≤◌, List, Option, Some, None, sym, subst}
 use mathlib.Core.Path.{fun_ext}
-use Rattle.bank_core.specs.Disk.{Noted, Sectors, AllAnswer, run}
+use Rattle.bank_core.specs.Disk.{Noted, AllAnswer, run}
 use Rattle.label_store.specs.declared.found.Found.{Found}
 use Rattle.label_store.specs.declared.rule.Head.{Head}
 use Rattle.label_store.specs.declared.uberblock.Uberblock.{Uberblock}
-use Rattle.label_store.specs.Newest.{Parts, AreReads, IsLook}
+use Rattle.label_store.specs.Newest.{Parts, IsLook}
 use Rattle.label_store.specs.Rounds.{config_of}
 use Rattle.pool_history.specs.Events.{Opens, as_events}
 use Rattle.pool_history.specs.Looks.{known_by}
 use Rattle.pool_history.specs.Moves.{ReadsTrue}
-use Rattle.pool_history.specs.Openings.{IsVerifiedOn, IsYield, FindsLive}
+use Rattle.pool_history.specs.Openings.{IsVerifiedOn, IsYield}
 use Rattle.pool_history.specs.Pools.{Pool, after}
 use Rattle.pool_history.specs.Premises.{Premises}
 use Rattle.pool_history.specs.Records.{Rec, IsIn, number_of}
 use Rattle.pool_history.specs.Survival.{Survives}
 use Rattle.pool_history.proofs.Folding.{calls_after, with_calls}
-use Rattle.pool_history.proofs.LookedParts.{answer_first}
 use Rattle.pool_history.proofs.LooksShow.{best_yields, best_none, looks_true}
 use Rattle.pool_history.proofs.Moving.{event_survives}
 use Rattle.pool_history.proofs.Yields.{yield_live, finds_some}

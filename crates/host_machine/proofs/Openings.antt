@@ -1,5 +1,5 @@
 -- The two kinds of openings: those that commit a record again, and those that make reads alone.
-use Rattle.std.proofs.Common.{◌≡◌, ◌⊎◌, ℕ, ◌+◌, ◌*◌, Bool, true, false, List, [], ◌∷◌, ◌++◌, length, Option, Some, None, refl, sym, ap, ◌∙◌, subst, inl, inr}
+use Rattle.std.proofs.Common.{◌≡◌, ◌⊎◌, ℕ, ◌+◌, ◌*◌, Bool, true, false, List, [], ◌++◌, length, Option, Some, None, refl, sym, ap, subst, inl, inr}
 use Rattle.mp_base.specs.declared.refusal.Refusal.{Refusal}
 use Rattle.mp_base.specs.declared.refusal.Refusal.TheVariants as refusals
 use Rattle.bank_core.specs.Disk.{Noted}
@@ -15,7 +15,7 @@ use Rattle.pool_core.specs.Opening.{IsIdentified, recommitted}
 use Rattle.pool_core.specs.State.{is_spent}
 use Rattle.pool_core.specs.Syncing.{flush_plan}
 use Rattle.host_machine.specs.Devices.{all_handed}
-use Rattle.host_machine.specs.Machine.{HostState, Quietly, refused, commit_outcome, open_seats, open_state, OpensIf, OpensOn, OpensUnless, OpensBest}
+use Rattle.host_machine.specs.Machine.{HostState, refused, commit_outcome, open_seats, open_state, OpensOn, OpensUnless, OpensBest}
 use Rattle.host_machine.proofs.Away.{reads_more, identified_reads}
 
 -- the newest record of the name, by what was read of the labels

@@ -1,11 +1,11 @@
 -- A live record that an opening found may be committed again, under the next number.
-use Rattle.std.proofs.Common.{◌≡◌, ◌≢◌, ◌⊎◌, ℕ, ◌+◌, ◌-◌, ◌^◌, ◌<◌, ◌≤◌, Bool, true, false, List, [], ◌∷◌, ◌++◌, length, Option, Some, None, refl, sym, ap, ◌∙◌, subst, inl, inr, arith}
+use Rattle.std.proofs.Common.{◌≡◌, ℕ, ◌+◌, ◌-◌, ◌^◌, ◌<◌, ◌≤◌, false, List, [], ◌∷◌, length, Option, Some, None, refl, sym, ap, ◌∙◌, subst, inr, arith}
 use Rattle.std.specs.Prelude.{slice_get}
 use Rattle.std.specs.Option.{option_map}
 use Rattle.std.proofs.lemmas.Bool.{leb-false}
 use Rattle.std.proofs.lemmas.Option.{slice_get_within}
-use Rattle.bank_core.specs.Asks.{Flushes, IsPart}
-use Rattle.bank_core.specs.Disk.{Noted, run}
+use Rattle.bank_core.specs.Asks.{Flushes}
+use Rattle.bank_core.specs.Disk.{Noted}
 use Rattle.label_store.specs.Rounds.{config_of}
 use Rattle.config_codec.specs.declared.config.Pointer.{Pointer}
 use Rattle.config_codec.specs.declared.config.LeafConfig.{LeafConfig}
@@ -14,10 +14,8 @@ use Rattle.config_codec.specs.Reading.{config_in}
 use Rattle.config_codec.specs.Validity.{IsPointer, IsValid}
 use Rattle.config_codec.proofs.Deciding.{is_config}
 use Rattle.pool_history.specs.Events.{Opens}
-use Rattle.pool_history.specs.Moves.{AreSparing}
-use Rattle.pool_history.specs.Needs.{Held}
 use Rattle.pool_history.specs.Pools.{Pool, drawn, after}
-use Rattle.pool_history.specs.Records.{Rec, Cell, IsIn, number_of, block_of, data_start}
+use Rattle.pool_history.specs.Records.{Rec, IsIn, block_of, data_start}
 use Rattle.pool_history.specs.Survival.{Survives}
 use Rattle.pool_history.proofs.DataSparing.{flush_sparing, sparing_more}
 use Rattle.pool_history.proofs.Folding.{with_calls}
@@ -29,15 +27,15 @@ use Rattle.pool_core.specs.State.{LeafState, Version, PoolState, is_spent, last_
 use Rattle.pool_core.specs.Syncing.{flush_plan}
 use Rattle.host_machine.specs.Devices.{number_in}
 use Rattle.host_machine.specs.Fitness.{IsFit}
-use Rattle.host_machine.specs.Machine.{HostState, open_seats, open_state}
+use Rattle.host_machine.specs.Machine.{HostState, open_state}
 use Rattle.host_machine.specs.Records.{version_of, versions_of, cell_of, is_known_version, committed_in, IsDrawn, AreDrawn}
 use Rattle.host_machine.specs.Tracking.{Tracks, HasNoTwins}
-use Rattle.host_machine.proofs.Away.{AreAway, part_away}
+use Rattle.host_machine.proofs.Away.{part_away}
 use Rattle.host_machine.proofs.Committing.{IsReady}
 use Rattle.host_machine.proofs.CommitsAway.{flushes_away}
-use Rattle.host_machine.proofs.Knowing.{IsTaken, taken_of, cells_same, cells_back, known_back}
-use Rattle.host_machine.proofs.Looking.{IsLive, away_survives}
-use Rattle.host_machine.proofs.HostSeats.{HasSeats, seats_found, seat_number, seat_room}
+use Rattle.host_machine.proofs.Knowing.{taken_of, cells_same, cells_back, known_back}
+use Rattle.host_machine.proofs.Looking.{away_survives}
+use Rattle.host_machine.proofs.HostSeats.{HasSeats, seat_number, seat_room}
 use Rattle.host_machine.proofs.Settling.{IsSettled, pointers_long, pointers_at, map_twice}
 
 same_some : {A : Type 0} (x y : A) → Some x ≡ Some y → x ≡ y

@@ -6,4 +6,6 @@ mod device;
 mod laws;
 
 pub use device::HostDevice;
-pub use laws::{creates_begin_a_pool, hosts_stay_fit, imports_find_the_pool, lines_follow_each_pool};
+pub use laws::{
+    creates_begin_a_pool, hosts_stay_fit, imports_find_the_pool, lines_follow_each_pool,
+};
