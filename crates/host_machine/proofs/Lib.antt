@@ -1,5 +1,7 @@
 pub mod Away
 pub mod CommitsAway
+pub mod Bearing
+pub mod Beginning
 pub mod Committing
 pub mod Creating
 pub mod EachLine

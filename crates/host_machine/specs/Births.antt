@@ -2,7 +2,11 @@
 use Rattle.std.specs.Prelude.{◌≡◌, ℕ, ◌==◌, ◌||◌, cond, List, [], ◌∷◌, ◌++◌, take, length, ◌≤◌}
 use Rattle.mp_base.specs.declared.number.Guid.{Guid}
 use Rattle.std.specs.Prelude.{◌≡◌, ℕ, ◌==◌, ◌||◌, cond, List, [], ◌++◌, take, length, ◌≤◌}
+use Rattle.std.specs.Prelude.{◌≡◌, ◌⊎◌, ℕ, ◌==◌, ◌||◌, cond, List, [], ◌++◌, take, length, ◌≤◌, Option, Some, None}
+use Rattle.bank_core.specs.declared.bank.Fault.{Fault}
+use Rattle.bank_core.specs.Asks.{IsPart}
 use Rattle.bank_core.specs.Disk.{Noted, Sectors, run}
+use Rattle.label_store.specs.Plans.{stamp_plan}
 use Rattle.pool_history.specs.Events.{Event, calls_of}
 use Rattle.pool_history.specs.Moves.{Mays}
 use Rattle.pool_history.specs.Pools.{Pool, pool_after, stamped}
@@ -30,6 +34,18 @@ pub record IsBorn (size : ℕ → ℕ) (s : PoolState) (sectors : Sectors) (made
   pub between : HostState
   pub tracks : Tracks (new_pool size s (run stamps sectors)) between
   pub follows : Follows (new_pool size s (run stamps sectors)) between rest next
+
+-- the stamp of a leaf, up to the first call that failed
+abbrev pub IsStamp : (size : ℕ → ℕ) → PoolState → LeafState → List Noted → Option Fault → Type 0
+IsStamp size s leaf made outcome = IsPart (stamp_plan leaf.dev (size leaf.dev) s.pool leaf.member) made outcome
+
+-- A stamp failed, of the first leaf, or behind a whole one of the second, and no call came behind it: no pool began.
+pub record StampFails (size : ℕ → ℕ) (s : PoolState) (made : List Noted) : Type 0 where
+  pub one : List Noted
+  pub other : List Noted
+  pub all : made ≡ one ++ other
+  pub fault : Fault
+  pub fails : (IsStamp size s s.first one (Some fault) × (other ≡ [])) ⊎ (IsStamp size s s.first one None × IsStamp size s s.second other (Some fault))
 
 -- What may stand on the devices, by what a pool's history was: it began as a pool that survives, each of
 -- its events was allowed, and these are the sectors behind them.
