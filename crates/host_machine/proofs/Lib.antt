@@ -1,7 +1,7 @@
 pub mod Away
-pub mod CommitsAway
 pub mod Bearing
 pub mod Beginning
+pub mod CommitsAway
 pub mod Committing
 pub mod Creating
 pub mod EachLine
@@ -16,10 +16,10 @@ pub mod Knowing
 pub mod Labelled
 pub mod Looking
 pub mod Missing
+pub mod NewStates
 pub mod NextStates
 pub mod Openings
 pub mod OtherDevices
-pub mod NewStates
 pub mod QuietLines
 pub mod Rereading
 pub mod Rising
