@@ -19,13 +19,11 @@ pub mod Missing
 pub mod NewStates
 pub mod NextStates
 pub mod Openings
-pub mod OtherDevices
 pub mod QuietLines
 pub mod Rereading
 pub mod Rising
 pub mod RoundRuns
 pub mod Running
-pub mod Seating
 pub mod Settling
 pub mod Standings
 pub mod SyncLines

@@ -1,5 +1,6 @@
 -- What holds of each host that a run reaches.
-use Rattle.std.specs.Prelude.{◌≡◌, ◌≢◌, ℕ, ◌+◌, ◌<◌, ◌≤◌, List, [], ◌∷◌, length, Option, Some, None}
+use Rattle.std.specs.Prelude.{◌≡◌, ◌≢◌, ℕ, ◌+◌, ◌<◌, ◌≤◌, IsTrue, List, [], ◌∷◌, length, Option, Some, None}
+use Rattle.mp_base.specs.Name.{is_name}
 use Rattle.config_codec.specs.Validity.{IsValid}
 use Rattle.pool_wire.specs.declared.request.Request.{Request}
 use Rattle.pool_wire.specs.declared.request.Request.TheVariants as requests
@@ -37,11 +38,11 @@ pub record IsFit (h : HostState) : Type 0 where
   pub drawn : AreDrawn h.records
   pub pool : PoolIsFit h.size h.pool
 
--- a write is of a whole block
+-- a write is of a whole block, and what a create names is spelled as a name
 abbrev pub IsWhole : Option Request → Type 0
 IsWhole None = Unit {0}
 IsWhole (Some requests.Nothing) = Unit {0}
-IsWhole (Some (requests.Create pool blocks first second)) = Unit {0}
+IsWhole (Some (requests.Create pool blocks first second)) = IsTrue (is_name pool) × IsTrue (is_name first) × IsTrue (is_name second)
 IsWhole (Some (requests.Import pool)) = Unit {0}
 IsWhole (Some (requests.Write pool a block)) = length block ≡ 4096
 IsWhole (Some (requests.Read pool a)) = Unit {0}

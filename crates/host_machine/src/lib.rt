@@ -9,8 +9,7 @@ mod runs;
 
 pub use answers::good_member_answers;
 pub use device::HostDevice;
-pub use laws::{hosts_stay_fit, imports_find_the_pool, lines_follow_each_pool};
-pub use runs::{runs_keep_each_pool, stops_keep_each_pool};
 pub use laws::{
     creates_begin_a_pool, hosts_stay_fit, imports_find_the_pool, lines_follow_each_pool,
 };
+pub use runs::{runs_keep_each_pool, stops_keep_each_pool};
