@@ -1,5 +1,5 @@
 -- A create whose devices are found begins a pool, or a stamp fails.
-use Rattle.std.proofs.Common.{◌≡◌, ◌⊎◌, ℕ, ◌+◌, suc, Bool, true, false, List, [], ◌∷◌, ◌++◌, length, Option, Some, None, refl, sym, ap, ◌∙◌, subst, inl, inr, append_assoc, append-nil}
+use Rattle.std.proofs.Common.{◌≡◌, ◌⊎◌, ℕ, suc, Bool, true, false, List, [], ◌∷◌, ◌++◌, length, Option, Some, None, refl, sym, ap, ◌∙◌, subst, inl, inr, append_assoc, append-nil}
 use Rattle.std.specs.Prelude.{IsTrue}
 use Rattle.mp_base.specs.Name.{is_name}
 use Rattle.bank_core.specs.Asks.{Ask}
@@ -53,16 +53,17 @@ same_closed h e = ap (λ p. record { table = h.table; size = h.size; records = h
 module _ (h : HostState) (s : PoolState) (new : IsNew h s) (no_pool : h.pool ≡ None) (sectors : Sectors) where
   -- the first record's round
   round_follows : (stamps rest : List Noted) (failed : Option LeafState) → FirstRound h.size s rest failed
-      → Follows (new_pool h.size s (run stamps sectors)) (closed h) rest (create_outcome h s failed).0
+      → Follows (new_pool h.size s (run stamps sectors)) (closed h) (λ d. ⊥) rest (create_outcome h s failed).0
   round_follows stamps rest failed (results, is_round, is) =
       let commits = commit_follows (new_pool h.size s (run stamps sectors)) h [] s rest (failures results)
       (record { before = []; round = rest; all = refl; outcome = None; part = refl; behind = (results, is_round, refl) }) in
       let long : length results ≡ 2 = phase_long (third_plan h.size (commit_of s)) (members_of s) is_round.in_second results is_round.third is_round.copies in
-      subst (Follows (new_pool h.size s (run stamps sectors)) (closed h) rest)
+      subst (Follows (new_pool h.size s (run stamps sectors)) (closed h) (λ d. ⊥) rest)
       (sym (ap (λ f. (create_outcome h s f).0) is ∙ same_outcome h s results no_pool long)) (record {
         vs = commits.vs;
         calls = commits.calls;
         one_run = commits.one_run;
+        keeps = λ d is. inl (ap (λ f. f d) commits.member ∙ is);
         safe = λ tracks twins sv good. commits.safe (made_ready h s new (run stamps sectors)) sv;
       })
 

@@ -63,6 +63,7 @@ pub record CommitFollows (p : Pool) (h : HostState) (plan : List Ask) (t : PoolS
   pub vs : List Event
   pub calls : calls_of vs ≡ made
   pub one_run : IsOneRun vs
+  pub member : (pool_after vs p).member ≡ p.member
   pub sectors : (pool_after vs p).sectors ≡ run made p.sectors
   pub safe : IsReady p h plan t → Survives head_of p → Mays head_of p vs × Tracks (pool_after vs p) next
 
@@ -270,6 +271,7 @@ commit_by p h plan t before round None failed part (results, is_round, is) =
       vs = as_events before ++ vs;
       calls = calls_more (as_events before) vs ∙ ap (λ made. made ++ calls_of vs) (calls_are before) ∙ ap (λ made. before ++ made) marked.1;
       one_run = stops_never_more (as_events before) vs (calls_never_stop before) (round_one_run h.size (record_of t) (members_of t) results vs marked.2);
+      member = ap (λ (q : Pool). q.member) (calls_then before vs p) ∙ ends.member;
       sectors = ap (λ (q : Pool). q.sectors) (calls_then before vs p) ∙ ends.sectors ∙ ap (λ made. run made (run before p.sectors)) marked.1 ∙ sym (run_more before round p.sectors);
       safe = λ ready sv. (
         round_moves p h plan t ready before results vs sv part marked.2,
@@ -280,6 +282,7 @@ commit_by p h plan t before round (Some fault) failed part (none, one) = record 
   vs = as_events before;
   calls = calls_are before ∙ all;
   one_run = calls_never_stop before;
+  member = ap (λ (q : Pool). q.member) (calls_after before p);
   sectors = calls_sectors before p ∙ ap (λ made. run made p.sectors) all;
   safe = λ ready sv. (
     part_may head_of plan before (Some fault) p ready.sparing part,

@@ -1,26 +1,24 @@
 -- How a sync, a create and an opening end, by the counts of failed calls.
-use Rattle.std.proofs.Common.{◌≡◌, ◌⊎◌, ℕ, zero, suc, ◌+◌, ◌<◌, ◌≤◌, Bool, true, false, List, [], ◌∷◌, ◌++◌, Option, Some, None, refl, sym, ap, ◌∙◌, subst, arith, inl, inr}
+use Rattle.std.proofs.Common.{◌≡◌, ◌⊎◌, ℕ, zero, suc, ◌+◌, ◌<◌, ◌≤◌, Bool, true, false, List, [], ◌++◌, Option, Some, None, refl, ap, ◌∙◌, subst, arith, inl, inr}
 use Rattle.mp_base.specs.Outside.{Rose}
 use Rattle.mp_base.specs.declared.number.Group.{Group}
 use Rattle.mp_base.specs.declared.number.Guid.{Guid}
-use Rattle.mp_base.specs.declared.refusal.Refusal.{Refusal}
 use Rattle.mp_base.specs.declared.refusal.Refusal.TheVariants as refusals
 use Rattle.bank_core.specs.Calls.{AllCaused}
 use Rattle.bank_core.specs.Disk.{Noted}
 use Rattle.label_store.specs.declared.found.Found.{Found}
-use Rattle.label_store.proofs.Causing.{caused_counts, caused_split}
+use Rattle.bank_core.proofs.Composing.{caused_counts, caused_split}
 use Rattle.config_codec.specs.Fields.{Fields}
 use Rattle.pool_wire.specs.declared.reply.Reply.{Reply}
 use Rattle.pool_wire.specs.declared.reply.Reply.TheVariants as replies
-use Rattle.pool_wire.specs.declared.request.Request.{Request}
 use Rattle.pool_wire.specs.declared.request.Request.TheVariants as requests
-use Rattle.pool_core.specs.Commits.{IsCommit, AreMade}
+use Rattle.pool_core.specs.Commits.{IsCommit}
 use Rattle.pool_core.specs.Opening.{recommitted}
 use Rattle.pool_core.specs.State.{LeafState, PoolState, is_spent, last_number}
 use Rattle.pool_core.specs.Syncing.{flush_plan, sync_plan, synced}
 use Rattle.host_machine.specs.Answering.{HasClash, IsExcused, SomeRose, LeafRose, NoneMoved, NoneRose, IsSuspended, IsBlamed, SuspendsByCounts, CommitsByCounts, CreatesByCounts}
 use Rattle.host_machine.specs.Machine.{HostState, Entry, Step, IsAnswered, WantsMemory, Clashes, IsSync, SyncsUnless, commit_outcome, named_pool, CreatesUnless, CreatesOn, create_outcome, new_state, new_seats, is_bad_size, IsImport, OpensBest, OpensUnless, OpensOn, OpensIf, open_seats, open_state}
-use Rattle.host_machine.proofs.Rising.{AllFine, fine_still, commit_rose, commit_fine, flush_on, sync_on, MadeEnds, made_ends}
+use Rattle.host_machine.proofs.Rising.{fine_still, commit_rose, commit_fine, flush_on, sync_on, MadeEnds, made_ends}
 
 still_less : (a b : ℕ) → b ≡ a → a < b → ⊥
 still_less a b e l = omega arith

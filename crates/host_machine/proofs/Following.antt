@@ -1,5 +1,6 @@
 -- How a pool stands in a host behind calls that put nothing on its members, and a line that makes no others.
-use Rattle.std.proofs.Common.{◌≡◌, ℕ, ◌==◌, Bool, true, false, cond, List, ◌∷◌, Option, Some, None, refl, sym, ap, ◌∙◌, subst, inl, inr}
+use Rattle.std.proofs.Common.{◌≡◌, ◌⊎◌, ⊎_elim, ℕ, ◌==◌, Bool, true, false, cond, List, ◌∷◌, Option, Some, None, refl, sym, ap, ◌∙◌, subst, inl, inr}
+use Rattle.std.proofs.lemmas.Bool.{eqb-true}
 use Rattle.bank_core.specs.Disk.{Noted}
 use Rattle.label_store.specs.Newest.{AreReads}
 use Rattle.pool_history.specs.Events.{Loses, as_events}
@@ -49,11 +50,12 @@ tracks_calls p h made t = record {
 }
 
 -- A line that makes reads alone and leaves the host as it was.
-pub reads_follow : (p : Pool) (h : HostState) (made : List Noted) (next : HostState) → AreReads made → next ≡ h → Follows p h made next
-reads_follow p h made next reads same = record {
+pub reads_follow : (T : ℕ → Type 0) (p : Pool) (h : HostState) (made : List Noted) (next : HostState) → AreReads made → next ≡ h → Follows p h T made next
+reads_follow T p h made next reads same = record {
   vs = as_events made;
   calls = calls_are made;
   one_run = calls_never_stop made;
+  keeps = λ d is. inl (ap (λ (q : Pool). q.member d) (calls_after made p) ∙ is);
   safe = λ t twins sv good. (
     away_may head_of made p (reads_away p.member made reads),
     subst (λ n. Tracks (pool_after (as_events made) p) n) (sym same) (subst (λ x. Tracks x h) (sym (calls_after made p)) (tracks_calls p h made t)),
@@ -93,13 +95,24 @@ stands_without p a b made first second (Some s) on = inr (record {
   second = ap (without p a b).member on.1 ∙ second_lost p a b;
 })
 
+-- Each other device stays a member.
+lost_or : (T : ℕ → Type 0) (a b d : ℕ) (f : ℕ → Bool) → ((e : ℕ) → (e ≡ a) ⊎ (e ≡ b) → T e) → f d ≡ true → (at_device b false (at_device a false f) d ≡ true) ⊎ T d
+lost_or T a b d f takes is = by_tests (a == d) (b == d) refl refl
+  where
+    by_tests : (t u : Bool) → (a == d) ≡ t → (b == d) ≡ u → (cond u false (cond t false (f d)) ≡ true) ⊎ T d
+    by_tests true u one two = inr (takes d (inl (sym (eqb-true a d one))))
+    by_tests false true one two = inr (takes d (inr (sym (eqb-true b d two))))
+    by_tests false false one two = inl is
+
 -- A line that takes two devices for another pool, and puts something on no others.
-pub taken_follow : (p : Pool) (h : HostState) (a b : ℕ) (made : List Noted) (next : HostState) → AreAway (without p a b).member made
-    → next.table ≡ h.table → next.size ≡ h.size → ((r : Rec) → IsIn r h.records → IsIn r next.records) → IsOn a b next.pool → Follows p h made next
-taken_follow p h a b made next away table size kept on = record {
+pub taken_follow : (T : ℕ → Type 0) (p : Pool) (h : HostState) (a b : ℕ) (made : List Noted) (next : HostState) → ((d : ℕ) → (d ≡ a) ⊎ (d ≡ b) → T d) → AreAway (without p a b).member made
+    → next.table ≡ h.table → next.size ≡ h.size → ((r : Rec) → IsIn r h.records → IsIn r next.records) → IsOn a b next.pool → Follows p h T made next
+taken_follow T p h a b made next takes away table size kept on = record {
   vs = Loses a ∷ Loses b ∷ as_events made;
   calls = calls_are made;
   one_run = calls_never_stop made;
+  keeps = λ d is. ⊎_elim {A = at_device b false (at_device a false p.member) d ≡ true} {B = T d}
+      (λ still. inl (ap (λ (q : Pool). q.member d) (calls_after made (without p a b)) ∙ still)) (λ taken. inr taken) (lost_or T a b d p.member takes is);
   safe = λ t twins sv good. (
     (tt, (tt, away_may head_of made (without p a b) away)),
     subst (λ x. Tracks x next) (sym (calls_after made (without p a b))) (record {

@@ -1,6 +1,6 @@
 -- An import follows each pool: where it opens the pool itself, by the events of an opening and a commit; where it
 -- opens another, that one takes its devices.
-use Rattle.std.proofs.Common.{◌≡◌, ◌⊎◌, ℕ, zero, suc, ◌+◌, ◌≤◌, Bool, true, false, List, [], ◌∷◌, ◌++◌, Some, refl, sym, ap, ◌∙◌, subst, inl, inr}
+use Rattle.std.proofs.Common.{◌≡◌, ◌≢◌, ◌⊎◌, ⊎_elim, ℕ, zero, suc, ◌≤◌, Bool, true, false, List, [], ◌∷◌, ◌++◌, Some, refl, sym, ap, ◌∙◌, subst, inl, inr}
 use Rattle.std.specs.Prelude.{nat_le, ◌&&◌}
 use Rattle.std.specs.Str.{bytes_eq}
 use Rattle.std.proofs.lemmas.Bool.{and_parts, and_from, leb-true, le-leb}
@@ -17,7 +17,7 @@ use Rattle.pool_history.specs.Pools.{Pool, after, pool_after}
 use Rattle.pool_history.specs.Premises.{AreGood}
 use Rattle.pool_history.specs.Records.{Rec, IsIn, number_of}
 use Rattle.pool_history.specs.Survival.{Survives}
-use Rattle.pool_history.proofs.Folding.{with_calls, calls_are, calls_more, calls_then, mays_calls, stops_never_more, calls_never_stop}
+use Rattle.pool_history.proofs.Folding.{member_kept, takes_none_more, calls_take_none, with_calls, calls_are, calls_more, calls_then, mays_calls, stops_never_more, calls_never_stop}
 use Rattle.pool_history.proofs.LookedParts.{answer_first}
 use Rattle.pool_history.proofs.Moving.{in_first}
 use Rattle.pool_core.specs.Heads.{head_of}
@@ -27,7 +27,7 @@ use Rattle.pool_core.specs.Syncing.{flush_plan}
 use Rattle.host_machine.specs.Devices.{all_handed}
 use Rattle.host_machine.specs.Fitness.{IsFit}
 use Rattle.host_machine.specs.Machine.{HostState, commit_outcome, open_state, IsImport}
-use Rattle.host_machine.specs.Tracking.{Tracks, HasNoTwins, Follows}
+use Rattle.host_machine.specs.Tracking.{OpensAnother, Tracks, HasNoTwins, Follows}
 use Rattle.host_machine.proofs.Away.{AreAway, away_more, away_may, reads_away, reads_more, look_reads, identified_reads}
 use Rattle.host_machine.proofs.Committing.{CommitFollows, commit_follows, outcome_records}
 use Rattle.host_machine.proofs.CommitsAway.{commit_away, flushes_away, drawn_stays}
@@ -99,9 +99,9 @@ outcome_on : (h : HostState) (t : PoolState) (failed : ℕ) → IsOn t.first.dev
 outcome_on h t zero = (refl, refl)
 outcome_on h t (suc n) = tt
 
-module _ (p : Pool) (h : HostState) (name : List ℕ) (reads : List Noted) (looks : List Parts) (made : List Noted) (next : HostState) (reply : Reply)
+module _ (T : ℕ → Type 0) (p : Pool) (h : HostState) (name : List ℕ) (reads : List Noted) (looks : List Parts) (made : List Noted) (next : HostState) (reply : Reply)
     (fit : IsFit h) (look : IsLook h.size (all_handed h.table) looks reads) (answers : AllAnswer p.sectors reads)
-    (o : IsOpening h name looks made next reply) where
+    (o : IsOpening h name looks made next reply) (takes : (d : ℕ) → OpensAnother p.name h name (reads ++ made) d → T d) where
   -- the state that was found, and the one that is committed
   abbrev found_here : PoolState
   found_here = open_state h o.found.blob.items o.c o.seats
@@ -122,9 +122,27 @@ module _ (p : Pool) (h : HostState) (name : List ℕ) (reads : List Noted) (look
       (away_more member o.ids o.round (reads_away member o.ids ids_reads)
       (commit_away member h.size (flush_plan found_here) found_again o.round o.failed one other (flushes_away member found_here) o.commit))
 
-  other_follows : Follows p h (reads ++ (o.ids ++ o.round)) (commit_outcome h found_again o.failed).0
-  other_follows =
-      taken_follow p h o.seats.0 o.seats.1 (reads ++ (o.ids ++ o.round)) (commit_outcome h found_again o.failed).0
+  -- each of its devices is taken
+  other_takes : name ≢ p.name → (d : ℕ) → (d ≡ o.seats.0) ⊎ (d ≡ o.seats.1) → T d
+  other_takes other d which =
+      let has = seats_found h o.c o.seats o.seats_are in
+      takes d (record {
+        other = other;
+        reads = reads;
+        more = made;
+        all = refl;
+        looks = looks;
+        look = look;
+        found = o.found;
+        is_best = o.newest;
+        c = o.c;
+        config = o.config;
+        leaf = ⊎_elim {A = d ≡ o.seats.0} {B = d ≡ o.seats.1} (λ is. inl (has.first ∙ ap Some (sym is))) (λ is. inr (has.second ∙ ap Some (sym is))) which;
+      })
+
+  other_follows : name ≢ p.name → Follows p h T (reads ++ (o.ids ++ o.round)) (commit_outcome h found_again o.failed).0
+  other_follows other =
+      taken_follow T p h o.seats.0 o.seats.1 (reads ++ (o.ids ++ o.round)) (commit_outcome h found_again o.failed).0 (other_takes other)
       (other_away (without p o.seats.0 o.seats.1).member (first_lost p o.seats.0 o.seats.1) (second_lost p o.seats.0 o.seats.1))
       (outcome_table h found_again o.failed) (outcome_size h found_again o.failed) (outcome_kept h found_again o.failed) (outcome_on h found_again o.failed)
 
@@ -172,47 +190,51 @@ module _ (p : Pool) (h : HostState) (name : List ℕ) (reads : List Noted) (look
           subst (λ q. Tracks q (commit_outcome h found_again o.failed).0) (sym (calls_then reads (Looks here ∷ Opens r ∷ rest) p ∙ calls_then o.ids commits.vs opened)) safe.1,
         )
 
-    own_follows : Follows p h (reads ++ (o.ids ++ o.round)) (commit_outcome h found_again o.failed).0
+    own_follows : Follows p h T (reads ++ (o.ids ++ o.round)) (commit_outcome h found_again o.failed).0
     own_follows = record {
       vs = all_events;
       calls = all_calls;
       one_run = one_run;
+      keeps = λ d is. inl (ap (λ (q : Pool). q.member d) (calls_then reads (Looks here ∷ Opens r ∷ rest) p ∙ calls_then o.ids commits.vs opened) ∙ ap (λ f. f d) commits.member ∙ is);
       safe = λ tracks twins sv good. moves tracks (twins_before h.records (commit_outcome h found_again o.failed).0.records (outcome_kept h found_again o.failed) twins) sv;
     }
 
   -- None of its live records was found: that the opening is a good one says that there is one.
-  none_follows : name ≡ p.name → Missed o.found.blob.items p.live → Follows p h (reads ++ (o.ids ++ o.round)) (commit_outcome h found_again o.failed).0
+  none_follows : name ≡ p.name → Missed o.found.blob.items p.live → Follows p h T (reads ++ (o.ids ++ o.round)) (commit_outcome h found_again o.failed).0
   none_follows same missed = record {
     vs = as_events reads ++ Looks here ∷ as_events (o.ids ++ o.round);
     calls = calls_more (as_events reads) (Looks here ∷ as_events (o.ids ++ o.round)) ∙ ap (λ l. l ++ calls_of (as_events (o.ids ++ o.round))) (calls_are reads)
         ∙ ap (λ l. reads ++ l) (calls_are (o.ids ++ o.round));
     one_run = stops_never_more (as_events reads) (Looks here ∷ as_events (o.ids ++ o.round)) (calls_never_stop reads) (calls_never_stop (o.ids ++ o.round));
+    keeps = λ d is. inl (ap (λ f. f d) (member_kept (as_events reads ++ Looks here ∷ as_events (o.ids ++ o.round)) p
+        (takes_none_more (as_events reads) (Looks here ∷ as_events (o.ids ++ o.round)) (calls_take_none reads) (calls_take_none (o.ids ++ o.round)))) ∙ is);
     safe = λ tracks twins sv good.
         let later = looked_live p h reads looks fit tracks.sizes look answers o.found sv (good_behind reads (Looks here ∷ as_events (o.ids ++ o.round)) p good).0
         (subst (λ n. IsNewest h n looks (Some o.found)) same o.newest) in
         absurd (missed later.live.r later.live.is_live (record { config_is = later.live.config_is; some = later.live.some }));
   }
 
-  by_search : name ≡ p.name → Hit o.found.blob.items p.live ⊎ Missed o.found.blob.items p.live → Follows p h (reads ++ (o.ids ++ o.round)) (commit_outcome h found_again o.failed).0
+  by_search : name ≡ p.name → Hit o.found.blob.items p.live ⊎ Missed o.found.blob.items p.live → Follows p h T (reads ++ (o.ids ++ o.round)) (commit_outcome h found_again o.failed).0
   by_search same (inl hit) = own_follows hit.r hit.is_in hit.one
   by_search same (inr missed) = none_follows same missed
 
-  by_name : (t : Bool) → bytes_eq name p.name ≡ t → Follows p h (reads ++ (o.ids ++ o.round)) (commit_outcome h found_again o.failed).0
+  by_name : (t : Bool) → bytes_eq name p.name ≡ t → Follows p h T (reads ++ (o.ids ++ o.round)) (commit_outcome h found_again o.failed).0
   by_name true t = by_search ((bytes_eq-Decides name p.name).0 t) (search_live o.found.blob.items p.live)
-  by_name false t = other_follows
+  by_name false t = other_follows (λ same. absurd (let no : true ≡ false = sym ((bytes_eq-Decides name p.name).1 same) ∙ t in cc))
 
-  pub opening_follows : Follows p h (reads ++ made) next
+  pub opening_follows : Follows p h T (reads ++ made) next
   opening_follows =
-      subst (λ m. Follows p h (reads ++ m) next) (sym o.all)
-      (subst (Follows p h (reads ++ (o.ids ++ o.round))) (sym (ap (λ x. x.0) o.outcome)) (by_name (bytes_eq name p.name) refl))
+      subst (λ m. Follows p h T (reads ++ m) next) (sym o.all)
+      (subst (Follows p h T (reads ++ (o.ids ++ o.round))) (sym (ap (λ x. x.0) o.outcome)) (by_name (bytes_eq name p.name) refl))
 
 -- An import follows each pool.
-pub import_follows : (p : Pool) (h : HostState) (name : List ℕ) (made : List Noted) (next : HostState) (reply : Reply) → IsFit h → AllAnswer p.sectors made
-    → IsImport h name made next reply → Follows p h made next
-import_follows p h name made next reply fit answers i =
-    subst (λ m. Follows p h m next) (sym i.all) (by_case (opening_case h name i.looks next reply i.best i.more i.is_best i.opens))
+pub import_follows : (T : ℕ → Type 0) (p : Pool) (h : HostState) (name : List ℕ) (made : List Noted) (next : HostState) (reply : Reply) → IsFit h → AllAnswer p.sectors made
+    → ((d : ℕ) → OpensAnother p.name h name made d → T d) → IsImport h name made next reply → Follows p h T made next
+import_follows T p h name made next reply fit answers takes i =
+    subst (λ m. Follows p h T m next) (sym i.all) (by_case (opening_case h name i.looks next reply i.best i.more i.is_best i.opens))
   where
-    by_case : IsUnopened h name i.looks i.more next reply ⊎ IsOpening h name i.looks i.more next reply → Follows p h (i.reads ++ i.more) next
-    by_case (inl u) = reads_follow p h (i.reads ++ i.more) next (reads_more i.reads i.more (look_reads h.size (all_handed h.table) i.looks i.reads i.look) u.reads) u.same
+    by_case : IsUnopened h name i.looks i.more next reply ⊎ IsOpening h name i.looks i.more next reply → Follows p h T (i.reads ++ i.more) next
+    by_case (inl u) = reads_follow T p h (i.reads ++ i.more) next (reads_more i.reads i.more (look_reads h.size (all_handed h.table) i.looks i.reads i.look) u.reads) u.same
     by_case (inr o) =
-        opening_follows p h name i.reads i.looks i.more next reply fit i.look (answer_first i.reads i.more p.sectors (subst (AllAnswer p.sectors) i.all answers)) o
+        opening_follows T p h name i.reads i.looks i.more next reply fit i.look (answer_first i.reads i.more p.sectors (subst (AllAnswer p.sectors) i.all answers)) o
+        (λ d taken. takes d (subst (λ m. OpensAnother p.name h name m d) (sym i.all) taken))

@@ -5,11 +5,9 @@ use Rattle.std.proofs.lemmas.Bool.{leb-true}
 use Rattle.std.proofs.lemmas.Bool.Decides.{eqb_tells}
 use Rattle.bank_core.specs.declared.bank.Fault.{Fault}
 use Rattle.bank_core.specs.Calls.{device_of, fault_of}
-use Rattle.bank_core.specs.Disk.{Noted, Sectors, IsClean, AllAnswer, run, sectors_in, sector_of}
+use Rattle.bank_core.specs.Disk.{Noted, Sectors, AllAnswer, run, sectors_in}
 use Rattle.label_store.specs.Layout.{labels_of}
-use Rattle.label_store.specs.Newest.{Parts, IsLook, IsBest}
-use Rattle.label_store.specs.Records.{config_at, place_at}
-use Rattle.label_store.specs.Uberblock.{uberblock_bytes}
+use Rattle.label_store.specs.Newest.{IsLook, IsBest}
 use Rattle.label_store.specs.declared.uberblock.Uberblock.{Uberblock}
 use Rattle.pool_wire.specs.declared.reply.Reply.TheVariants as replies
 use Rattle.pool_wire.specs.declared.request.Request.TheVariants as requests

@@ -3,37 +3,34 @@ use Rattle.std.proofs.Common.{◌≡◌, ℕ, ◌+◌, ◌<◌, Bool, true, fals
 use Rattle.std.specs.Prelude.{nat_lt, ◌||◌}
 use Rattle.std.specs.Option.{option_map}
 use Rattle.std.specs.Str.{bytes_eq}
-use Rattle.std.proofs.lemmas.Bool.{cases_lt}
 use Rattle.std.proofs.lemmas.List.{take_all}
 use Rattle.std.proofs.lemmas.Slice.Eq.{bytes_eq-Decides}
 use Rattle.mp_base.specs.Block.{zero_block}
-use Rattle.mp_base.specs.declared.refusal.LeafSeen.{LeafSeen}
 use Rattle.mp_base.specs.declared.refusal.Refusal.TheVariants as refusals
 use Rattle.bank_core.specs.declared.bank.Fault.{Fault}
 use Rattle.bank_core.specs.Asks.{Reads, ask_of, asks_of}
 use Rattle.bank_core.specs.Calls.{device_of, fault_of}
-use Rattle.bank_core.specs.Disk.{Sector, Sectors, Call, Read, Write, Flush, Admit, Eject, Noted, IsClean, Answers, AllAnswer, as_found, run, hurt, sector_size, sectors_in, sector_of, after_call}
+use Rattle.bank_core.specs.Disk.{Sector, Sectors, Call, Read, Write, Flush, Admit, Eject, Noted, IsClean, Answers, AllAnswer, as_found, hurt, sector_size, sectors_in, sector_of, after_call}
 use Rattle.bank_core.proofs.Blocks.{sector_block}
 use Rattle.pool_wire.specs.declared.reply.NamedLeaf.{NamedLeaf}
 use Rattle.pool_wire.specs.declared.reply.Reply.{Reply}
 use Rattle.pool_wire.specs.declared.reply.Reply.TheVariants as replies
-use Rattle.pool_wire.specs.declared.request.Request.{Request}
 use Rattle.pool_wire.specs.declared.request.Request.TheVariants as requests
 use Rattle.pool_history.specs.Events.{Calls}
 use Rattle.pool_history.specs.Looks.{NoneFailed}
 use Rattle.pool_history.specs.Needs.{Held}
 use Rattle.pool_history.specs.Pools.{Pool, after}
-use Rattle.pool_history.specs.Records.{Rec, Cell, data_start}
+use Rattle.pool_history.specs.Records.{Cell, data_start}
 use Rattle.pool_history.specs.Survival.{Survives}
 use Rattle.pool_history.proofs.Holding.{hurt_held}
 use Rattle.pool_core.specs.Heads.{head_of}
-use Rattle.pool_core.specs.Outside.{Trouble, Wrong, trouble_of, troubles, last_given}
-use Rattle.pool_core.specs.Reading.{Source, Memory, Hole, Copies, source_of, source_at, block_from, wanted, asks_from, asks_to, answer_from, read_answer, read_asks, is_served, served, shown, copies_give}
-use Rattle.pool_core.specs.State.{LeafState, Content, Known, PoolState, Version, leaves}
+use Rattle.pool_core.specs.Outside.{Trouble, Wrong, trouble_of, troubles}
+use Rattle.pool_core.specs.Reading.{Copies, source_of, source_at, block_from, wanted, asks_from, asks_to, answer_from, read_answer, read_asks, is_served, served, shown, copies_give}
+use Rattle.pool_core.specs.State.{LeafState, Known, PoolState, Version, leaves}
 use Rattle.host_machine.specs.Answering.{IsOpenIn, HasClash, IsExcused, HasCause, Misses, AllMiss, IsLost, FindUnhurt, IsGoodMember}
 use Rattle.host_machine.specs.Machine.{HostState, Entry, Step, IsAnswered, WantsMemory, Clashes, named_pool, read_reply, read_line_asks, read_line_answer, wanted_of, line_wants}
 use Rattle.host_machine.specs.Records.{version_of, versions_of}
-use Rattle.host_machine.specs.Tracking.{IsOpenAs, IsElsewhere, is_ours, StandsIn, Tracks}
+use Rattle.host_machine.specs.Tracking.{IsOpenAs, is_ours, StandsIn, Tracks}
 
 named_is : (name : List ℕ) (pool : Option PoolState) (s : PoolState) → named_pool name pool ≡ Some s → pool ≡ Some s
 named_is name None s e = absurd (cc)

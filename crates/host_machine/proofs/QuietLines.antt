@@ -67,10 +67,10 @@ pub answer_host : (h : HostState) (pool : Option PoolState) (a : ℕ) (outside :
 answer_host h None a outside given = refl
 answer_host h (Some s) a outside given = refl
 
-pub read_follows : (p : Pool) (h next : HostState) (pool : Option PoolState) (a : ℕ) (outside : List (Option Trouble)) (given : List ℕ) (made : List Noted) (reply : Reply)
-    → asks_of made ≡ read_line_asks pool a outside → (next, reply) ≡ read_line_answer h pool a outside given → Follows p h made next
-read_follows p h next pool a outside given made reply asks is =
-    reads_follow p h made next (asked_reads made (subst AreReadAsks (sym asks) (line_reads pool a outside))) (ap (λ x. x.0) is ∙ answer_host h pool a outside given)
+pub read_follows : (T : ℕ → Type 0) (p : Pool) (h next : HostState) (pool : Option PoolState) (a : ℕ) (outside : List (Option Trouble)) (given : List ℕ) (made : List Noted) (reply : Reply)
+    → asks_of made ≡ read_line_asks pool a outside → (next, reply) ≡ read_line_answer h pool a outside given → Follows p h T made next
+read_follows T p h next pool a outside given made reply asks is =
+    reads_follow T p h made next (asked_reads made (subst AreReadAsks (sym asks) (line_reads pool a outside))) (ap (λ x. x.0) is ∙ answer_host h pool a outside given)
 
 -- A pool by its name.
 
@@ -131,19 +131,21 @@ not_ours p s off = record { first = first_off (p.member s.first.dev) (p.member s
     second_off true b e = absurd (let no : true ≡ false = e in cc)
     second_off false b e = e
 
-accept_follows : (p : Pool) (h : HostState) (s : PoolState) (a : ℕ) (block : List ℕ) (ours : Bool) → is_ours p s ≡ ours → h.pool ≡ Some s → Follows p h [] (with_pool h (written s a block))
-accept_follows p h s a block true ours is = record {
+accept_follows : (T : ℕ → Type 0) (p : Pool) (h : HostState) (s : PoolState) (a : ℕ) (block : List ℕ) (ours : Bool) → is_ours p s ≡ ours → h.pool ≡ Some s → Follows p h T [] (with_pool h (written s a block))
+accept_follows T p h s a block true ours is = record {
   vs = Accepts a block ∷ [];
   calls = refl;
   one_run = tt;
+  keeps = λ d is. inl is;
   safe = λ tr twins sv good.
       let opened = ours_open p tr.first tr.second s ours (subst (StandsIn p tr.first tr.second) is tr.stands) in
       ((tt, tt), tracks_with p (after (Accepts a block) p) h (written s a block) tr refl refl refl refl refl refl (inl (opened.0, opened.1, accepts_open p s a block opened.2)));
 }
-accept_follows p h s a block false off is = record {
+accept_follows T p h s a block false off is = record {
   vs = [];
   calls = refl;
   one_run = tt;
+  keeps = λ d is. inl is;
   safe = λ tr twins sv good.
       let elsewhere = not_ours p s off in
       (tt, tracks_with p p h (written s a block) tr refl refl refl refl refl refl (inr (record { first = elsewhere.first; second = elsewhere.second })));
@@ -156,17 +158,17 @@ same_pool h s is = ap (λ pool. record h { pool = pool }) (sym is)
 abbrev pub put_if : Bool → PoolState → ℕ → List ℕ → Refusal → PoolState × Result (Unit {0}) Refusal
 put_if b s a block fault = if b then (written s a block, Ok tt) else (s, Err fault)
 
-put_follows : (p : Pool) (h : HostState) (s : PoolState) (a : ℕ) (block : List ℕ) (b : Bool) (fault : Refusal) → h.pool ≡ Some s → Follows p h [] (with_pool h (put_if b s a block fault).0)
-put_follows p h s a block true fault is = accept_follows p h s a block (is_ours p s) refl is
-put_follows p h s a block false fault is = reads_follow p h [] (with_pool h s) tt (same_pool h s is)
+put_follows : (T : ℕ → Type 0) (p : Pool) (h : HostState) (s : PoolState) (a : ℕ) (block : List ℕ) (b : Bool) (fault : Refusal) → h.pool ≡ Some s → Follows p h T [] (with_pool h (put_if b s a block fault).0)
+put_follows T p h s a block true fault is = accept_follows T p h s a block (is_ours p s) refl is
+put_follows T p h s a block false fault is = reads_follow T p h [] (with_pool h s) tt (same_pool h s is)
 
-write_by : (p : Pool) (h next : HostState) (pool : Option PoolState) (a : ℕ) (block : List ℕ) (made : List Noted) (reply : Reply)
-    → ((s : PoolState) → pool ≡ Some s → h.pool ≡ Some s) → Quietly made (write_answer h pool a block) next reply → Follows p h made next
-write_by p h next None a block made reply named quiet = quiet_follows p h made next reply (refused h refusals.NoPool).1 quiet
-write_by p h next (Some s) a block made reply named quiet =
-    subst (λ calls. Follows p h calls next) (sym quiet.0) (subst (Follows p h []) (sym (ap (λ x. x.0) quiet.1))
-    (put_follows p h s a block (nat_lt a s.blocks) (refusals.BadAddress s.blocks) (named s refl)))
+write_by : (T : ℕ → Type 0) (p : Pool) (h next : HostState) (pool : Option PoolState) (a : ℕ) (block : List ℕ) (made : List Noted) (reply : Reply)
+    → ((s : PoolState) → pool ≡ Some s → h.pool ≡ Some s) → Quietly made (write_answer h pool a block) next reply → Follows p h T made next
+write_by T p h next None a block made reply named quiet = quiet_follows T p h made next reply (refused h refusals.NoPool).1 quiet
+write_by T p h next (Some s) a block made reply named quiet =
+    subst (λ calls. Follows p h T calls next) (sym quiet.0) (subst (Follows p h T []) (sym (ap (λ x. x.0) quiet.1))
+    (put_follows T p h s a block (nat_lt a s.blocks) (refusals.BadAddress s.blocks) (named s refl)))
 
-pub write_follows : (p : Pool) (h next : HostState) (name : List ℕ) (a : ℕ) (block : List ℕ) (made : List Noted) (reply : Reply)
-    → Quietly made (write_answer h (named_pool name h.pool) a block) next reply → Follows p h made next
-write_follows p h next name a block made reply quiet = write_by p h next (named_pool name h.pool) a block made reply (λ s e. named_is name h.pool s e) quiet
+pub write_follows : (T : ℕ → Type 0) (p : Pool) (h next : HostState) (name : List ℕ) (a : ℕ) (block : List ℕ) (made : List Noted) (reply : Reply)
+    → Quietly made (write_answer h (named_pool name h.pool) a block) next reply → Follows p h T made next
+write_follows T p h next name a block made reply quiet = write_by T p h next (named_pool name h.pool) a block made reply (λ s e. named_is name h.pool s e) quiet

@@ -1,5 +1,5 @@
 -- A live record that an opening found may be committed again, under the next number.
-use Rattle.std.proofs.Common.{◌≡◌, ℕ, ◌+◌, ◌-◌, ◌^◌, ◌<◌, ◌≤◌, false, List, [], ◌∷◌, length, Option, Some, None, refl, sym, ap, ◌∙◌, subst, inr, arith}
+use Rattle.std.proofs.Common.{◌≡◌, ℕ, ◌+◌, ◌^◌, ◌<◌, ◌≤◌, false, List, [], ◌∷◌, length, Option, Some, None, refl, sym, ap, ◌∙◌, subst, inr, arith}
 use Rattle.std.specs.Prelude.{slice_get}
 use Rattle.std.specs.Option.{option_map}
 use Rattle.std.proofs.lemmas.Bool.{leb-false}
@@ -13,7 +13,7 @@ use Rattle.config_codec.specs.Fields.{Fields}
 use Rattle.config_codec.specs.Reading.{config_in}
 use Rattle.config_codec.specs.Validity.{IsPointer, IsValid}
 use Rattle.pool_history.specs.Events.{Opens}
-use Rattle.pool_history.specs.Pools.{Pool, drawn, after}
+use Rattle.pool_history.specs.Pools.{Pool, after}
 use Rattle.pool_history.specs.Records.{Rec, IsIn, block_of, data_start}
 use Rattle.pool_history.specs.Survival.{Survives}
 use Rattle.pool_history.proofs.DataSparing.{flush_sparing, sparing_more}

@@ -1,30 +1,23 @@
 -- How lines end by the counts of failed calls.
-use Rattle.std.proofs.Common.{◌≡◌, ◌⊎◌, ℕ, zero, suc, ◌+◌, ◌<◌, ◌≤◌, Bool, true, false, List, [], ◌∷◌, ◌++◌, map, Option, Some, None, is_none, refl, sym, ap, ◌∙◌, subst, arith, inl, inr}
-use Rattle.std.specs.Prelude.{slice_get}
+use Rattle.std.proofs.Common.{◌≡◌, ◌⊎◌, ℕ, suc, ◌+◌, ◌≤◌, Bool, true, false, List, [], ◌∷◌, ◌++◌, map, Option, Some, None, is_none, refl, sym, ap, ◌∙◌, subst, arith, inl, inr}
 use Rattle.std.specs.List.{flat_map}
 use Rattle.mp_base.specs.Outside.{Rose}
-use Rattle.mp_base.specs.declared.number.Group.{Group}
 use Rattle.mp_base.specs.declared.number.Guid.{Guid}
-use Rattle.mp_base.specs.declared.refusal.Refusal.{Refusal}
-use Rattle.mp_base.specs.declared.refusal.Refusal.TheVariants as refusals
 use Rattle.bank_core.specs.declared.bank.Fault.{Fault}
 use Rattle.bank_core.specs.Asks.{Ask, Reads, Writes, Flushes, Admits, Ejects, ask_of, IsPart}
-use Rattle.bank_core.specs.Calls.{IsCaused, AllCaused, device_of, fault_of}
+use Rattle.bank_core.specs.Calls.{AllCaused, device_of, fault_of}
 use Rattle.bank_core.specs.Disk.{Noted, Call, Read, Write, Flush, Admit, Eject}
 use Rattle.label_store.specs.declared.member.Member.{Member}
-use Rattle.label_store.specs.declared.found.Found.{Found}
 use Rattle.label_store.specs.Phases.{IsTurn, IsPhase}
 use Rattle.label_store.specs.Plans.{stamp_plan}
 use Rattle.label_store.specs.Rounds.{Commit, IsRound, first_plan, second_plan, third_plan}
-use Rattle.label_store.proofs.Causing.{caused_counts, caused_split, round_excused}
-use Rattle.config_codec.specs.Fields.{Fields}
-use Rattle.pool_wire.specs.declared.reply.Reply.{Reply}
-use Rattle.pool_wire.specs.declared.reply.Reply.TheVariants as replies
+use Rattle.bank_core.proofs.Composing.{caused_counts, caused_split}
+use Rattle.label_store.proofs.Causing.{round_excused}
 use Rattle.pool_core.specs.Commits.{failures, IsOwnRound, IsRoundBehind, IsCommit, first_failed, FirstRound, IsStampedFirst, AreMade}
 use Rattle.pool_core.specs.Recorded.{addresses, commit_of, members_of}
 use Rattle.pool_core.specs.State.{LeafState, PoolState, leaves, data_start, other_sector}
 use Rattle.pool_core.specs.Syncing.{writes_to, writes_at, flush_plan, sync_plan}
-use Rattle.host_machine.specs.Answering.{SomeRose, LeafRose, NoneMoved, SomeFailed}
+use Rattle.host_machine.specs.Answering.{LeafRose, NoneMoved, SomeFailed}
 
 none_some : {A : Type 0} (fault : Fault) → None ≡ Some fault → A
 none_some fault e = absurd (cc)

@@ -1,23 +1,21 @@
 -- A run's entries, one after another, over a pool's history.
-use Rattle.std.proofs.Common.{◌≡◌, ◌⊎◌, ℕ, zero, suc, ◌≤◌, List, [], ◌∷◌, ◌++◌, length, take, Some, refl, sym, ap, subst, ◌∙◌, append_assoc, inl, inr}
+use Rattle.std.proofs.Common.{◌≡◌, ⊎_elim, true, ℕ, zero, suc, List, [], ◌∷◌, ◌++◌, take, Some, refl, sym, ap, subst, ◌∙◌, append_assoc, inl, inr}
 use Rattle.bank_core.specs.Disk.{Noted, Sectors, AllAnswer, run}
-use Rattle.bank_core.proofs.Composing.{run_more}
 use Rattle.pool_history.specs.Events.{Event, Calls, Accepts, Looks, Opens, Begins, Third, Ends, Acks, Loses, Stops, IsOneRun, calls_of}
 use Rattle.pool_history.specs.Moves.{Mays}
 use Rattle.pool_history.specs.Pools.{Pool, after, pool_after}
 use Rattle.pool_history.specs.Premises.{AreGood}
 use Rattle.pool_history.specs.Records.{Rec, IsIn}
-use Rattle.pool_history.specs.Survival.{Survives}
-use Rattle.pool_history.proofs.Folding.{pool_more, mays_more, mays_front, calls_more, moment_of, run_sectors, stops_never_more}
+use Rattle.pool_history.proofs.Folding.{name_kept, pool_more, mays_more, mays_front, calls_more, moment_of, run_sectors, stops_never_more}
 use Rattle.pool_history.proofs.Surviving.{history_survives}
 use Rattle.pool_history.proofs.LookedParts.{answer_first, answer_second}
 use Rattle.pool_core.specs.Heads.{head_of}
 use Rattle.host_machine.specs.declared.device.HostDevice.{HostDevice}
-use Rattle.host_machine.specs.Births.{LeavesPool, LeavesThroughout, KeepsPools, IsEntryOf}
+use Rattle.host_machine.specs.Births.{TakesIn, LeavesPool, LeavesThroughout, KeepsPools, IsEntryOf}
 use Rattle.host_machine.specs.Devices.{number_in}
 use Rattle.host_machine.specs.Fitness.{IsFit, IsWhole, AreWhole}
 use Rattle.host_machine.specs.Machine.{HostState, Entry, Step, Replay, started}
-use Rattle.host_machine.specs.Tracking.{Tracks, Follows, HasNoTwins}
+use Rattle.host_machine.specs.Tracking.{Takes, Tracks, Follows, HasNoTwins}
 
 -- the laws of one line
 abbrev pub StaysFit : Type 0
@@ -28,7 +26,7 @@ Keeps = (h : HostState) (entry : Entry) (made : List Noted) (next : HostState) (
 
 abbrev pub FollowsLine : Type 0
 FollowsLine = (p : Pool) (h : HostState) (entry : Entry) (made : List Noted) (next : HostState) → IsWhole entry.asked → IsFit h
-    → AllAnswer p.sectors made → Step h entry made next → Follows p h made next
+    → AllAnswer p.sectors made → Step h entry made next → Follows p h (Takes p.name h entry.asked made) made next
 
 good_first : (first second : List Event) (p : Pool) → AreGood head_of p (first ++ second) → AreGood head_of p first
 good_first [] second p good = tt
@@ -67,38 +65,58 @@ twins_before records more grow none = record {
   by = λ r q a b cell other is_r is_q e f same. none.by r q a b cell other (grow r is_r) (grow q is_q) e f same;
 }
 
-no_calls : (p : Pool) (h next : HostState) (calls : List Noted) → calls ≡ [] → next ≡ h → Follows p h calls next
-no_calls p h next calls none same = record {
+no_calls : (T : ℕ → Type 0) (p : Pool) (h next : HostState) (calls : List Noted) → calls ≡ [] → next ≡ h → Follows p h T calls next
+no_calls T p h next calls none same = record {
   vs = [];
   calls = sym none;
   one_run = tt;
+  keeps = λ d is. inl is;
   safe = λ tracks twins left good. (tt, subst (λ g. Tracks p g) (sym same) tracks);
 }
 
 -- One history goes on by the next.
-pub follows_more : (p : Pool) (h between next : HostState) (made more : List Noted) → ((r : Rec) → IsIn r between.records → IsIn r next.records)
-    → (one : Follows p h made between) → Follows (pool_after one.vs p) between more next → Follows p h (made ++ more) next
-follows_more p h between next made more grow one two = record {
+pub follows_more : (T : ℕ → Type 0) (p : Pool) (h between next : HostState) (made more : List Noted) → ((r : Rec) → IsIn r between.records → IsIn r next.records)
+    → (one : Follows p h T made between) → Follows (pool_after one.vs p) between T more next → Follows p h T (made ++ more) next
+follows_more T p h between next made more grow one two = record {
   vs = one.vs ++ two.vs;
   calls = calls_more one.vs two.vs ∙ ap (λ cs. cs ++ calls_of two.vs) one.calls ∙ ap (λ cs. made ++ cs) two.calls;
   one_run = stops_never_more one.vs two.vs one.one_run two.one_run;
+  keeps = λ d is. ⊎_elim {A = (pool_after one.vs p).member d ≡ true} {B = T d}
+      (λ still. ⊎_elim {A = (pool_after two.vs (pool_after one.vs p)).member d ≡ true} {B = T d}
+      (λ yet. inl (ap (λ (q : Pool). q.member d) (pool_more one.vs two.vs p) ∙ yet)) (λ taken. inr taken) (two.keeps d still))
+      (λ taken. inr taken) (one.keeps d is);
   safe = λ tracks twins left good.
       let first = one.safe tracks (twins_before between.records next.records grow twins) left (good_first one.vs two.vs p good) in
       let second = two.safe first.1 twins (history_survives head_of one.vs p left first.0) (good_second one.vs two.vs p good) in
       (mays_more head_of one.vs two.vs p first.0 second.0, subst (λ q. Tracks q next) (sym (pool_more one.vs two.vs p)) second.1);
 }
 
-pub replay_follows : StaysFit → Keeps → FollowsLine → (p : Pool) (h : HostState) (entries : List Entry) (calls : List Noted) (next : HostState)
-    → AreWhole entries → IsFit h → AllAnswer p.sectors calls → Replay h entries calls next → Follows p h calls next
-replay_follows stays keeps line p h [] calls next whole fit answers replay = no_calls p h next calls replay.0 replay.1
-replay_follows stays keeps line p h (entry ∷ entries) calls next whole fit answers replay =
+-- what is taken may be said to be more
+pub widen : (S T : ℕ → Type 0) (p : Pool) (h next : HostState) (made : List Noted) → ((d : ℕ) → S d → T d) → Follows p h S made next → Follows p h T made next
+widen S T p h next made more f = record {
+  vs = f.vs;
+  calls = f.calls;
+  one_run = f.one_run;
+  keeps = λ d is. ⊎_elim {A = (pool_after f.vs p).member d ≡ true} {B = S d} (λ still. inl still) (λ taken. inr (more d taken)) (f.keeps d is);
+  safe = f.safe;
+}
+
+-- the pool's name is the same behind its events
+pub replay_follows : StaysFit → Keeps → FollowsLine → (T : ℕ → Type 0) (name : List ℕ) (p : Pool) (h : HostState) (entries : List Entry) (calls : List Noted) (next : HostState)
+    (replay : Replay h entries calls next) → ((d : ℕ) → TakesIn name h entries calls next replay d → T d) → p.name ≡ name
+    → AreWhole entries → IsFit h → AllAnswer p.sectors calls → Follows p h T calls next
+replay_follows stays keeps line T name p h [] calls next replay takes named whole fit answers = no_calls T p h next calls replay.0 replay.1
+replay_follows stays keeps line T name p h (entry ∷ entries) calls next replay takes named whole fit answers =
     let all = subst (λ cs. AllAnswer p.sectors cs) replay.3 answers in
-    let one = line p h entry replay.0 replay.2 whole.0 fit (answer_first replay.0 replay.1 p.sectors all) replay.4 in
+    let first = line p h entry replay.0 replay.2 whole.0 fit (answer_first replay.0 replay.1 p.sectors all) replay.4 in
+    let one = widen (Takes p.name h entry.asked replay.0) T p h replay.2 replay.0
+    (λ d taken. takes d (inl (subst (λ n. Takes n h entry.asked replay.0 d) named taken))) first in
     let behind = run_sectors one.vs p one.one_run ∙ ap (λ cs. run cs p.sectors) one.calls in
-    let two = replay_follows stays keeps line (pool_after one.vs p) replay.2 entries replay.1 next whole.1 (stays h entry replay.0 replay.2 whole.0 fit replay.4)
-    (subst (λ sectors. AllAnswer sectors replay.1) (sym behind) (answer_second replay.0 replay.1 p.sectors all)) replay.5 in
-    subst (λ cs. Follows p h cs next) (sym replay.3)
-    (follows_more p h replay.2 next replay.0 replay.1 (λ r is. records_grow keeps replay.2 entries replay.1 next r replay.5 is) one two)
+    let two = replay_follows stays keeps line T name (pool_after one.vs p) replay.2 entries replay.1 next replay.5 (λ d taken. takes d (inr taken))
+    (name_kept one.vs p ∙ named) whole.1 (stays h entry replay.0 replay.2 whole.0 fit replay.4)
+    (subst (λ sectors. AllAnswer sectors replay.1) (sym behind) (answer_second replay.0 replay.1 p.sectors all)) in
+    subst (λ cs. Follows p h T cs next) (sym replay.3)
+    (follows_more T p h replay.2 next replay.0 replay.1 (λ r is. records_grow keeps replay.2 entries replay.1 next r replay.5 is) one two)
 
 front_one : (vs : List Event) (j : ℕ) → IsOneRun vs → IsOneRun (take j vs)
 front_one [] zero one = tt
@@ -128,22 +146,26 @@ front_one (Stops images ∷ vs) (suc j) one = absurd one
 pub leaves_throughout : (first : Pool) (past : List Event) (sectors : Sectors) (vs : List Event) (made : List Noted) → LeavesPool first past sectors
     → IsOneRun vs → calls_of vs ≡ made → Mays head_of (pool_after past first) vs → LeavesThroughout first past sectors vs made
 leaves_throughout first past sectors vs made leaves one calls mays = record {
-  at = λ k le. let m = moment_of vs k in
-      (m.0, m.1 ∙ ap (λ cs. take k cs) calls, record {
-        begins = leaves.begins;
-        allowed = mays_more head_of past (take m.0 vs) first leaves.allowed (mays_front head_of vs m.0 (pool_after past first) mays);
-        devices = ap (λ q. q.sectors) (pool_more past (take m.0 vs) first) ∙ run_sectors (take m.0 vs) (pool_after past first) (front_one vs m.0 one)
-            ∙ ap (λ cs. run cs (pool_after past first).sectors) (m.1 ∙ ap (λ cs. take k cs) calls) ∙ ap (λ s. run (take k made) s) leaves.devices;
-      });
+  at = λ k le. let m = moment_of vs k in (
+    m.0,
+    m.1 ∙ ap (λ cs. take k cs) calls,
+    record {
+      begins = leaves.begins;
+      allowed = mays_more head_of past (take m.0 vs) first leaves.allowed (mays_front head_of vs m.0 (pool_after past first) mays);
+      devices = ap (λ q. q.sectors) (pool_more past (take m.0 vs) first) ∙ run_sectors (take m.0 vs) (pool_after past first) (front_one vs m.0 one)
+          ∙ ap (λ cs. run cs (pool_after past first).sectors) (m.1 ∙ ap (λ cs. take k cs) calls) ∙ ap (λ s. run (take k made) s) leaves.devices;
+    },
+  );
 }
 
 -- A run keeps each pool.
 pub keeps_pools : StaysFit → Keeps → FollowsLine → (h : HostState) (sectors : Sectors) (entries : List Entry) (calls : List Noted) (next : HostState)
-    → AreWhole entries → IsFit h → AllAnswer sectors calls → Replay h entries calls next → KeepsPools h sectors calls next
+    → AreWhole entries → IsFit h → AllAnswer sectors calls → (replay : Replay h entries calls next) → KeepsPools h sectors entries calls next replay
 keeps_pools stays keeps line h sectors entries calls next whole fit answers replay = record {
   each = λ first past leaves tracks.
       let p = pool_after past first in
-      let f = replay_follows stays keeps line p h entries calls next whole fit (subst (λ s. AllAnswer s calls) (sym leaves.devices) answers) replay in
+      let f = replay_follows stays keeps line (TakesIn first.name h entries calls next replay) first.name p h entries calls next replay (λ d taken. taken) (name_kept past first)
+      whole fit (subst (λ s. AllAnswer s calls) (sym leaves.devices) answers) in
       let left = history_survives head_of past first leaves.begins leaves.allowed in
       record {
         follows = f;
@@ -179,12 +201,14 @@ entry_of h (e ∷ before) entry after calls next r =
       later = i.later;
     }
 
-pub goes_on : StaysFit → Keeps → FollowsLine → (p : Pool) (old h : HostState) (made : List Noted) (entries : List Entry) (calls : List Noted) (next : HostState)
-    → AreWhole entries → IsFit h → Follows p old made h → AllAnswer (run made p.sectors) calls → Replay h entries calls next → Follows p old (made ++ calls) next
-goes_on stays keeps line p old h made entries calls next whole fit one answers replay =
+pub goes_on : StaysFit → Keeps → FollowsLine → (T : ℕ → Type 0) (p : Pool) (old h : HostState) (made : List Noted) (entries : List Entry) (calls : List Noted) (next : HostState)
+    (replay : Replay h entries calls next) → ((d : ℕ) → TakesIn p.name h entries calls next replay d → T d)
+    → AreWhole entries → IsFit h → Follows p old T made h → AllAnswer (run made p.sectors) calls → Follows p old T (made ++ calls) next
+goes_on stays keeps line T p old h made entries calls next replay takes whole fit one answers =
     let behind = run_sectors one.vs p one.one_run ∙ ap (λ cs. run cs p.sectors) one.calls in
-    follows_more p old h next made calls (λ r is. records_grow keeps h entries calls next r replay is) one
-    (replay_follows stays keeps line (pool_after one.vs p) h entries calls next whole fit (subst (λ sectors. AllAnswer sectors calls) (sym behind) answers) replay)
+    follows_more T p old h next made calls (λ r is. records_grow keeps h entries calls next r replay is) one
+    (replay_follows stays keeps line T p.name (pool_after one.vs p) h entries calls next replay takes (name_kept one.vs p) whole fit
+    (subst (λ sectors. AllAnswer sectors calls) (sym behind) answers))
 
 pub next_run : (p : Pool) (h : HostState) (images : ℕ → ℕ → List ℕ) (table : List HostDevice) (size : ℕ → ℕ) (records : List Rec)
     → (tracks : Tracks p h) → ((d : ℕ) → size d ≡ h.size d) → ((r : Rec) → IsIn r h.records → IsIn r records)

@@ -143,12 +143,13 @@ sync_away member s one two =
     asks_more member (flat_map (writes_at s) (addresses s.blocks)) (flush_plan s) (all_away member s (addresses s.blocks) one two) (flushes_away member s)
 
 -- A commit of a pool on other devices leaves this one as it stands.
-pub commit_elsewhere : (p : Pool) (h : HostState) (plan : List Ask) (t : PoolState) (made : List Noted) (failed : ℕ)
-    → p.member t.first.dev ≡ false → p.member t.second.dev ≡ false → AreAsksAway p.member plan → IsCommit h.size plan t made failed → Follows p h made (commit_outcome h t failed).0
-commit_elsewhere p h plan t made failed one two away c = record {
+pub commit_elsewhere : (T : ℕ → Type 0) (p : Pool) (h : HostState) (plan : List Ask) (t : PoolState) (made : List Noted) (failed : ℕ)
+    → p.member t.first.dev ≡ false → p.member t.second.dev ≡ false → AreAsksAway p.member plan → IsCommit h.size plan t made failed → Follows p h T made (commit_outcome h t failed).0
+commit_elsewhere T p h plan t made failed one two away c = record {
   vs = as_events made;
   calls = calls_are made;
   one_run = calls_never_stop made;
+  keeps = λ d is. inl (ap (λ (q : Pool). q.member d) (calls_after made p) ∙ is);
   safe = λ tr twins sv good. (
     away_may head_of made p (commit_away p.member h.size plan t made failed one two away c),
     subst (λ q. Tracks q (commit_outcome h t failed).0) (sym (calls_after made p))
@@ -160,33 +161,34 @@ commit_elsewhere p h plan t made failed one two away c = record {
 
 -- The line.
 
-synced_follows : (p : Pool) (h : HostState) (s : PoolState) (made : List Noted) (failed : ℕ) (ours : Bool) → is_ours p s ≡ ours → h.pool ≡ Some s → IsFitPool h.size s → is_spent s.number ≡ false
-    → IsCommit h.size (sync_plan s) (synced s) made failed → Follows p h made (commit_outcome h (synced s) failed).0
-synced_follows p h s made failed true ours is fit open_numbers c =
+synced_follows : (T : ℕ → Type 0) (p : Pool) (h : HostState) (s : PoolState) (made : List Noted) (failed : ℕ) (ours : Bool) → is_ours p s ≡ ours → h.pool ≡ Some s → IsFitPool h.size s → is_spent s.number ≡ false
+    → IsCommit h.size (sync_plan s) (synced s) made failed → Follows p h T made (commit_outcome h (synced s) failed).0
+synced_follows T p h s made failed true ours is fit open_numbers c =
     let follows = commit_follows p h (sync_plan s) (synced s) made failed c in
     record {
       vs = follows.vs;
       calls = follows.calls;
       one_run = follows.one_run;
+      keeps = λ d is. inl (ap (λ f. f d) follows.member ∙ is);
       safe = λ tr twins sv good.
           let opened = ours_open p tr.first tr.second s ours (subst (StandsIn p tr.first tr.second) is tr.stands) in
           follows.safe (sync_ready p h s tr opened.0 opened.1 opened.2 fit open_numbers sv) sv;
     }
-synced_follows p h s made failed false off is fit open_numbers c =
+synced_follows T p h s made failed false off is fit open_numbers c =
     let elsewhere = not_ours p s off in
-    commit_elsewhere p h (sync_plan s) (synced s) made failed elsewhere.first elsewhere.second (sync_away p.member s elsewhere.first elsewhere.second) c
+    commit_elsewhere T p h (sync_plan s) (synced s) made failed elsewhere.first elsewhere.second (sync_away p.member s elsewhere.first elsewhere.second) c
 
-sync_by : (p : Pool) (h next : HostState) (s : PoolState) (spent : Bool) (made : List Noted) (reply : Reply) → IsFit h → h.pool ≡ Some s → is_spent s.number ≡ spent
-    → SyncsUnless spent h s made next reply → Follows p h made next
-sync_by p h next s true made reply fit is spent quiet = quiet_follows p h made next reply (refused h (refusals.TreeFull last_number (s.number + 1))).1 quiet
-sync_by p h next s false made reply fit is spent (failed, c, e) =
-    subst (Follows p h made) (sym (ap (λ x. x.0) e))
-    (synced_follows p h s made failed (is_ours p s) refl is (subst (PoolIsFit h.size) is fit.pool) spent c)
+sync_by : (T : ℕ → Type 0) (p : Pool) (h next : HostState) (s : PoolState) (spent : Bool) (made : List Noted) (reply : Reply) → IsFit h → h.pool ≡ Some s → is_spent s.number ≡ spent
+    → SyncsUnless spent h s made next reply → Follows p h T made next
+sync_by T p h next s true made reply fit is spent quiet = quiet_follows T p h made next reply (refused h (refusals.TreeFull last_number (s.number + 1))).1 quiet
+sync_by T p h next s false made reply fit is spent (failed, c, e) =
+    subst (Follows p h T made) (sym (ap (λ x. x.0) e))
+    (synced_follows T p h s made failed (is_ours p s) refl is (subst (PoolIsFit h.size) is fit.pool) spent c)
 
-sync_named : (p : Pool) (h next : HostState) (pool : Option PoolState) (made : List Noted) (reply : Reply) → IsFit h → ((s : PoolState) → pool ≡ Some s → h.pool ≡ Some s)
-    → IsSync h pool made next reply → Follows p h made next
-sync_named p h next None made reply fit named quiet = quiet_follows p h made next reply (refused h refusals.NoPool).1 quiet
-sync_named p h next (Some s) made reply fit named syncs = sync_by p h next s (is_spent s.number) made reply fit (named s refl) refl syncs
+sync_named : (T : ℕ → Type 0) (p : Pool) (h next : HostState) (pool : Option PoolState) (made : List Noted) (reply : Reply) → IsFit h → ((s : PoolState) → pool ≡ Some s → h.pool ≡ Some s)
+    → IsSync h pool made next reply → Follows p h T made next
+sync_named T p h next None made reply fit named quiet = quiet_follows T p h made next reply (refused h refusals.NoPool).1 quiet
+sync_named T p h next (Some s) made reply fit named syncs = sync_by T p h next s (is_spent s.number) made reply fit (named s refl) refl syncs
 
-pub sync_follows : (p : Pool) (h next : HostState) (name : List ℕ) (made : List Noted) (reply : Reply) → IsFit h → IsSync h (named_pool name h.pool) made next reply → Follows p h made next
-sync_follows p h next name made reply fit syncs = sync_named p h next (named_pool name h.pool) made reply fit (λ s e. named_is name h.pool s e) syncs
+pub sync_follows : (T : ℕ → Type 0) (p : Pool) (h next : HostState) (name : List ℕ) (made : List Noted) (reply : Reply) → IsFit h → IsSync h (named_pool name h.pool) made next reply → Follows p h T made next
+sync_follows T p h next name made reply fit syncs = sync_named T p h next (named_pool name h.pool) made reply fit (λ s e. named_is name h.pool s e) syncs

@@ -1,6 +1,5 @@
 -- Pools that a history creates, and what stands between two runs.
 use Rattle.std.specs.Prelude.{◌≡◌, ◌⊎◌, ℕ, ◌==◌, ◌||◌, cond, List, [], ◌∷◌, ◌++◌, take, length, ◌≤◌, Option, Some, None}
-use Rattle.mp_base.specs.declared.number.Guid.{Guid}
 use Rattle.bank_core.specs.declared.bank.Fault.{Fault}
 use Rattle.bank_core.specs.Asks.{IsPart}
 use Rattle.bank_core.specs.Disk.{Noted, Sectors, run}
@@ -11,9 +10,9 @@ use Rattle.pool_history.specs.Pools.{Pool, pool_after, stamped}
 use Rattle.pool_history.specs.Premises.{AreGood}
 use Rattle.pool_history.specs.Survival.{Survives}
 use Rattle.pool_core.specs.Heads.{head_of}
-use Rattle.pool_core.specs.State.{PoolState}
+use Rattle.pool_core.specs.State.{LeafState, PoolState}
 use Rattle.host_machine.specs.Machine.{HostState, Entry, Step, Replay}
-use Rattle.host_machine.specs.Tracking.{Tracks, Follows, HasNoTwins}
+use Rattle.host_machine.specs.Tracking.{Takes, Tracks, Follows, HasNoTwins}
 
 -- the pool of this state behind the stamps of its leaves, on these sectors
 abbrev pub new_pool : (size : ℕ → ℕ) → PoolState → Sectors → Pool
@@ -28,7 +27,7 @@ pub record IsBorn (size : ℕ → ℕ) (s : PoolState) (sectors : Sectors) (made
   pub survives : Survives head_of (new_pool size s (run stamps sectors))
   pub between : HostState
   pub tracks : Tracks (new_pool size s (run stamps sectors)) between
-  pub follows : Follows (new_pool size s (run stamps sectors)) between rest next
+  pub follows : Follows (new_pool size s (run stamps sectors)) between (λ d. ⊥) rest next
 
 -- the stamp of a leaf, up to the first call that failed
 abbrev pub IsStamp : (size : ℕ → ℕ) → PoolState → LeafState → List Noted → Option Fault → Type 0
@@ -53,17 +52,24 @@ pub record LeavesPool (first : Pool) (past : List Event) (sectors : Sectors) : T
 pub record LeavesThroughout (first : Pool) (past : List Event) (sectors : Sectors) (vs : List Event) (made : List Noted) : Type 0 where
   pub at : (k : ℕ) → k ≤ length made → (j : ℕ) × (calls_of (take j vs) ≡ take k made) × LeavesPool first (past ++ take j vs) (run (take k made) sectors)
 
+-- a line of a run takes this device from the pool of this name
+abbrev pub TakesIn : (own : List ℕ) (h : HostState) (entries : List Entry) (calls : List Noted) (next : HostState) → Replay h entries calls next → (d : ℕ) → Type 0
+TakesIn own h [] calls next replay d = ⊥
+TakesIn own h (entry ∷ entries) calls next replay d = Takes own h entry.asked replay.0 d ⊎ TakesIn own replay.2 entries replay.1 next replay.5 d
+
 -- What a run's calls do to a pool that its devices have left: they are moves of its history, which stands
--- in the host behind them; and at each moment of the run the devices are left by the history so far. It is
--- so where no two blocks of the records have one sum, and where the premises hold at each opening.
-pub record KeepsPool (first : Pool) (past : List Event) (h : HostState) (sectors : Sectors) (calls : List Noted) (next : HostState) : Type 0 where
-  pub follows : Follows (pool_after past first) h calls next
+-- in the host behind them; it loses no device but one that a line takes; and at each moment of the run the
+-- devices are left by the history so far. It is so where no two blocks of the records have one sum, and where
+-- the premises hold at each opening.
+pub record KeepsPool (first : Pool) (past : List Event) (h : HostState) (sectors : Sectors) (IsTaken : ℕ → Type 0) (calls : List Noted) (next : HostState) : Type 0 where
+  pub follows : Follows (pool_after past first) h IsTaken calls next
   pub leaves : HasNoTwins next.records → AreGood head_of (pool_after past first) follows.vs → LeavesThroughout first past sectors follows.vs calls
   pub tracks : HasNoTwins next.records → AreGood head_of (pool_after past first) follows.vs → Tracks (pool_after follows.vs (pool_after past first)) next
 
 -- so to each pool
-pub record KeepsPools (h : HostState) (sectors : Sectors) (calls : List Noted) (next : HostState) : Type 0 where
-  pub each : (first : Pool) (past : List Event) → LeavesPool first past sectors → Tracks (pool_after past first) h → KeepsPool first past h sectors calls next
+pub record KeepsPools (h : HostState) (sectors : Sectors) (entries : List Entry) (calls : List Noted) (next : HostState) (replay : Replay h entries calls next) : Type 0 where
+  pub each : (first : Pool) (past : List Event) → LeavesPool first past sectors → Tracks (pool_after past first) h
+      → KeepsPool first past h sectors (TakesIn first.name h entries calls next replay) calls next
 
 -- An entry among a history's: the host before it, its own calls, and the host behind it.
 pub record IsEntryOf (h : HostState) (before : List Entry) (entry : Entry) (after : List Entry) (calls : List Noted) (next : HostState) : Type 0 where

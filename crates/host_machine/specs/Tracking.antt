@@ -1,12 +1,17 @@
 -- How a pool of the history stands in a host of the machine.
-use Rattle.std.specs.Prelude.{◌≡◌, ◌≢◌, ◌⊎◌, ℕ, ◌+◌, ◌≤◌, Bool, true, false, ◌||◌, List, Option, Some, None}
+use Rattle.std.specs.Prelude.{◌≡◌, ◌≢◌, ◌⊎◌, ℕ, ◌+◌, ◌≤◌, Bool, true, false, ◌||◌, List, Option, Some, None, ◌++◌, ◌*◌, length}
 use Rattle.sha2.specs.Sha256.{sha256}
 use Rattle.mp_base.specs.declared.number.Group.{Group}
 use Rattle.mp_base.specs.declared.refusal.Refusal.TheVariants as refusals
 use Rattle.bank_core.specs.Disk.{Noted}
 use Rattle.pool_wire.specs.declared.reply.Reply.{Reply}
 use Rattle.pool_wire.specs.declared.reply.Reply.TheVariants as replies
+use Rattle.pool_wire.specs.declared.request.Request.{Request}
+use Rattle.pool_wire.specs.declared.request.Request.TheVariants as requests
+use Rattle.label_store.specs.declared.found.Found.{Found}
+use Rattle.label_store.specs.Newest.{Parts, IsLook, IsBest}
 use Rattle.config_codec.specs.Fields.{Fields}
+use Rattle.config_codec.specs.Reading.{config_in}
 use Rattle.pool_history.specs.Events.{Event, IsOneRun, calls_of}
 use Rattle.pool_history.specs.Moves.{Mays}
 use Rattle.pool_history.specs.Pools.{Pool, drawn, pool_after}
@@ -17,7 +22,7 @@ use Rattle.pool_core.specs.Heads.{head_of}
 use Rattle.pool_core.specs.Reading.{wanted}
 use Rattle.pool_core.specs.Recorded.{leaf_config}
 use Rattle.pool_core.specs.State.{LeafState, Known, PoolState}
-use Rattle.host_machine.specs.Devices.{number_in}
+use Rattle.host_machine.specs.Devices.{all_handed, member_of, seat_of, number_in}
 use Rattle.host_machine.specs.Machine.{HostState}
 use Rattle.host_machine.specs.Records.{IsDrawn, versions_of}
 
@@ -66,13 +71,38 @@ pub record HasNoTwins (records : List Rec) : Type 0 where
   pub by : (r q : Rec) (a b : ℕ) (cell other : Cell) → IsIn r records → IsIn q records → r.cells a ≡ Some cell → q.cells b ≡ Some other
       → sha256 cell.block ≡ sha256 other.block → cell.block ≡ other.block
 
+-- An opening found a record of another name, and this device is that of one of its leaves.
+pub record OpensAnother (own : List ℕ) (h : HostState) (name : List ℕ) (made : List Noted) (d : ℕ) : Type 0 where
+  pub other : name ≢ own
+  pub reads : List Noted
+  pub more : List Noted
+  pub all : made ≡ reads ++ more
+  pub looks : List Parts
+  pub look : IsLook h.size (all_handed h.table) looks reads
+  pub found : Found
+  pub is_best : IsBest head_of looks name (128 * length (all_handed h.table)) (Some found)
+  pub c : Fields
+  pub config : config_in found.blob.items ≡ Some c
+  pub leaf : (seat_of c.first.name c.sectors h.table ≡ Some d) ⊎ (seat_of c.second.name c.sectors h.table ≡ Some d)
+
+-- The line takes this device from the pool of this name: a new pool is made on it, or another one opened.
+abbrev pub Takes : (own : List ℕ) → HostState → Option Request → List Noted → (d : ℕ) → Type 0
+Takes own h None made d = ⊥
+Takes own h (Some requests.Nothing) made d = ⊥
+Takes own h (Some (requests.Create pool blocks first second)) made d = (member_of first h.table ≡ Some d) ⊎ (member_of second h.table ≡ Some d)
+Takes own h (Some (requests.Import pool)) made d = OpensAnother own h pool made d
+Takes own h (Some (requests.Write pool a block)) made d = ⊥
+Takes own h (Some (requests.Read pool a)) made d = ⊥
+Takes own h (Some (requests.Sync pool)) made d = ⊥
+
 -- These calls led the machine from one host to the next. They are those of a history of the pool without a
--- stop: its events exist whatever the pool is; and where the pool stood in the old host, they are moves that it may
--- make, and it stands in the new host as they leave it.
-pub record Follows (p : Pool) (h : HostState) (made : List Noted) (next : HostState) : Type 0 where
+-- stop: its events exist whatever the pool is, and it loses no device but one that was taken; and where the
+-- pool stood in the old host, they are moves that it may make, and it stands in the new host as they leave it.
+pub record Follows (p : Pool) (h : HostState) (IsTaken : ℕ → Type 0) (made : List Noted) (next : HostState) : Type 0 where
   pub vs : List Event
   pub calls : calls_of vs ≡ made
   pub one_run : IsOneRun vs
+  pub keeps : (d : ℕ) → p.member d ≡ true → ((pool_after vs p).member d ≡ true) ⊎ IsTaken d
   pub safe : Tracks p h → HasNoTwins next.records → Survives head_of p → AreGood head_of p vs → Mays head_of p vs × Tracks (pool_after vs p) next
 
 -- The reply to an opening of the pool: never that there is no record; and where it opened, the record that

@@ -17,7 +17,7 @@ ghost use Rattle.host_machine.specs.Births.{IsBorn, StampFails, LeavesPool, Leav
 ghost use Rattle.host_machine.specs.Devices.{all_handed};
 ghost use Rattle.host_machine.specs.Fitness.{IsFit, IsWhole, AreWhole};
 ghost use Rattle.host_machine.specs.Machine.{HostState, Entry, is_bad_size, new_seats, new_state, IsCreate, IsImport, Step, Replay};
-ghost use Rattle.host_machine.specs.Tracking.{Tracks, Follows, FindsPool, HasNoTwins};
+ghost use Rattle.host_machine.specs.Tracking.{Takes, Tracks, Follows, FindsPool, HasNoTwins};
 
 /// What holds of each host that a run reaches holds of the next.
 pub fn hosts_stay_fit()
@@ -25,10 +25,10 @@ pub fn hosts_stay_fit()
     ensures keeps { (h : HostState) (entry : Entry) (made : List Noted) (next : HostState) (r : Rec) → Step h entry made next → IsIn r h.records → IsIn r next.records }
 {}
 
-/// Each line's device calls are moves of each pool's history.
+/// Each line's device calls are moves of each pool's history, and a pool loses no device but one that the line takes.
 pub fn lines_follow_each_pool()
     ensures line { (p : Pool) (h : HostState) (entry : Entry) (made : List Noted) (next : HostState) → IsWhole entry.asked → IsFit h
-        → AllAnswer p.sectors made → Step h entry made next → Follows p h made next }
+        → AllAnswer p.sectors made → Step h entry made next → Follows p h (Takes p.name h entry.asked made) made next }
 {}
 
 /// An opening of a pool finds it.

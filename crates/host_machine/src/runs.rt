@@ -5,22 +5,28 @@ ghost use Rattle.pool_history.specs.Events.{Stops};
 ghost use Rattle.pool_history.specs.Pools.{Pool, after};
 ghost use Rattle.pool_history.specs.Records.{Rec, IsIn};
 ghost use Rattle.host_machine.specs.declared.device.HostDevice.{HostDevice};
-ghost use Rattle.host_machine.specs.Births.{KeepsPools, IsEntryOf};
+ghost use Rattle.host_machine.specs.Births.{TakesIn, KeepsPools, IsEntryOf};
 ghost use Rattle.host_machine.specs.Devices.{number_in};
 ghost use Rattle.host_machine.specs.Fitness.{IsFit, AreWhole};
 ghost use Rattle.host_machine.specs.Machine.{HostState, Entry, Replay, started};
 ghost use Rattle.host_machine.specs.Tracking.{Tracks, Follows};
 
+use crate::laws::{hosts_stay_fit, lines_follow_each_pool};
+
 /// A run keeps each pool that its devices had left: at each of its moments they are left by the pool's
 /// history so far.
 pub fn runs_keep_each_pool()
     ensures run { (h : HostState) (sectors : Sectors) (entries : List Entry) (calls : List Noted) (next : HostState) → AreWhole entries → IsFit h
-        → AllAnswer sectors calls → Replay h entries calls next → KeepsPools h sectors calls next }
+        → AllAnswer sectors calls → (replay : Replay h entries calls next) → KeepsPools h sectors entries calls next replay }
     ensures entry { (h : HostState) (before : List Entry) (entry : Entry) (after : List Entry) (calls : List Noted) (next : HostState)
         → Replay h (before ++ entry ∷ after) calls next → IsEntryOf h before entry after calls next }
-    ensures goes_on { (p : Pool) (old h : HostState) (made : List Noted) (entries : List Entry) (calls : List Noted) (next : HostState) → AreWhole entries → IsFit h
-        → Follows p old made h → AllAnswer (run made p.sectors) calls → Replay h entries calls next → Follows p old (made ++ calls) next }
-{}
+    ensures goes_on { (p : Pool) (old h : HostState) (made : List Noted) (entries : List Entry) (calls : List Noted) (next : HostState)
+        (replay : Replay h entries calls next) → AreWhole entries → IsFit h → Follows p old (λ d. ⊥) made h → AllAnswer (run made p.sectors) calls
+        → Follows p old (TakesIn p.name h entries calls next replay) (made ++ calls) next }
+{
+    hosts_stay_fit();
+    lines_follow_each_pool();
+}
 
 /// The next run may begin with what a stop left of the devices, whatever moment the stop came at.
 pub fn stops_keep_each_pool()

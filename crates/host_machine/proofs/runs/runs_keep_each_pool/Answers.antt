@@ -1,5 +1,14 @@
-use Rattle.host_machine.proofs.Running.{entry_of}
+use Rattle.host_machine.specs.Births.{TakesIn}
+use Rattle.host_machine.proofs.Running.{keeps_pools, entry_of, widen, goes_on}
 use Rattle.host_machine.proofs.runs.runs_keep_each_pool.Goals as goal
+
+pub returns-clause-run : goal.returns-clause-run
+returns-clause-run c = keeps_pools c.hosts_stay_fit.ensures.stays c.hosts_stay_fit.ensures.keeps c.lines_follow_each_pool.ensures.line
 
 pub returns-clause-entry : goal.returns-clause-entry
 returns-clause-entry c = entry_of
+
+pub returns-clause-goes_on : goal.returns-clause-goes_on
+returns-clause-goes_on c = λ p old h made entries calls next replay whole fit one answers.
+    goes_on c.hosts_stay_fit.ensures.stays c.hosts_stay_fit.ensures.keeps c.lines_follow_each_pool.ensures.line (TakesIn p.name h entries calls next replay)
+    p old h made entries calls next replay (λ d taken. taken) whole fit (widen (λ d. ⊥) (TakesIn p.name h entries calls next replay) p old h made (λ d none. absurd none) one) answers
