@@ -113,6 +113,7 @@ impl Pool {
         ensures state { IfOk result (λ made. Represents made
             (made_state (B.size bank.now) name pool blocks (first.name, first.dev) (second.name, second.dev))) }
     {
+        // A configuration is valid only with names that are names.
         name.spells_a_name();
         first.name.spells_a_name();
         second.name.spells_a_name();
