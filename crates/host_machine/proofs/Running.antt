@@ -1,5 +1,5 @@
 -- A run's entries, one after another, over a pool's history.
-use Rattle.std.proofs.Common.{◌≡◌, ⊎_elim, true, ℕ, zero, suc, List, [], ◌∷◌, ◌++◌, take, Some, None, refl, sym, ap, subst, ◌∙◌, append_assoc, inl, inr, ◌<◌, ◌⊎◌}
+use Rattle.std.proofs.Common.{◌≡◌, ⊎_elim, true, ℕ, zero, suc, List, [], ◌∷◌, ◌++◌, take, Some, None, refl, sym, ap, subst, ◌∙◌, append_assoc, inl, inr, ◌<◌, ◌⊎◌, false, Option, IsTrue}
 use Rattle.bank_core.specs.Disk.{Noted, Sectors, AllAnswer, run}
 use Rattle.pool_history.specs.Events.{Event, Calls, Accepts, Looks, Opens, Begins, Third, Ends, Acks, Loses, Stops, IsOneRun, as_events, calls_of}
 use Rattle.pool_history.specs.Moves.{Mays}
@@ -12,17 +12,21 @@ use Rattle.pool_history.proofs.Folding.{name_kept, pool_more, mays_more, mays_fr
 use Rattle.pool_history.proofs.Surviving.{history_survives}
 use Rattle.pool_history.proofs.LookedParts.{answer_first, answer_second}
 use Rattle.pool_wire.specs.declared.reply.NamedLeaf.{NamedLeaf}
+use Rattle.mp_base.specs.Name.{is_name}
+use Rattle.pool_wire.specs.declared.reply.Reply.{Reply}
+use Rattle.pool_wire.specs.declared.request.Request.{Request}
 use Rattle.pool_wire.specs.declared.reply.Reply.TheVariants as replies
 use Rattle.pool_wire.specs.declared.request.Request.TheVariants as requests
+use Rattle.bank_core.proofs.Composing.{run_more}
 use Rattle.pool_core.specs.Heads.{head_of}
 use Rattle.pool_core.specs.State.{PoolState}
 use Rattle.host_machine.specs.declared.device.HostDevice.{HostDevice}
-use Rattle.host_machine.specs.Births.{LeavesPool, LeavesThroughout}
-use Rattle.host_machine.specs.Runs.{TakesIn, KeepsPools, IsEntryOf, MeetsPool, AnswersOf}
+use Rattle.host_machine.specs.Births.{IsBorn, StampFails, LeavesPool, LeavesThroughout, new_pool}
+use Rattle.host_machine.specs.Runs.{TakesIn, BeginsPool, KeepsPools, IsEntryOf, MeetsPool}
 use Rattle.host_machine.specs.Answering.{IsOpenIn, IsLost, HasClash, IsExcused}
 use Rattle.host_machine.specs.Devices.{all_handed, number_in}
 use Rattle.host_machine.specs.Fitness.{IsFit, IsWhole, AreWhole}
-use Rattle.host_machine.specs.Machine.{HostState, Entry, IsImport, Step, Replay, started, named_pool}
+use Rattle.host_machine.specs.Machine.{HostState, Entry, is_bad_size, new_seats, new_state, IsCreate, IsImport, Step, Replay, started, named_pool}
 use Rattle.host_machine.specs.Tracking.{Takes, Tracks, Follows, FindsPool, HasNoTwins, is_ours}
 
 -- the laws of one line
@@ -244,7 +248,7 @@ meets_pool laws h sectors entries calls next whole fit answers replay first past
     let behind = answer_second at.first (at.made ++ at.rest) sectors all in
     let mine = answer_first at.made at.rest (run at.first sectors) behind in
     let f = replay_follows laws.stays laws.keeps laws.line (TakesIn first.name h before at.first at.old at.replay) first.name p h before at.first at.old at.replay (λ d taken. taken)
-        (name_kept past first) (whole_before before (entry ∷ after) (subst AreWhole e whole)) fit (subst (λ s. AllAnswer s at.first) (sym leaves.devices) front) in
+    (name_kept past first) (whole_before before (entry ∷ after) (subst AreWhole e whole)) fit (subst (λ s. AllAnswer s at.first) (sym leaves.devices) front) in
     let there = run_sectors f.vs p f.one_run ∙ ap (λ cs. run cs p.sectors) f.calls ∙ ap (λ s. run at.first s) leaves.devices in
     let begun = history_survives head_of past first leaves.begins leaves.allowed in
     let grown = λ (r : Rec) (is : IsIn r at.old.records). records_grow laws.keeps at.new after at.rest next r at.later (laws.keeps at.old entry at.made at.new r at.step is) in
@@ -253,36 +257,21 @@ meets_pool laws h sectors entries calls next whole fit answers replay first past
     let sits = fit_before laws.stays h before at.first at.old entries (entry ∷ after) e whole fit at.replay in
     let lives = λ (twins : HasNoTwins next.records) (good : AreGood head_of p f.vs). history_survives head_of f.vs p begun (f.safe tracks (twins_then twins) begun good).0 in
     let stood = λ (twins : HasNoTwins next.records) (good : AreGood head_of p f.vs). (f.safe tracks (twins_then twins) begun good).1 in
-    let told = subst (λ s. AllAnswer s at.made) (sym there) mine in
-    (at, record {
-      follows = f;
-      survives = lives;
-      tracks = stood;
-      answers = λ twins good. record {
-        finds = λ i closed premises. laws.finds (pool_after f.vs p) at.old entry at.made at.new sits.0 (stood twins good) closed told i (twins_new twins) (lives twins good) premises;
-        reads = λ name s a asked named ours inside.
-            laws.reads (pool_after f.vs p) at.old entry at.made at.new name s a (laws.ours (pool_after f.vs p) at.old name s (stood twins good) named ours) (lives twins good) told at.step asked inside;
-        refuses = λ name s a level index shown asked named ours reply.
-            laws.refuses (pool_after f.vs p) at.old entry at.made at.new name s a level index shown (laws.ours (pool_after f.vs p) at.old name s (stood twins good) named ours) (lives twins good) told at.step asked reply;
-      };
-    })
-
--- A run keeps each pool.
-pub keeps_pools : LineLaws → (h : HostState) (sectors : Sectors) (entries : List Entry) (calls : List Noted) (next : HostState)
-    → AreWhole entries → IsFit h → AllAnswer sectors calls → (replay : Replay h entries calls next) → KeepsPools h sectors entries calls next replay
-keeps_pools laws h sectors entries calls next whole fit answers replay = record {
-  each = λ first past leaves tracks.
-      let p = pool_after past first in
-      let f = replay_follows laws.stays laws.keeps laws.line (TakesIn first.name h entries calls next replay) first.name p h entries calls next replay (λ d taken. taken) (name_kept past first)
-          whole fit (subst (λ s. AllAnswer s calls) (sym leaves.devices) answers) in
-      let left = history_survives head_of past first leaves.begins leaves.allowed in
+    let told = subst (λ s. AllAnswer s at.made) (sym there) mine in (
+      at,
       record {
         follows = f;
-        leaves = λ twins good. leaves_throughout first past sectors f.vs calls leaves f.one_run f.calls (f.safe tracks twins left good).0;
-        tracks = λ twins good. (f.safe tracks twins left good).1;
-      };
-  meets = meets_pool laws h sectors entries calls next whole fit answers replay;
-}
+        survives = lives;
+        tracks = stood;
+        answers = λ twins good. record {
+          finds = λ i closed premises. laws.finds (pool_after f.vs p) at.old entry at.made at.new sits.0 (stood twins good) closed told i (twins_new twins) (lives twins good) premises;
+          reads = λ name s a asked named ours inside.
+              laws.reads (pool_after f.vs p) at.old entry at.made at.new name s a (laws.ours (pool_after f.vs p) at.old name s (stood twins good) named ours) (lives twins good) told at.step asked inside;
+          refuses = λ name s a level index shown asked named ours reply.
+              laws.refuses (pool_after f.vs p) at.old entry at.made at.new name s a level index shown (laws.ours (pool_after f.vs p) at.old name s (stood twins good) named ours) (lives twins good) told at.step asked reply;
+        };
+      },
+    )
 
 pub goes_on : StaysFit → Keeps → FollowsLine → (T : ℕ → Type 0) (p : Pool) (old h : HostState) (made : List Noted) (entries : List Entry) (calls : List Noted) (next : HostState)
     (replay : Replay h entries calls next) → ((d : ℕ) → TakesIn p.name h entries calls next replay d → T d)
@@ -292,6 +281,60 @@ goes_on stays keeps line T p old h made entries calls next replay takes whole fi
     follows_more T p old h next made calls (λ r is. records_grow keeps h entries calls next r replay is) one
     (replay_follows stays keeps line T p.name (pool_after one.vs p) h entries calls next replay takes (name_kept one.vs p) whole fit
     (subst (λ sectors. AllAnswer sectors calls) (sym behind) answers))
+
+abbrev pub BeginsLine : Type 0
+BeginsLine = (h : HostState) (second : ℕ) (name : List ℕ) (blocks : ℕ) (first other : List ℕ) (seats : ℕ × ℕ) (made : List Noted) (next : HostState) (reply : Reply) (sectors : Sectors)
+    → IsFit h → IsTrue (is_name name) → IsTrue (is_name first) → IsTrue (is_name other) → is_bad_size blocks ≡ false → new_seats h blocks first other ≡ Some seats
+    → IsCreate h second name blocks first other made next reply
+    → IsBorn h.size (new_state h second name blocks first other seats) sectors made next ⊎ StampFails h.size (new_state h second name blocks first other seats) made
+
+born_goes_on : LineLaws → (h : HostState) (s : PoolState) (sectors : Sectors) (made : List Noted) (new : HostState) (after : List Entry) (rest : List Noted) (next : HostState)
+    (later : Replay new after rest next) → AreWhole after → IsFit new → AllAnswer sectors (made ++ rest) → IsBorn h.size s sectors made new ⊎ StampFails h.size s made
+    → BeginsPool h s sectors made new after rest next later
+born_goes_on laws h s sectors made new after rest next later whole fit answers (inr fails) = inr fails
+born_goes_on laws h s sectors made new after rest next later whole fit answers (inl b) =
+    let p = new_pool h.size s (run b.stamps sectors) in
+    let told = subst (λ at. AllAnswer at rest) (ap (λ cs. run cs sectors) b.all ∙ run_more b.stamps b.rest sectors) (answer_second made rest sectors answers) in
+    inl (
+      b,
+      goes_on laws.stays laws.keeps laws.line (TakesIn s.name new after rest next later) p b.between new b.rest after rest next later (λ d taken. taken) whole fit
+          (widen (λ d. ⊥) (TakesIn s.name new after rest next later) p b.between new b.rest (λ d none. absurd none) b.follows) told,
+    )
+
+names_in : (asked : Option Request) (name : List ℕ) (blocks : ℕ) (one other : List ℕ) → IsWhole asked → asked ≡ Some (requests.Create name blocks one other)
+    → IsWhole (Some (requests.Create name blocks one other))
+names_in asked name blocks one other whole is = subst IsWhole is whole
+
+begins_pool : LineLaws → BeginsLine → (h : HostState) (sectors : Sectors) (entries : List Entry) (calls : List Noted) (next : HostState) → AreWhole entries → IsFit h
+    → AllAnswer sectors calls → (before : List Entry) (entry : Entry) (after : List Entry) → entries ≡ before ++ entry ∷ after → (at : IsEntryOf h before entry after calls next)
+    → (name : List ℕ) (blocks : ℕ) (one other : List ℕ) (seats : ℕ × ℕ) → entry.asked ≡ Some (requests.Create name blocks one other) → is_bad_size blocks ≡ false
+    → new_seats at.old blocks one other ≡ Some seats → IsCreate at.old entry.second name blocks one other at.made at.new entry.reply
+    → BeginsPool at.old (new_state at.old entry.second name blocks one other seats) (run at.first sectors) at.made at.new after at.rest next at.later
+begins_pool laws begins h sectors entries calls next whole fit answers before entry after e at name blocks one other seats asked good found is =
+    let sits = fit_before laws.stays h before at.first at.old entries (entry ∷ after) e whole fit at.replay in
+    let names : IsWhole (Some (requests.Create name blocks one other)) = names_in entry.asked name blocks one other sits.1.0 asked in
+    let told = answer_second at.first (at.made ++ at.rest) sectors (subst (λ cs. AllAnswer sectors cs) at.all answers) in
+    born_goes_on laws at.old (new_state at.old entry.second name blocks one other seats) (run at.first sectors) at.made at.new after at.rest next at.later sits.1.1
+    (laws.stays at.old entry at.made at.new sits.1.0 sits.0 at.step) told
+    (begins at.old entry.second name blocks one other seats at.made at.new entry.reply (run at.first sectors) sits.0 names.0 names.1 names.2 good found is)
+
+-- A run keeps each pool.
+pub keeps_pools : LineLaws → BeginsLine → (h : HostState) (sectors : Sectors) (entries : List Entry) (calls : List Noted) (next : HostState)
+    → AreWhole entries → IsFit h → AllAnswer sectors calls → (replay : Replay h entries calls next) → KeepsPools h sectors entries calls next replay
+keeps_pools laws begins h sectors entries calls next whole fit answers replay = record {
+  each = λ first past leaves tracks.
+      let p = pool_after past first in
+      let f = replay_follows laws.stays laws.keeps laws.line (TakesIn first.name h entries calls next replay) first.name p h entries calls next replay (λ d taken. taken) (name_kept past first)
+      whole fit (subst (λ s. AllAnswer s calls) (sym leaves.devices) answers) in
+      let left = history_survives head_of past first leaves.begins leaves.allowed in
+      record {
+        follows = f;
+        leaves = λ twins good. leaves_throughout first past sectors f.vs calls leaves f.one_run f.calls (f.safe tracks twins left good).0;
+        tracks = λ twins good. (f.safe tracks twins left good).1;
+      };
+  meets = meets_pool laws h sectors entries calls next whole fit answers replay;
+  births = begins_pool laws begins h sectors entries calls next whole fit answers;
+}
 
 pub next_run : (p : Pool) (h : HostState) (images : ℕ → ℕ → List ℕ) (table : List HostDevice) (size : ℕ → ℕ) (records : List Rec)
     → (tracks : Tracks p h) → ((d : ℕ) → size d ≡ h.size d) → ((r : Rec) → IsIn r h.records → IsIn r records)

@@ -1,5 +1,5 @@
 -- Pools that a history creates, and what stands between two runs.
-use Rattle.std.specs.Prelude.{◌≡◌, ◌⊎◌, ℕ, ◌==◌, ◌||◌, cond, List, [], ◌∷◌, ◌++◌, take, length, ◌≤◌, Option, Some, None}
+use Rattle.std.specs.Prelude.{◌≡◌, ◌⊎◌, ℕ, ◌==◌, ◌||◌, cond, List, [], ◌++◌, take, length, ◌≤◌, Option, Some, None}
 use Rattle.bank_core.specs.declared.bank.Fault.{Fault}
 use Rattle.bank_core.specs.Asks.{IsPart}
 use Rattle.bank_core.specs.Disk.{Noted, Sectors, run}
@@ -7,12 +7,11 @@ use Rattle.label_store.specs.Plans.{stamp_plan}
 use Rattle.pool_history.specs.Events.{Event, calls_of}
 use Rattle.pool_history.specs.Moves.{Mays}
 use Rattle.pool_history.specs.Pools.{Pool, pool_after, stamped}
-use Rattle.pool_history.specs.Premises.{AreGood}
 use Rattle.pool_history.specs.Survival.{Survives}
 use Rattle.pool_core.specs.Heads.{head_of}
 use Rattle.pool_core.specs.State.{LeafState, PoolState}
-use Rattle.host_machine.specs.Machine.{HostState, Entry, Step, Replay}
-use Rattle.host_machine.specs.Tracking.{Takes, Tracks, Follows, HasNoTwins}
+use Rattle.host_machine.specs.Machine.{HostState}
+use Rattle.host_machine.specs.Tracking.{Tracks, Follows}
 
 -- the pool of this state behind the stamps of its leaves, on these sectors
 abbrev pub new_pool : (size : ℕ → ℕ) → PoolState → Sectors → Pool

@@ -1,6 +1,6 @@
 -- What a run does to the pools that its devices had left.
-use Rattle.std.specs.Prelude.{◌≡◌, ◌⊎◌, ℕ, ◌<◌, true, List, [], ◌∷◌, ◌++◌, Some, None}
-use Rattle.bank_core.specs.Disk.{Noted, Sectors}
+use Rattle.std.specs.Prelude.{◌≡◌, ◌⊎◌, ℕ, ◌<◌, true, false, List, [], ◌∷◌, ◌++◌, Some, None}
+use Rattle.bank_core.specs.Disk.{Noted, Sectors, run}
 use Rattle.pool_wire.specs.declared.reply.NamedLeaf.{NamedLeaf}
 use Rattle.pool_wire.specs.declared.reply.Reply.TheVariants as replies
 use Rattle.pool_wire.specs.declared.request.Request.TheVariants as requests
@@ -12,9 +12,9 @@ use Rattle.pool_history.specs.Survival.{Survives}
 use Rattle.pool_core.specs.Heads.{head_of}
 use Rattle.pool_core.specs.State.{PoolState}
 use Rattle.host_machine.specs.Answering.{IsLost, HasClash, IsExcused}
-use Rattle.host_machine.specs.Births.{LeavesPool, LeavesThroughout}
+use Rattle.host_machine.specs.Births.{IsBorn, StampFails, LeavesPool, LeavesThroughout, new_pool}
 use Rattle.host_machine.specs.Devices.{all_handed}
-use Rattle.host_machine.specs.Machine.{HostState, Entry, IsImport, Step, Replay, named_pool}
+use Rattle.host_machine.specs.Machine.{HostState, Entry, is_bad_size, new_seats, new_state, IsCreate, IsImport, Step, Replay, named_pool}
 use Rattle.host_machine.specs.Tracking.{Takes, Tracks, Follows, FindsPool, HasNoTwins, is_ours}
 
 -- a line of a run takes this device from the pool of this name
@@ -64,10 +64,22 @@ pub record MeetsPool (first : Pool) (past : List Event) (h : HostState) (before 
   pub answers : HasNoTwins next.records → AreGood head_of (pool_after past first) follows.vs
       → AnswersOf (pool_after follows.vs (pool_after past first)) at.old entry at.made at.new
 
--- What a run does to each pool that its devices had left: it keeps it, and each of its entries meets it.
+-- A create with its devices found made these calls, and this is the rest of the run. Behind both stamps a pool
+-- began that survives, and the calls from there to the run's end are of its history; or a stamp failed.
+abbrev pub BeginsPool : (h : HostState) → PoolState → Sectors → (made : List Noted) → (new : HostState) → (after : List Entry) → (rest : List Noted) → (next : HostState) → Replay new after rest next → Type 0
+BeginsPool h s sectors made new after rest next later =
+    ((b : IsBorn h.size s sectors made new) × Follows (new_pool h.size s (run b.stamps sectors)) b.between (TakesIn s.name new after rest next later) (b.rest ++ rest) next)
+    ⊎ StampFails h.size s made
+
+-- What a run does to each pool that its devices had left, it keeps it, and each of its entries meets it; and to
+-- each pool that it makes.
 pub record KeepsPools (h : HostState) (sectors : Sectors) (entries : List Entry) (calls : List Noted) (next : HostState) (replay : Replay h entries calls next) : Type 0 where
   pub each : (first : Pool) (past : List Event) → LeavesPool first past sectors → Tracks (pool_after past first) h
       → KeepsPool first past h sectors (TakesIn first.name h entries calls next replay) calls next
   pub meets : (first : Pool) (past : List Event) → LeavesPool first past sectors → Tracks (pool_after past first) h
       → (before : List Entry) (entry : Entry) (after : List Entry) → entries ≡ before ++ entry ∷ after
       → (at : IsEntryOf h before entry after calls next) × MeetsPool first past h before entry after calls next at
+  pub births : (before : List Entry) (entry : Entry) (after : List Entry) → entries ≡ before ++ entry ∷ after → (at : IsEntryOf h before entry after calls next)
+      → (name : List ℕ) (blocks : ℕ) (one other : List ℕ) (seats : ℕ × ℕ) → entry.asked ≡ Some (requests.Create name blocks one other) → is_bad_size blocks ≡ false
+      → new_seats at.old blocks one other ≡ Some seats → IsCreate at.old entry.second name blocks one other at.made at.new entry.reply
+      → BeginsPool at.old (new_state at.old entry.second name blocks one other seats) (run at.first sectors) at.made at.new after at.rest next at.later

@@ -12,7 +12,9 @@ ghost use Rattle.host_machine.specs.Machine.{HostState, Entry, Replay, started};
 ghost use Rattle.host_machine.specs.Tracking.{Tracks, Follows};
 
 use crate::answers::good_member_answers;
-use crate::laws::{hosts_stay_fit, imports_find_the_pool, lines_follow_each_pool};
+use crate::laws::{
+    creates_begin_a_pool, hosts_stay_fit, imports_find_the_pool, lines_follow_each_pool,
+};
 
 /// A run keeps each pool that its devices had left: at each of its moments they are left by the pool's
 /// history so far.
@@ -28,6 +30,7 @@ pub fn runs_keep_each_pool()
     hosts_stay_fit();
     lines_follow_each_pool();
     imports_find_the_pool();
+    creates_begin_a_pool();
     good_member_answers();
 }
 

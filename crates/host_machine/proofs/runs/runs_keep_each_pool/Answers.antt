@@ -11,7 +11,7 @@ returns-clause-run c = keeps_pools (record {
   ours = c.good_member_answers.ensures.ours;
   reads = c.good_member_answers.ensures.answers;
   refuses = c.good_member_answers.ensures.refuses;
-})
+}) c.creates_begin_a_pool.ensures.begins
 
 pub returns-clause-entry : goal.returns-clause-entry
 returns-clause-entry c = entry_of
