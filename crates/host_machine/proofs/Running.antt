@@ -1,22 +1,30 @@
 -- A run's entries, one after another, over a pool's history.
-use Rattle.std.proofs.Common.{◌≡◌, ⊎_elim, true, ℕ, zero, suc, List, [], ◌∷◌, ◌++◌, take, Some, refl, sym, ap, subst, ◌∙◌, append_assoc, inl, inr}
+use Rattle.std.proofs.Common.{◌≡◌, ⊎_elim, true, ℕ, zero, suc, List, [], ◌∷◌, ◌++◌, take, Some, None, refl, sym, ap, subst, ◌∙◌, append_assoc, inl, inr, ◌<◌, ◌⊎◌}
 use Rattle.bank_core.specs.Disk.{Noted, Sectors, AllAnswer, run}
-use Rattle.pool_history.specs.Events.{Event, Calls, Accepts, Looks, Opens, Begins, Third, Ends, Acks, Loses, Stops, IsOneRun, calls_of}
+use Rattle.pool_history.specs.Events.{Event, Calls, Accepts, Looks, Opens, Begins, Third, Ends, Acks, Loses, Stops, IsOneRun, as_events, calls_of}
 use Rattle.pool_history.specs.Moves.{Mays}
 use Rattle.pool_history.specs.Pools.{Pool, after, pool_after}
-use Rattle.pool_history.specs.Premises.{AreGood}
+use Rattle.pool_history.specs.Looks.{known_by}
+use Rattle.pool_history.specs.Premises.{Premises, AreGood}
 use Rattle.pool_history.specs.Records.{Rec, IsIn}
+use Rattle.pool_history.specs.Survival.{Survives}
 use Rattle.pool_history.proofs.Folding.{name_kept, pool_more, mays_more, mays_front, calls_more, moment_of, run_sectors, stops_never_more}
 use Rattle.pool_history.proofs.Surviving.{history_survives}
 use Rattle.pool_history.proofs.LookedParts.{answer_first, answer_second}
+use Rattle.pool_wire.specs.declared.reply.NamedLeaf.{NamedLeaf}
+use Rattle.pool_wire.specs.declared.reply.Reply.TheVariants as replies
+use Rattle.pool_wire.specs.declared.request.Request.TheVariants as requests
 use Rattle.pool_core.specs.Heads.{head_of}
+use Rattle.pool_core.specs.State.{PoolState}
 use Rattle.host_machine.specs.declared.device.HostDevice.{HostDevice}
-use Rattle.host_machine.specs.Births.{TakesIn, LeavesPool, LeavesThroughout, KeepsPools, IsEntryOf}
-use Rattle.host_machine.specs.Devices.{number_in}
+use Rattle.host_machine.specs.Births.{LeavesPool, LeavesThroughout}
+use Rattle.host_machine.specs.Runs.{TakesIn, KeepsPools, IsEntryOf, MeetsPool}
+use Rattle.host_machine.specs.Answering.{IsOpenIn, IsLost, HasClash, IsExcused}
+use Rattle.host_machine.specs.Devices.{all_handed, number_in}
 use Rattle.host_machine.specs.Fitness.{IsFit, IsWhole, AreWhole}
-use Rattle.host_machine.specs.Machine.{HostState, Entry, Step, Replay, started}
+use Rattle.host_machine.specs.Machine.{HostState, Entry, IsImport, Step, Replay, started, named_pool}
+use Rattle.host_machine.specs.Tracking.{Takes, Tracks, Follows, FindsPool, HasNoTwins, is_ours}
 use Rattle.host_machine.proofs.LookMarks.{looked_then}
-use Rattle.host_machine.specs.Tracking.{Takes, Tracks, Follows, HasNoTwins}
 
 -- the laws of one line
 abbrev pub StaysFit : Type 0
@@ -165,22 +173,6 @@ leaves_throughout first past sectors vs made leaves one calls mays = record {
   );
 }
 
--- A run keeps each pool.
-pub keeps_pools : StaysFit → Keeps → FollowsLine → (h : HostState) (sectors : Sectors) (entries : List Entry) (calls : List Noted) (next : HostState)
-    → AreWhole entries → IsFit h → AllAnswer sectors calls → (replay : Replay h entries calls next) → KeepsPools h sectors entries calls next replay
-keeps_pools stays keeps line h sectors entries calls next whole fit answers replay = record {
-  each = λ first past leaves tracks.
-      let p = pool_after past first in
-      let f = replay_follows stays keeps line (TakesIn first.name h entries calls next replay) first.name p h entries calls next replay (λ d taken. taken) (name_kept past first)
-      whole fit (subst (λ s. AllAnswer s calls) (sym leaves.devices) answers) in
-      let left = history_survives head_of past first leaves.begins leaves.allowed in
-      record {
-        follows = f;
-        leaves = λ twins good. leaves_throughout first past sectors f.vs calls leaves f.one_run f.calls (f.safe tracks twins left good).0;
-        tracks = λ twins good. (f.safe tracks twins left good).1;
-      };
-}
-
 pub entry_of : (h : HostState) (before : List Entry) (entry : Entry) (after : List Entry) (calls : List Noted) (next : HostState)
     → Replay h (before ++ entry ∷ after) calls next → IsEntryOf h before entry after calls next
 entry_of h [] entry after calls next r = record {
@@ -207,6 +199,99 @@ entry_of h (e ∷ before) entry after calls next r =
       step = i.step;
       later = i.later;
     }
+
+-- the laws of what a line answers
+abbrev pub FindsLine : Type 0
+FindsLine = (p : Pool) (h : HostState) (entry : Entry) (made : List Noted) (next : HostState) → IsFit h → Tracks p h → h.pool ≡ None
+    → AllAnswer p.sectors made → (i : IsImport h p.name made next entry.reply) → HasNoTwins next.records → Survives head_of p
+    → Premises head_of (pool_after (as_events i.reads) p) (known_by h.size (all_handed h.table) i.looks) → FindsPool p entry.reply next
+
+abbrev pub OursLine : Type 0
+OursLine = (p : Pool) (h : HostState) (name : List ℕ) (s : PoolState) → Tracks p h → named_pool name h.pool ≡ Some s → is_ours p s ≡ true → IsOpenIn p h name s
+
+abbrev pub ReadsLine : Type 0
+ReadsLine = (p : Pool) (h : HostState) (entry : Entry) (made : List Noted) (next : HostState) (name : List ℕ) (s : PoolState) (a : ℕ)
+    → IsOpenIn p h name s → Survives head_of p → AllAnswer p.sectors made → Step h entry made next → entry.asked ≡ Some (requests.Read name a)
+    → a < s.blocks → (entry.reply ≡ replies.Data (p.written a)) ⊎ (IsLost p s a made ⊎ IsExcused h entry made)
+
+abbrev pub RefusesLine : Type 0
+RefusesLine = (p : Pool) (h : HostState) (entry : Entry) (made : List Noted) (next : HostState) (name : List ℕ) (s : PoolState) (a level index : ℕ) (named : List NamedLeaf)
+    → IsOpenIn p h name s → Survives head_of p → AllAnswer p.sectors made → Step h entry made next → entry.asked ≡ Some (requests.Read name a)
+    → entry.reply ≡ replies.Exhausted level index named → IsLost p s a made ⊎ HasClash h entry made
+
+pub record LineLaws : Type 0 where
+  pub stays : StaysFit
+  pub keeps : Keeps
+  pub line : FollowsLine
+  pub finds : FindsLine
+  pub ours : OursLine
+  pub reads : ReadsLine
+  pub refuses : RefusesLine
+
+fit_before : StaysFit → (h : HostState) (before : List Entry) (calls : List Noted) (next : HostState) (entries after : List Entry) → entries ≡ before ++ after → AreWhole entries → IsFit h
+    → Replay h before calls next → IsFit next × AreWhole after
+fit_before stays h [] calls next entries after e whole fit replay = (subst IsFit (sym replay.1) fit, subst AreWhole e whole)
+fit_before stays h (entry ∷ before) calls next entries after e whole fit replay =
+    let all : AreWhole (entry ∷ (before ++ after)) = subst AreWhole e whole in
+    fit_before stays replay.2 before replay.1 next (before ++ after) after refl all.1 (stays h entry replay.0 replay.2 all.0 fit replay.4) replay.5
+
+whole_before : (before after : List Entry) → AreWhole (before ++ after) → AreWhole before
+whole_before [] after whole = tt
+whole_before (entry ∷ before) after whole = (whole.0, whole_before before after whole.1)
+
+meets_pool : LineLaws → (h : HostState) (sectors : Sectors) (entries : List Entry) (calls : List Noted) (next : HostState) → AreWhole entries → IsFit h
+    → AllAnswer sectors calls → Replay h entries calls next → (first : Pool) (past : List Event) → LeavesPool first past sectors → Tracks (pool_after past first) h
+    → (before : List Entry) (entry : Entry) (after : List Entry) → entries ≡ before ++ entry ∷ after
+    → (at : IsEntryOf h before entry after calls next) × MeetsPool first past h before entry after calls next at
+meets_pool laws h sectors entries calls next whole fit answers replay first past leaves tracks before entry after e =
+    let at = entry_of h before entry after calls next (subst (λ es. Replay h es calls next) e replay) in
+    let p = pool_after past first in
+    let all = subst (λ cs. AllAnswer sectors cs) at.all answers in
+    let front = answer_first at.first (at.made ++ at.rest) sectors all in
+    let behind = answer_second at.first (at.made ++ at.rest) sectors all in
+    let mine = answer_first at.made at.rest (run at.first sectors) behind in
+    let f = replay_follows laws.stays laws.keeps laws.line (TakesIn first.name h before at.first at.old at.replay) first.name p h before at.first at.old at.replay (λ d taken. taken)
+    (name_kept past first) (whole_before before (entry ∷ after) (subst AreWhole e whole)) fit (subst (λ s. AllAnswer s at.first) (sym leaves.devices) front) in
+    let there = run_sectors f.vs p f.one_run ∙ ap (λ cs. run cs p.sectors) f.calls ∙ ap (λ s. run at.first s) leaves.devices in
+    let begun = history_survives head_of past first leaves.begins leaves.allowed in
+    let grown = λ (r : Rec) (is : IsIn r at.old.records). records_grow laws.keeps at.new after at.rest next r at.later (laws.keeps at.old entry at.made at.new r at.step is) in
+    let twins_then = λ (twins : HasNoTwins next.records). twins_before at.old.records next.records grown twins in
+    let twins_new = λ (twins : HasNoTwins next.records). twins_before at.new.records next.records (λ r is. records_grow laws.keeps at.new after at.rest next r at.later is) twins in
+    let sits = fit_before laws.stays h before at.first at.old entries (entry ∷ after) e whole fit at.replay in
+    let lives = λ (twins : HasNoTwins next.records) (good : AreGood head_of p f.vs). history_survives head_of f.vs p begun (f.safe tracks (twins_then twins) begun good).0 in
+    let stood = λ (twins : HasNoTwins next.records) (good : AreGood head_of p f.vs). (f.safe tracks (twins_then twins) begun good).1 in
+    let told = subst (λ s. AllAnswer s at.made) (sym there) mine in (
+      at,
+      record {
+        follows = f;
+        survives = lives;
+        tracks = stood;
+        answers = λ twins good. record {
+          finds = λ i closed premises. laws.finds (pool_after f.vs p) at.old entry at.made at.new sits.0 (stood twins good) closed told i (twins_new twins) (lives twins good) premises;
+          reads = λ name s a asked named ours inside.
+              laws.reads (pool_after f.vs p) at.old entry at.made at.new name s a (laws.ours (pool_after f.vs p) at.old name s (stood twins good) named ours) (lives twins good) told at.step asked inside;
+          refuses = λ name s a level index shown asked named ours reply.
+              laws.refuses (pool_after f.vs p) at.old entry at.made at.new name s a level index shown (laws.ours (pool_after f.vs p) at.old name s (stood twins good) named ours) (lives twins good) told at.step asked reply;
+        };
+      },
+    )
+
+-- A run keeps each pool.
+pub keeps_pools : LineLaws → (h : HostState) (sectors : Sectors) (entries : List Entry) (calls : List Noted) (next : HostState)
+    → AreWhole entries → IsFit h → AllAnswer sectors calls → (replay : Replay h entries calls next) → KeepsPools h sectors entries calls next replay
+keeps_pools laws h sectors entries calls next whole fit answers replay = record {
+  each = λ first past leaves tracks.
+      let p = pool_after past first in
+      let f = replay_follows laws.stays laws.keeps laws.line (TakesIn first.name h entries calls next replay) first.name p h entries calls next replay (λ d taken. taken) (name_kept past first)
+      whole fit (subst (λ s. AllAnswer s calls) (sym leaves.devices) answers) in
+      let left = history_survives head_of past first leaves.begins leaves.allowed in
+      record {
+        follows = f;
+        leaves = λ twins good. leaves_throughout first past sectors f.vs calls leaves f.one_run f.calls (f.safe tracks twins left good).0;
+        tracks = λ twins good. (f.safe tracks twins left good).1;
+      };
+  meets = meets_pool laws h sectors entries calls next whole fit answers replay;
+}
 
 pub goes_on : StaysFit → Keeps → FollowsLine → (T : ℕ → Type 0) (p : Pool) (old h : HostState) (made : List Noted) (entries : List Entry) (calls : List Noted) (next : HostState)
     (replay : Replay h entries calls next) → ((d : ℕ) → TakesIn p.name h entries calls next replay d → T d)
