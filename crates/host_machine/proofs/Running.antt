@@ -28,6 +28,7 @@ use Rattle.host_machine.specs.Devices.{all_handed, number_in}
 use Rattle.host_machine.specs.Fitness.{IsFit, IsWhole, AreWhole}
 use Rattle.host_machine.specs.Machine.{HostState, Entry, is_bad_size, new_seats, new_state, IsCreate, IsImport, Step, Replay, started, named_pool}
 use Rattle.host_machine.specs.Tracking.{Takes, Tracks, Follows, FindsPool, HasNoTwins, is_ours}
+use Rattle.host_machine.proofs.LookMarks.{looked_then}
 
 -- the laws of one line
 abbrev pub StaysFit : Type 0
@@ -82,6 +83,8 @@ no_calls T p h next calls none same = record {
   vs = [];
   calls = sym none;
   one_run = tt;
+  devices = (ap (λ (g : HostState). g.table) same, ap (λ (g : HostState). g.size) same);
+  looked = tt;
   keeps = λ d is. inl is;
   safe = λ tracks twins left good. (tt, subst (λ g. Tracks p g) (sym same) tracks);
 }
@@ -93,6 +96,8 @@ follows_more T p h between next made more grow one two = record {
   vs = one.vs ++ two.vs;
   calls = calls_more one.vs two.vs ∙ ap (λ cs. cs ++ calls_of two.vs) one.calls ∙ ap (λ cs. made ++ cs) two.calls;
   one_run = stops_never_more one.vs two.vs one.one_run two.one_run;
+  devices = (two.devices.0 ∙ one.devices.0, two.devices.1 ∙ one.devices.1);
+  looked = looked_then h between one.vs two.vs one.devices.1 one.devices.0 one.looked two.looked;
   keeps = λ d is. ⊎_elim {A = (pool_after one.vs p).member d ≡ true} {B = T d}
       (λ still. ⊎_elim {A = (pool_after two.vs (pool_after one.vs p)).member d ≡ true} {B = T d}
       (λ yet. inl (ap (λ (q : Pool). q.member d) (pool_more one.vs two.vs p) ∙ yet)) (λ taken. inr taken) (two.keeps d still))
@@ -109,6 +114,8 @@ widen S T p h next made more f = record {
   vs = f.vs;
   calls = f.calls;
   one_run = f.one_run;
+  devices = f.devices;
+  looked = f.looked;
   keeps = λ d is. ⊎_elim {A = (pool_after f.vs p).member d ≡ true} {B = S d} (λ still. inl still) (λ taken. inr (more d taken)) (f.keeps d is);
   safe = f.safe;
 }
