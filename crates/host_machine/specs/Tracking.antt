@@ -120,8 +120,9 @@ AreLooked h calls (Loses d ∷ vs) = AreLooked h calls vs
 AreLooked h calls (Stops images ∷ vs) = AreLooked h calls vs
 
 -- These calls led the machine from one host to the next. They are those of a history of the pool without a
--- stop: its events exist whatever the pool is, it loses no device but one that was taken, and premises are
--- asked for only where the calls looked at all labels, and of what they found; and where the pool stood in the old host, they are moves that it may make, and it stands in the new host as they leave it.
+-- stop. Its events exist whatever the pool is; it loses no device but one that was taken; and premises are
+-- asked for only where the calls looked at all labels, and of what they found. Where the pool stood in the
+-- old host, the events are moves that it may make, and it stands in the new host as they leave it.
 pub record Follows (p : Pool) (h : HostState) (IsTaken : ℕ → Type 0) (made : List Noted) (next : HostState) : Type 0 where
   pub vs : List Event
   pub calls : calls_of vs ≡ made
