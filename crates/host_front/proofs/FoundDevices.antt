@@ -1,13 +1,20 @@
 -- Look-ups, one after another.
-use Rattle.std.proofs.Common.{◌≡◌, ℕ, ◌+◌, ◌<◌, ◌≤◌, List, [], ◌∷◌, ◌++◌, Bool, Option, Some, take, refl, sym, ◌∙◌, ap, subst, inl, inr, ◌⊎◌, arith}
-use Rattle.std.specs.Prelude.{slice_get}
+use Rattle.std.proofs.Common.{◌≡◌, ◌≢◌, ℕ, zero, suc, ◌+◌, ◌<◌, ◌≤◌, List, [], ◌∷◌, ◌++◌, Bool, true, false, cond, Option, Some, None, bytes_eq, take, refl, sym, ◌∙◌, ap, subst, inl, inr, ◌⊎◌, arith}
+use Rattle.std.specs.Prelude.{slice_get, nat_le}
 use Rattle.std.proofs.lemmas.List.{take_more}
+use Rattle.std.proofs.lemmas.Slice.Eq.{bytes_eq-Decides}
 use Rattle.std.proofs.lemmas.Option.{get_or_from_slice_get, slice_get_within}
 use Rattle.mp_base.specs.Outside.{Rose}
 use Rattle.bank_core.specs.Absent.{IsAbsent}
-use Rattle.host_front.specs.declared.device.HostDevice.{HostDevice}
+use Rattle.host_machine.specs.declared.device.HostDevice.{HostDevice}
+use Rattle.host_machine.specs.Devices.{number_in, handed, front, all_handed, AreApart}
+use Rattle.pool_history.specs.Looks.{AreDistinct}
+use Rattle.host_machine.specs.Fitness.{AreSized}
 use Rattle.host_front.specs.FixedHost.{host_devices}
-use Rattle.host_front.specs.Standing.{IsLookedUp, AreLookedUp, AreSized, LooksUp}
+use Rattle.host_front.specs.Standing.{IsLookedUp, AreLookedUp, LooksUp}
+
+none_some : (d : ℕ) → None ≡ Some d → ⊥
+none_some d e = cc
 
 at_most_on : (before mid after : ℕ) → before ≤ mid → mid ≤ after → before ≤ after
 at_most_on before mid after l m = omega arith
@@ -81,3 +88,123 @@ found_next number_of number_of' size size' names names' before mid after i table
     (looked_up_more number_of' size' names before mid after le (take i host_devices) table its.named device
     (looked_up_on number_of number_of' size size' names keeps sizes before mid mid (at_most_on mid mid mid (omega arith) (omega arith)) (take i host_devices) table found)
     its.looked_up)
+
+-- Where no two names have one number, no two devices of the table are one.
+
+a_number : (number_of : List ℕ → Option ℕ) (size : ℕ → ℕ) (names : Option (List (List ℕ))) (before after : ℕ) (named : List (List ℕ × Bool)) (table : List HostDevice)
+    → AreLookedUp number_of size names before after named table → (name : List ℕ) (d : ℕ) → number_in name table ≡ Some d → number_of name ≡ Some d
+a_number number_of size names before after [] table l name d is = absurd (none_some d (sym (ap (number_in name) l.0) ∙ is))
+a_number number_of size names before after (n ∷ named) [] l name d is = absurd l
+a_number number_of size names before after (n ∷ named) (device ∷ table) l name d is =
+    cases (bytes_eq device.name name) refl is (λ more. a_number number_of size names l.0 after named table l.3 name d more)
+  where
+    cases : (t : Bool) → bytes_eq device.name name ≡ t → cond t device.dev (number_in name table) ≡ Some d → (number_in name table ≡ Some d → number_of name ≡ Some d)
+        → number_of name ≡ Some d
+    cases true same here later = ap number_of (sym ((bytes_eq-Decides device.name name).0 same) ∙ l.2.name) ∙ (l.2.found d here).0
+    cases false other more later = later more
+
+-- The host's names differ from one another.
+
+-- this name differs from each of these
+abbrev pub Differs : List ℕ → List (List ℕ × Bool) → Type 0
+Differs name [] = Unit {0}
+Differs name (n ∷ named) = (name ≢ n.0) × Differs name named
+
+abbrev pub AllDiffer : List (List ℕ × Bool) → Type 0
+AllDiffer [] = Unit {0}
+AllDiffer (n ∷ named) = Differs n.0 named × AllDiffer named
+
+-- one of them has this name
+abbrev HasName : List ℕ → List (List ℕ × Bool) → Type 0
+HasName name [] = ⊥
+HasName name (n ∷ named) = (name ≡ n.0) ⊎ HasName name named
+
+unequal : (one other : List ℕ) → bytes_eq one other ≡ false → one ≢ other
+unequal one other test same = absurd (let no : true ≡ false = sym ((bytes_eq-Decides one other).1 same) ∙ test in cc)
+
+host_differs : AllDiffer host_devices
+host_differs =
+    ((unequal _ _ refl, (unequal _ _ refl, (unequal _ _ refl, (unequal _ _ refl, (unequal _ _ refl, (unequal _ _ refl, tt)))))), ((unequal _ _ refl, (unequal _ _ refl, (unequal _ _ refl, (unequal _ _ refl, (unequal _ _ refl, tt))))), ((unequal _ _ refl, (unequal _ _ refl, (unequal _ _ refl, (unequal _ _ refl, tt)))), ((unequal _ _ refl, (unequal _ _ refl, (unequal _ _ refl, tt))), ((unequal _ _ refl, (unequal _ _ refl, tt)), ((unequal _ _ refl, tt), (tt, tt)))))))
+
+front_differs : (name : List ℕ) (named : List (List ℕ × Bool)) (k : ℕ) → Differs name named → Differs name (take k named)
+front_differs name named zero d = tt
+front_differs name [] (suc k) d = tt
+front_differs name (n ∷ named) (suc k) d = (d.0, front_differs name named k d.1)
+
+all_front : (named : List (List ℕ × Bool)) (k : ℕ) → AllDiffer named → AllDiffer (take k named)
+all_front named zero d = tt
+all_front [] (suc k) d = tt
+all_front (n ∷ named) (suc k) d = (front_differs n.0 named k d.0, all_front named k d.1)
+
+pub fronts_differ : (k : ℕ) → AllDiffer (take k host_devices)
+fronts_differ k = all_front host_devices k host_differs
+
+not_there : (name : List ℕ) (named : List (List ℕ × Bool)) → Differs name named → HasName name named → ⊥
+not_there name [] d has = absurd has
+not_there name (n ∷ named) d (inl here) = d.0 here
+not_there name (n ∷ named) d (inr later) = not_there name named d.1 later
+
+handed_dev : (device : HostDevice) (d : ℕ) → handed device ≡ Some d → device.dev ≡ Some d
+handed_dev device d is = by_test (nat_le 320 device.sectors) is
+  where
+    by_test : (t : Bool) → cond t device.dev None ≡ Some d → device.dev ≡ Some d
+    by_test true e = e
+    by_test false e = absurd (none_some d e)
+
+same_dev : (d e : ℕ) → Some d ≡ Some e → d ≡ e
+same_dev d e is = cc
+
+-- each device that is handed has a number by one of the names
+handed_named : (number_of : List ℕ → Option ℕ) (size : ℕ → ℕ) (names : Option (List (List ℕ))) (before after : ℕ) (named : List (List ℕ × Bool)) (table : List HostDevice)
+    → AreLookedUp number_of size names before after named table → (j e : ℕ) → slice_get (all_handed table) j ≡ Some e
+    → (name : List ℕ) × HasName name named × (number_of name ≡ Some e)
+handed_named number_of size names before after [] table l j e is = absurd (none_some e (sym (ap (λ t. slice_get (all_handed t) j) l.0) ∙ is))
+handed_named number_of size names before after (n ∷ named) [] l j e is = absurd l
+handed_named number_of size names before after (n ∷ named) (device ∷ table) l j e is =
+    cases (handed device) refl j is (λ k later. handed_named number_of size names l.0 after named table l.3 k e later)
+  where
+    later_named : (name : List ℕ) × HasName name named × (number_of name ≡ Some e) → (name : List ℕ) × HasName name (n ∷ named) × (number_of name ≡ Some e)
+    later_named (name, has, at) = (name, inr has, at)
+
+    cases : (o : Option ℕ) → handed device ≡ o → (k : ℕ) → slice_get (front o (all_handed table)) k ≡ Some e
+        → ((k : ℕ) → slice_get (all_handed table) k ≡ Some e → (name : List ℕ) × HasName name named × (number_of name ≡ Some e))
+        → (name : List ℕ) × HasName name (n ∷ named) × (number_of name ≡ Some e)
+    cases None same k here more = later_named (more k here)
+    cases (Some d) same zero here more = (n.0, inl refl, (l.2.found e (handed_dev device e (same ∙ here))).0)
+    cases (Some d) same (suc k) here more = later_named (more k here)
+
+handed_apart : (number_of : List ℕ → Option ℕ) (size : ℕ → ℕ) (names : Option (List (List ℕ))) (before after : ℕ) (named : List (List ℕ × Bool)) (table : List HostDevice)
+    → ((one other : List ℕ) (d : ℕ) → number_of one ≡ Some d → number_of other ≡ Some d → one ≡ other) → AllDiffer named
+    → AreLookedUp number_of size names before after named table → AreDistinct (all_handed table)
+handed_apart number_of size names before after [] table apart differ l =
+    λ i j d e one other lt same. none_some d (sym (ap (λ t. slice_get (all_handed t) i) l.0) ∙ one)
+handed_apart number_of size names before after (n ∷ named) [] apart differ l = absurd l
+handed_apart number_of size names before after (n ∷ named) (device ∷ table) apart differ l =
+    cases (handed device) refl (handed_apart number_of size names l.0 after named table apart differ.1 l.3)
+  where
+    meets : (d e k : ℕ) → handed device ≡ Some d → slice_get (all_handed table) k ≡ Some e → d ≡ e → ⊥
+    meets d e k is later same =
+        let other = handed_named number_of size names l.0 after named table l.3 k e later in
+        let here = (l.2.found d (handed_dev device d is)).0 in
+        not_there n.0 named differ.0 (subst (λ name. HasName name named) (sym (apart n.0 other.0 e (here ∙ ap Some same) other.2)) other.1)
+
+    behind : (d : ℕ) → handed device ≡ Some d → AreDistinct (all_handed table) → AreDistinct (d ∷ all_handed table)
+    behind d is rest zero zero x y one other lt same = omega (arith, lt)
+    behind d is rest zero (suc k) x y one other lt same = meets d y k is other (same_dev d x one ∙ same)
+    behind d is rest (suc i) zero x y one other lt same = omega (arith, lt)
+    behind d is rest (suc i) (suc k) x y one other lt same = rest i k x y one other (omega (arith, lt)) same
+
+    cases : (o : Option ℕ) → handed device ≡ o → AreDistinct (all_handed table) → AreDistinct (front o (all_handed table))
+    cases None is rest = rest
+    cases (Some d) is rest = behind d is rest
+
+pub are_apart : (number_of : List ℕ → Option ℕ) (size : ℕ → ℕ) (names : Option (List (List ℕ))) (before after : ℕ) (named : List (List ℕ × Bool)) (table : List HostDevice)
+    → ((one other : List ℕ) (d : ℕ) → number_of one ≡ Some d → number_of other ≡ Some d → one ≡ other)
+    → AllDiffer named → AreLookedUp number_of size names before after named table → AreApart table
+are_apart number_of size names before after named table apart differ l = record {
+  by = λ one other d a b. apart one other d (a_number number_of size names before after named table l one d a) (a_number number_of size names before after named table l other d b);
+  handed = handed_apart number_of size names before after named table apart differ l;
+}
+
+pub apart_none : AreApart []
+apart_none = record { by = λ one other d a b. absurd (none_some d a); handed = λ i j d e one other lt same. none_some d one }

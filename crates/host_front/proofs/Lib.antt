@@ -1,19 +1,18 @@
 mod Answering
 mod Creating
+mod Ending
 mod Feedings
 mod FoundDevices
 mod Handling
-mod KeptCommits
-mod KeptHistory
-mod KeptLaws
-mod KeptLines
-mod KeptReads
-mod KeptRuns
-mod KeptSectors
-mod KeptSteps
-mod KeptSync
+mod KnownRecords
+mod LabelReads
 mod LineEnds
+mod NamedLeaves
+mod OpenSeats
+mod Opened
 mod ReadReplies
 mod RunLaws
 mod Scripts
 mod Taking
+mod WholeLines
+pub mod PoolsKept

@@ -1,5 +1,5 @@
--- What lines ask is whole: a block to write has 4,096 bytes, and what a create names is spelled as a name.
-use Rattle.std.proofs.Common.{◌≡◌, ℕ, ◌-◌, ◌+◌, ◌≤◌, List, [], ◌∷◌, Option, Some, None, length, map, replicate, arith, inl, inr, ◌∙◌, ap, length-append}
+-- What a line asks to write is a whole block.
+use Rattle.std.proofs.Common.{◌≡◌, ℕ, ◌-◌, ◌+◌, ◌≤◌, List, Option, Some, None, length, replicate, refl, arith, inl, inr, ◌∙◌, ap, length-append, [], ◌∷◌, map, subst}
 use Rattle.std.proofs.lemmas.List.{length-replicate}
 use Rattle.mp_base.specs.Block.{padded, zeros, zero_block, block_bytes}
 use Rattle.pool_wire.specs.declared.request.Request.{Request}
@@ -38,10 +38,13 @@ line_whole_by : (line : List ℕ) (asked : Option Request) → request_of line �
 line_whole_by line None e = tt
 line_whole_by line (Some request) e = asks_whole line request (request_found line request e)
 
+pub line_whole : (line : List ℕ) → IsWhole (request_of line)
+line_whole line = line_whole_by line (request_of line) refl
+
 pub lines_whole : (entries : List Entry) (lines : List (List ℕ)) → map (λ entry. entry.asked) entries ≡ map request_of lines → AreWhole entries
 lines_whole [] lines e = tt
 lines_whole (entry ∷ entries) [] e = absurd (cc)
 lines_whole (entry ∷ entries) (line ∷ lines) e =
     let first : request_of line ≡ entry.asked = cc in
     let rest : map (λ (entry : Entry). entry.asked) entries ≡ map request_of lines = cc in
-    (line_whole_by line entry.asked first, lines_whole entries lines rest)
+    (subst IsWhole first (line_whole line), lines_whole entries lines rest)

@@ -1,45 +1,25 @@
-//! The program's streams, as a source and a sink: just the bytes of a stream of the library. What the
-//! standard streams carry the library doesn't tell, so of those only tests speak.
-ghost use Rattle.std.specs.Prelude.{◌≡◌, ◌≤◌, ◌^◌, None, refl};
+//! The program's streams, as a source and a sink. What their bytes are isn't told: only tests say that
+//! they are the system's.
+ghost use Rattle.std.specs.Prelude.{◌≤◌, ◌^◌, None};
 
 use mp_base::{Failed, Sink, Source};
-use std::io::{Read, Stdin, Stdout, Write};
+use std::io::{Read, Write};
 
 /// The most bytes that a source gives.
 const MOST_GIVEN: usize = 1 << 62;
 
-/// A stream that always tells the bytes that it has left, or never.
-pub trait Incoming: Read {
-    ghost steady: { (old new : Self) → Self.remaining old ≡ None → Self.remaining new ≡ None };
-}
-
-impl Incoming for Stdin {
-    ghost steady = { λ old new e. refl };
-}
-
-/// A stream that always tells the bytes that it has taken, or never.
-pub trait Outgoing: Write {
-    ghost steady: { (old new : Self) → Self.contents old ≡ None → Self.contents new ≡ None };
-}
-
-impl Outgoing for Stdout {
-    ghost steady = { λ old new e. refl };
-}
-
-/// Bytes that are read from a stream.
+/// Bytes that are read from a stream of the system.
 #[derive(Drop)]
-pub struct Input<R: Incoming> {
+pub struct Input<R: Read> {
     stream: R,
     given: usize,
     faults: u64,
     ghost limit: { given ≤ 2 ^ 62 },
 }
 
-impl<R: Incoming> Input<R> {
+impl<R: Read> Input<R> {
     /// A source that reads this stream.
-    pub fn new(stream: R) -> Input<R>
-        ensures { result.stream ≡ stream }
-    {
+    pub fn new(stream: R) -> Input<R> {
         Input {
             stream,
             given: 0,
@@ -48,8 +28,8 @@ impl<R: Incoming> Input<R> {
     }
 }
 
-impl<R: Incoming> Source for Input<R> {
-    ghost left = { λ s. R.remaining s.stream };
+impl<R: Read> Source for Input<R> {
+    ghost left = { λ s. None };
 
     ghost given = { λ s. s.given };
 
@@ -68,24 +48,22 @@ impl<R: Incoming> Source for Input<R> {
     }
 }
 
-/// Bytes that are written to a stream.
+/// Bytes that are written to a stream of the system.
 #[derive(Drop)]
-pub struct Output<W: Outgoing> {
+pub struct Output<W: Write> {
     stream: W,
     faults: u64,
 }
 
-impl<W: Outgoing> Output<W> {
+impl<W: Write> Output<W> {
     /// A sink that writes this stream.
-    pub fn new(stream: W) -> Output<W>
-        ensures { result.stream ≡ stream }
-    {
+    pub fn new(stream: W) -> Output<W> {
         Output { stream, faults: 0 }
     }
 }
 
-impl<W: Outgoing> Sink for Output<W> {
-    ghost contents = { λ s. W.contents s.stream };
+impl<W: Write> Sink for Output<W> {
+    ghost contents = { λ s. None };
 
     ghost faults = { λ s. s.faults };
 

@@ -40,6 +40,7 @@ read_without : (s : PoolState) (a : ℕ) (told : Option Story) (faults : ℕ →
 read_without s a told faults answer asks is = record {
   made = [];
   calls = made_none told faults;
+  reads = tt;
   step = inl (record { asks = asks; answer_is = is });
 }
 
@@ -172,6 +173,7 @@ read_first {s} {a} {old} {new} {f} {g} version first second at sum bytes place t
     record {
       made = record { call = Read first.dev at bytes tries.fault; damage = tries.damage } ∷ [];
       calls = tries.calls;
+      reads = (tt, tt);
       step = go (served_copy version.content bytes sum first.dev at tries.fault place.sum_is tries.is_seen);
     }
   where
@@ -252,6 +254,7 @@ read_second s a old new f g version first second at sum bytes result place t = r
   made = record { call = Read first.dev at t.first_bytes t.tries_first.fault; damage = t.tries_first.damage }
       ∷ record { call = Read second.dev at bytes t.tries_second.fault; damage = t.tries_second.damage } ∷ [];
   calls = made_more old t.told new f t.faults g (_ ∷ []) (_ ∷ []) t.tries_first.calls t.tries_second.calls;
+  reads = (tt, (tt, tt));
   step = second_step s a version first second at sum t.first_bytes bytes place t.tries_first.whole t.tries_second.whole
       t.tries_first.fault t.tries_second.fault t.tries_first.damage t.tries_second.damage t.first_seen
       (bad_copy version.content t.first_bytes sum first.dev at t.tries_first.fault t.first_seen place.sum_is t.tries_first.is_seen)

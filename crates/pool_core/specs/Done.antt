@@ -8,7 +8,7 @@ use Rattle.bank_core.specs.Story.{Story}
 use Rattle.bank_core.specs.Calls.{Made}
 use Rattle.bank_core.specs.Asks.{asks_of}
 use Rattle.label_store.specs.declared.found.Found.{Found}
-use Rattle.label_store.specs.Newest.{Parts, IsLook, IsBest}
+use Rattle.label_store.specs.Newest.{Parts, IsLook, IsBest, AreReads}
 use Rattle.config_codec.specs.declared.config.Config.{Config}
 use Rattle.config_codec.specs.Fields.{Fields, config_fields}
 use Rattle.config_codec.specs.Reading.{config_in}
@@ -32,6 +32,7 @@ pub record IsRead (s : PoolState) (a : ℕ) (made : List Noted) (answer : Result
 pub record Reads (s : PoolState) (a : ℕ) (old new : Option Story) (before after : ℕ → ℕ) (answer : Result (List ℕ) Refusal) : Type 0 where
   pub made : List Noted
   pub calls : Made old new before after made
+  pub reads : AreReads made
   pub step : IsRead s a made answer ⊎ ClashesWith made (wanted s a)
 
 -- A commit's answer: its group's number where no call failed.
