@@ -19,7 +19,7 @@ use Rattle.pool_history.specs.Openings.{IsVerifiedOn, IsReadWhole}
 use Rattle.pool_history.proofs.LooksShow.{best_none, looks_true, looks_whole}
 use Rattle.pool_core.specs.Heads.{head_of}
 use Rattle.host_machine.specs.declared.device.HostDevice.{HostDevice}
-use Rattle.host_machine.specs.Answering.{HasClash, all_stable, AreClean, SomeFailed, FindsNone}
+use Rattle.host_machine.specs.Answering.{all_stable, AreClean, SomeFailed, FindsNone}
 use Rattle.host_machine.specs.Devices.{handed, front, all_handed}
 use Rattle.host_machine.specs.Fitness.{AreSized, IsFit}
 use Rattle.host_machine.specs.Machine.{HostState, Entry, Step, IsImport}
@@ -135,9 +135,6 @@ module _ (sectors : Sectors) (h : HostState) (entry : Entry) (made : List Noted)
   }
 
 pub finds_none : (sectors : Sectors) (h : HostState) (entry : Entry) (made : List Noted) (next : HostState) (name : List ℕ) → IsFit h → AllAnswer sectors made
-    → Step h entry made next → entry.asked ≡ Some (requests.Import name) → entry.reply ≡ replies.Refused refusals.NoRecord → FindsNone h sectors name made ⊎ HasClash h entry made
-finds_none sectors h entry made next name fit answers step asked is = by (import_none h entry made next name step asked is)
-  where
-    by : ((line : IsImport h name made next entry.reply) × (line.best ≡ None) × (line.more ≡ [])) ⊎ HasClash h entry made → FindsNone h sectors name made ⊎ HasClash h entry made
-    by (inl (line, none, no_more)) = inl (finds sectors h entry made next name fit answers line none no_more)
-    by (inr clash) = inr clash
+    → Step h entry made next → entry.asked ≡ Some (requests.Import name) → entry.reply ≡ replies.Refused refusals.NoRecord → FindsNone h sectors name made
+finds_none sectors h entry made next name fit answers step asked is =
+    let none = import_none h entry made next name step asked is in finds sectors h entry made next name fit answers none.0 none.1 none.2
