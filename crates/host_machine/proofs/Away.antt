@@ -128,7 +128,7 @@ abbrev pub AreAsksAway : (ℕ → Bool) → List Ask → Type 0
 AreAsksAway member [] = Unit {0}
 AreAsksAway member (ask ∷ asks) = IsAskAway member ask × AreAsksAway member asks
 
-asks_away_more : (member : ℕ → Bool) (first second : List Ask) → AreAsksAway member first → AreAsksAway member second → AreAsksAway member (first ++ second)
+pub asks_away_more : (member : ℕ → Bool) (first second : List Ask) → AreAsksAway member first → AreAsksAway member second → AreAsksAway member (first ++ second)
 asks_away_more member [] second a b = b
 asks_away_more member (ask ∷ first) second a b = (a.0, asks_away_more member first second a.1 b)
 

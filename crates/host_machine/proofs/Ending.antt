@@ -1,6 +1,5 @@
 -- How a sync, a create and an opening end, by the counts of failed calls.
 use Rattle.std.proofs.Common.{◌≡◌, ◌⊎◌, ℕ, zero, suc, ◌+◌, ◌<◌, ◌≤◌, Bool, true, false, List, [], ◌++◌, Option, Some, None, refl, ap, ◌∙◌, subst, arith, inl, inr}
-use Rattle.mp_base.specs.Outside.{Rose}
 use Rattle.mp_base.specs.declared.number.Group.{Group}
 use Rattle.mp_base.specs.declared.number.Guid.{Guid}
 use Rattle.mp_base.specs.declared.refusal.Refusal.TheVariants as refusals
@@ -19,7 +18,7 @@ use Rattle.pool_core.specs.State.{LeafState, PoolState, is_spent, last_number}
 use Rattle.pool_core.specs.Syncing.{flush_plan, sync_plan, synced}
 use Rattle.host_machine.specs.Answering.{HasNoMemory, SomeRose, LeafRose, NoneMoved, NoneRose, IsSuspended, IsBlamed, SuspendsByCounts, CommitsByCounts, CreatesByCounts}
 use Rattle.host_machine.specs.Machine.{HostState, Entry, Step, IsAnswered, WantsMemory, Clashes, IsSync, SyncsUnless, commit_outcome, named_pool, CreatesUnless, CreatesOn, create_outcome, new_state, new_seats, is_bad_size, IsImport, OpensBest, OpensUnless, OpensOn, OpensIf, open_seats, open_state}
-use Rattle.host_machine.proofs.Rising.{fine_still, commit_rose, commit_fine, flush_on, sync_on, MadeEnds, made_ends}
+use Rattle.host_machine.proofs.Rising.{earlier, fine_still, commit_rose, commit_fine, flush_on, sync_on, MadeEnds, made_ends}
 
 still_less : (a b : ℕ) → b ≡ a → a < b → ⊥
 still_less a b e l = omega arith
@@ -249,9 +248,6 @@ leaf_some s f g (inr rose) = (s.second.dev, rose)
 
 before_some : (f g h : ℕ → ℕ) → ((d : ℕ) → f d ≤ g d) → SomeRose g h → SomeRose f h
 before_some f g h up (d, rose) = (d, earlier (f d) (g d) (h d) (up d) rose)
-  where
-    earlier : (x y z : ℕ) → x ≤ y → Rose y z → Rose x z
-    earlier x y z le r = omega arith
 
 pub import_suspends : (h : HostState) (entry : Entry) (made : List Noted) (next : HostState) (name : List ℕ) (f g : ℕ → ℕ) (group : Group) (top : Guid) (faults : ℕ)
     → Step h entry made next → entry.asked ≡ Some (requests.Import name) → entry.reply ≡ replies.Refused (refusals.Suspended group top faults)

@@ -29,13 +29,15 @@ use Rattle.host_machine.specs.Fitness.{IsFit}
 use Rattle.host_machine.specs.Machine.{HostState, commit_outcome, open_state, IsImport}
 use Rattle.host_machine.specs.Tracking.{OpensAnother, Tracks, HasNoTwins, Follows}
 use Rattle.host_machine.proofs.Away.{AreAway, away_more, away_may, reads_away, reads_more, look_reads, identified_reads}
-use Rattle.host_machine.proofs.Committing.{CommitFollows, commit_follows, outcome_records}
-use Rattle.host_machine.proofs.CommitsAway.{commit_away, flushes_away, drawn_stays}
+use Rattle.host_machine.proofs.Committing.{CommitFollows, commit_follows, outcome_table, outcome_size, outcome_records}
+use Rattle.host_machine.proofs.CommitsAway.{commit_away, flushes_away}
 use Rattle.host_machine.proofs.Following.{IsOn, without, first_lost, second_lost, reads_follow, taken_follow}
+use Rattle.host_machine.proofs.Knowing.{twins_before}
 use Rattle.host_machine.proofs.Looking.{looked_true, looked_live, away_survives, opens_survives}
 use Rattle.host_machine.proofs.Openings.{IsNewest, IsOpening, IsUnopened, opening_case}
 use Rattle.host_machine.proofs.Rereading.{known_as, ready_again}
 use Rattle.host_machine.proofs.HostSeats.{seats_found}
+use Rattle.host_machine.proofs.Standings.{drawn_stays}
 
 -- A search among records for one of this configuration, with a number.
 pub record IsOne (config : List ℕ) (r : Rec) : Type 0 where
@@ -80,20 +82,9 @@ good_behind : (made : List Noted) (vs : List Event) (p : Pool) → AreGood head_
 good_behind [] vs p good = good
 good_behind (noted ∷ made) vs p good = good_behind made vs (after (Calls noted) p) good
 
-pub twins_before : (old new : List Rec) → ((r : Rec) → IsIn r old → IsIn r new) → HasNoTwins new → HasNoTwins old
-twins_before old new kept twins = record { by = λ r q a b cell other i j x y sums. twins.by r q a b cell other (kept r i) (kept q j) x y sums }
-
 -- what a commit leaves of a host
 pub outcome_kept : (h : HostState) (t : PoolState) (failed : ℕ) (r : Rec) → IsIn r h.records → IsIn r (commit_outcome h t failed).0.records
 outcome_kept h t failed r i = subst (IsIn r) (sym (outcome_records h t failed)) (drawn_stays t h.records r i)
-
-outcome_table : (h : HostState) (t : PoolState) (failed : ℕ) → (commit_outcome h t failed).0.table ≡ h.table
-outcome_table h t zero = refl
-outcome_table h t (suc n) = refl
-
-outcome_size : (h : HostState) (t : PoolState) (failed : ℕ) → (commit_outcome h t failed).0.size ≡ h.size
-outcome_size h t zero = refl
-outcome_size h t (suc n) = refl
 
 outcome_on : (h : HostState) (t : PoolState) (failed : ℕ) → IsOn t.first.dev t.second.dev (commit_outcome h t failed).0.pool
 outcome_on h t zero = (refl, refl)

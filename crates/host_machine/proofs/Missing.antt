@@ -31,14 +31,7 @@ use Rattle.host_machine.specs.Answering.{IsOpenIn, HasClash, IsExcused, HasCause
 use Rattle.host_machine.specs.Machine.{HostState, Entry, Step, IsAnswered, WantsMemory, Clashes, named_pool, read_reply, read_line_asks, read_line_answer, wanted_of, line_wants}
 use Rattle.host_machine.specs.Records.{version_of, versions_of}
 use Rattle.host_machine.specs.Tracking.{IsOpenAs, is_ours, StandsIn, Tracks}
-
-named_is : (name : List ℕ) (pool : Option PoolState) (s : PoolState) → named_pool name pool ≡ Some s → pool ≡ Some s
-named_is name None s e = absurd (cc)
-named_is name (Some other) s e = by (bytes_eq other.name name) e
-  where
-    by : (t : Bool) → cond t (Some other) None ≡ Some s → Some other ≡ Some s
-    by true e = e
-    by false e = absurd (cc)
+use Rattle.host_machine.proofs.QuietLines.{named_is}
 
 -- The pool that is open is this one, where one of its devices is a member.
 pub ours_is_open : (p : Pool) (h : HostState) (name : List ℕ) (s : PoolState) → Tracks p h → named_pool name h.pool ≡ Some s → is_ours p s ≡ true → IsOpenIn p h name s
