@@ -8,6 +8,7 @@ use Rattle.std.proofs.lemmas.Slice.Eq.{bytes_eq-Decides}
 use Rattle.bank_core.specs.Disk.{Noted, AllAnswer}
 use Rattle.label_store.specs.Newest.{Parts, AreReads, IsLook}
 use Rattle.label_store.specs.Rounds.{config_of}
+use Rattle.label_store.proofs.Reading.{are_reads_more, look_reads}
 use Rattle.config_codec.proofs.Deciding.{is_config}
 use Rattle.pool_wire.specs.declared.reply.Reply.{Reply}
 use Rattle.pool_history.specs.Events.{Event, Known, Calls, Looks, Opens, as_events, calls_of, IsOneRun}
@@ -28,7 +29,7 @@ use Rattle.host_machine.specs.Devices.{all_handed}
 use Rattle.host_machine.specs.Fitness.{IsFit}
 use Rattle.host_machine.specs.Machine.{HostState, commit_outcome, open_state, IsImport}
 use Rattle.host_machine.specs.Tracking.{OpensAnother, Tracks, HasNoTwins, Follows}
-use Rattle.host_machine.proofs.Away.{AreAway, away_more, away_may, reads_away, reads_more, look_reads, identified_reads}
+use Rattle.host_machine.proofs.Away.{AreAway, away_more, away_may, reads_away, identified_reads}
 use Rattle.host_machine.proofs.Committing.{CommitFollows, commit_follows, outcome_table, outcome_size, outcome_records}
 use Rattle.host_machine.proofs.CommitsAway.{commit_away, flushes_away}
 use Rattle.host_machine.proofs.Following.{IsOn, without, first_lost, second_lost, reads_follow, taken_follow}
@@ -225,7 +226,7 @@ import_follows T p h name made next reply fit answers takes i =
     subst (λ m. Follows p h T m next) (sym i.all) (by_case (opening_case h name i.looks next reply i.best i.more i.is_best i.opens))
   where
     by_case : IsUnopened h name i.looks i.more next reply ⊎ IsOpening h name i.looks i.more next reply → Follows p h T (i.reads ++ i.more) next
-    by_case (inl u) = reads_follow T p h (i.reads ++ i.more) next (reads_more i.reads i.more (look_reads h.size (all_handed h.table) i.looks i.reads i.look) u.reads) u.same
+    by_case (inl u) = reads_follow T p h (i.reads ++ i.more) next (are_reads_more i.reads i.more (look_reads h.size (all_handed h.table) i.looks i.reads i.look) u.reads) u.same
     by_case (inr o) =
         opening_follows T p h name i.reads i.looks i.more next reply fit i.look (answer_first i.reads i.more p.sectors (subst (AllAnswer p.sectors) i.all answers)) o
         (λ d taken. takes d (subst (λ m. OpensAnother p.name h name m d) (sym i.all) taken))
