@@ -18,7 +18,8 @@ use Rattle.host_machine.specs.Machine.{HostState, commit_outcome, create_outcome
 use Rattle.host_machine.specs.Records.{with_record}
 use Rattle.host_machine.specs.Tracking.{Follows}
 use Rattle.host_machine.proofs.Beginning.{IsNew, made_survives, made_tracks, made_ready}
-use Rattle.host_machine.proofs.Committing.{commit_follows}
+use Rattle.host_machine.proofs.Committing.{commit_follows, outcome_table, outcome_size}
+use Rattle.host_machine.proofs.RoundMarks.{marks_looked}
 use Rattle.host_machine.proofs.HostSeats.{member_number, member_room}
 use Rattle.host_machine.proofs.NewStates.{HasNewSeats, new_seats_found, seats_apart, some_blocks, top_room, made_valid}
 use Rattle.host_machine.proofs.Standings.{closed}
@@ -63,6 +64,8 @@ module _ (h : HostState) (s : PoolState) (new : IsNew h s) (no_pool : h.pool ≡
         vs = commits.vs;
         calls = commits.calls;
         one_run = commits.one_run;
+        devices = (outcome_table h s (failures results), outcome_size h s (failures results));
+        looked = marks_looked (closed h) [] commits.vs commits.marks;
         keeps = λ d is. inl (ap (λ f. f d) commits.member ∙ is);
         safe = λ tracks twins sv good. commits.safe (made_ready h s new (run stamps sectors)) sv;
       })

@@ -33,6 +33,7 @@ use Rattle.pool_core.specs.State.{LeafState, Content, Known, Summed, Version, Po
 use Rattle.host_machine.specs.Machine.{HostState, commit_outcome}
 use Rattle.host_machine.specs.Records.{version_of, cell_with, cell_of, is_known_content, is_known_version, is_known, record_of, with_record, IsDrawn}
 use Rattle.host_machine.specs.Tracking.{IsOpenAs, StandsIn, Tracks}
+use Rattle.host_machine.proofs.RoundMarks.{AreRoundMarks, marks_more, calls_marked, round_marks}
 use Rattle.host_machine.proofs.RoundRuns.{round_one_run}
 use Rattle.host_machine.proofs.Settling.{IsSettled, AllKnown, same_some, none_some, cell_pointer, known_all, known_is, config_reads, settled_record}
 use Rattle.host_machine.proofs.Standings.{closed, tracks_move, drawn_stays}
@@ -63,6 +64,7 @@ pub record CommitFollows (p : Pool) (h : HostState) (plan : List Ask) (t : PoolS
   pub vs : List Event
   pub calls : calls_of vs ≡ made
   pub one_run : IsOneRun vs
+  pub marks : AreRoundMarks vs
   pub member : (pool_after vs p).member ≡ p.member
   pub sectors : (pool_after vs p).sectors ≡ run made p.sectors
   pub safe : IsReady p h plan t → Survives head_of p → Mays head_of p vs × Tracks (pool_after vs p) next
@@ -271,6 +273,7 @@ commit_by p h plan t before round None failed part (results, is_round, is) =
       vs = as_events before ++ vs;
       calls = calls_more (as_events before) vs ∙ ap (λ made. made ++ calls_of vs) (calls_are before) ∙ ap (λ made. before ++ made) marked.1;
       one_run = stops_never_more (as_events before) vs (calls_never_stop before) (round_one_run h.size (record_of t) (members_of t) results vs marked.2);
+      marks = marks_more (as_events before) vs (calls_marked before) (round_marks h.size (record_of t) (members_of t) results vs marked.2);
       member = ap (λ (q : Pool). q.member) (calls_then before vs p) ∙ ends.member;
       sectors = ap (λ (q : Pool). q.sectors) (calls_then before vs p) ∙ ends.sectors ∙ ap (λ made. run made (run before p.sectors)) marked.1 ∙ sym (run_more before round p.sectors);
       safe = λ ready sv. (
@@ -282,6 +285,7 @@ commit_by p h plan t before round (Some fault) failed part (none, one) = record 
   vs = as_events before;
   calls = calls_are before ∙ all;
   one_run = calls_never_stop before;
+  marks = calls_marked before;
   member = ap (λ (q : Pool). q.member) (calls_after before p);
   sectors = calls_sectors before p ∙ ap (λ made. run made p.sectors) all;
   safe = λ ready sv. (

@@ -1,5 +1,5 @@
 -- How a pool stands in a host behind calls that put nothing on its members, and a line that makes no others.
-use Rattle.std.proofs.Common.{◌≡◌, ◌⊎◌, ⊎_elim, ℕ, ◌==◌, Bool, true, false, cond, List, ◌∷◌, Option, Some, None, refl, sym, ap, ◌∙◌, subst, inl, inr}
+use Rattle.std.proofs.Common.{[], ◌≡◌, ◌⊎◌, ⊎_elim, ℕ, ◌==◌, Bool, true, false, cond, List, ◌∷◌, Option, Some, None, refl, sym, ap, ◌∙◌, subst, inl, inr}
 use Rattle.std.proofs.lemmas.Bool.{eqb-true}
 use Rattle.bank_core.specs.Disk.{Noted}
 use Rattle.label_store.specs.Newest.{AreReads}
@@ -13,6 +13,7 @@ use Rattle.pool_core.specs.State.{LeafState, PoolState}
 use Rattle.host_machine.specs.Devices.{number_in}
 use Rattle.host_machine.specs.Machine.{HostState}
 use Rattle.host_machine.specs.Tracking.{IsOpenAs, StandsIn, Tracks, Follows}
+use Rattle.host_machine.proofs.RoundMarks.{calls_marked, marks_looked}
 use Rattle.host_machine.proofs.Away.{AreAway, away_may, reads_away}
 
 -- an open pool is so behind calls
@@ -55,6 +56,8 @@ reads_follow T p h made next reads same = record {
   vs = as_events made;
   calls = calls_are made;
   one_run = calls_never_stop made;
+  devices = (ap (λ (n : HostState). n.table) same, ap (λ (n : HostState). n.size) same);
+  looked = marks_looked h [] (as_events made) (calls_marked made);
   keeps = λ d is. inl (ap (λ (q : Pool). q.member d) (calls_after made p) ∙ is);
   safe = λ t twins sv good. (
     away_may head_of made p (reads_away p.member made reads),
@@ -111,6 +114,8 @@ taken_follow T p h a b made next takes away table size kept on = record {
   vs = Loses a ∷ Loses b ∷ as_events made;
   calls = calls_are made;
   one_run = calls_never_stop made;
+  devices = (table, size);
+  looked = marks_looked h [] (as_events made) (calls_marked made);
   keeps = λ d is. ⊎_elim {A = at_device b false (at_device a false p.member) d ≡ true} {B = T d}
       (λ still. inl (ap (λ (q : Pool). q.member d) (calls_after made (without p a b)) ∙ still)) (λ taken. inr taken) (lost_or T a b d p.member takes is);
   safe = λ t twins sv good. (

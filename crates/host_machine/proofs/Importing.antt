@@ -28,12 +28,14 @@ use Rattle.pool_core.specs.Syncing.{flush_plan}
 use Rattle.host_machine.specs.Devices.{all_handed}
 use Rattle.host_machine.specs.Fitness.{IsFit}
 use Rattle.host_machine.specs.Machine.{HostState, commit_outcome, open_state, IsImport}
-use Rattle.host_machine.specs.Tracking.{OpensAnother, Tracks, HasNoTwins, Follows}
+use Rattle.host_machine.specs.Tracking.{AreLooked, OpensAnother, Tracks, HasNoTwins, Follows}
 use Rattle.host_machine.proofs.Away.{AreAway, away_more, away_may, reads_away, identified_reads}
 use Rattle.host_machine.proofs.Committing.{CommitFollows, commit_follows, outcome_table, outcome_size, outcome_records}
 use Rattle.host_machine.proofs.CommitsAway.{commit_away, flushes_away}
 use Rattle.host_machine.proofs.Following.{IsOn, without, first_lost, second_lost, reads_follow, taken_follow}
 use Rattle.host_machine.proofs.Knowing.{twins_before}
+use Rattle.host_machine.proofs.LookMarks.{looked_more}
+use Rattle.host_machine.proofs.RoundMarks.{marks_more, calls_marked, marks_looked}
 use Rattle.host_machine.proofs.Looking.{looked_true, looked_live, away_survives, opens_survives}
 use Rattle.host_machine.proofs.Openings.{IsNewest, IsOpening, IsUnopened, opening_case}
 use Rattle.host_machine.proofs.Rereading.{known_as, ready_again}
@@ -141,6 +143,13 @@ module _ (T : ℕ → Type 0) (p : Pool) (h : HostState) (name : List ℕ) (read
   abbrev here : Known
   here = known_by h.size (all_handed h.table) looks
 
+  -- the mark of the look stands behind its reads
+  looked_mark : (vs : List Event) → AreLooked h reads vs → AreLooked h [] (as_events reads ++ Looks here ∷ vs)
+  looked_mark vs l =
+      looked_more h [] (as_events reads) (Looks here ∷ vs) (marks_looked h [] (as_events reads) (calls_marked reads))
+      (subst (λ cs. AreLooked h cs (Looks here ∷ vs)) (sym (calls_are reads))
+      (record { earlier = []; reads = reads; all = refl; looks = looks; look = look; known_is = refl }, l))
+
   -- The pool itself was opened, and reads this live record.
   module _ (r : Rec) (live : IsIn r p.live) (one : IsOne o.found.blob.items r) where
     abbrev opened : Pool
@@ -187,6 +196,8 @@ module _ (T : ℕ → Type 0) (p : Pool) (h : HostState) (name : List ℕ) (read
       vs = all_events;
       calls = all_calls;
       one_run = one_run;
+      devices = (outcome_table h found_again o.failed, outcome_size h found_again o.failed);
+      looked = looked_mark (Opens r ∷ rest) (marks_looked h reads rest (marks_more (as_events o.ids) commits.vs (calls_marked o.ids) commits.marks));
       keeps = λ d is. inl (ap (λ (q : Pool). q.member d) (calls_then reads (Looks here ∷ Opens r ∷ rest) p ∙ calls_then o.ids commits.vs opened) ∙ ap (λ f. f d) commits.member ∙ is);
       safe = λ tracks twins sv good. moves tracks (twins_before h.records (commit_outcome h found_again o.failed).0.records (outcome_kept h found_again o.failed) twins) sv;
     }
@@ -198,6 +209,8 @@ module _ (T : ℕ → Type 0) (p : Pool) (h : HostState) (name : List ℕ) (read
     calls = calls_more (as_events reads) (Looks here ∷ as_events (o.ids ++ o.round)) ∙ ap (λ l. l ++ calls_of (as_events (o.ids ++ o.round))) (calls_are reads)
         ∙ ap (λ l. reads ++ l) (calls_are (o.ids ++ o.round));
     one_run = stops_never_more (as_events reads) (Looks here ∷ as_events (o.ids ++ o.round)) (calls_never_stop reads) (calls_never_stop (o.ids ++ o.round));
+    devices = (outcome_table h found_again o.failed, outcome_size h found_again o.failed);
+    looked = looked_mark (as_events (o.ids ++ o.round)) (marks_looked h reads (as_events (o.ids ++ o.round)) (calls_marked (o.ids ++ o.round)));
     keeps = λ d is. inl (ap (λ f. f d) (member_kept (as_events reads ++ Looks here ∷ as_events (o.ids ++ o.round)) p
         (takes_none_more (as_events reads) (Looks here ∷ as_events (o.ids ++ o.round)) (calls_take_none reads) (calls_take_none (o.ids ++ o.round)))) ∙ is);
     safe = λ tracks twins sv good.

@@ -14,6 +14,7 @@ pub mod HostSeats
 pub mod Importing
 pub mod Knowing
 pub mod Labelled
+pub mod LookMarks
 pub mod Looking
 pub mod Missing
 pub mod NewStates
@@ -22,6 +23,7 @@ pub mod Openings
 pub mod QuietLines
 pub mod Rereading
 pub mod Rising
+pub mod RoundMarks
 pub mod RoundRuns
 pub mod Running
 pub mod Settling

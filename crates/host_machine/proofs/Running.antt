@@ -1,22 +1,35 @@
 -- A run's entries, one after another, over a pool's history.
-use Rattle.std.proofs.Common.{◌≡◌, ⊎_elim, true, ℕ, zero, suc, List, [], ◌∷◌, ◌++◌, take, Some, refl, sym, ap, subst, ◌∙◌, append_assoc, inl, inr}
+use Rattle.std.proofs.Common.{◌≡◌, ⊎_elim, true, ℕ, zero, suc, List, [], ◌∷◌, ◌++◌, take, Some, None, refl, sym, ap, subst, ◌∙◌, append_assoc, inl, inr, ◌<◌, ◌⊎◌, false, Option, IsTrue}
 use Rattle.bank_core.specs.Disk.{Noted, Sectors, AllAnswer, run}
-use Rattle.pool_history.specs.Events.{Event, Calls, Accepts, Looks, Opens, Begins, Third, Ends, Acks, Loses, Stops, IsOneRun, calls_of}
+use Rattle.pool_history.specs.Events.{Event, Calls, Accepts, Looks, Opens, Begins, Third, Ends, Acks, Loses, Stops, IsOneRun, as_events, calls_of}
 use Rattle.pool_history.specs.Moves.{Mays}
 use Rattle.pool_history.specs.Pools.{Pool, after, pool_after}
-use Rattle.pool_history.specs.Premises.{AreGood}
+use Rattle.pool_history.specs.Looks.{known_by}
+use Rattle.pool_history.specs.Premises.{Premises, AreGood}
 use Rattle.pool_history.specs.Records.{Rec, IsIn}
+use Rattle.pool_history.specs.Survival.{Survives}
 use Rattle.pool_history.proofs.Folding.{name_kept, pool_more, mays_more, mays_front, calls_more, moment_of, run_sectors, stops_never_more}
 use Rattle.pool_history.proofs.Surviving.{history_survives}
 use Rattle.pool_history.proofs.LookedParts.{answer_first, answer_second}
+use Rattle.pool_wire.specs.declared.reply.NamedLeaf.{NamedLeaf}
+use Rattle.mp_base.specs.Name.{is_name}
+use Rattle.pool_wire.specs.declared.reply.Reply.{Reply}
+use Rattle.pool_wire.specs.declared.request.Request.{Request}
+use Rattle.pool_wire.specs.declared.reply.Reply.TheVariants as replies
+use Rattle.pool_wire.specs.declared.request.Request.TheVariants as requests
+use Rattle.bank_core.proofs.Composing.{run_more}
 use Rattle.pool_core.specs.Heads.{head_of}
+use Rattle.pool_core.specs.State.{PoolState}
 use Rattle.host_machine.specs.declared.device.HostDevice.{HostDevice}
-use Rattle.host_machine.specs.Births.{TakesIn, LeavesPool, LeavesThroughout, KeepsPools, IsEntryOf}
-use Rattle.host_machine.specs.Devices.{number_in}
+use Rattle.host_machine.specs.Births.{IsBorn, StampFails, LeavesPool, LeavesThroughout, new_pool}
+use Rattle.host_machine.specs.Runs.{TakesIn, BeginsPool, KeepsPools, IsEntryOf, MeetsPool}
+use Rattle.host_machine.specs.Answering.{IsOpenIn, IsLost, HasClash, IsExcused}
+use Rattle.host_machine.specs.Devices.{all_handed, number_in}
 use Rattle.host_machine.specs.Fitness.{IsFit, IsWhole, AreWhole}
-use Rattle.host_machine.specs.Machine.{HostState, Entry, Step, Replay, started}
-use Rattle.host_machine.specs.Tracking.{Takes, Tracks, Follows}
+use Rattle.host_machine.specs.Machine.{HostState, Entry, is_bad_size, new_seats, new_state, IsCreate, IsImport, Step, Replay, started, named_pool}
+use Rattle.host_machine.specs.Tracking.{Takes, Tracks, Follows, FindsPool, HasNoTwins, is_ours}
 use Rattle.host_machine.proofs.Knowing.{twins_before}
+use Rattle.host_machine.proofs.LookMarks.{looked_then}
 
 -- the laws of one line
 abbrev pub StaysFit : Type 0
@@ -66,6 +79,8 @@ no_calls T p h next calls none same = record {
   vs = [];
   calls = sym none;
   one_run = tt;
+  devices = (ap (λ (g : HostState). g.table) same, ap (λ (g : HostState). g.size) same);
+  looked = tt;
   keeps = λ d is. inl is;
   safe = λ tracks twins left good. (tt, subst (λ g. Tracks p g) (sym same) tracks);
 }
@@ -77,6 +92,8 @@ follows_more T p h between next made more grow one two = record {
   vs = one.vs ++ two.vs;
   calls = calls_more one.vs two.vs ∙ ap (λ cs. cs ++ calls_of two.vs) one.calls ∙ ap (λ cs. made ++ cs) two.calls;
   one_run = stops_never_more one.vs two.vs one.one_run two.one_run;
+  devices = (two.devices.0 ∙ one.devices.0, two.devices.1 ∙ one.devices.1);
+  looked = looked_then h between one.vs two.vs one.devices.1 one.devices.0 one.looked two.looked;
   keeps = λ d is. ⊎_elim {A = (pool_after one.vs p).member d ≡ true} {B = T d}
       (λ still. ⊎_elim {A = (pool_after two.vs (pool_after one.vs p)).member d ≡ true} {B = T d}
       (λ yet. inl (ap (λ (q : Pool). q.member d) (pool_more one.vs two.vs p) ∙ yet)) (λ taken. inr taken) (two.keeps d still))
@@ -93,6 +110,8 @@ widen S T p h next made more f = record {
   vs = f.vs;
   calls = f.calls;
   one_run = f.one_run;
+  devices = f.devices;
+  looked = f.looked;
   keeps = λ d is. ⊎_elim {A = (pool_after f.vs p).member d ≡ true} {B = S d} (λ still. inl still) (λ taken. inr (more d taken)) (f.keeps d is);
   safe = f.safe;
 }
@@ -154,22 +173,6 @@ leaves_throughout first past sectors vs made leaves one calls mays = record {
   );
 }
 
--- A run keeps each pool.
-pub keeps_pools : StaysFit → Keeps → FollowsLine → (h : HostState) (sectors : Sectors) (entries : List Entry) (calls : List Noted) (next : HostState)
-    → AreWhole entries → IsFit h → AllAnswer sectors calls → (replay : Replay h entries calls next) → KeepsPools h sectors entries calls next replay
-keeps_pools stays keeps line h sectors entries calls next whole fit answers replay = record {
-  each = λ first past leaves tracks.
-      let p = pool_after past first in
-      let f = replay_follows stays keeps line (TakesIn first.name h entries calls next replay) first.name p h entries calls next replay (λ d taken. taken) (name_kept past first)
-      whole fit (subst (λ s. AllAnswer s calls) (sym leaves.devices) answers) in
-      let left = history_survives head_of past first leaves.begins leaves.allowed in
-      record {
-        follows = f;
-        leaves = λ twins good. leaves_throughout first past sectors f.vs calls leaves f.one_run f.calls (f.safe tracks twins left good).0;
-        tracks = λ twins good. (f.safe tracks twins left good).1;
-      };
-}
-
 pub entry_of : (h : HostState) (before : List Entry) (entry : Entry) (after : List Entry) (calls : List Noted) (next : HostState)
     → Replay h (before ++ entry ∷ after) calls next → IsEntryOf h before entry after calls next
 entry_of h [] entry after calls next r = record {
@@ -197,6 +200,82 @@ entry_of h (e ∷ before) entry after calls next r =
       later = i.later;
     }
 
+-- the laws of what a line answers
+abbrev pub FindsLine : Type 0
+FindsLine = (p : Pool) (h : HostState) (entry : Entry) (made : List Noted) (next : HostState) → IsFit h → Tracks p h → h.pool ≡ None
+    → AllAnswer p.sectors made → (i : IsImport h p.name made next entry.reply) → HasNoTwins next.records → Survives head_of p
+    → Premises head_of (pool_after (as_events i.reads) p) (known_by h.size (all_handed h.table) i.looks) → FindsPool p entry.reply next
+
+abbrev pub OursLine : Type 0
+OursLine = (p : Pool) (h : HostState) (name : List ℕ) (s : PoolState) → Tracks p h → named_pool name h.pool ≡ Some s → is_ours p s ≡ true → IsOpenIn p h name s
+
+abbrev pub ReadsLine : Type 0
+ReadsLine = (p : Pool) (h : HostState) (entry : Entry) (made : List Noted) (next : HostState) (name : List ℕ) (s : PoolState) (a : ℕ)
+    → IsOpenIn p h name s → Survives head_of p → AllAnswer p.sectors made → Step h entry made next → entry.asked ≡ Some (requests.Read name a)
+    → a < s.blocks → (entry.reply ≡ replies.Data (p.written a)) ⊎ (IsLost p s a made ⊎ IsExcused h entry made)
+
+abbrev pub RefusesLine : Type 0
+RefusesLine = (p : Pool) (h : HostState) (entry : Entry) (made : List Noted) (next : HostState) (name : List ℕ) (s : PoolState) (a level index : ℕ) (named : List NamedLeaf)
+    → IsOpenIn p h name s → Survives head_of p → AllAnswer p.sectors made → Step h entry made next → entry.asked ≡ Some (requests.Read name a)
+    → entry.reply ≡ replies.Exhausted level index named → IsLost p s a made ⊎ HasClash h entry made
+
+pub record LineLaws : Type 0 where
+  pub stays : StaysFit
+  pub keeps : Keeps
+  pub line : FollowsLine
+  pub finds : FindsLine
+  pub ours : OursLine
+  pub reads : ReadsLine
+  pub refuses : RefusesLine
+
+fit_before : StaysFit → (h : HostState) (before : List Entry) (calls : List Noted) (next : HostState) (entries after : List Entry) → entries ≡ before ++ after → AreWhole entries → IsFit h
+    → Replay h before calls next → IsFit next × AreWhole after
+fit_before stays h [] calls next entries after e whole fit replay = (subst IsFit (sym replay.1) fit, subst AreWhole e whole)
+fit_before stays h (entry ∷ before) calls next entries after e whole fit replay =
+    let all : AreWhole (entry ∷ (before ++ after)) = subst AreWhole e whole in
+    fit_before stays replay.2 before replay.1 next (before ++ after) after refl all.1 (stays h entry replay.0 replay.2 all.0 fit replay.4) replay.5
+
+whole_before : (before after : List Entry) → AreWhole (before ++ after) → AreWhole before
+whole_before [] after whole = tt
+whole_before (entry ∷ before) after whole = (whole.0, whole_before before after whole.1)
+
+meets_pool : LineLaws → (h : HostState) (sectors : Sectors) (entries : List Entry) (calls : List Noted) (next : HostState) → AreWhole entries → IsFit h
+    → AllAnswer sectors calls → Replay h entries calls next → (first : Pool) (past : List Event) → LeavesPool first past sectors → Tracks (pool_after past first) h
+    → (before : List Entry) (entry : Entry) (after : List Entry) → entries ≡ before ++ entry ∷ after
+    → (at : IsEntryOf h before entry after calls next) × MeetsPool first past h before entry after calls next at
+meets_pool laws h sectors entries calls next whole fit answers replay first past leaves tracks before entry after e =
+    let at = entry_of h before entry after calls next (subst (λ es. Replay h es calls next) e replay) in
+    let p = pool_after past first in
+    let all = subst (λ cs. AllAnswer sectors cs) at.all answers in
+    let front = answer_first at.first (at.made ++ at.rest) sectors all in
+    let behind = answer_second at.first (at.made ++ at.rest) sectors all in
+    let mine = answer_first at.made at.rest (run at.first sectors) behind in
+    let f = replay_follows laws.stays laws.keeps laws.line (TakesIn first.name h before at.first at.old at.replay) first.name p h before at.first at.old at.replay (λ d taken. taken)
+    (name_kept past first) (whole_before before (entry ∷ after) (subst AreWhole e whole)) fit (subst (λ s. AllAnswer s at.first) (sym leaves.devices) front) in
+    let there = run_sectors f.vs p f.one_run ∙ ap (λ cs. run cs p.sectors) f.calls ∙ ap (λ s. run at.first s) leaves.devices in
+    let begun = history_survives head_of past first leaves.begins leaves.allowed in
+    let grown = λ (r : Rec) (is : IsIn r at.old.records). records_grow laws.keeps at.new after at.rest next r at.later (laws.keeps at.old entry at.made at.new r at.step is) in
+    let twins_then = λ (twins : HasNoTwins next.records). twins_before at.old.records next.records grown twins in
+    let twins_new = λ (twins : HasNoTwins next.records). twins_before at.new.records next.records (λ r is. records_grow laws.keeps at.new after at.rest next r at.later is) twins in
+    let sits = fit_before laws.stays h before at.first at.old entries (entry ∷ after) e whole fit at.replay in
+    let lives = λ (twins : HasNoTwins next.records) (good : AreGood head_of p f.vs). history_survives head_of f.vs p begun (f.safe tracks (twins_then twins) begun good).0 in
+    let stood = λ (twins : HasNoTwins next.records) (good : AreGood head_of p f.vs). (f.safe tracks (twins_then twins) begun good).1 in
+    let told = subst (λ s. AllAnswer s at.made) (sym there) mine in (
+      at,
+      record {
+        follows = f;
+        survives = lives;
+        tracks = stood;
+        answers = λ twins good. record {
+          finds = λ i closed premises. laws.finds (pool_after f.vs p) at.old entry at.made at.new sits.0 (stood twins good) closed told i (twins_new twins) (lives twins good) premises;
+          reads = λ name s a asked named ours inside.
+              laws.reads (pool_after f.vs p) at.old entry at.made at.new name s a (laws.ours (pool_after f.vs p) at.old name s (stood twins good) named ours) (lives twins good) told at.step asked inside;
+          refuses = λ name s a level index shown asked named ours reply.
+              laws.refuses (pool_after f.vs p) at.old entry at.made at.new name s a level index shown (laws.ours (pool_after f.vs p) at.old name s (stood twins good) named ours) (lives twins good) told at.step asked reply;
+        };
+      },
+    )
+
 pub goes_on : StaysFit → Keeps → FollowsLine → (T : ℕ → Type 0) (p : Pool) (old h : HostState) (made : List Noted) (entries : List Entry) (calls : List Noted) (next : HostState)
     (replay : Replay h entries calls next) → ((d : ℕ) → TakesIn p.name h entries calls next replay d → T d)
     → AreWhole entries → IsFit h → Follows p old T made h → AllAnswer (run made p.sectors) calls → Follows p old T (made ++ calls) next
@@ -205,6 +284,60 @@ goes_on stays keeps line T p old h made entries calls next replay takes whole fi
     follows_more T p old h next made calls (λ r is. records_grow keeps h entries calls next r replay is) one
     (replay_follows stays keeps line T p.name (pool_after one.vs p) h entries calls next replay takes (name_kept one.vs p) whole fit
     (subst (λ sectors. AllAnswer sectors calls) (sym behind) answers))
+
+abbrev pub BeginsLine : Type 0
+BeginsLine = (h : HostState) (second : ℕ) (name : List ℕ) (blocks : ℕ) (first other : List ℕ) (seats : ℕ × ℕ) (made : List Noted) (next : HostState) (reply : Reply) (sectors : Sectors)
+    → IsFit h → IsTrue (is_name name) → IsTrue (is_name first) → IsTrue (is_name other) → is_bad_size blocks ≡ false → new_seats h blocks first other ≡ Some seats
+    → IsCreate h second name blocks first other made next reply
+    → IsBorn h.size (new_state h second name blocks first other seats) sectors made next ⊎ StampFails h.size (new_state h second name blocks first other seats) made
+
+born_goes_on : LineLaws → (h : HostState) (s : PoolState) (sectors : Sectors) (made : List Noted) (new : HostState) (after : List Entry) (rest : List Noted) (next : HostState)
+    (later : Replay new after rest next) → AreWhole after → IsFit new → AllAnswer sectors (made ++ rest) → IsBorn h.size s sectors made new ⊎ StampFails h.size s made
+    → BeginsPool h s sectors made new after rest next later
+born_goes_on laws h s sectors made new after rest next later whole fit answers (inr fails) = inr fails
+born_goes_on laws h s sectors made new after rest next later whole fit answers (inl b) =
+    let p = new_pool h.size s (run b.stamps sectors) in
+    let told = subst (λ at. AllAnswer at rest) (ap (λ cs. run cs sectors) b.all ∙ run_more b.stamps b.rest sectors) (answer_second made rest sectors answers) in
+    inl (
+      b,
+      goes_on laws.stays laws.keeps laws.line (TakesIn s.name new after rest next later) p b.between new b.rest after rest next later (λ d taken. taken) whole fit
+          (widen (λ d. ⊥) (TakesIn s.name new after rest next later) p b.between new b.rest (λ d none. absurd none) b.follows) told,
+    )
+
+names_in : (asked : Option Request) (name : List ℕ) (blocks : ℕ) (one other : List ℕ) → IsWhole asked → asked ≡ Some (requests.Create name blocks one other)
+    → IsWhole (Some (requests.Create name blocks one other))
+names_in asked name blocks one other whole is = subst IsWhole is whole
+
+begins_pool : LineLaws → BeginsLine → (h : HostState) (sectors : Sectors) (entries : List Entry) (calls : List Noted) (next : HostState) → AreWhole entries → IsFit h
+    → AllAnswer sectors calls → (before : List Entry) (entry : Entry) (after : List Entry) → entries ≡ before ++ entry ∷ after → (at : IsEntryOf h before entry after calls next)
+    → (name : List ℕ) (blocks : ℕ) (one other : List ℕ) (seats : ℕ × ℕ) → entry.asked ≡ Some (requests.Create name blocks one other) → is_bad_size blocks ≡ false
+    → new_seats at.old blocks one other ≡ Some seats → IsCreate at.old entry.second name blocks one other at.made at.new entry.reply
+    → BeginsPool at.old (new_state at.old entry.second name blocks one other seats) (run at.first sectors) at.made at.new after at.rest next at.later
+begins_pool laws begins h sectors entries calls next whole fit answers before entry after e at name blocks one other seats asked good found is =
+    let sits = fit_before laws.stays h before at.first at.old entries (entry ∷ after) e whole fit at.replay in
+    let names : IsWhole (Some (requests.Create name blocks one other)) = names_in entry.asked name blocks one other sits.1.0 asked in
+    let told = answer_second at.first (at.made ++ at.rest) sectors (subst (λ cs. AllAnswer sectors cs) at.all answers) in
+    born_goes_on laws at.old (new_state at.old entry.second name blocks one other seats) (run at.first sectors) at.made at.new after at.rest next at.later sits.1.1
+    (laws.stays at.old entry at.made at.new sits.1.0 sits.0 at.step) told
+    (begins at.old entry.second name blocks one other seats at.made at.new entry.reply (run at.first sectors) sits.0 names.0 names.1 names.2 good found is)
+
+-- A run keeps each pool.
+pub keeps_pools : LineLaws → BeginsLine → (h : HostState) (sectors : Sectors) (entries : List Entry) (calls : List Noted) (next : HostState)
+    → AreWhole entries → IsFit h → AllAnswer sectors calls → (replay : Replay h entries calls next) → KeepsPools h sectors entries calls next replay
+keeps_pools laws begins h sectors entries calls next whole fit answers replay = record {
+  each = λ first past leaves tracks.
+      let p = pool_after past first in
+      let f = replay_follows laws.stays laws.keeps laws.line (TakesIn first.name h entries calls next replay) first.name p h entries calls next replay (λ d taken. taken) (name_kept past first)
+      whole fit (subst (λ s. AllAnswer s calls) (sym leaves.devices) answers) in
+      let left = history_survives head_of past first leaves.begins leaves.allowed in
+      record {
+        follows = f;
+        leaves = λ twins good. leaves_throughout first past sectors f.vs calls leaves f.one_run f.calls (f.safe tracks twins left good).0;
+        tracks = λ twins good. (f.safe tracks twins left good).1;
+      };
+  meets = meets_pool laws h sectors entries calls next whole fit answers replay;
+  births = begins_pool laws begins h sectors entries calls next whole fit answers;
+}
 
 pub next_run : (p : Pool) (h : HostState) (images : ℕ → ℕ → List ℕ) (table : List HostDevice) (size : ℕ → ℕ) (records : List Rec)
     → (tracks : Tracks p h) → ((d : ℕ) → size d ≡ h.size d) → ((r : Rec) → IsIn r h.records → IsIn r records)

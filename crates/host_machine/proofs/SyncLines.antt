@@ -29,6 +29,7 @@ use Rattle.host_machine.proofs.Creating.{quiet_follows}
 use Rattle.host_machine.proofs.Committing.{IsReady, commit_follows, outcome_table, outcome_size, outcome_records}
 use Rattle.host_machine.proofs.Knowing.{cells_back, known_back}
 use Rattle.host_machine.proofs.NextStates.{fit_settled, synced_fit}
+use Rattle.host_machine.proofs.RoundMarks.{calls_marked, marks_looked}
 use Rattle.host_machine.proofs.QuietLines.{ours_open, not_ours, named_is}
 use Rattle.host_machine.proofs.Settling.{same_some}
 use Rattle.host_machine.proofs.Standings.{tracks_move, drawn_stays, tracks_closed}
@@ -137,6 +138,8 @@ commit_elsewhere T p h plan t made failed one two away c = record {
   vs = as_events made;
   calls = calls_are made;
   one_run = calls_never_stop made;
+  devices = (outcome_table h t failed, outcome_size h t failed);
+  looked = marks_looked h [] (as_events made) (calls_marked made);
   keeps = λ d is. inl (ap (λ (q : Pool). q.member d) (calls_after made p) ∙ is);
   safe = λ tr twins sv good. (
     away_may head_of made p (commit_away p.member h.size plan t made failed one two away c),
@@ -157,6 +160,8 @@ synced_follows T p h s made failed true ours is fit open_numbers c =
       vs = follows.vs;
       calls = follows.calls;
       one_run = follows.one_run;
+      devices = (outcome_table h (synced s) failed, outcome_size h (synced s) failed);
+      looked = marks_looked h [] follows.vs follows.marks;
       keeps = λ d is. inl (ap (λ f. f d) follows.member ∙ is);
       safe = λ tr twins sv good.
           let opened = ours_open p tr.first tr.second s ours (subst (StandsIn p tr.first tr.second) is tr.stands) in

@@ -4,4 +4,5 @@ pub mod Devices
 pub mod Fitness
 pub mod Machine
 pub mod Records
+pub mod Runs
 pub mod Tracking

@@ -1,5 +1,5 @@
 -- How a pool of the history stands in a host of the machine.
-use Rattle.std.specs.Prelude.{◌≡◌, ◌≢◌, ◌⊎◌, ℕ, ◌+◌, ◌≤◌, Bool, true, false, ◌||◌, List, Option, Some, None, ◌++◌, ◌*◌, length}
+use Rattle.std.specs.Prelude.{◌≡◌, ◌≢◌, ◌⊎◌, ℕ, ◌+◌, ◌≤◌, Bool, true, false, ◌||◌, List, [], ◌∷◌, Option, Some, None, ◌++◌, ◌*◌, length}
 use Rattle.sha2.specs.Sha256.{sha256}
 use Rattle.mp_base.specs.declared.number.Group.{Group}
 use Rattle.mp_base.specs.declared.refusal.Refusal.TheVariants as refusals
@@ -12,7 +12,8 @@ use Rattle.label_store.specs.declared.found.Found.{Found}
 use Rattle.label_store.specs.Newest.{Parts, IsLook, IsBest}
 use Rattle.config_codec.specs.Fields.{Fields}
 use Rattle.config_codec.specs.Reading.{config_in}
-use Rattle.pool_history.specs.Events.{Event, IsOneRun, calls_of}
+use Rattle.pool_history.specs.Events.{Event, Calls, Accepts, Looks, Opens, Begins, Third, Ends, Acks, Loses, Stops, IsOneRun, calls_of}
+use Rattle.pool_history.specs.Looks.{known_by}
 use Rattle.pool_history.specs.Moves.{Mays}
 use Rattle.pool_history.specs.Pools.{Pool, drawn, pool_after}
 use Rattle.pool_history.specs.Premises.{AreGood}
@@ -95,13 +96,39 @@ Takes own h (Some (requests.Write pool a block)) made d = ⊥
 Takes own h (Some (requests.Read pool a)) made d = ⊥
 Takes own h (Some (requests.Sync pool)) made d = ⊥
 
+-- These calls end in a look at the labels of all devices that are handed, and this is what was found.
+pub record IsLooked (h : HostState) (calls : List Noted) (known : ℕ → ℕ → Option (List ℕ)) : Type 0 where
+  pub earlier : List Noted
+  pub reads : List Noted
+  pub all : calls ≡ earlier ++ reads
+  pub looks : List Parts
+  pub look : IsLook h.size (all_handed h.table) looks reads
+  pub known_is : known ≡ known_by h.size (all_handed h.table) looks
+
+-- so it is at each opening's mark among these events, which come behind these calls
+abbrev pub AreLooked : HostState → (calls : List Noted) → List Event → Type 0
+AreLooked h calls [] = Unit {0}
+AreLooked h calls (Calls noted ∷ vs) = AreLooked h (calls ++ noted ∷ []) vs
+AreLooked h calls (Accepts a block ∷ vs) = AreLooked h calls vs
+AreLooked h calls (Looks known ∷ vs) = IsLooked h calls known × AreLooked h calls vs
+AreLooked h calls (Opens r ∷ vs) = AreLooked h calls vs
+AreLooked h calls (Begins q ∷ vs) = AreLooked h calls vs
+AreLooked h calls (Third q d ∷ vs) = AreLooked h calls vs
+AreLooked h calls (Ends q d ∷ vs) = AreLooked h calls vs
+AreLooked h calls (Acks q ∷ vs) = AreLooked h calls vs
+AreLooked h calls (Loses d ∷ vs) = AreLooked h calls vs
+AreLooked h calls (Stops images ∷ vs) = AreLooked h calls vs
+
 -- These calls led the machine from one host to the next. They are those of a history of the pool without a
--- stop: its events exist whatever the pool is, and it loses no device but one that was taken; and where the
--- pool stood in the old host, they are moves that it may make, and it stands in the new host as they leave it.
+-- stop. Its events exist whatever the pool is; it loses no device but one that was taken; and premises are
+-- asked for only where the calls looked at all labels, and of what they found. Where the pool stood in the
+-- old host, the events are moves that it may make, and it stands in the new host as they leave it.
 pub record Follows (p : Pool) (h : HostState) (IsTaken : ℕ → Type 0) (made : List Noted) (next : HostState) : Type 0 where
   pub vs : List Event
   pub calls : calls_of vs ≡ made
   pub one_run : IsOneRun vs
+  pub devices : (next.table ≡ h.table) × (next.size ≡ h.size)
+  pub looked : AreLooked h [] vs
   pub keeps : (d : ℕ) → p.member d ≡ true → ((pool_after vs p).member d ≡ true) ⊎ IsTaken d
   pub safe : Tracks p h → HasNoTwins next.records → Survives head_of p → AreGood head_of p vs → Mays head_of p vs × Tracks (pool_after vs p) next
 

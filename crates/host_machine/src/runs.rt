@@ -5,13 +5,16 @@ ghost use Rattle.pool_history.specs.Events.{Stops};
 ghost use Rattle.pool_history.specs.Pools.{Pool, after};
 ghost use Rattle.pool_history.specs.Records.{Rec, IsIn};
 ghost use Rattle.host_machine.specs.declared.device.HostDevice.{HostDevice};
-ghost use Rattle.host_machine.specs.Births.{TakesIn, KeepsPools, IsEntryOf};
+ghost use Rattle.host_machine.specs.Runs.{TakesIn, KeepsPools, IsEntryOf};
 ghost use Rattle.host_machine.specs.Devices.{number_in};
 ghost use Rattle.host_machine.specs.Fitness.{IsFit, AreWhole};
 ghost use Rattle.host_machine.specs.Machine.{HostState, Entry, Replay, started};
 ghost use Rattle.host_machine.specs.Tracking.{Tracks, Follows};
 
-use crate::laws::{hosts_stay_fit, lines_follow_each_pool};
+use crate::answers::good_member_answers;
+use crate::laws::{
+    creates_begin_a_pool, hosts_stay_fit, imports_find_the_pool, lines_follow_each_pool,
+};
 
 /// A run keeps each pool that its devices had left: at each of its moments they are left by the pool's
 /// history so far.
@@ -26,6 +29,9 @@ pub fn runs_keep_each_pool()
 {
     hosts_stay_fit();
     lines_follow_each_pool();
+    imports_find_the_pool();
+    creates_begin_a_pool();
+    good_member_answers();
 }
 
 /// The next run may begin with what a stop left of the devices, whatever moment the stop came at.

@@ -1,9 +1,17 @@
-use Rattle.host_machine.specs.Births.{TakesIn}
+use Rattle.host_machine.specs.Runs.{TakesIn}
 use Rattle.host_machine.proofs.Running.{keeps_pools, entry_of, widen, goes_on}
 use Rattle.host_machine.proofs.runs.runs_keep_each_pool.Goals as goal
 
 pub returns-clause-run : goal.returns-clause-run
-returns-clause-run c = keeps_pools c.hosts_stay_fit.ensures.stays c.hosts_stay_fit.ensures.keeps c.lines_follow_each_pool.ensures.line
+returns-clause-run c = keeps_pools (record {
+  stays = c.hosts_stay_fit.ensures.stays;
+  keeps = c.hosts_stay_fit.ensures.keeps;
+  line = c.lines_follow_each_pool.ensures.line;
+  finds = c.imports_find_the_pool.ensures.finds;
+  ours = c.good_member_answers.ensures.ours;
+  reads = c.good_member_answers.ensures.answers;
+  refuses = c.good_member_answers.ensures.refuses;
+}) c.creates_begin_a_pool.ensures.begins
 
 pub returns-clause-entry : goal.returns-clause-entry
 returns-clause-entry c = entry_of

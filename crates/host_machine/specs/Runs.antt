@@ -1,0 +1,85 @@
+-- What a run does to the pools that its devices had left.
+use Rattle.std.specs.Prelude.{◌≡◌, ◌⊎◌, ℕ, ◌<◌, true, false, List, [], ◌∷◌, ◌++◌, Some, None}
+use Rattle.bank_core.specs.Disk.{Noted, Sectors, run}
+use Rattle.pool_wire.specs.declared.reply.NamedLeaf.{NamedLeaf}
+use Rattle.pool_wire.specs.declared.reply.Reply.TheVariants as replies
+use Rattle.pool_wire.specs.declared.request.Request.TheVariants as requests
+use Rattle.pool_history.specs.Events.{Event, as_events}
+use Rattle.pool_history.specs.Looks.{known_by}
+use Rattle.pool_history.specs.Pools.{Pool, pool_after}
+use Rattle.pool_history.specs.Premises.{Premises, AreGood}
+use Rattle.pool_history.specs.Survival.{Survives}
+use Rattle.pool_core.specs.Heads.{head_of}
+use Rattle.pool_core.specs.State.{PoolState}
+use Rattle.host_machine.specs.Answering.{IsLost, HasClash, IsExcused}
+use Rattle.host_machine.specs.Births.{IsBorn, StampFails, LeavesPool, LeavesThroughout, new_pool}
+use Rattle.host_machine.specs.Devices.{all_handed}
+use Rattle.host_machine.specs.Machine.{HostState, Entry, is_bad_size, new_seats, new_state, IsCreate, IsImport, Step, Replay, named_pool}
+use Rattle.host_machine.specs.Tracking.{Takes, Tracks, Follows, FindsPool, HasNoTwins, is_ours}
+
+-- a line of a run takes this device from the pool of this name
+abbrev pub TakesIn : (own : List ℕ) (h : HostState) (entries : List Entry) (calls : List Noted) (next : HostState) → Replay h entries calls next → (d : ℕ) → Type 0
+TakesIn own h [] calls next replay d = ⊥
+TakesIn own h (entry ∷ entries) calls next replay d = Takes own h entry.asked replay.0 d ⊎ TakesIn own replay.2 entries replay.1 next replay.5 d
+
+-- What a run's calls do to a pool that its devices have left: they are moves of its history, which stands
+-- in the host behind them; it loses no device but one that a line takes; and at each moment of the run the
+-- devices are left by the history so far. It is so where no two blocks of the records have one sum, and where
+-- the premises hold at each opening.
+pub record KeepsPool (first : Pool) (past : List Event) (h : HostState) (sectors : Sectors) (IsTaken : ℕ → Type 0) (calls : List Noted) (next : HostState) : Type 0 where
+  pub follows : Follows (pool_after past first) h IsTaken calls next
+  pub leaves : HasNoTwins next.records → AreGood head_of (pool_after past first) follows.vs → LeavesThroughout first past sectors follows.vs calls
+  pub tracks : HasNoTwins next.records → AreGood head_of (pool_after past first) follows.vs → Tracks (pool_after follows.vs (pool_after past first)) next
+
+-- An entry among a history's: the host before it, its own calls, and the host behind it.
+pub record IsEntryOf (h : HostState) (before : List Entry) (entry : Entry) (after : List Entry) (calls : List Noted) (next : HostState) : Type 0 where
+  pub first : List Noted
+  pub made : List Noted
+  pub rest : List Noted
+  pub old : HostState
+  pub new : HostState
+  pub all : calls ≡ first ++ (made ++ rest)
+  pub replay : Replay h before first old
+  pub step : Step old entry made new
+  pub later : Replay new after rest next
+
+-- What a line answers of a pool that stands in the host before it. An opening of the pool finds it, where the
+-- premises hold. A read of it while it is open gives the block last written, unless every leaf missed it; and it is
+-- refused as exhausted only then.
+pub record AnswersOf (p : Pool) (h : HostState) (entry : Entry) (made : List Noted) (next : HostState) : Type 0 where
+  pub finds : (i : IsImport h p.name made next entry.reply) → h.pool ≡ None
+      → Premises head_of (pool_after (as_events i.reads) p) (known_by h.size (all_handed h.table) i.looks) → FindsPool p entry.reply next
+  pub reads : (name : List ℕ) (s : PoolState) (a : ℕ) → entry.asked ≡ Some (requests.Read name a) → named_pool name h.pool ≡ Some s → is_ours p s ≡ true → a < s.blocks
+      → (entry.reply ≡ replies.Data (p.written a)) ⊎ (IsLost p s a made ⊎ IsExcused h entry made)
+  pub refuses : (name : List ℕ) (s : PoolState) (a level index : ℕ) (named : List NamedLeaf) → entry.asked ≡ Some (requests.Read name a) → named_pool name h.pool ≡ Some s
+      → is_ours p s ≡ true → entry.reply ≡ replies.Exhausted level index named → IsLost p s a made ⊎ HasClash h entry made
+
+-- The pool as an entry of a run meets it: behind the history that its devices had left come the events of the
+-- lines before. It survives and stands in the host there, and this is what the line answers of it.
+pub record MeetsPool (first : Pool) (past : List Event) (h : HostState) (before : List Entry) (entry : Entry) (after : List Entry) (calls : List Noted) (next : HostState)
+    (at : IsEntryOf h before entry after calls next) : Type 0 where
+  pub follows : Follows (pool_after past first) h (TakesIn first.name h before at.first at.old at.replay) at.first at.old
+  pub survives : HasNoTwins next.records → AreGood head_of (pool_after past first) follows.vs → Survives head_of (pool_after follows.vs (pool_after past first))
+  pub tracks : HasNoTwins next.records → AreGood head_of (pool_after past first) follows.vs → Tracks (pool_after follows.vs (pool_after past first)) at.old
+  pub answers : HasNoTwins next.records → AreGood head_of (pool_after past first) follows.vs
+      → AnswersOf (pool_after follows.vs (pool_after past first)) at.old entry at.made at.new
+
+-- A create with its devices found made these calls, and this is the rest of the run. Behind both stamps a pool
+-- began that survives, and the calls from there to the run's end are of its history; or a stamp failed.
+abbrev pub BeginsPool : (h : HostState) → PoolState → Sectors → (made : List Noted) → (new : HostState) → (after : List Entry) → (rest : List Noted) → (next : HostState) → Replay new after rest next → Type 0
+BeginsPool h s sectors made new after rest next later =
+    ((b : IsBorn h.size s sectors made new) × Follows (new_pool h.size s (run b.stamps sectors)) b.between (TakesIn s.name new after rest next later) (b.rest ++ rest) next)
+    ⊎ StampFails h.size s made
+
+-- What a run does to each pool that its devices had left, it keeps it, and each of its entries meets it; and to
+-- each pool that it makes.
+pub record KeepsPools (h : HostState) (sectors : Sectors) (entries : List Entry) (calls : List Noted) (next : HostState) (replay : Replay h entries calls next) : Type 0 where
+  pub each : (first : Pool) (past : List Event) → LeavesPool first past sectors → Tracks (pool_after past first) h
+      → KeepsPool first past h sectors (TakesIn first.name h entries calls next replay) calls next
+  pub meets : (first : Pool) (past : List Event) → LeavesPool first past sectors → Tracks (pool_after past first) h
+      → (before : List Entry) (entry : Entry) (after : List Entry) → entries ≡ before ++ entry ∷ after
+      → (at : IsEntryOf h before entry after calls next) × MeetsPool first past h before entry after calls next at
+  pub births : (before : List Entry) (entry : Entry) (after : List Entry) → entries ≡ before ++ entry ∷ after → (at : IsEntryOf h before entry after calls next)
+      → (name : List ℕ) (blocks : ℕ) (one other : List ℕ) (seats : ℕ × ℕ) → entry.asked ≡ Some (requests.Create name blocks one other) → is_bad_size blocks ≡ false
+      → new_seats at.old blocks one other ≡ Some seats → IsCreate at.old entry.second name blocks one other at.made at.new entry.reply
+      → BeginsPool at.old (new_state at.old entry.second name blocks one other seats) (run at.first sectors) at.made at.new after at.rest next at.later
