@@ -38,8 +38,8 @@ pub away_more : (member : ℕ → Bool) (first second : List Noted) → AreAway 
 away_more member [] second a b = b
 away_more member (noted ∷ first) second a b = (a.0, away_more member first second a.1 b)
 
-clash : (t : Bool) → t ≡ false → t ≡ true → ⊥
-clash t e f = cc
+pub not_both : (t : Bool) → t ≡ false → t ≡ true → ⊥
+not_both t e f = cc
 
 -- So a history of the pool may have them.
 pub away_may : (head_of : List ℕ → Option Head) (made : List Noted) (p : Pool) → AreAway p.member made → Mays head_of p (as_events made)
@@ -48,7 +48,7 @@ away_may head_of (noted ∷ made) p a = (
   record {
     plain = a.0.plain;
     off = λ d s bytes needs. a.0.off d s needs.0;
-    known = λ d place is inside touched. absurd (clash _ (a.0.off d _ is) touched);
+    known = λ d place is inside touched. absurd (not_both _ (a.0.off d _ is) touched);
   },
   away_may head_of made (after (Calls noted) p) a.1,
 )
@@ -108,7 +108,7 @@ asks_away_more member [] second a b = b
 asks_away_more member (ask ∷ first) second a b = (a.0, asks_away_more member first second a.1 b)
 
 apart : (member : ℕ → Bool) (dev d : ℕ) → member dev ≡ false → member d ≡ true → dev ≢ d
-apart member dev d a b e = clash (member d) (ap member (sym e) ∙ a) b
+apart member dev d a b e = not_both (member d) (ap member (sym e) ∙ a) b
 
 call_away : (member : ℕ → Bool) (call : Call) → IsAskAway member (ask_of call) → IsAway member call
 call_away member (Read dev at bytes fault) a = record { plain = tt; off = λ d s is. refl }

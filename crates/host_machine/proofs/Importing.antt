@@ -29,7 +29,7 @@ use Rattle.host_machine.specs.Devices.{all_handed}
 use Rattle.host_machine.specs.Fitness.{IsFit}
 use Rattle.host_machine.specs.Machine.{HostState, commit_outcome, open_state, IsImport}
 use Rattle.host_machine.specs.Tracking.{AreLooked, OpensAnother, Tracks, HasNoTwins, Follows}
-use Rattle.host_machine.proofs.Away.{AreAway, away_more, away_may, reads_away, identified_reads}
+use Rattle.host_machine.proofs.Away.{AreAway, away_more, away_may, reads_away, identified_reads, not_both}
 use Rattle.host_machine.proofs.Committing.{CommitFollows, commit_follows, outcome_table, outcome_size, outcome_records}
 use Rattle.host_machine.proofs.CommitsAway.{commit_away, flushes_away}
 use Rattle.host_machine.proofs.Following.{IsOn, without, first_lost, second_lost, reads_follow, taken_follow}
@@ -64,15 +64,12 @@ pub record Hit (config : List ℕ) (rs : List Rec) : Type 0 where
 abbrev Missed : List ℕ → List Rec → Type 0
 Missed config rs = (r : Rec) → IsIn r rs → IsOne config r → ⊥
 
-clash : (t : Bool) → t ≡ false → t ≡ true → ⊥
-clash t e f = cc
-
 search_live : (config : List ℕ) (rs : List Rec) → Hit config rs ⊎ Missed config rs
 search_live config [] = inr (λ r i one. absurd i)
 search_live config (q ∷ rs) = by_test (bytes_eq (config_of q.commit) config && nat_le 1 (number_of q)) refl (search_live config rs)
   where
     missed : (bytes_eq (config_of q.commit) config && nat_le 1 (number_of q)) ≡ false → Missed config rs → (r : Rec) → (r ≡ q) ⊎ IsIn r rs → IsOne config r → ⊥
-    missed t more r (inl same) one = clash _ t (one_test config q (subst (IsOne config) same one))
+    missed t more r (inl same) one = not_both _ t (one_test config q (subst (IsOne config) same one))
     missed t more r (inr i) one = more r i one
 
     by_test : (t : Bool) → (bytes_eq (config_of q.commit) config && nat_le 1 (number_of q)) ≡ t → Hit config rs ⊎ Missed config rs → Hit config (q ∷ rs) ⊎ Missed config (q ∷ rs)
