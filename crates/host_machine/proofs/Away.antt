@@ -4,25 +4,23 @@ use Rattle.std.specs.Prelude.{take}
 use Rattle.std.proofs.lemmas.Bool.{and_left, ne_eqb}
 use Rattle.mp_base.specs.declared.number.Guid.{Guid}
 use Rattle.bank_core.specs.declared.bank.Fault.{Fault}
-use Rattle.bank_core.specs.Asks.{Ask, Reads, Writes, Flushes, Admits, Ejects, ask_of, asks_of, IsPart}
+use Rattle.bank_core.specs.Asks.{Ask, Reads, Writes, Flushes, Admits, Ejects, ask_of, IsPart}
 use Rattle.bank_core.specs.Disk.{Call, Read, Write, Flush, Admit, Eject, Noted, sectors_in, covers}
 use Rattle.bank_core.specs.Standing.{touches}
 use Rattle.label_store.specs.declared.member.Member.{Member}
 use Rattle.label_store.specs.declared.rule.Head.{Head}
 use Rattle.label_store.specs.Identities.{AreMisses, IsSearch, rings_of}
 use Rattle.label_store.specs.Layout.{labels_of, even_labels, odd_labels, config_offset, ring_offset, slot_of}
-use Rattle.label_store.specs.Newest.{Parts, IsRead, AreReads, IsLook}
+use Rattle.label_store.specs.Newest.{IsRead, AreReads}
 use Rattle.label_store.specs.Phases.{IsTurn, IsPhase}
 use Rattle.label_store.specs.Plans.{label_writes, config_plan, ring_plan, stamp_plan, blank_uberblock, zero_ring}
 use Rattle.label_store.specs.Rounds.{Commit, uberblock_of, IsRound, first_plan, second_plan, third_plan}
 use Rattle.label_store.specs.Uberblock.{uberblock_bytes}
 use Rattle.label_store.specs.declared.uberblock.Uberblock.{Uberblock}
+use Rattle.label_store.proofs.Reading.{IsReadAsk, is_read, are_reads_more}
 use Rattle.pool_history.specs.Events.{Calls, as_events}
 use Rattle.pool_history.specs.Moves.{IsPlain, Mays}
 use Rattle.pool_history.specs.Pools.{Pool, after}
-use Rattle.pool_history.proofs.LookedParts.{IsReads}
-use Rattle.pool_history.proofs.LookedParts.{AreReads as AskReads}
-use Rattle.pool_history.proofs.LooksShow.{all_reads}
 use Rattle.config_codec.specs.Fields.{Fields}
 use Rattle.config_codec.specs.declared.config.LeafConfig.{LeafConfig}
 use Rattle.pool_core.specs.Opening.{IsLooked, IsLookedBehind, IsIdentified}
@@ -40,8 +38,8 @@ pub away_more : (member : ℕ → Bool) (first second : List Noted) → AreAway 
 away_more member [] second a b = b
 away_more member (noted ∷ first) second a b = (a.0, away_more member first second a.1 b)
 
-clash : (t : Bool) → t ≡ false → t ≡ true → ⊥
-clash t e f = cc
+pub not_both : (t : Bool) → t ≡ false → t ≡ true → ⊥
+not_both t e f = cc
 
 -- So a history of the pool may have them.
 pub away_may : (head_of : List ℕ → Option Head) (made : List Noted) (p : Pool) → AreAway p.member made → Mays head_of p (as_events made)
@@ -50,7 +48,7 @@ away_may head_of (noted ∷ made) p a = (
   record {
     plain = a.0.plain;
     off = λ d s bytes needs. a.0.off d s needs.0;
-    known = λ d place is inside touched. absurd (clash _ (a.0.off d _ is) touched);
+    known = λ d place is inside touched. absurd (not_both _ (a.0.off d _ is) touched);
   },
   away_may head_of made (after (Calls noted) p) a.1,
 )
@@ -66,31 +64,8 @@ pub reads_away : (member : ℕ → Bool) (made : List Noted) → AreReads made �
 reads_away member [] r = tt
 reads_away member (noted ∷ made) r = (read_away member noted.call r.0, reads_away member made r.1)
 
-pub reads_more : (first second : List Noted) → AreReads first → AreReads second → AreReads (first ++ second)
-reads_more [] second a b = b
-reads_more (noted ∷ first) second a b = (a.0, reads_more first second a.1 b)
-
-asked_reads : (made : List Noted) → AskReads (asks_of made) → AreReads made
-asked_reads [] a = tt
-asked_reads (noted ∷ made) a = (of noted.call a.0, asked_reads made a.1)
-  where
-    of : (call : Call) → IsReads (ask_of call) → IsRead call
-    of (Read dev at bytes fault) a = tt
-    of (Write dev at bytes fault) a = absurd a
-    of (Flush dev fault) a = absurd a
-    of (Admit dev holds) a = absurd a
-    of (Eject dev) a = absurd a
-
--- a look at devices makes reads alone
-pub look_reads : (size : ℕ → ℕ) (devs : List ℕ) (looks : List Parts) (made : List Noted) → IsLook size devs looks made → AreReads made
-look_reads size devs looks made l = asked_reads made (all_reads size devs looks made l)
-
 ask_read : (call : Call) (dev at n : ℕ) → ask_of call ≡ Reads dev at n → IsRead call
-ask_read (Read dev' at' bytes fault) dev at n e = tt
-ask_read (Write dev' at' bytes fault) dev at n e = absurd (cc)
-ask_read (Flush dev' fault) dev at n e = absurd (cc)
-ask_read (Admit dev' holds) dev at n e = absurd (cc)
-ask_read (Eject dev') dev at n e = absurd (cc)
+ask_read call dev at n e = is_read call (subst IsReadAsk (sym e) tt)
 
 misses_read : (pool member : Guid) (dev : ℕ) (rings : List ℕ) (made : List Noted) → AreMisses pool member dev rings made → AreReads made
 misses_read pool member dev [] made m = subst AreReads (sym m) tt
@@ -99,7 +74,7 @@ misses_read pool member dev (at ∷ rings) (noted ∷ made) m = (ask_read noted.
 
 search_reads : (pool member : Guid) (dev size : ℕ) (made : List Noted) (result : Result Bool Fault) → IsSearch pool member dev size made result → AreReads made
 search_reads pool member dev size made (Ok true) s =
-    subst AreReads (sym s.all) (reads_more s.misses (s.hit ∷ []) (misses_read pool member dev (take s.before (rings_of size)) s.misses s.are_misses) (ask_read s.hit.call dev _ _ s.ask, tt))
+    subst AreReads (sym s.all) (are_reads_more s.misses (s.hit ∷ []) (misses_read pool member dev (take s.before (rings_of size)) s.misses s.are_misses) (ask_read s.hit.call dev _ _ s.ask, tt))
 search_reads pool member dev size made (Ok false) s = misses_read pool member dev (rings_of size) made s.0
 search_reads pool member dev size made (Err fault) s = misses_read pool member dev (rings_of size) made s.0
 
@@ -114,7 +89,7 @@ behind_reads c dev size false made found l = subst AreReads (sym l.0) tt
 -- and so does the search for the leaves' identities
 pub identified_reads : (size : ℕ → ℕ) (c : Fields) (first second : ℕ) (made : List Noted) (found : Bool) → IsIdentified size c first second made found → AreReads made
 identified_reads size c first second made found i =
-    subst AreReads (sym i.3) (reads_more i.0 i.1 (looked_reads c c.first first (size first) i.0 i.2 i.4) (behind_reads c second (size second) i.2 i.1 found i.5))
+    subst AreReads (sym i.3) (are_reads_more i.0 i.1 (looked_reads c c.first first (size first) i.0 i.2 i.4) (behind_reads c second (size second) i.2 i.1 found i.5))
 
 -- such a call is asked
 abbrev pub IsAskAway : (ℕ → Bool) → Ask → Type 0
@@ -128,12 +103,12 @@ abbrev pub AreAsksAway : (ℕ → Bool) → List Ask → Type 0
 AreAsksAway member [] = Unit {0}
 AreAsksAway member (ask ∷ asks) = IsAskAway member ask × AreAsksAway member asks
 
-asks_away_more : (member : ℕ → Bool) (first second : List Ask) → AreAsksAway member first → AreAsksAway member second → AreAsksAway member (first ++ second)
+pub asks_away_more : (member : ℕ → Bool) (first second : List Ask) → AreAsksAway member first → AreAsksAway member second → AreAsksAway member (first ++ second)
 asks_away_more member [] second a b = b
 asks_away_more member (ask ∷ first) second a b = (a.0, asks_away_more member first second a.1 b)
 
 apart : (member : ℕ → Bool) (dev d : ℕ) → member dev ≡ false → member d ≡ true → dev ≢ d
-apart member dev d a b e = clash (member d) (ap member (sym e) ∙ a) b
+apart member dev d a b e = not_both (member d) (ap member (sym e) ∙ a) b
 
 call_away : (member : ℕ → Bool) (call : Call) → IsAskAway member (ask_of call) → IsAway member call
 call_away member (Read dev at bytes fault) a = record { plain = tt; off = λ d s is. refl }

@@ -1,15 +1,13 @@
 -- The calls of commits, of stamps and of rounds, where their devices are no members of a pool.
-use Rattle.std.proofs.Common.{◌≡◌, ℕ, Bool, true, false, cond, List, ◌∷◌, Option, Some, None, sym, subst, inr}
+use Rattle.std.proofs.Common.{◌≡◌, ℕ, Bool, false, List, Option, Some, None, sym, subst}
 use Rattle.bank_core.specs.declared.bank.Fault.{Fault}
 use Rattle.bank_core.specs.Asks.{Ask}
 use Rattle.bank_core.specs.Disk.{Noted}
 use Rattle.label_store.specs.Plans.{stamp_plan}
-use Rattle.pool_history.specs.Records.{Rec, IsIn}
 use Rattle.pool_core.specs.Commits.{IsRoundBehind, IsCommit, IsStampedFirst, FirstRound, AreMade}
 use Rattle.pool_core.specs.Recorded.{commit_of, members_of}
 use Rattle.pool_core.specs.State.{LeafState, PoolState}
 use Rattle.pool_core.specs.Syncing.{flush_plan}
-use Rattle.host_machine.specs.Records.{is_known, with_record, record_of}
 use Rattle.host_machine.proofs.Away.{AreAway, AreAsksAway, away_more, part_away, stamp_away, round_away}
 
 behind_away : (member : ℕ → Bool) (size : ℕ → ℕ) (s : PoolState) (outcome : Option Fault) (made : List Noted) (failed : ℕ)
@@ -45,11 +43,3 @@ pub making_away : (member : ℕ → Bool) (size : ℕ → ℕ) (s : PoolState) (
 making_away member size s made failed one other m =
     stamped_away member size s s.first made failed (λ rest. IsStampedFirst size s s.second rest failed (λ more. FirstRound size s more failed)) one
     (λ rest. stamped_away member size s s.second rest failed (λ more. FirstRound size s more failed) other (λ more. first_away member size s more failed one other)) m
-
--- A record that was drawn up stays so.
-pub drawn_stays : (s : PoolState) (records : List Rec) (r : Rec) → IsIn r records → IsIn r (with_record s records)
-drawn_stays s records r i = by_test (is_known s)
-  where
-    by_test : (t : Bool) → IsIn r (cond t (record_of s ∷ records) records)
-    by_test true = inr i
-    by_test false = i

@@ -36,7 +36,7 @@ use Rattle.host_machine.specs.Tracking.{IsOpenAs, StandsIn, Tracks}
 use Rattle.host_machine.proofs.RoundMarks.{AreRoundMarks, marks_more, calls_marked, round_marks}
 use Rattle.host_machine.proofs.RoundRuns.{round_one_run}
 use Rattle.host_machine.proofs.Settling.{IsSettled, AllKnown, same_some, none_some, cell_pointer, known_all, known_is, config_reads, settled_record}
-use Rattle.host_machine.proofs.Standings.{closed, tracks_move, in_record}
+use Rattle.host_machine.proofs.Standings.{closed, tracks_move, drawn_stays}
 
 -- A commit of the state may be made by the pool, which stands in the host: the state is what the pool
 -- would answer, under the next number; the plan spares what is needed; and behind the plan each block
@@ -246,7 +246,7 @@ round_stands : (p : Pool) (h : HostState) (plan : List Ask) (t : PoolState) (bef
 round_stands p h plan t before results vs failed ready events is =
     tracks_move p behind (closed h) (commit_outcome h t failed).0 ready.tracks ends.name ends.member ends.guid ends.size (outcome_table h t failed) (outcome_size h t failed)
     (λ r drawn_there some. subst (IsIn r) (sym (outcome_records h t failed)) (⊎_elim
-    (λ same. known_in t h.records r (known_all t ready.known) same) (λ earlier. in_record t h.records r (ready.tracks.known r earlier some)) (ends.drawn_in r drawn_there)))
+    (λ same. known_in t h.records r (known_all t ready.known) same) (λ earlier. drawn_stays t h.records r (ready.tracks.known r earlier some)) (ends.drawn_in r drawn_there)))
     (λ r c drawn_there drawn. ⊎_elim (λ same. own_record p h plan t r c ready same drawn) (λ earlier. ready.tracks.own r c earlier drawn) (ends.drawn_in r drawn_there))
     (stands_by p (with_calls before p) behind h plan t (calls_of vs) results failed ready refl refl refl is ends)
   where
@@ -261,7 +261,7 @@ stopped_stands : (p : Pool) (h : HostState) (t : PoolState) (before : List Noted
     → Tracks (with_calls before p) (commit_outcome h t failed).0
 stopped_stands p h t before failed tr one =
     subst (λ n. Tracks (with_calls before p) (commit_outcome h t n).0) (sym one)
-    (tracks_move p (with_calls before p) (closed h) (commit_outcome h t 1).0 tr refl refl refl refl refl refl (λ r drawn_there some. in_record t h.records r (tr.known r drawn_there some)) tr.own tt)
+    (tracks_move p (with_calls before p) (closed h) (commit_outcome h t 1).0 tr refl refl refl refl refl refl (λ r drawn_there some. drawn_stays t h.records r (tr.known r drawn_there some)) tr.own tt)
 
 commit_by : (p : Pool) (h : HostState) (plan : List Ask) (t : PoolState) (before round : List Noted) (outcome : Option Fault) (failed : ℕ) → IsPart plan before outcome
     → IsRoundBehind h.size t outcome round failed → CommitFollows p h plan t (before ++ round) (commit_outcome h t failed).0

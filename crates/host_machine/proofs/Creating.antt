@@ -11,8 +11,9 @@ use Rattle.host_machine.specs.declared.device.HostDevice.{HostDevice}
 use Rattle.host_machine.specs.Machine.{HostState, Quietly, is_bad_size, new_seats, new_state, create_outcome, CreatesOn, CreatesUnless, IsCreate}
 use Rattle.host_machine.specs.Devices.{member_of}
 use Rattle.host_machine.specs.Tracking.{Follows}
-use Rattle.host_machine.proofs.CommitsAway.{making_away, drawn_stays}
+use Rattle.host_machine.proofs.CommitsAway.{making_away}
 use Rattle.host_machine.proofs.NewStates.{new_seats_found}
+use Rattle.host_machine.proofs.Standings.{drawn_stays}
 use Rattle.host_machine.proofs.Following.{IsOn, without, first_lost, second_lost, reads_follow, taken_follow}
 
 -- A line that makes no call and leaves the host as it was.

@@ -1,6 +1,5 @@
 -- How a sync, a create and an opening end, by the counts of failed calls.
 use Rattle.std.proofs.Common.{◌≡◌, ◌⊎◌, ℕ, zero, suc, ◌+◌, ◌<◌, ◌≤◌, Bool, true, false, List, [], ◌++◌, Option, Some, None, refl, ap, ◌∙◌, subst, arith, inl, inr}
-use Rattle.mp_base.specs.Outside.{Rose}
 use Rattle.mp_base.specs.declared.number.Group.{Group}
 use Rattle.mp_base.specs.declared.number.Guid.{Guid}
 use Rattle.mp_base.specs.declared.refusal.Refusal.TheVariants as refusals
@@ -11,14 +10,15 @@ use Rattle.bank_core.proofs.Composing.{caused_counts, caused_split}
 use Rattle.config_codec.specs.Fields.{Fields}
 use Rattle.pool_wire.specs.declared.reply.Reply.{Reply}
 use Rattle.pool_wire.specs.declared.reply.Reply.TheVariants as replies
+use Rattle.pool_wire.specs.declared.request.Request.{Request}
 use Rattle.pool_wire.specs.declared.request.Request.TheVariants as requests
 use Rattle.pool_core.specs.Commits.{IsCommit}
 use Rattle.pool_core.specs.Opening.{recommitted}
 use Rattle.pool_core.specs.State.{LeafState, PoolState, is_spent, last_number}
 use Rattle.pool_core.specs.Syncing.{flush_plan, sync_plan, synced}
-use Rattle.host_machine.specs.Answering.{HasClash, IsExcused, SomeRose, LeafRose, NoneMoved, NoneRose, IsSuspended, IsBlamed, SuspendsByCounts, CommitsByCounts, CreatesByCounts}
+use Rattle.host_machine.specs.Answering.{HasNoMemory, SomeRose, LeafRose, NoneMoved, NoneRose, IsSuspended, IsBlamed, SuspendsByCounts, CommitsByCounts, CreatesByCounts}
 use Rattle.host_machine.specs.Machine.{HostState, Entry, Step, IsAnswered, WantsMemory, Clashes, IsSync, SyncsUnless, commit_outcome, named_pool, CreatesUnless, CreatesOn, create_outcome, new_state, new_seats, is_bad_size, IsImport, OpensBest, OpensUnless, OpensOn, OpensIf, open_seats, open_state}
-use Rattle.host_machine.proofs.Rising.{fine_still, commit_rose, commit_fine, flush_on, sync_on, MadeEnds, made_ends}
+use Rattle.host_machine.proofs.Rising.{earlier, fine_still, commit_rose, commit_fine, flush_on, sync_on, MadeEnds, made_ends}
 
 still_less : (a b : ℕ) → b ≡ a → a < b → ⊥
 still_less a b e l = omega arith
@@ -39,13 +39,24 @@ fault_committed name group reply e f = cc
 memory_fault : (name : List ℕ) (reply : Reply) → reply ≡ replies.Refused refusals.Memory → reply ≡ replies.DeviceFault name → ⊥
 memory_fault name reply e f = cc
 
+-- a read is another line, so that no clash ends these
+read_sync : (read : List ℕ) (a : ℕ) (name : List ℕ) (asked : Option Request) → asked ≡ Some (requests.Read read a) → asked ≡ Some (requests.Sync name) → ⊥
+read_sync read a name asked e f = cc
+
+read_create : (read : List ℕ) (a : ℕ) (name : List ℕ) (blocks : ℕ) (first second : List ℕ) (asked : Option Request) → asked ≡ Some (requests.Read read a)
+    → asked ≡ Some (requests.Create name blocks first second) → ⊥
+read_create read a name blocks first second asked e f = cc
+
+read_import : (read : List ℕ) (a : ℕ) (name : List ℕ) (asked : Option Request) → asked ≡ Some (requests.Read read a) → asked ≡ Some (requests.Import name) → ⊥
+read_import read a name asked e f = cc
+
 -- all ends of a sync of a pool with numbers left
-abbrev SyncEnds : HostState → PoolState → Entry → List Noted → (before after : ℕ → ℕ) → Type 0
-SyncEnds h s entry made f g = ((entry.reply ≡ replies.Committed (record { 0 = s.number + 1 })) × NoneMoved f g)
-    ⊎ ((IsSuspended s entry.reply × LeafRose s f g) ⊎ IsExcused h entry made)
+abbrev SyncEnds : PoolState → (before after : ℕ → ℕ) → Reply → Type 0
+SyncEnds s f g reply = ((reply ≡ replies.Committed (record { 0 = s.number + 1 })) × NoneMoved f g)
+    ⊎ ((IsSuspended s reply × LeafRose s f g) ⊎ HasNoMemory reply)
 
 commit_ends : (h : HostState) (s : PoolState) (entry : Entry) (made : List Noted) (next : HostState) (failed : ℕ) (f g : ℕ → ℕ) → IsCommit h.size (sync_plan s) (synced s) made failed
-    → ((next, entry.reply) ≡ commit_outcome h (synced s) failed) → AllCaused made f g → SyncEnds h s entry made f g
+    → ((next, entry.reply) ≡ commit_outcome h (synced s) failed) → AllCaused made f g → SyncEnds s f g entry.reply
 commit_ends h s entry made next zero f g commit e c =
     inl (ap (λ (x : HostState × Reply). x.1) e, fine_still made f g (commit_fine h.size (sync_plan s) (synced s) made commit) c)
 commit_ends h s entry made next (suc n) f g commit e c =
@@ -55,67 +66,65 @@ commit_ends h s entry made next (suc n) f g commit e c =
     some n = omega arith
 
 sync_ends : (h : HostState) (entry : Entry) (made : List Noted) (next : HostState) (name : List ℕ) (s : PoolState) (f g : ℕ → ℕ) → Step h entry made next
-    → entry.asked ≡ Some (requests.Sync name) → named_pool name h.pool ≡ Some s → is_spent s.number ≡ false → AllCaused made f g → SyncEnds h s entry made f g
+    → entry.asked ≡ Some (requests.Sync name) → named_pool name h.pool ≡ Some s → is_spent s.number ≡ false → AllCaused made f g → SyncEnds s f g entry.reply
 sync_ends h entry made next name s f g step asked named spent c = by step.step
   where
-    by : IsAnswered h entry.asked entry made next ⊎ (WantsMemory h entry made next ⊎ Clashes h entry made next) → SyncEnds h s entry made f g
+    by : IsAnswered h entry.asked entry made next ⊎ (WantsMemory h entry made next ⊎ Clashes h entry made next) → SyncEnds s f g entry.reply
     by (inl is) =
         let line : IsSync h (named_pool name h.pool) made next entry.reply = subst (λ q. IsAnswered h q entry made next) asked is in
         let own : SyncsUnless (is_spent s.number) h s made next entry.reply = subst (λ pool. IsSync h pool made next entry.reply) named line in
         let syncs : SyncsUnless false h s made next entry.reply = subst (λ t. SyncsUnless t h s made next entry.reply) spent own in
         commit_ends h s entry made next syncs.0 f g syncs.1 syncs.2 c
-    by (inr (inl memory)) = inr (inr (inl memory.reply))
-    by (inr (inr clashes)) = inr (inr (inr clashes.clash))
+    by (inr (inl memory)) = inr (inr memory.reply)
+    by (inr (inr clashes)) = absurd (read_sync clashes.name clashes.a name entry.asked clashes.asked asked)
 
 pub sync_suspends : (h : HostState) (entry : Entry) (made : List Noted) (next : HostState) (name : List ℕ) (s : PoolState) (f g : ℕ → ℕ) → Step h entry made next
-    → entry.asked ≡ Some (requests.Sync name) → named_pool name h.pool ≡ Some s → is_spent s.number ≡ false → AllCaused made f g → SuspendsByCounts h s entry made f g
+    → entry.asked ≡ Some (requests.Sync name) → named_pool name h.pool ≡ Some s → is_spent s.number ≡ false → AllCaused made f g → SuspendsByCounts s f g entry.reply
 sync_suspends h entry made next name s f g step asked named spent c = record { cause = λ group top faults is. cause group top faults is ends; suspended = λ d less. suspended d less ends }
   where
-    ends : SyncEnds h s entry made f g
+    ends : SyncEnds s f g entry.reply
     ends = sync_ends h entry made next name s f g step asked named spent c
 
-    cause : (group : Group) (top : Guid) (faults : ℕ) → entry.reply ≡ replies.Refused (refusals.Suspended group top faults) → SyncEnds h s entry made f g
-        → LeafRose s f g ⊎ HasClash h entry made
+    cause : (group : Group) (top : Guid) (faults : ℕ) → entry.reply ≡ replies.Refused (refusals.Suspended group top faults) → SyncEnds s f g entry.reply
+        → LeafRose s f g
     cause group top faults is (inl (e, none)) = absurd (committed_suspended (record { 0 = s.number + 1 }) group top faults entry.reply e is)
-    cause group top faults is (inr (inl (e, rose))) = inl rose
-    cause group top faults is (inr (inr (inl memory))) = absurd (memory_suspended group top faults entry.reply memory is)
-    cause group top faults is (inr (inr (inr clash))) = inr clash
+    cause group top faults is (inr (inl (e, rose))) = rose
+    cause group top faults is (inr (inr memory)) = absurd (memory_suspended group top faults entry.reply memory is)
 
-    suspended : (d : ℕ) → f d < g d → SyncEnds h s entry made f g → IsSuspended s entry.reply ⊎ IsExcused h entry made
+    suspended : (d : ℕ) → f d < g d → SyncEnds s f g entry.reply → IsSuspended s entry.reply ⊎ HasNoMemory entry.reply
     suspended d less (inl (e, none)) = absurd (still_less (f d) (g d) (none d) less)
     suspended d less (inr (inl (e, rose))) = inl e
-    suspended d less (inr (inr excused)) = inr excused
+    suspended d less (inr (inr memory)) = inr memory
 
 none_of : (s : PoolState) (f g : ℕ → ℕ) → NoneRose f g → LeafRose s f g → ⊥
 none_of s f g none (inl rose) = none s.first.dev rose
 none_of s f g none (inr rose) = none s.second.dev rose
 
 pub sync_commits : (h : HostState) (entry : Entry) (made : List Noted) (next : HostState) (name : List ℕ) (s : PoolState) (f g : ℕ → ℕ) → Step h entry made next
-    → entry.asked ≡ Some (requests.Sync name) → named_pool name h.pool ≡ Some s → is_spent s.number ≡ false → AllCaused made f g → CommitsByCounts h s entry made f g
+    → entry.asked ≡ Some (requests.Sync name) → named_pool name h.pool ≡ Some s → is_spent s.number ≡ false → AllCaused made f g → CommitsByCounts s f g entry.reply
 sync_commits h entry made next name s f g step asked named spent c = record { calm = λ group is. calm group is ends; committed = λ none. committed none ends }
   where
-    ends : SyncEnds h s entry made f g
+    ends : SyncEnds s f g entry.reply
     ends = sync_ends h entry made next name s f g step asked named spent c
 
-    calm : (group : Group) → entry.reply ≡ replies.Committed group → SyncEnds h s entry made f g → NoneMoved f g ⊎ HasClash h entry made
-    calm group is (inl (e, none)) = inl none
+    calm : (group : Group) → entry.reply ≡ replies.Committed group → SyncEnds s f g entry.reply → NoneMoved f g
+    calm group is (inl (e, none)) = none
     calm group is (inr (inl ((faults, some, e), rose))) = absurd (committed_suspended group (record { 0 = s.number + 1 }) s.mirror faults entry.reply is e)
-    calm group is (inr (inr (inl memory))) = absurd (memory_committed group entry.reply memory is)
-    calm group is (inr (inr (inr clash))) = inr clash
+    calm group is (inr (inr memory)) = absurd (memory_committed group entry.reply memory is)
 
-    committed : NoneRose f g → SyncEnds h s entry made f g → (entry.reply ≡ replies.Committed (record { 0 = s.number + 1 })) ⊎ IsExcused h entry made
+    committed : NoneRose f g → SyncEnds s f g entry.reply → (entry.reply ≡ replies.Committed (record { 0 = s.number + 1 })) ⊎ HasNoMemory entry.reply
     committed none (inl (e, still)) = inl e
     committed none (inr (inl (e, rose))) = absurd (none_of s f g none rose)
-    committed none (inr (inr excused)) = inr excused
+    committed none (inr (inr memory)) = inr memory
 
 -- all ends of a create on two devices
-abbrev CreateEnds : HostState → (first second : List ℕ) → (seats : ℕ × ℕ) → Entry → List Noted → (before after : ℕ → ℕ) → Type 0
-CreateEnds h first second seats entry made f g = ((entry.reply ≡ replies.Committed (record { 0 = 1 })) × NoneMoved f g)
-    ⊎ (IsBlamed first seats.0 f g entry.reply ⊎ (IsBlamed second seats.1 f g entry.reply ⊎ IsExcused h entry made))
+abbrev CreateEnds : (first second : List ℕ) → (seats : ℕ × ℕ) → (before after : ℕ → ℕ) → Reply → Type 0
+CreateEnds first second seats f g reply = ((reply ≡ replies.Committed (record { 0 = 1 })) × NoneMoved f g)
+    ⊎ (IsBlamed first seats.0 f g reply ⊎ (IsBlamed second seats.1 f g reply ⊎ HasNoMemory reply))
 
 outcome_ends : (h : HostState) (name : List ℕ) (blocks : ℕ) (first second : List ℕ) (seats : ℕ × ℕ) (entry : Entry) (made : List Noted) (next : HostState) (failed : Option LeafState) (f g : ℕ → ℕ)
     → MadeEnds (new_state h entry.second name blocks first second seats) made failed f g
-    → ((next, entry.reply) ≡ create_outcome h (new_state h entry.second name blocks first second seats) failed) → AllCaused made f g → CreateEnds h first second seats entry made f g
+    → ((next, entry.reply) ≡ create_outcome h (new_state h entry.second name blocks first second seats) failed) → AllCaused made f g → CreateEnds first second seats f g entry.reply
 outcome_ends h name blocks first second seats entry made next failed f g (inl (none, fine)) e c =
     inl (ap (λ (x : HostState × Reply). x.1) (e ∙ ap (create_outcome h (new_state h entry.second name blocks first second seats)) none), fine_still made f g fine c)
 outcome_ends h name blocks first second seats entry made next failed f g (inr (inl (is, rose))) e c =
@@ -125,10 +134,10 @@ outcome_ends h name blocks first second seats entry made next failed f g (inr (i
 
 create_ends : (h : HostState) (entry : Entry) (made : List Noted) (next : HostState) (name : List ℕ) (blocks : ℕ) (first second : List ℕ) (seats : ℕ × ℕ) (f g : ℕ → ℕ)
     → Step h entry made next → entry.asked ≡ Some (requests.Create name blocks first second) → is_bad_size blocks ≡ false → new_seats h blocks first second ≡ Some seats
-    → AllCaused made f g → CreateEnds h first second seats entry made f g
+    → AllCaused made f g → CreateEnds first second seats f g entry.reply
 create_ends h entry made next name blocks first second seats f g step asked good are c = by step.step
   where
-    by : IsAnswered h entry.asked entry made next ⊎ (WantsMemory h entry made next ⊎ Clashes h entry made next) → CreateEnds h first second seats entry made f g
+    by : IsAnswered h entry.asked entry made next ⊎ (WantsMemory h entry made next ⊎ Clashes h entry made next) → CreateEnds first second seats f g entry.reply
     by (inl is) =
         let line : CreatesUnless (is_bad_size blocks) h entry.second name blocks first second made next entry.reply = subst (λ q. IsAnswered h q entry made next) asked is in
         let own : CreatesOn h entry.second name blocks first second (new_seats h blocks first second) made next entry.reply =
@@ -137,12 +146,12 @@ create_ends h entry made next name blocks first second seats f g step asked good
         subst (λ s. CreatesOn h entry.second name blocks first second s made next entry.reply) are own in
         outcome_ends h name blocks first second seats entry made next creates.0 f g
         (made_ends h.size (new_state h entry.second name blocks first second seats) made creates.0 f g creates.1 c) creates.2 c
-    by (inr (inl memory)) = inr (inr (inr (inl memory.reply)))
-    by (inr (inr clashes)) = inr (inr (inr (inr clashes.clash)))
+    by (inr (inl memory)) = inr (inr (inr memory.reply))
+    by (inr (inr clashes)) = absurd (read_create clashes.name clashes.a name blocks first second entry.asked clashes.asked asked)
 
 pub create_counts : (h : HostState) (entry : Entry) (made : List Noted) (next : HostState) (name : List ℕ) (blocks : ℕ) (first second : List ℕ) (seats : ℕ × ℕ) (f g : ℕ → ℕ)
     → Step h entry made next → entry.asked ≡ Some (requests.Create name blocks first second) → is_bad_size blocks ≡ false → new_seats h blocks first second ≡ Some seats
-    → AllCaused made f g → CreatesByCounts h first second seats entry made f g
+    → AllCaused made f g → CreatesByCounts first second seats f g entry.reply
 create_counts h entry made next name blocks first second seats f g step asked good are c = record {
   calm = λ group is. calm group is ends;
   committed = λ none. committed none ends;
@@ -150,32 +159,30 @@ create_counts h entry made next name blocks first second seats f g step asked go
   blamed = λ d less. blamed d less ends;
 }
   where
-    ends : CreateEnds h first second seats entry made f g
+    ends : CreateEnds first second seats f g entry.reply
     ends = create_ends h entry made next name blocks first second seats f g step asked good are c
 
-    calm : (group : Group) → entry.reply ≡ replies.Committed group → CreateEnds h first second seats entry made f g → NoneMoved f g ⊎ HasClash h entry made
-    calm group is (inl (e, none)) = inl none
+    calm : (group : Group) → entry.reply ≡ replies.Committed group → CreateEnds first second seats f g entry.reply → NoneMoved f g
+    calm group is (inl (e, none)) = none
     calm group is (inr (inl (e, rose))) = absurd (fault_committed first group entry.reply e is)
     calm group is (inr (inr (inl (e, rose)))) = absurd (fault_committed second group entry.reply e is)
-    calm group is (inr (inr (inr (inl memory)))) = absurd (memory_committed group entry.reply memory is)
-    calm group is (inr (inr (inr (inr clash)))) = inr clash
+    calm group is (inr (inr (inr memory))) = absurd (memory_committed group entry.reply memory is)
 
-    committed : NoneRose f g → CreateEnds h first second seats entry made f g → (entry.reply ≡ replies.Committed (record { 0 = 1 })) ⊎ IsExcused h entry made
+    committed : NoneRose f g → CreateEnds first second seats f g entry.reply → (entry.reply ≡ replies.Committed (record { 0 = 1 })) ⊎ HasNoMemory entry.reply
     committed none (inl (e, still)) = inl e
     committed none (inr (inl (e, rose))) = absurd (none seats.0 rose)
     committed none (inr (inr (inl (e, rose)))) = absurd (none seats.1 rose)
-    committed none (inr (inr (inr excused))) = inr excused
+    committed none (inr (inr (inr memory))) = inr memory
 
-    cause : (device : List ℕ) → entry.reply ≡ replies.DeviceFault device → CreateEnds h first second seats entry made f g
-        → IsBlamed first seats.0 f g entry.reply ⊎ (IsBlamed second seats.1 f g entry.reply ⊎ HasClash h entry made)
+    cause : (device : List ℕ) → entry.reply ≡ replies.DeviceFault device → CreateEnds first second seats f g entry.reply
+        → IsBlamed first seats.0 f g entry.reply ⊎ IsBlamed second seats.1 f g entry.reply
     cause device is (inl (e, none)) = absurd (fault_committed device (record { 0 = 1 }) entry.reply is e)
     cause device is (inr (inl one)) = inl one
-    cause device is (inr (inr (inl other))) = inr (inl other)
-    cause device is (inr (inr (inr (inl memory)))) = absurd (memory_fault device entry.reply memory is)
-    cause device is (inr (inr (inr (inr clash)))) = inr (inr clash)
+    cause device is (inr (inr (inl other))) = inr other
+    cause device is (inr (inr (inr memory))) = absurd (memory_fault device entry.reply memory is)
 
-    blamed : (d : ℕ) → f d < g d → CreateEnds h first second seats entry made f g
-        → IsBlamed first seats.0 f g entry.reply ⊎ (IsBlamed second seats.1 f g entry.reply ⊎ IsExcused h entry made)
+    blamed : (d : ℕ) → f d < g d → CreateEnds first second seats f g entry.reply
+        → IsBlamed first seats.0 f g entry.reply ⊎ (IsBlamed second seats.1 f g entry.reply ⊎ HasNoMemory entry.reply)
     blamed d less (inl (e, none)) = absurd (still_less (f d) (g d) (none d) less)
     blamed d less (inr rest) = rest
 
@@ -215,15 +222,15 @@ best_ends h None more next reply opens = NoneFound refl opens.0 (ap (λ (x : Hos
 best_ends h (Some found) more next reply opens =
     unless_ends h (Some found) found.blob.items opens.0 (is_spent opens.0.number.0) more next reply opens.2
 
--- a step of an import: the opening, or a free end
+-- a step of an import: the opening, or its free end
 import_line : (h : HostState) (entry : Entry) (made : List Noted) (next : HostState) (name : List ℕ) → Step h entry made next → entry.asked ≡ Some (requests.Import name)
-    → IsImport h name made next entry.reply ⊎ IsExcused h entry made
+    → IsImport h name made next entry.reply ⊎ HasNoMemory entry.reply
 import_line h entry made next name step asked = by step.step
   where
-    by : IsAnswered h entry.asked entry made next ⊎ (WantsMemory h entry made next ⊎ Clashes h entry made next) → IsImport h name made next entry.reply ⊎ IsExcused h entry made
+    by : IsAnswered h entry.asked entry made next ⊎ (WantsMemory h entry made next ⊎ Clashes h entry made next) → IsImport h name made next entry.reply ⊎ HasNoMemory entry.reply
     by (inl is) = inl (subst (λ q. IsAnswered h q entry made next) asked is)
-    by (inr (inl memory)) = inr (inl memory.reply)
-    by (inr (inr clashes)) = inr (inr clashes.clash)
+    by (inr (inl memory)) = inr memory.reply
+    by (inr (inr clashes)) = absurd (read_import clashes.name clashes.a name entry.asked clashes.asked asked)
 
 norecord_suspended : (g : Group) (top : Guid) (faults : ℕ) (reply : Reply) → reply ≡ replies.Refused refusals.NoRecord → reply ≡ replies.Refused (refusals.Suspended g top faults) → ⊥
 norecord_suspended g top faults reply e f = cc
@@ -241,13 +248,10 @@ leaf_some s f g (inr rose) = (s.second.dev, rose)
 
 before_some : (f g h : ℕ → ℕ) → ((d : ℕ) → f d ≤ g d) → SomeRose g h → SomeRose f h
 before_some f g h up (d, rose) = (d, earlier (f d) (g d) (h d) (up d) rose)
-  where
-    earlier : (x y z : ℕ) → x ≤ y → Rose y z → Rose x z
-    earlier x y z le r = omega arith
 
 pub import_suspends : (h : HostState) (entry : Entry) (made : List Noted) (next : HostState) (name : List ℕ) (f g : ℕ → ℕ) (group : Group) (top : Guid) (faults : ℕ)
     → Step h entry made next → entry.asked ≡ Some (requests.Import name) → entry.reply ≡ replies.Refused (refusals.Suspended group top faults)
-    → AllCaused made f g → SomeRose f g ⊎ HasClash h entry made
+    → AllCaused made f g → SomeRose f g
 import_suspends h entry made next name f g group top faults step asked is c = by (import_line h entry made next name step asked)
   where
     by_end : (line : IsImport h name made next entry.reply) → OpenEnds h line.best line.more entry.reply → SomeRose f g
@@ -262,10 +266,9 @@ import_suspends h entry made next name f g group top faults step asked is c = by
         (before_some one.0 two.0 g (caused_counts ids one.0 two.0 two.1)
         (leaf_some (recommitted s) two.0 g (commit_rose h.size (flush_plan s) (recommitted s) round n two.0 g (flush_on s) commit two.2)))
 
-    by : IsImport h name made next entry.reply ⊎ IsExcused h entry made → SomeRose f g ⊎ HasClash h entry made
-    by (inl line) = inl (by_end line (best_ends h line.best line.more next entry.reply line.opens))
-    by (inr (inl memory)) = absurd (memory_suspended group top faults entry.reply memory is)
-    by (inr (inr clash)) = inr clash
+    by : IsImport h name made next entry.reply ⊎ HasNoMemory entry.reply → SomeRose f g
+    by (inl line) = by_end line (best_ends h line.best line.more next entry.reply line.opens)
+    by (inr memory) = absurd (memory_suspended group top faults entry.reply memory is)
 
 suspended_norecord : (g : Group) (top : Guid) (faults : ℕ) (reply : Reply) → reply ≡ replies.Refused (refusals.Suspended g top faults) → reply ≡ replies.Refused refusals.NoRecord → ⊥
 suspended_norecord g top faults reply e f = norecord_suspended g top faults reply f e
@@ -291,10 +294,9 @@ none_found h best more reply is (Suspends s ids round n all commit group top fau
 
 -- An opening that finds no record read the labels, and there was no best one.
 pub import_none : (h : HostState) (entry : Entry) (made : List Noted) (next : HostState) (name : List ℕ) → Step h entry made next → entry.asked ≡ Some (requests.Import name)
-    → entry.reply ≡ replies.Refused refusals.NoRecord → ((line : IsImport h name made next entry.reply) × (line.best ≡ None) × (line.more ≡ [])) ⊎ HasClash h entry made
+    → entry.reply ≡ replies.Refused refusals.NoRecord → (line : IsImport h name made next entry.reply) × (line.best ≡ None) × (line.more ≡ [])
 import_none h entry made next name step asked is = by (import_line h entry made next name step asked)
   where
-    by : IsImport h name made next entry.reply ⊎ IsExcused h entry made → ((line : IsImport h name made next entry.reply) × (line.best ≡ None) × (line.more ≡ [])) ⊎ HasClash h entry made
-    by (inl line) = let found = none_found h line.best line.more entry.reply is (best_ends h line.best line.more next entry.reply line.opens) in inl (line, found.0, found.1)
-    by (inr (inl memory)) = absurd (memory_norecord entry.reply memory is)
-    by (inr (inr clash)) = inr clash
+    by : IsImport h name made next entry.reply ⊎ HasNoMemory entry.reply → (line : IsImport h name made next entry.reply) × (line.best ≡ None) × (line.more ≡ [])
+    by (inl line) = let found = none_found h line.best line.more entry.reply is (best_ends h line.best line.more next entry.reply line.opens) in (line, found.0, found.1)
+    by (inr memory) = absurd (memory_norecord entry.reply memory is)

@@ -27,8 +27,8 @@ use Rattle.host_machine.specs.Machine.{HostState, commit_outcome, open_state, Is
 use Rattle.host_machine.specs.Records.{is_known_version, cell_of}
 use Rattle.host_machine.specs.Tracking.{Tracks, HasNoTwins, FindsPool}
 use Rattle.host_machine.proofs.Committing.{known_wanted}
-use Rattle.host_machine.proofs.Importing.{twins_before, outcome_kept}
-use Rattle.host_machine.proofs.Knowing.{cells_back, known_back}
+use Rattle.host_machine.proofs.Importing.{outcome_kept}
+use Rattle.host_machine.proofs.Knowing.{cells_back, known_back, twins_before}
 use Rattle.host_machine.proofs.Looking.{IsLater, looked_live, looked_some}
 use Rattle.host_machine.proofs.Openings.{IsOpening, IsUnopened, opening_case}
 use Rattle.host_machine.proofs.Rereading.{IsKnownAs, known_as}

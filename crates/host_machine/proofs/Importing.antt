@@ -8,6 +8,7 @@ use Rattle.std.proofs.lemmas.Slice.Eq.{bytes_eq-Decides}
 use Rattle.bank_core.specs.Disk.{Noted, AllAnswer}
 use Rattle.label_store.specs.Newest.{Parts, AreReads, IsLook}
 use Rattle.label_store.specs.Rounds.{config_of}
+use Rattle.label_store.proofs.Reading.{are_reads_more, look_reads}
 use Rattle.config_codec.proofs.Deciding.{is_config}
 use Rattle.pool_wire.specs.declared.reply.Reply.{Reply}
 use Rattle.pool_history.specs.Events.{Event, Known, Calls, Looks, Opens, as_events, calls_of, IsOneRun}
@@ -28,16 +29,18 @@ use Rattle.host_machine.specs.Devices.{all_handed}
 use Rattle.host_machine.specs.Fitness.{IsFit}
 use Rattle.host_machine.specs.Machine.{HostState, commit_outcome, open_state, IsImport}
 use Rattle.host_machine.specs.Tracking.{AreLooked, OpensAnother, Tracks, HasNoTwins, Follows}
-use Rattle.host_machine.proofs.Away.{AreAway, away_more, away_may, reads_away, reads_more, look_reads, identified_reads}
-use Rattle.host_machine.proofs.Committing.{CommitFollows, commit_follows, outcome_records}
-use Rattle.host_machine.proofs.CommitsAway.{commit_away, flushes_away, drawn_stays}
+use Rattle.host_machine.proofs.Away.{AreAway, away_more, away_may, reads_away, identified_reads, not_both}
+use Rattle.host_machine.proofs.Committing.{CommitFollows, commit_follows, outcome_table, outcome_size, outcome_records}
+use Rattle.host_machine.proofs.CommitsAway.{commit_away, flushes_away}
 use Rattle.host_machine.proofs.Following.{IsOn, without, first_lost, second_lost, reads_follow, taken_follow}
+use Rattle.host_machine.proofs.Knowing.{twins_before}
 use Rattle.host_machine.proofs.LookMarks.{looked_more}
 use Rattle.host_machine.proofs.RoundMarks.{marks_more, calls_marked, marks_looked}
 use Rattle.host_machine.proofs.Looking.{looked_true, looked_live, away_survives, opens_survives}
 use Rattle.host_machine.proofs.Openings.{IsNewest, IsOpening, IsUnopened, opening_case}
 use Rattle.host_machine.proofs.Rereading.{known_as, ready_again}
 use Rattle.host_machine.proofs.HostSeats.{seats_found}
+use Rattle.host_machine.proofs.Standings.{drawn_stays}
 
 -- A search among records for one of this configuration, with a number.
 pub record IsOne (config : List ℕ) (r : Rec) : Type 0 where
@@ -61,15 +64,12 @@ pub record Hit (config : List ℕ) (rs : List Rec) : Type 0 where
 abbrev Missed : List ℕ → List Rec → Type 0
 Missed config rs = (r : Rec) → IsIn r rs → IsOne config r → ⊥
 
-clash : (t : Bool) → t ≡ false → t ≡ true → ⊥
-clash t e f = cc
-
 search_live : (config : List ℕ) (rs : List Rec) → Hit config rs ⊎ Missed config rs
 search_live config [] = inr (λ r i one. absurd i)
 search_live config (q ∷ rs) = by_test (bytes_eq (config_of q.commit) config && nat_le 1 (number_of q)) refl (search_live config rs)
   where
     missed : (bytes_eq (config_of q.commit) config && nat_le 1 (number_of q)) ≡ false → Missed config rs → (r : Rec) → (r ≡ q) ⊎ IsIn r rs → IsOne config r → ⊥
-    missed t more r (inl same) one = clash _ t (one_test config q (subst (IsOne config) same one))
+    missed t more r (inl same) one = not_both _ t (one_test config q (subst (IsOne config) same one))
     missed t more r (inr i) one = more r i one
 
     by_test : (t : Bool) → (bytes_eq (config_of q.commit) config && nat_le 1 (number_of q)) ≡ t → Hit config rs ⊎ Missed config rs → Hit config (q ∷ rs) ⊎ Missed config (q ∷ rs)
@@ -82,20 +82,9 @@ good_behind : (made : List Noted) (vs : List Event) (p : Pool) → AreGood head_
 good_behind [] vs p good = good
 good_behind (noted ∷ made) vs p good = good_behind made vs (after (Calls noted) p) good
 
-pub twins_before : (old new : List Rec) → ((r : Rec) → IsIn r old → IsIn r new) → HasNoTwins new → HasNoTwins old
-twins_before old new kept twins = record { by = λ r q a b cell other i j x y sums. twins.by r q a b cell other (kept r i) (kept q j) x y sums }
-
 -- what a commit leaves of a host
 pub outcome_kept : (h : HostState) (t : PoolState) (failed : ℕ) (r : Rec) → IsIn r h.records → IsIn r (commit_outcome h t failed).0.records
 outcome_kept h t failed r i = subst (IsIn r) (sym (outcome_records h t failed)) (drawn_stays t h.records r i)
-
-outcome_table : (h : HostState) (t : PoolState) (failed : ℕ) → (commit_outcome h t failed).0.table ≡ h.table
-outcome_table h t zero = refl
-outcome_table h t (suc n) = refl
-
-outcome_size : (h : HostState) (t : PoolState) (failed : ℕ) → (commit_outcome h t failed).0.size ≡ h.size
-outcome_size h t zero = refl
-outcome_size h t (suc n) = refl
 
 outcome_on : (h : HostState) (t : PoolState) (failed : ℕ) → IsOn t.first.dev t.second.dev (commit_outcome h t failed).0.pool
 outcome_on h t zero = (refl, refl)
@@ -247,7 +236,7 @@ import_follows T p h name made next reply fit answers takes i =
     subst (λ m. Follows p h T m next) (sym i.all) (by_case (opening_case h name i.looks next reply i.best i.more i.is_best i.opens))
   where
     by_case : IsUnopened h name i.looks i.more next reply ⊎ IsOpening h name i.looks i.more next reply → Follows p h T (i.reads ++ i.more) next
-    by_case (inl u) = reads_follow T p h (i.reads ++ i.more) next (reads_more i.reads i.more (look_reads h.size (all_handed h.table) i.looks i.reads i.look) u.reads) u.same
+    by_case (inl u) = reads_follow T p h (i.reads ++ i.more) next (are_reads_more i.reads i.more (look_reads h.size (all_handed h.table) i.looks i.reads i.look) u.reads) u.same
     by_case (inr o) =
         opening_follows T p h name i.reads i.looks i.more next reply fit i.look (answer_first i.reads i.more p.sectors (subst (AllAnswer p.sectors) i.all answers)) o
         (λ d taken. takes d (subst (λ m. OpensAnother p.name h name m d) (sym i.all) taken))

@@ -13,6 +13,8 @@ use Rattle.pool_history.specs.Records.{Rec, Cell, IsIn}
 use Rattle.pool_core.specs.Recorded.{addresses, pointer_of}
 use Rattle.pool_core.specs.State.{Version, PoolState}
 use Rattle.host_machine.specs.Records.{version_of, versions_of, cell_of, is_known_version, is_known, committed_in, IsDrawn}
+use Rattle.host_machine.specs.Tracking.{HasNoTwins}
+use Rattle.host_machine.proofs.Settling.{same_some, none_some}
 
 -- the test of two byte strings
 same_bytes : (xs ys : List ℕ) → bytes_eq xs ys ≡ true → xs ≡ ys
@@ -47,12 +49,6 @@ taken_of (x ∷ records) config c r i e = by_test (bytes_eq (config_of x.commit)
       committed = λ a. ap (λ b. cond b (versions_of x) (committed_in records config c) a) t ∙ (more i).committed a;
     }
 
-same_some : {X : Type 0} (x y : X) → Some x ≡ Some y → x ≡ y
-same_some x y e = cc
-
-no_some : {X : Type 0} (x : X) → None ≡ Some x → ⊥
-no_some x e = cc
-
 same_cell : (x y : Cell) → x.birth ≡ y.birth → x.sector ≡ y.sector → x.block ≡ y.block → x ≡ y
 same_cell x y birth sector block =
     ap (λ b. record { birth = b; sector = x.sector; block = x.block }) birth
@@ -63,8 +59,8 @@ same_cell x y birth sector block =
 same_cells : (x y : Option Cell) → option_map (λ cell. pointer_of (version_of cell)) x ≡ option_map (λ cell. pointer_of (version_of cell)) y
     → ((cell other : Cell) → x ≡ Some cell → y ≡ Some other → sha256 cell.block ≡ sha256 other.block → cell.block ≡ other.block) → x ≡ y
 same_cells None None e twins = refl
-same_cells None (Some cell) e twins = absurd (no_some _ e)
-same_cells (Some cell) None e twins = absurd (no_some _ (sym e))
+same_cells None (Some cell) e twins = absurd (none_some _ e)
+same_cells (Some cell) None e twins = absurd (none_some _ (sym e))
 same_cells (Some cell) (Some other) e twins =
     let same : pointer_of (version_of cell) ≡ pointer_of (version_of other) = same_some _ _ e in
     ap Some (same_cell cell other (ap (λ p. p.birth.0) same) (ap (λ p. p.sector) same) (twins cell other refl refl (ap (λ p. p.sum) same)))
@@ -94,3 +90,7 @@ all_known committed (a ∷ places) k = and_from _ _ (k a) (all_known committed p
 -- a state whose blocks are a record's is known
 pub known_state : (s : PoolState) (r : Rec) → ((a : ℕ) → s.committed a ≡ versions_of r a) → is_known s ≡ true
 known_state s r same = all_known s.committed (addresses s.blocks) (λ a. ap is_known_version (same a) ∙ known_back (r.cells a))
+
+-- fewer records have no twins either
+pub twins_before : (old new : List Rec) → ((r : Rec) → IsIn r old → IsIn r new) → HasNoTwins new → HasNoTwins old
+twins_before old new kept twins = record { by = λ r q a b cell other i j x y sums. twins.by r q a b cell other (kept r i) (kept q j) x y sums }

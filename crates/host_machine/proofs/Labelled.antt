@@ -1,7 +1,6 @@
 -- An opening that finds no record of a name, though a device's labels hold one.
-use Rattle.std.proofs.Common.{◌≡◌, ◌⊎◌, ℕ, zero, suc, ◌+◌, ◌*◌, ◌<◌, ◌≤◌, ◌==◌, ◌%◌, ◌/◌, Bool, true, false, if◌then◌else◌, List, [], ◌∷◌, ◌++◌, append-nil, length, Option, Some, None, refl, sym, ap, ◌∙◌, subst, arith, inl, inr}
-use Rattle.std.specs.Prelude.{nat_le, slice_get, slice_index, ◌≢◌}
-use Rattle.std.proofs.lemmas.Bool.{leb-true}
+use Rattle.std.proofs.Common.{◌≡◌, ◌⊎◌, ℕ, ◌+◌, ◌*◌, ◌<◌, ◌≤◌, ◌==◌, ◌%◌, ◌/◌, true, false, List, [], ◌∷◌, ◌++◌, append-nil, length, Option, Some, None, refl, sym, ap, ◌∙◌, subst, arith, inl, inr}
+use Rattle.std.specs.Prelude.{slice_get, slice_index, ◌≢◌}
 use Rattle.std.proofs.lemmas.Bool.Decides.{eqb_tells}
 use Rattle.bank_core.specs.declared.bank.Fault.{Fault}
 use Rattle.bank_core.specs.Calls.{device_of, fault_of}
@@ -18,34 +17,12 @@ use Rattle.pool_history.specs.Moves.{ReadsTrue}
 use Rattle.pool_history.specs.Openings.{IsVerifiedOn, IsReadWhole}
 use Rattle.pool_history.proofs.LooksShow.{best_none, looks_true, looks_whole}
 use Rattle.pool_core.specs.Heads.{head_of}
-use Rattle.host_machine.specs.declared.device.HostDevice.{HostDevice}
-use Rattle.host_machine.specs.Answering.{HasClash, all_stable, AreClean, SomeFailed, FindsNone}
-use Rattle.host_machine.specs.Devices.{handed, front, all_handed}
-use Rattle.host_machine.specs.Fitness.{AreSized, IsFit}
+use Rattle.host_machine.specs.Answering.{all_stable, AreClean, SomeFailed, FindsNone}
+use Rattle.host_machine.specs.Devices.{all_handed}
+use Rattle.host_machine.specs.Fitness.{IsFit}
 use Rattle.host_machine.specs.Machine.{HostState, Entry, Step, IsImport}
 use Rattle.host_machine.proofs.Ending.{import_none}
-
-no_device : {A : Type 0} (d : ℕ) → None ≡ Some d → A
-no_device d e = absurd (cc)
-
-same_device : (d e : ℕ) → Some d ≡ Some e → d ≡ e
-same_device d e is = cc
-
-front_room : (size : ℕ → ℕ) (one : Option ℕ) (devs : List ℕ) → ((d : ℕ) → one ≡ Some d → 320 ≤ size d) → HaveRoom size devs → HaveRoom size (front one devs)
-front_room size None devs room rest i d is = rest i d is
-front_room size (Some e) devs room rest zero d is = room d is
-front_room size (Some e) devs room rest (suc i) d is = rest i d is
-
--- a device that is handed has the labels' room
-handed_room : (size : ℕ → ℕ) (sectors : ℕ) (dev : Option ℕ) (wide : Bool) → nat_le 320 sectors ≡ wide → ((d : ℕ) → dev ≡ Some d → size d ≡ sectors)
-    → (d : ℕ) → (if wide then dev else None) ≡ Some d → 320 ≤ size d
-handed_room size sectors dev true is sized d e = let same = sized d e in let least = leb-true 320 sectors is in omega arith
-handed_room size sectors dev false is sized d e = no_device d e
-
-all_room : (size : ℕ → ℕ) (table : List HostDevice) → AreSized size table → HaveRoom size (all_handed table)
-all_room size [] sized = λ i d is. no_device d is
-all_room size (device ∷ table) sized =
-    front_room size (handed device) (all_handed table) (handed_room size device.sectors device.dev (nat_le 320 device.sectors) refl sized.0) (all_room size table sized.1)
+use Rattle.host_machine.proofs.HostSeats.{handed_room}
 
 -- whether a call on a device failed
 failed_or : (d : ℕ) (made : List Noted) → NoneFailed d made ⊎ SomeFailed d made
@@ -108,7 +85,7 @@ module _ (sectors : Sectors) (h : HostState) (entry : Entry) (made : List Noted)
   look = subst (IsLook h.size (all_handed h.table) line.looks) reads_are line.look
 
   room : HaveRoom h.size (all_handed h.table)
-  room = all_room h.size h.table fit.sized
+  room = handed_room h.size h.table fit.sized
 
   best : IsBest head_of line.looks name (128 * length (all_handed h.table)) None
   best = subst (IsBest head_of line.looks name (128 * length (all_handed h.table))) none line.is_best
@@ -135,9 +112,6 @@ module _ (sectors : Sectors) (h : HostState) (entry : Entry) (made : List Noted)
   }
 
 pub finds_none : (sectors : Sectors) (h : HostState) (entry : Entry) (made : List Noted) (next : HostState) (name : List ℕ) → IsFit h → AllAnswer sectors made
-    → Step h entry made next → entry.asked ≡ Some (requests.Import name) → entry.reply ≡ replies.Refused refusals.NoRecord → FindsNone h sectors name made ⊎ HasClash h entry made
-finds_none sectors h entry made next name fit answers step asked is = by (import_none h entry made next name step asked is)
-  where
-    by : ((line : IsImport h name made next entry.reply) × (line.best ≡ None) × (line.more ≡ [])) ⊎ HasClash h entry made → FindsNone h sectors name made ⊎ HasClash h entry made
-    by (inl (line, none, no_more)) = inl (finds sectors h entry made next name fit answers line none no_more)
-    by (inr clash) = inr clash
+    → Step h entry made next → entry.asked ≡ Some (requests.Import name) → entry.reply ≡ replies.Refused refusals.NoRecord → FindsNone h sectors name made
+finds_none sectors h entry made next name fit answers step asked is =
+    let none = import_none h entry made next name step asked is in finds sectors h entry made next name fit answers none.0 none.1 none.2

@@ -7,6 +7,7 @@ use Rattle.label_store.specs.declared.rule.Head.{Head}
 use Rattle.label_store.specs.declared.uberblock.Uberblock.{Uberblock}
 use Rattle.label_store.specs.Newest.{Parts, IsLook}
 use Rattle.label_store.specs.Rounds.{config_of}
+use Rattle.label_store.proofs.Reading.{look_reads}
 use Rattle.pool_history.specs.Events.{Opens, as_events}
 use Rattle.pool_history.specs.Looks.{known_by}
 use Rattle.pool_history.specs.Moves.{ReadsTrue}
@@ -24,7 +25,7 @@ use Rattle.pool_core.specs.Heads.{head_of}
 use Rattle.host_machine.specs.Devices.{all_handed}
 use Rattle.host_machine.specs.Fitness.{IsFit}
 use Rattle.host_machine.specs.Machine.{HostState}
-use Rattle.host_machine.proofs.Away.{AreAway, away_may, look_reads, reads_away}
+use Rattle.host_machine.proofs.Away.{AreAway, away_may, reads_away}
 use Rattle.host_machine.proofs.Openings.{IsNewest}
 use Rattle.host_machine.proofs.HostSeats.{handed_room}
 

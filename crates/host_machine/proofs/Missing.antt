@@ -31,14 +31,8 @@ use Rattle.host_machine.specs.Answering.{IsOpenIn, HasClash, IsExcused, HasCause
 use Rattle.host_machine.specs.Machine.{HostState, Entry, Step, IsAnswered, WantsMemory, Clashes, named_pool, read_reply, read_line_asks, read_line_answer, wanted_of, line_wants}
 use Rattle.host_machine.specs.Records.{version_of, versions_of}
 use Rattle.host_machine.specs.Tracking.{IsOpenAs, is_ours, StandsIn, Tracks}
-
-named_is : (name : List ℕ) (pool : Option PoolState) (s : PoolState) → named_pool name pool ≡ Some s → pool ≡ Some s
-named_is name None s e = absurd (cc)
-named_is name (Some other) s e = by (bytes_eq other.name name) e
-  where
-    by : (t : Bool) → cond t (Some other) None ≡ Some s → Some other ≡ Some s
-    by true e = e
-    by false e = absurd (cc)
+use Rattle.host_machine.proofs.Away.{not_both}
+use Rattle.host_machine.proofs.QuietLines.{named_is}
 
 -- The pool that is open is this one, where one of its devices is a member.
 pub ours_is_open : (p : Pool) (h : HostState) (name : List ℕ) (s : PoolState) → Tracks p h → named_pool name h.pool ≡ Some s → is_ours p s ≡ true → IsOpenIn p h name s
@@ -301,9 +295,6 @@ read_device (Eject dev) d at n e = absurd (cc)
 none_some : (fault : Fault) (met : Option Fault) → met ≡ None → met ≡ Some fault → ⊥
 none_some fault met e f = cc
 
-true_false : (t : Bool) → t ≡ true → t ≡ false → ⊥
-true_false t e f = cc
-
 -- a good member doesn't miss
 good_misses : (p : Pool) (at d : ℕ) (leaf : LeafState) (noted : Noted) → d ≡ leaf.dev → p.member d ≡ true → (device_of noted.call ≡ d → fault_of noted.call ≡ None)
     → (device_of noted.call ≡ d → (as_found noted p.sectors d at).damaged ≡ false) → Misses p at leaf noted → ⊥
@@ -314,8 +305,8 @@ good_misses p at d leaf noted same member fine unhurt misses = by misses.cause
 
     by : HasCause p at leaf noted → ⊥
     by (inl failed) = none_some failed.0 (fault_of noted.call) (fine here) failed.1
-    by (inr (inl damaged)) = true_false (as_found noted p.sectors leaf.dev at).damaged damaged (subst (λ e. (as_found noted p.sectors e at).damaged ≡ false) same (unhurt here))
-    by (inr (inr lost)) = true_false (p.member d) member (ap p.member same ∙ lost)
+    by (inr (inl damaged)) = not_both (as_found noted p.sectors leaf.dev at).damaged (subst (λ e. (as_found noted p.sectors e at).damaged ≡ false) same (unhurt here)) damaged
+    by (inr (inr lost)) = not_both (p.member d) (ap p.member same ∙ lost) member
 
 not_all_miss : (p : Pool) (at d : ℕ) (rest : List LeafState) (made : List Noted) → IsOn d rest → p.member d ≡ true → NoneFailed d made → FindUnhurt p d at made → AllMiss p at rest made → ⊥
 not_all_miss p at d [] made on member fine unhurt miss = absurd on

@@ -5,6 +5,7 @@ use Rattle.mp_base.specs.declared.refusal.Refusal.TheVariants as refusals
 use Rattle.bank_core.specs.Disk.{Noted}
 use Rattle.label_store.specs.declared.found.Found.{Found}
 use Rattle.label_store.specs.Newest.{Parts, IsBest, AreReads}
+use Rattle.label_store.proofs.Reading.{are_reads_more}
 use Rattle.config_codec.specs.Fields.{Fields}
 use Rattle.config_codec.specs.Reading.{config_in}
 use Rattle.pool_wire.specs.declared.reply.Reply.{Reply}
@@ -16,7 +17,7 @@ use Rattle.pool_core.specs.State.{is_spent}
 use Rattle.pool_core.specs.Syncing.{flush_plan}
 use Rattle.host_machine.specs.Devices.{all_handed}
 use Rattle.host_machine.specs.Machine.{HostState, refused, commit_outcome, open_seats, open_state, OpensOn, OpensUnless, OpensBest}
-use Rattle.host_machine.proofs.Away.{reads_more, identified_reads}
+use Rattle.host_machine.proofs.Away.{identified_reads}
 
 -- the newest record of the name, by what was read of the labels
 abbrev pub IsNewest : HostState → (name : List ℕ) → List Parts → Option Found → Type 0
@@ -74,7 +75,7 @@ module _ (h : HostState) (name : List ℕ) (looks : List Parts) (next : HostStat
       inl (quietly_unopened h name looks made next reply refusals.NotBuilt (λ same. absurd (not_built same)) (no_reads made none) said)
   on_case found c (Some seats) made newest config unspent e (ids, more, false, all, identified, (none, said)) =
       inl (quietly_unopened h name looks made next reply refusals.NotBuilt (λ same. absurd (not_built same))
-      (subst AreReads (sym all) (reads_more ids more (identified_reads h.size c seats.0 seats.1 ids false identified) (no_reads more none))) said)
+      (subst AreReads (sym all) (are_reads_more ids more (identified_reads h.size c seats.0 seats.1 ids false identified) (no_reads more none))) said)
   on_case found c (Some seats) made newest config unspent e (ids, more, true, all, identified, (failed, commit, outcome)) = inr (record {
     found = found;
     newest = newest;

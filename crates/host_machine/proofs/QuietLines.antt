@@ -4,9 +4,9 @@ use Rattle.std.specs.Prelude.{if◌then◌else◌, nat_lt}
 use Rattle.std.specs.Str.{bytes_eq}
 use Rattle.mp_base.specs.declared.refusal.Refusal.{Refusal}
 use Rattle.mp_base.specs.declared.refusal.Refusal.TheVariants as refusals
-use Rattle.bank_core.specs.Asks.{Ask, Reads, Writes, Flushes, Admits, Ejects, ask_of, asks_of}
-use Rattle.bank_core.specs.Disk.{Call, Read, Write, Flush, Admit, Eject, Noted}
-use Rattle.label_store.specs.Newest.{IsRead, AreReads}
+use Rattle.bank_core.specs.Asks.{Ask, asks_of}
+use Rattle.bank_core.specs.Disk.{Noted}
+use Rattle.label_store.proofs.Reading.{AreReadAsks, are_reads}
 use Rattle.pool_wire.specs.declared.reply.Reply.{Reply}
 use Rattle.pool_history.specs.Events.{Accepts}
 use Rattle.pool_history.specs.Pools.{Pool, after, drawn}
@@ -21,17 +21,6 @@ use Rattle.host_machine.proofs.Following.{reads_follow}
 use Rattle.host_machine.proofs.Standings.{tracks_move}
 
 -- The calls of a read line.
-
-abbrev IsReadAsk : Ask → Type 0
-IsReadAsk (Reads dev at sectors) = Unit {0}
-IsReadAsk (Writes dev at bytes) = ⊥
-IsReadAsk (Flushes dev) = ⊥
-IsReadAsk (Admits dev) = ⊥
-IsReadAsk (Ejects dev) = ⊥
-
-abbrev AreReadAsks : List Ask → Type 0
-AreReadAsks [] = Unit {0}
-AreReadAsks (ask ∷ asks) = IsReadAsk ask × AreReadAsks asks
 
 copies_read : (at : ℕ) (leaves : List LeafState) (outside : List (Option Trouble)) → AreReadAsks (asks_to at leaves outside)
 copies_read at [] outside = tt
@@ -52,17 +41,6 @@ line_reads : (pool : Option PoolState) (a : ℕ) (outside : List (Option Trouble
 line_reads None a outside = tt
 line_reads (Some s) a outside = reads_if (nat_lt a s.blocks) (asks_from (source_at s a) (leaves s) outside) (source_reads (source_at s a) (leaves s) outside)
 
-asked_read : (call : Call) → IsReadAsk (ask_of call) → IsRead call
-asked_read (Read dev at bytes fault) is = tt
-asked_read (Write dev at bytes fault) is = absurd is
-asked_read (Flush dev fault) is = absurd is
-asked_read (Admit dev holds) is = absurd is
-asked_read (Eject dev) is = absurd is
-
-asked_reads : (made : List Noted) → AreReadAsks (asks_of made) → AreReads made
-asked_reads [] are = tt
-asked_reads (noted ∷ made) are = (asked_read noted.call are.0, asked_reads made are.1)
-
 pub answer_host : (h : HostState) (pool : Option PoolState) (a : ℕ) (outside : List (Option Trouble)) (given : List ℕ) → (read_line_answer h pool a outside given).0 ≡ h
 answer_host h None a outside given = refl
 answer_host h (Some s) a outside given = refl
@@ -70,7 +48,7 @@ answer_host h (Some s) a outside given = refl
 pub read_follows : (T : ℕ → Type 0) (p : Pool) (h next : HostState) (pool : Option PoolState) (a : ℕ) (outside : List (Option Trouble)) (given : List ℕ) (made : List Noted) (reply : Reply)
     → asks_of made ≡ read_line_asks pool a outside → (next, reply) ≡ read_line_answer h pool a outside given → Follows p h T made next
 read_follows T p h next pool a outside given made reply asks is =
-    reads_follow T p h made next (asked_reads made (subst AreReadAsks (sym asks) (line_reads pool a outside))) (ap (λ x. x.0) is ∙ answer_host h pool a outside given)
+    reads_follow T p h made next (are_reads made (subst AreReadAsks (sym asks) (line_reads pool a outside))) (ap (λ x. x.0) is ∙ answer_host h pool a outside given)
 
 -- A pool by its name.
 

@@ -7,11 +7,10 @@ use Rattle.std.proofs.lemmas.Option.{slice_get_within}
 use Rattle.bank_core.specs.Asks.{Flushes}
 use Rattle.bank_core.specs.Disk.{Noted}
 use Rattle.label_store.specs.Rounds.{config_of}
-use Rattle.config_codec.specs.declared.config.Pointer.{Pointer}
 use Rattle.config_codec.specs.declared.config.LeafConfig.{LeafConfig}
 use Rattle.config_codec.specs.Fields.{Fields}
 use Rattle.config_codec.specs.Reading.{config_in}
-use Rattle.config_codec.specs.Validity.{IsPointer, IsValid}
+use Rattle.config_codec.specs.Validity.{IsValid}
 use Rattle.pool_history.specs.Events.{Opens}
 use Rattle.pool_history.specs.Pools.{Pool, after}
 use Rattle.pool_history.specs.Records.{Rec, IsIn, block_of, data_start}
@@ -35,10 +34,8 @@ use Rattle.host_machine.proofs.CommitsAway.{flushes_away}
 use Rattle.host_machine.proofs.Knowing.{taken_of, cells_same, cells_back, known_back}
 use Rattle.host_machine.proofs.Looking.{away_survives}
 use Rattle.host_machine.proofs.HostSeats.{HasSeats, seat_number, seat_room}
-use Rattle.host_machine.proofs.Settling.{IsSettled, pointers_long, pointers_at, map_twice}
-
-same_some : {A : Type 0} (x y : A) → Some x ≡ Some y → x ≡ y
-same_some x y e = cc
+use Rattle.host_machine.proofs.NextStates.{later_pointer}
+use Rattle.host_machine.proofs.Settling.{IsSettled, same_some, pointers_long, pointers_at, map_twice}
 
 -- the pointers of a configuration are those of what it commits
 abbrev ArePointers : Fields → (ℕ → Option Version) → Type 0
@@ -46,9 +43,6 @@ ArePointers c committed = (a : ℕ) → a < c.blocks → slice_get c.pointers a 
 
 next_number : (n : ℕ) → is_spent n ≡ false → n + 1 ≤ 2 ^ 62
 next_number n e = let below = leb-false last_number n e in omega arith
-
-pointer_next : (number : ℕ) (a : ℕ) (p : Pointer) → IsPointer (record { 0 = number }) a p → IsPointer (record { 0 = number + 1 }) a p
-pointer_next number a p i = record { birth = (i.birth.0, let most = i.birth.1 in omega arith); sector = i.sector; sum = i.sum }
 
 -- The configuration is valid under the next number too.
 pub valid_next : (c : Fields) (committed : ℕ → Option Version) (d e : ℕ) → IsValid c → is_spent c.number.0 ≡ false → ArePointers c committed
@@ -63,7 +57,7 @@ valid_next c committed d e v unspent are = record {
   pointers = λ a p is.
       let within : a < length (pointers_of committed c.blocks) = slice_get_within (pointers_of committed c.blocks) a (Some p) is in
       let below : a < c.blocks = subst (λ n. a < n) (pointers_long committed c.blocks) within in
-      pointer_next c.number.0 a p (v.pointers a p (are a below ∙ sym (pointers_at committed c.blocks a below) ∙ is));
+      later_pointer c.number.0 a p (v.pointers a p (are a below ∙ sym (pointers_at committed c.blocks a below) ∙ is));
   sectors = v.sectors;
   mirror = v.mirror;
   first = v.first;

@@ -22,7 +22,7 @@ use Rattle.host_machine.specs.Answering.{LeafRose, NoneMoved, SomeFailed}
 none_some : {A : Type 0} (fault : Fault) → None ≡ Some fault → A
 none_some fault e = absurd (cc)
 
-earlier : (x y z : ℕ) → x ≤ y → Rose y z → Rose x z
+pub earlier : (x y z : ℕ) → x ≤ y → Rose y z → Rose x z
 earlier x y z le r = omega arith
 
 later : (x y z : ℕ) → Rose x y → y ≤ z → Rose x z

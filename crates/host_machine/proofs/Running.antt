@@ -28,6 +28,7 @@ use Rattle.host_machine.specs.Devices.{all_handed, number_in}
 use Rattle.host_machine.specs.Fitness.{IsFit, IsWhole, AreWhole}
 use Rattle.host_machine.specs.Machine.{HostState, Entry, is_bad_size, new_seats, new_state, IsCreate, IsImport, Step, Replay, started, named_pool}
 use Rattle.host_machine.specs.Tracking.{Takes, Tracks, Follows, FindsPool, HasNoTwins, is_ours}
+use Rattle.host_machine.proofs.Knowing.{twins_before}
 use Rattle.host_machine.proofs.LookMarks.{looked_then}
 
 -- the laws of one line
@@ -72,11 +73,6 @@ pub records_grow : Keeps → (h : HostState) (entries : List Entry) (calls : Lis
 records_grow keeps h [] calls next r replay is = subst (λ g. IsIn r g.records) (sym replay.1) is
 records_grow keeps h (entry ∷ entries) calls next r replay is =
     records_grow keeps replay.2 entries replay.1 next r replay.5 (keeps h entry replay.0 replay.2 r replay.4 is)
-
-twins_before : (records more : List Rec) → ((r : Rec) → IsIn r records → IsIn r more) → HasNoTwins more → HasNoTwins records
-twins_before records more grow none = record {
-  by = λ r q a b cell other is_r is_q e f same. none.by r q a b cell other (grow r is_r) (grow q is_q) e f same;
-}
 
 no_calls : (T : ℕ → Type 0) (p : Pool) (h next : HostState) (calls : List Noted) → calls ≡ [] → next ≡ h → Follows p h T calls next
 no_calls T p h next calls none same = record {

@@ -36,9 +36,9 @@ tracks_move p behind h next tr name member guid size table sizes known own stand
   stands = stands;
 }
 
--- a record that was drawn up before is still one behind the next
-pub in_record : (t : PoolState) (records : List Rec) (r : Rec) → IsIn r records → IsIn r (with_record t records)
-in_record t records r is = by (is_known t)
+-- A record that was drawn up before is still one behind the next.
+pub drawn_stays : (t : PoolState) (records : List Rec) (r : Rec) → IsIn r records → IsIn r (with_record t records)
+drawn_stays t records r is = by (is_known t)
   where
     by : (b : Bool) → IsIn r (cond b (record_of t ∷ records) records)
     by true = inr is

@@ -1,7 +1,6 @@
 -- A sync follows each pool.
-use Rattle.std.proofs.Common.{◌≡◌, ◌⊎◌, ℕ, ◌+◌, ◌≤◌, zero, suc, Bool, true, false, List, [], ◌∷◌, ◌++◌, Option, Some, None, refl, sym, ap, ◌∙◌, subst, inl, inr, ⊎_elim}
+use Rattle.std.proofs.Common.{◌≡◌, ◌⊎◌, ℕ, ◌+◌, ◌≤◌, zero, suc, Bool, true, false, List, [], ◌∷◌, Option, Some, None, refl, sym, ap, ◌∙◌, subst, inl, inr, ⊎_elim}
 use Rattle.std.specs.List.{flat_map}
-use Rattle.std.specs.Option.{option_map}
 use Rattle.mp_base.specs.Block.{zero_block}
 use Rattle.mp_base.specs.declared.refusal.Refusal.TheVariants as refusals
 use Rattle.bank_core.specs.Asks.{Ask, IsPart}
@@ -22,30 +21,23 @@ use Rattle.pool_core.specs.State.{LeafState, Content, Known, Summed, Version, Po
 use Rattle.pool_core.specs.Syncing.{writes_to, writes_at, flush_plan, sync_plan, next_version, synced}
 use Rattle.host_machine.specs.Fitness.{IsFitPool, PoolIsFit, IsFit}
 use Rattle.host_machine.specs.Machine.{HostState, named_pool, refused, commit_outcome, SyncsUnless, IsSync}
-use Rattle.host_machine.specs.Records.{version_of, cell_with, cell_of, is_known_version}
+use Rattle.host_machine.specs.Records.{cell_with, cell_of, is_known_version}
 use Rattle.host_machine.specs.Tracking.{IsOpenAs, is_ours, StandsIn, Tracks, Follows}
-use Rattle.host_machine.proofs.Away.{AreAsksAway, away_may}
+use Rattle.host_machine.proofs.Away.{AreAsksAway, asks_away_more, away_may}
 use Rattle.host_machine.proofs.CommitsAway.{commit_away, flushes_away}
 use Rattle.host_machine.proofs.Creating.{quiet_follows}
 use Rattle.host_machine.proofs.Committing.{IsReady, commit_follows, outcome_table, outcome_size, outcome_records}
+use Rattle.host_machine.proofs.Knowing.{cells_back, known_back}
 use Rattle.host_machine.proofs.NextStates.{fit_settled, synced_fit}
 use Rattle.host_machine.proofs.RoundMarks.{calls_marked, marks_looked}
 use Rattle.host_machine.proofs.QuietLines.{ours_open, not_ours, named_is}
 use Rattle.host_machine.proofs.Settling.{same_some}
-use Rattle.host_machine.proofs.Standings.{tracks_move, in_record, tracks_closed}
+use Rattle.host_machine.proofs.Standings.{tracks_move, drawn_stays, tracks_closed}
 use Rattle.host_machine.proofs.SyncPlans.{free_at, sync_sparing, reads_held, sync_held}
 
 -- The open pool.
 
 -- each block that it reads is known
-versions_known : (c : Option Cell) → is_known_version (option_map version_of c) ≡ true
-versions_known None = refl
-versions_known (Some cell) = refl
-
-cells_back : (c : Option Cell) → cell_of (option_map version_of c) ≡ c
-cells_back None = refl
-cells_back (Some cell) = refl
-
 next_known : (n a : ℕ) (committed : Option Version) (writes : Option (List ℕ)) → is_known_version committed ≡ true → is_known_version (next_version n a committed writes) ≡ true
 next_known n a committed None known = known
 next_known n a committed (Some block) known = refl
@@ -108,7 +100,7 @@ module _ (p : Pool) (h : HostState) (s : PoolState) (tr : Tracks p h) (one : s.f
     pool = is.pool;
     number = ap (λ n. n + 1) is.number;
     settled = fit_settled h.size (synced s) (synced_fit h.size s fit open_numbers);
-    known = λ a. next_known (s.number + 1) a (s.committed a) (s.writes a) (ap is_known_version (is.committed a) ∙ versions_known (p.reads.cells a));
+    known = λ a. next_known (s.number + 1) a (s.committed a) (s.writes a) (ap is_known_version (is.committed a) ∙ known_back (p.reads.cells a));
     no_writes = λ a. refl;
     blocks = λ a. next_block (s.number + 1) a (s.committed a) (s.writes a) (p.written a) (is.written a);
     first_room = fit.first_room;
@@ -126,10 +118,6 @@ elsewhere_stands p h t first second (suc n) one two = tt
 
 -- What a sync of it asks.
 
-asks_more : (member : ℕ → Bool) (first second : List Ask) → AreAsksAway member first → AreAsksAway member second → AreAsksAway member (first ++ second)
-asks_more member [] second a b = b
-asks_more member (ask ∷ first) second a b = (a.0, asks_more member first second a.1 b)
-
 writes_away : (member : ℕ → Bool) (s : PoolState) (at : ℕ) (block : Option (List ℕ)) → member s.first.dev ≡ false → member s.second.dev ≡ false → AreAsksAway member (writes_to (leaves s) at block)
 writes_away member s at None one two = tt
 writes_away member s at (Some block) one two = (one, (two, tt))
@@ -137,11 +125,11 @@ writes_away member s at (Some block) one two = (one, (two, tt))
 all_away : (member : ℕ → Bool) (s : PoolState) (list : List ℕ) → member s.first.dev ≡ false → member s.second.dev ≡ false → AreAsksAway member (flat_map (writes_at s) list)
 all_away member s [] one two = tt
 all_away member s (a ∷ list) one two =
-    asks_more member (writes_at s a) (flat_map (writes_at s) list) (writes_away member s (free_at s a) (s.writes a) one two) (all_away member s list one two)
+    asks_away_more member (writes_at s a) (flat_map (writes_at s) list) (writes_away member s (free_at s a) (s.writes a) one two) (all_away member s list one two)
 
 sync_away : (member : ℕ → Bool) (s : PoolState) → member s.first.dev ≡ false → member s.second.dev ≡ false → AreAsksAway member (sync_plan s)
 sync_away member s one two =
-    asks_more member (flat_map (writes_at s) (addresses s.blocks)) (flush_plan s) (all_away member s (addresses s.blocks) one two) (flushes_away member s)
+    asks_away_more member (flat_map (writes_at s) (addresses s.blocks)) (flush_plan s) (all_away member s (addresses s.blocks) one two) (flushes_away member s)
 
 -- A commit of a pool on other devices leaves this one as it stands.
 pub commit_elsewhere : (T : ℕ → Type 0) (p : Pool) (h : HostState) (plan : List Ask) (t : PoolState) (made : List Noted) (failed : ℕ)
@@ -157,7 +145,7 @@ commit_elsewhere T p h plan t made failed one two away c = record {
     away_may head_of made p (commit_away p.member h.size plan t made failed one two away c),
     subst (λ q. Tracks q (commit_outcome h t failed).0) (sym (calls_after made p))
         (tracks_move p (with_calls made p) h (commit_outcome h t failed).0 tr refl refl refl refl (outcome_table h t failed) (outcome_size h t failed)
-        (λ r is some. subst (IsIn r) (sym (outcome_records h t failed)) (in_record t h.records r (tr.known r is some))) tr.own
+        (λ r is some. subst (IsIn r) (sym (outcome_records h t failed)) (drawn_stays t h.records r (tr.known r is some))) tr.own
         (elsewhere_stands (with_calls made p) h t tr.first tr.second failed one two)),
   );
 }

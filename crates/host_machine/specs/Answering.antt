@@ -37,9 +37,13 @@ pub record IsOpenIn (p : Pool) (h : HostState) (name : List ℕ) (s : PoolState)
 abbrev pub HasClash : HostState → Entry → List Noted → Type 0
 HasClash h entry made = ClashesWith made (line_wants h entry.asked)
 
--- The two free ends of a line: there was no memory, or wrong bytes passed.
+-- there was no memory for the line
+abbrev pub HasNoMemory : Reply → Type 0
+HasNoMemory reply = reply ≡ replies.Refused refusals.Memory
+
+-- The two free ends of a read: there was no memory, or wrong bytes passed.
 abbrev pub IsExcused : HostState → Entry → List Noted → Type 0
-IsExcused h entry made = (entry.reply ≡ replies.Refused refusals.Memory) ⊎ HasClash h entry made
+IsExcused h entry made = HasNoMemory entry.reply ⊎ HasClash h entry made
 
 -- Why a leaf's copy gave nothing: its read failed, or found the sector damaged; or the pool has lost the leaf's device.
 abbrev pub HasCause : Pool → (at : ℕ) → LeafState → Noted → Type 0
@@ -98,14 +102,14 @@ abbrev pub IsSuspended : PoolState → Reply → Type 0
 IsSuspended s reply = (faults : ℕ) × (1 ≤ faults) × (reply ≡ replies.Refused (refusals.Suspended (record { 0 = s.number + 1 }) s.mirror faults))
 
 -- A sync is suspended where a device's count rises in it, and only where a leaf's does.
-pub record SuspendsByCounts (h : HostState) (s : PoolState) (entry : Entry) (made : List Noted) (before after : ℕ → ℕ) : Type 0 where
-  pub cause : (group : Group) (top : Guid) (faults : ℕ) → entry.reply ≡ replies.Refused (refusals.Suspended group top faults) → LeafRose s before after ⊎ HasClash h entry made
-  pub suspended : (d : ℕ) → before d < after d → IsSuspended s entry.reply ⊎ IsExcused h entry made
+pub record SuspendsByCounts (s : PoolState) (before after : ℕ → ℕ) (reply : Reply) : Type 0 where
+  pub cause : (group : Group) (top : Guid) (faults : ℕ) → reply ≡ replies.Refused (refusals.Suspended group top faults) → LeafRose s before after
+  pub suspended : (d : ℕ) → before d < after d → IsSuspended s reply ⊎ HasNoMemory reply
 
 -- It commits the next group where no count rises in it, and only where none moves.
-pub record CommitsByCounts (h : HostState) (s : PoolState) (entry : Entry) (made : List Noted) (before after : ℕ → ℕ) : Type 0 where
-  pub calm : (group : Group) → entry.reply ≡ replies.Committed group → NoneMoved before after ⊎ HasClash h entry made
-  pub committed : NoneRose before after → (entry.reply ≡ replies.Committed (record { 0 = s.number + 1 })) ⊎ IsExcused h entry made
+pub record CommitsByCounts (s : PoolState) (before after : ℕ → ℕ) (reply : Reply) : Type 0 where
+  pub calm : (group : Group) → reply ≡ replies.Committed group → NoneMoved before after
+  pub committed : NoneRose before after → (reply ≡ replies.Committed (record { 0 = s.number + 1 })) ⊎ HasNoMemory reply
 
 -- the reply names this device, and its count rose
 abbrev pub IsBlamed : (name : List ℕ) → (d : ℕ) → (before after : ℕ → ℕ) → Reply → Type 0
@@ -113,13 +117,11 @@ IsBlamed name d before after reply = (reply ≡ replies.DeviceFault name) × Ros
 
 -- A create on two devices of these names and numbers ends: it commits group 1 where no count rises in it, and only
 -- where none moves; and it names a device whose count rose where one rises.
-pub record CreatesByCounts (h : HostState) (first second : List ℕ) (seats : ℕ × ℕ) (entry : Entry) (made : List Noted) (before after : ℕ → ℕ) : Type 0 where
-  pub calm : (group : Group) → entry.reply ≡ replies.Committed group → NoneMoved before after ⊎ HasClash h entry made
-  pub committed : NoneRose before after → (entry.reply ≡ replies.Committed (record { 0 = 1 })) ⊎ IsExcused h entry made
-  pub cause : (name : List ℕ) → entry.reply ≡ replies.DeviceFault name
-      → IsBlamed first seats.0 before after entry.reply ⊎ (IsBlamed second seats.1 before after entry.reply ⊎ HasClash h entry made)
-  pub blamed : (d : ℕ) → before d < after d
-      → IsBlamed first seats.0 before after entry.reply ⊎ (IsBlamed second seats.1 before after entry.reply ⊎ IsExcused h entry made)
+pub record CreatesByCounts (first second : List ℕ) (seats : ℕ × ℕ) (before after : ℕ → ℕ) (reply : Reply) : Type 0 where
+  pub calm : (group : Group) → reply ≡ replies.Committed group → NoneMoved before after
+  pub committed : NoneRose before after → (reply ≡ replies.Committed (record { 0 = 1 })) ⊎ HasNoMemory reply
+  pub cause : (name : List ℕ) → reply ≡ replies.DeviceFault name → IsBlamed first seats.0 before after reply ⊎ IsBlamed second seats.1 before after reply
+  pub blamed : (d : ℕ) → before d < after d → IsBlamed first seats.0 before after reply ⊎ (IsBlamed second seats.1 before after reply ⊎ HasNoMemory reply)
 
 -- what stands on the sectors of all devices
 abbrev pub all_stable : Sectors → Known

@@ -27,8 +27,8 @@ ghost use Rattle.host_machine.specs.Tracking.{Tracks, is_ours};
 /// failed calls, over every bank: a sync, a create or an opening is refused for a failed call only where a count
 /// rose in that very line, and a sync or a create commits where none did. `finds` says that an opening which
 /// finds no record of a name passed over none that it read, so that a read failed on each device whose clean
-/// labels have one; and `causes` that its count rose then. The two free ends of a line are want of memory, and
-/// wrong bytes with the sum of those that it wanted.
+/// labels have one; and `causes` that its count rose then. The free end of a line is want of memory, and a read
+/// has one more: wrong bytes with the sum of those that it wanted.
 pub fn good_member_answers()
     ensures ours { (p : Pool) (h : HostState) (name : List ℕ) (s : PoolState) → Tracks p h → named_pool name h.pool ≡ Some s → is_ours p s ≡ true → IsOpenIn p h name s }
     ensures refuses { (p : Pool) (h : HostState) (entry : Entry) (made : List Noted) (next : HostState) (name : List ℕ) (s : PoolState) (a level index : ℕ) (named : List NamedLeaf)
@@ -41,16 +41,16 @@ pub fn good_member_answers()
         → IsOpenIn p h name s → Survives head_of p → AllAnswer p.sectors made → Step h entry made next → entry.asked ≡ Some (requests.Read name a)
         → a < s.blocks → IsGoodMember p a made d → (entry.reply ≡ replies.Data (p.written a)) ⊎ IsExcused h entry made }
     ensures suspends { (h : HostState) (entry : Entry) (made : List Noted) (next : HostState) (name : List ℕ) (s : PoolState) (before after : ℕ → ℕ) → Step h entry made next
-        → entry.asked ≡ Some (requests.Sync name) → named_pool name h.pool ≡ Some s → is_spent s.number ≡ false → AllCaused made before after → SuspendsByCounts h s entry made before after }
+        → entry.asked ≡ Some (requests.Sync name) → named_pool name h.pool ≡ Some s → is_spent s.number ≡ false → AllCaused made before after → SuspendsByCounts s before after entry.reply }
     ensures commits { (h : HostState) (entry : Entry) (made : List Noted) (next : HostState) (name : List ℕ) (s : PoolState) (before after : ℕ → ℕ) → Step h entry made next
-        → entry.asked ≡ Some (requests.Sync name) → named_pool name h.pool ≡ Some s → is_spent s.number ≡ false → AllCaused made before after → CommitsByCounts h s entry made before after }
+        → entry.asked ≡ Some (requests.Sync name) → named_pool name h.pool ≡ Some s → is_spent s.number ≡ false → AllCaused made before after → CommitsByCounts s before after entry.reply }
     ensures creates { (h : HostState) (entry : Entry) (made : List Noted) (next : HostState) (name : List ℕ) (blocks : ℕ) (first second : List ℕ) (seats : ℕ × ℕ) (before after : ℕ → ℕ)
         → Step h entry made next → entry.asked ≡ Some (requests.Create name blocks first second) → is_bad_size blocks ≡ false → new_seats h blocks first second ≡ Some seats
-        → AllCaused made before after → CreatesByCounts h first second seats entry made before after }
+        → AllCaused made before after → CreatesByCounts first second seats before after entry.reply }
     ensures imports { (h : HostState) (entry : Entry) (made : List Noted) (next : HostState) (name : List ℕ) (before after : ℕ → ℕ) (group : Group) (top : Guid) (faults : ℕ)
         → Step h entry made next → entry.asked ≡ Some (requests.Import name) → entry.reply ≡ replies.Refused (refusals.Suspended group top faults)
-        → AllCaused made before after → SomeRose before after ⊎ HasClash h entry made }
+        → AllCaused made before after → SomeRose before after }
     ensures finds { (sectors : Sectors) (h : HostState) (entry : Entry) (made : List Noted) (next : HostState) (name : List ℕ) → IsFit h → AllAnswer sectors made
-        → Step h entry made next → entry.asked ≡ Some (requests.Import name) → entry.reply ≡ replies.Refused refusals.NoRecord → FindsNone h sectors name made ⊎ HasClash h entry made }
+        → Step h entry made next → entry.asked ≡ Some (requests.Import name) → entry.reply ≡ replies.Refused refusals.NoRecord → FindsNone h sectors name made }
     ensures causes { (made : List Noted) (d : ℕ) (before after : ℕ → ℕ) → SomeFailed d made → AllCaused made before after → Rose (before d) (after d) }
 {}

@@ -20,13 +20,13 @@ use Rattle.label_store.specs.Seats.{AreSeated, AreApart}
 use Rattle.label_store.specs.Uberblock.{uberblock_bytes}
 use Rattle.label_store.proofs.Places.{label_is, config_elsewhere_even, config_elsewhere_odd, ring_elsewhere, even_spares_ring, odd_spares_ring, even_spares_config, odd_spares_config, ring_spares_ring, ring_spares_config, uberblock_sectors, even_lands, odd_lands, ring_lands}
 
-same_member : (m n : Member) → Some m ≡ Some n → m ≡ n
+pub same_member : (m n : Member) → Some m ≡ Some n → m ≡ n
 same_member m n e = cc
 
 same_bool : (b c : Bool) → Some b ≡ Some c → b ≡ c
 same_bool b c e = cc
 
-no_member : (m : Member) → None ≡ Some m → ⊥
+pub no_member : (m : Member) → None ≡ Some m → ⊥
 no_member m e = cc
 
 no_bool : (b : Bool) → None ≡ Some b → ⊥
@@ -36,7 +36,7 @@ true_false : {A : Type 0} → true ≡ false → A
 true_false e = absurd (cc)
 
 -- another member has another device
-others : (ms : List Member) (i j : ℕ) (m n : Member) → AreApart ms → slice_get ms i ≡ Some m → slice_get ms j ≡ Some n → j ≢ i → n.dev ≢ m.dev
+pub others : (ms : List Member) (i j : ℕ) (m n : Member) → AreApart ms → slice_get ms i ≡ Some m → slice_get ms j ≡ Some n → j ≢ i → n.dev ≢ m.dev
 others ms i j m n apart e f ne =
     ⊎_elim {A = i < j} {B = j ≤ i}
     (λ lt same. apart i j m n e f lt (sym same))
@@ -55,12 +55,12 @@ each P ms i j m n apart e f here away =
     (cases_lt j i))
     (cases_lt i j)
 
-turn_spares : (asks : List Ask) (was is : Bool) (made : List Noted) (d s : ℕ) → (was ≡ true → Spares asks d s) → IsTurn asks was is made → Untouched made d s
+pub turn_spares : (asks : List Ask) (was is : Bool) (made : List Noted) (d s : ℕ) → (was ≡ true → Spares asks d s) → IsTurn asks was is made → Untouched made d s
 turn_spares asks true is made d s sp t = part_spares asks made t.0 d s t.1 (sp refl)
 turn_spares asks false is made d s sp t = subst (λ calls. Untouched calls d s) (sym t.0) tt
 
 -- A phase spares what the parts of all on the board spare.
-phase_spares : (plan : Member → List Ask) (ms : List Member) (was is : List Bool) (made : List Noted) (d s : ℕ)
+pub phase_spares : (plan : Member → List Ask) (ms : List Member) (was is : List Bool) (made : List Noted) (d s : ℕ)
     → ((j : ℕ) (m : Member) → slice_get ms j ≡ Some m → slice_get was j ≡ Some true → Spares (plan m) d s) → IsPhase plan ms was is made → Untouched made d s
 phase_spares plan [] [] [] made d s h p = subst (λ calls. Untouched calls d s) (sym p) tt
 phase_spares plan [] [] (c ∷ is) made d s h p = absurd p
@@ -72,17 +72,21 @@ phase_spares plan (m ∷ ms) (b ∷ was) (c ∷ is) made d s h p =
     (untouched_more p.0 p.1 d s (turn_spares (plan m) b c p.0 d s (λ e. h zero m refl (ap Some e)) p.3)
     (phase_spares plan ms was is p.1 d s (λ j n e f. h (suc j) n e f) p.4))
 
+-- who ends a turn on the board made a whole part
+pub whole_part : (asks : List Ask) (was : Bool) (made : List Noted) → IsTurn asks was true made → IsPart asks made None
+whole_part asks true made t = whole_of t.0 t.1 t.2
+  where
+    whole_of : (outcome : Option Fault) → IsPart asks made outcome → true ≡ is_none outcome → IsPart asks made None
+    whole_of None part is' = part
+    whole_of (Some fault) part is' = true_false is'
+whole_part asks false made t = true_false t.1
+
 turn_lands : (asks : List Ask) (was is : Bool) (made : List Noted) (d s : ℕ) (x : Sector) (b : List ℕ) → is ≡ true
     → (IsPart asks made None → Stands (replay made d s x) b) → IsTurn asks was is made → Stands (replay made d s x) b
-turn_lands asks true is made d s x b e lands t = lands_of t.0 t.1 (sym e ∙ t.2)
-  where
-    lands_of : (outcome : Option Fault) → IsPart asks made outcome → true ≡ is_none outcome → Stands (replay made d s x) b
-    lands_of None part is' = lands part
-    lands_of (Some fault) part is' = true_false is'
-turn_lands asks false is made d s x b e lands t = true_false (sym e ∙ t.1)
+turn_lands asks was is made d s x b e lands t = lands (whole_part asks was made (subst (λ c. IsTurn asks was c made) e t))
 
 -- What the whole part of one member brings stands behind its phase.
-phase_lands : (plan : Member → List Ask) (ms : List Member) (was is : List Bool) (made : List Noted) (i : ℕ) (m : Member) (d s : ℕ) (x : Sector) (b : List ℕ)
+pub phase_lands : (plan : Member → List Ask) (ms : List Member) (was is : List Bool) (made : List Noted) (i : ℕ) (m : Member) (d s : ℕ) (x : Sector) (b : List ℕ)
     → slice_get ms i ≡ Some m → slice_get is i ≡ Some true
     → ((j : ℕ) (n : Member) → slice_get ms j ≡ Some n → j ≢ i → Spares (plan n) d s)
     → ((mine : List Noted) (y : Sector) → IsPart (plan m) mine None → Stands (replay mine d s y) b)
@@ -107,7 +111,7 @@ turn_was asks true is made e t = refl
 turn_was asks false is made e t = true_false (sym e ∙ t.1)
 
 -- who ends a phase on the board began it there
-phase_was : (plan : Member → List Ask) (ms : List Member) (was is : List Bool) (made : List Noted) (i : ℕ) → slice_get is i ≡ Some true
+pub phase_was : (plan : Member → List Ask) (ms : List Member) (was is : List Bool) (made : List Noted) (i : ℕ) → slice_get is i ≡ Some true
     → IsPhase plan ms was is made → slice_get was i ≡ Some true
 phase_was plan [] [] [] made i e p = absurd (no_bool true e)
 phase_was plan [] [] (c ∷ is) made i e p = absurd p

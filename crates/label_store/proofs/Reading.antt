@@ -12,30 +12,30 @@ use Rattle.label_store.specs.Newest.{Parts, label_asks, look_asks, Looks, IsLook
 use Rattle.label_store.specs.Opening.{ReadsPart}
 use Rattle.label_store.proofs.Looking.{LooksSoFar}
 
-abbrev IsReadAsk : Ask → Type 0
+abbrev pub IsReadAsk : Ask → Type 0
 IsReadAsk (Reads dev at sectors) = Unit {0}
 IsReadAsk (Writes dev at bytes) = ⊥
 IsReadAsk (Flushes dev) = ⊥
 IsReadAsk (Admits dev) = ⊥
 IsReadAsk (Ejects dev) = ⊥
 
-abbrev AreReadAsks : List Ask → Type 0
+abbrev pub AreReadAsks : List Ask → Type 0
 AreReadAsks [] = Unit {0}
 AreReadAsks (ask ∷ asks) = IsReadAsk ask × AreReadAsks asks
 
 -- a call that asked for a read is one
-is_read : (call : Call) → IsReadAsk (ask_of call) → IsRead call
+pub is_read : (call : Call) → IsReadAsk (ask_of call) → IsRead call
 is_read (Read dev at bytes fault) a = tt
 is_read (Write dev at bytes fault) a = a
 is_read (Flush dev fault) a = a
 is_read (Admit dev holds) a = a
 is_read (Eject dev) a = a
 
-are_reads : (made : List Noted) → AreReadAsks (asks_of made) → AreReads made
+pub are_reads : (made : List Noted) → AreReadAsks (asks_of made) → AreReads made
 are_reads [] a = tt
 are_reads (noted ∷ made) a = (is_read noted.call a.0, are_reads made a.1)
 
-are_reads_more : (first second : List Noted) → AreReads first → AreReads second → AreReads (first ++ second)
+pub are_reads_more : (first second : List Noted) → AreReads first → AreReads second → AreReads (first ++ second)
 are_reads_more [] second a b = b
 are_reads_more (noted ∷ first) second a b = (a.0, are_reads_more first second a.1 b)
 
@@ -64,7 +64,7 @@ reads_more {old} {mid} {new} {f} {g} {h} a b = record {
   reads = are_reads_more a.made b.made a.reads b.reads;
 }
 
-look_reads : (size : ℕ → ℕ) (devs : List ℕ) (looks : List Parts) (made : List Noted) → IsLook size devs looks made → AreReads made
+pub look_reads : (size : ℕ → ℕ) (devs : List ℕ) (looks : List Parts) (made : List Noted) → IsLook size devs looks made → AreReads made
 look_reads size [] [] made l = subst AreReads (sym l) tt
 look_reads size [] (parts ∷ looks) made l = absurd l
 look_reads size (dev ∷ devs) [] made l = absurd l

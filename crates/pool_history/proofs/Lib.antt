@@ -9,7 +9,6 @@ pub mod LooksFound
 pub mod LooksShow
 pub mod Moving
 pub mod OnePool
-pub mod Phases
 pub mod RoundMoves
 pub mod RoundParts
 pub mod RoundPlaces

@@ -13,6 +13,7 @@ use Rattle.label_store.specs.Phases.{IsPhase}
 use Rattle.label_store.specs.Rounds.{uberblock_of, first_plan, second_plan, third_plan}
 use Rattle.label_store.specs.Seats.{AreApart}
 use Rattle.label_store.specs.Uberblock.{uberblock_bytes}
+use Rattle.label_store.proofs.Keeping.{others, phase_spares, phase_lands, phase_was}
 use Rattle.label_store.proofs.Places.{label_is, config_elsewhere_even, ring_elsewhere, ring_spares_config, even_lands, ring_lands, uberblock_sectors}
 use Rattle.pool_history.specs.Events.{Event, Begins, calls_of, as_events}
 use Rattle.pool_history.specs.Labels.{Odd, Even}
@@ -23,7 +24,6 @@ use Rattle.pool_history.specs.Records.{Rec, number_of}
 use Rattle.pool_history.specs.Rounds.{all_true, acks_if, IsRoundEvents, AreMembersOf, RoundEnds}
 use Rattle.pool_history.specs.Survival.{Fits, Survives}
 use Rattle.pool_history.proofs.Folding.{since_after, with_calls, pool_more, calls_then, mays_more, mays_calls, calls_more, calls_are}
-use Rattle.pool_history.proofs.Phases.{others, phase_spares, phase_lands, phase_was}
 use Rattle.pool_history.proofs.RoundParts.{IsSeated, by_device, first_sparing, second_sparing, front_places, member_range}
 use Rattle.pool_history.proofs.Sparing.{phase_may, still_sparing}
 use Rattle.pool_history.proofs.Thirds.{AreReady, thirds_may, turns_pool, thirds_turns, thirds_result, thirds_odd}
@@ -43,7 +43,7 @@ second_off_part : (head_of : List ℕ → Option Head) (p : Pool) (q : Rec) (ms 
     → Setting head_of p q ms → p.member d ≡ true → i < 28 → IsPhase (second_plan p.size q.commit) ms was is made → Untouched made d (4 + i)
 second_off_part head_of p q ms was is made d i s is_member lt ph =
     phase_spares (second_plan p.size q.commit) ms was is made d (4 + i)
-    (λ j n e. by_device (λ x. p.member x ≡ true → Spares (second_plan p.size q.commit n) x (4 + i)) n.dev d
+    (λ j n e on. by_device (λ x. p.member x ≡ true → Spares (second_plan p.size q.commit n) x (4 + i)) n.dev d
     (λ here. let seated = seated_of head_of p q ms s j n e here in
     ring_spares_config n.dev (p.size n.dev) (uberblock_of q.commit n) n.dev 0 i seated.big
     (uberblock_sectors (uberblock_of q.commit n) (member_range head_of p q n s.drawn_up.fits seated).sum)

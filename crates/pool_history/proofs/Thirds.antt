@@ -12,6 +12,7 @@ use Rattle.label_store.specs.Layout.{slot_of}
 use Rattle.label_store.specs.Phases.{IsTurn}
 use Rattle.label_store.specs.Rounds.{third_plan}
 use Rattle.label_store.specs.Seats.{AreApart}
+use Rattle.label_store.proofs.Keeping.{same_member, no_member, others, turn_spares, whole_part}
 use Rattle.label_store.proofs.Places.{label_is, config_elsewhere_odd, odd_spares_ring, odd_lands}
 use Rattle.pool_history.specs.Events.{Event, Calls, Accepts, Looks, Opens, Begins, Third, Ends, Acks, Loses, Stops, calls_of, as_events}
 use Rattle.pool_history.specs.Labels.{Status, Odd, Even}
@@ -22,7 +23,6 @@ use Rattle.pool_history.specs.Records.{Rec, IsIn, number_of}
 use Rattle.pool_history.specs.Rounds.{ends_if, IsThirds}
 use Rattle.pool_history.specs.Survival.{Fits}
 use Rattle.pool_history.proofs.Folding.{since_after, with_calls, calls_then, mays_calls}
-use Rattle.pool_history.proofs.Phases.{same_member, no_member, others, turn_spares, whole_part}
 use Rattle.pool_history.proofs.RoundParts.{IsSeated, HasPlaces, third_sparing}
 use Rattle.pool_history.proofs.Sparing.{turn_may}
 
@@ -63,7 +63,7 @@ ready_rest head_of p q m ms b c was made status turn r = record {
   apart = apart_rest m ms r.apart;
   stands = λ j n e on is s bytes needs. untouched_stands made n.dev s (p.sectors n.dev s) bytes
       (turn_spares (third_plan p.size q.commit m) b c made n.dev s
-      (config_elsewhere_odd m.dev (p.size m.dev) q.commit.blob n.dev s (others (m ∷ ms) (suc j) zero n m r.apart e refl (omega arith))) turn)
+      (λ was. config_elsewhere_odd m.dev (p.size m.dev) q.commit.blob n.dev s (others (m ∷ ms) (suc j) zero n m r.apart e refl (omega arith))) turn)
       (r.stands (suc j) n e on is s bytes needs);
 }
 
@@ -118,7 +118,7 @@ odd_stands head_of p q m ms was made turn r is = record {
     by_part : (s : ℕ) (bytes : List ℕ) → NeedsLabel (seat p m.dev) (Odd q) s bytes → Stands (replay made m.dev s (p.sectors m.dev s)) bytes
     by_part s bytes (inl (e, b)) = untouched_stands made m.dev s (p.sectors m.dev s) bytes
         (turn_spares (third_plan p.size q.commit m) true true made m.dev s
-        (subst (Spares (third_plan p.size q.commit m) m.dev) (omega (arith, e))
+        (λ was. subst (Spares (third_plan p.size q.commit m) m.dev) (omega (arith, e))
         (odd_spares_ring m.dev (p.size m.dev) q.commit.blob m.dev 0 (slot_of (number_of q)) seated.big few (label_is (p.size m.dev) 0 (omega arith)) (omega arith))) turn)
         (r.stands zero m refl refl is s bytes (inl (e, b)))
     by_part s bytes (inr (i, lt, e, b)) =
