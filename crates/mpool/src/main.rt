@@ -5,6 +5,8 @@ mod clock;
 mod devices;
 mod stdio;
 #[cfg(test)]
+mod stops;
+#[cfg(test)]
 mod tests;
 
 use host_front::Status;

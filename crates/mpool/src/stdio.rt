@@ -1,25 +1,45 @@
-//! The program's streams, as a source and a sink. What their bytes are isn't told: only tests say that
-//! they are the system's.
-ghost use Rattle.std.specs.Prelude.{◌≤◌, ◌^◌, None};
+//! The program's streams, as a source and a sink: just the bytes of a stream of the library. What the
+//! standard streams carry the library doesn't tell, so of those only tests speak.
+ghost use Rattle.std.specs.Prelude.{◌≡◌, ◌≤◌, ◌^◌, None, refl};
 
 use mp_base::{Failed, Sink, Source};
-use std::io::{Read, Write};
+use std::io::{Read, Stdin, Stdout, Write};
 
 /// The most bytes that a source gives.
 const MOST_GIVEN: usize = 1 << 62;
 
-/// Bytes that are read from a stream of the system.
+/// A stream that always tells the bytes that it has left, or never.
+pub trait Incoming: Read {
+    ghost steady: { (old new : Self) → Self.remaining old ≡ None → Self.remaining new ≡ None };
+}
+
+impl Incoming for Stdin {
+    ghost steady = { λ old new e. refl };
+}
+
+/// A stream that always tells the bytes that it has taken, or never.
+pub trait Outgoing: Write {
+    ghost steady: { (old new : Self) → Self.contents old ≡ None → Self.contents new ≡ None };
+}
+
+impl Outgoing for Stdout {
+    ghost steady = { λ old new e. refl };
+}
+
+/// Bytes that are read from a stream.
 #[derive(Drop)]
-pub struct Input<R: Read> {
+pub struct Input<R: Incoming> {
     stream: R,
     given: usize,
     faults: u64,
     ghost limit: { given ≤ 2 ^ 62 },
 }
 
-impl<R: Read> Input<R> {
+impl<R: Incoming> Input<R> {
     /// A source that reads this stream.
-    pub fn new(stream: R) -> Input<R> {
+    pub fn new(stream: R) -> Input<R>
+        ensures { result.stream ≡ stream }
+    {
         Input {
             stream,
             given: 0,
@@ -28,8 +48,8 @@ impl<R: Read> Input<R> {
     }
 }
 
-impl<R: Read> Source for Input<R> {
-    ghost left = { λ s. None };
+impl<R: Incoming> Source for Input<R> {
+    ghost left = { λ s. R.remaining s.stream };
 
     ghost given = { λ s. s.given };
 
@@ -48,22 +68,24 @@ impl<R: Read> Source for Input<R> {
     }
 }
 
-/// Bytes that are written to a stream of the system.
+/// Bytes that are written to a stream.
 #[derive(Drop)]
-pub struct Output<W: Write> {
+pub struct Output<W: Outgoing> {
     stream: W,
     faults: u64,
 }
 
-impl<W: Write> Output<W> {
+impl<W: Outgoing> Output<W> {
     /// A sink that writes this stream.
-    pub fn new(stream: W) -> Output<W> {
+    pub fn new(stream: W) -> Output<W>
+        ensures { result.stream ≡ stream }
+    {
         Output { stream, faults: 0 }
     }
 }
 
-impl<W: Write> Sink for Output<W> {
-    ghost contents = { λ s. None };
+impl<W: Outgoing> Sink for Output<W> {
+    ghost contents = { λ s. W.contents s.stream };
 
     ghost faults = { λ s. s.faults };
 
