@@ -48,6 +48,17 @@ pub caused_more : (first second : List Noted) (f g h : ℕ → ℕ) → AllCause
 caused_more [] second f g h a b = caused_from second g f h a b
 caused_more (noted ∷ first) second f g h a b = (a.0, a.1, caused_more first second a.0 g h a.2 b)
 
+-- no count fell
+pub caused_counts : (made : List Noted) (f g : ℕ → ℕ) → AllCaused made f g → (d : ℕ) → f d ≤ g d
+caused_counts [] f g c d = let same = c d in omega arith
+caused_counts (noted ∷ made) f g c d = let x = c.1.counts d in let y = caused_counts made c.0 g c.2 d in omega arith
+
+-- the counts between calls
+pub caused_split : (first second : List Noted) (f h : ℕ → ℕ) → AllCaused (first ++ second) f h → (g : ℕ → ℕ) × AllCaused first f g × AllCaused second g h
+caused_split [] second f h c = (f, (λ d. refl), c)
+caused_split (noted ∷ first) second f h c =
+    let r = caused_split first second c.0 h c.2 in (r.0, (c.0, c.1, r.1), r.2)
+
 -- No call was made.
 pub made_none : (told : Option Story) (faults : ℕ → ℕ) → Made told told faults faults []
 made_none told faults = record {

@@ -1,6 +1,8 @@
 -- Which bytes are a configuration, and how long it is.
-use Rattle.std.proofs.Common.{◌≡◌, ℕ, ◌+◌, ◌*◌, ◌≤◌, ◌<◌, Bool, true, false, cond, ◌&&◌, List, ◌∷◌, ◌++◌, length, refl, sym, ap, ◌∙◌, subst, arith, length-append, Some, None}
+use Rattle.std.proofs.Common.{◌≡◌, ℕ, ◌+◌, ◌-◌, ◌*◌, ◌≤◌, ◌<◌, Bool, true, false, cond, ◌&&◌, List, ◌∷◌, ◌++◌, length, take, drop, refl, sym, ap, ◌∙◌, subst, arith, length-append, Some, None}
 use Rattle.std.specs.List.{flat_map}
+use Rattle.std.proofs.lemmas.List.{take_at, drop_at}
+use Rattle.mp_base.specs.Block.{zeros}
 use Rattle.std.specs.Str.{bytes_eq}
 use Rattle.std.proofs.lemmas.Bool.{and_parts, and_from, and_left, cond-true, cond-false}
 use Rattle.std.proofs.lemmas.Slice.Eq.{bytes_eq-Decides}
@@ -48,6 +50,9 @@ is_none bytes e = cond-false _ _ _ (and_left (is_valid (fields_of bytes)) _ e)
 pub kept_some : (bytes : List ℕ) (c : Fields) → c ≡ fields_of bytes → (is_valid c && bytes_eq (config_bytes c) bytes) ≡ true → config_in bytes ≡ Some c
 unfolding config_in
 kept_some bytes c same t = cond-true _ _ _ (ap (λ f. is_valid f && bytes_eq (config_bytes f) bytes) (sym same) ∙ t) ∙ ap Some (sym same)
+
+pub kept_valid : (c : Fields) (b : Bool) → (is_valid c && b) ≡ true → IsValid c
+kept_valid c b t = valid_from c (and_parts (is_valid c) b t).0
 
 pub kept_none : (bytes : List ℕ) (c : Fields) → c ≡ fields_of bytes → (is_valid c && bytes_eq (config_bytes c) bytes) ≡ false → config_in bytes ≡ None
 unfolding config_in
@@ -119,3 +124,21 @@ fits c v =
 
 pub some : (c : Fields) → IsValid c → 0 < length (config_bytes c)
 some c v = omega (arith, length-config_bytes c v)
+
+-- A sector has a configuration at its front: it is read back, and zeros are behind it.
+pub record Written (out : List ℕ) (stop : ℕ) (c : Fields) : Type 0 where
+  pub some : 0 < stop
+  pub within : stop ≤ 4096
+  pub back : config_in (take stop out) ≡ Some c
+  pub rest : drop stop out ≡ zeros (4096 - stop)
+
+pub written : (out : List ℕ) (stop : ℕ) (c : Fields) → IsValid c → out ≡ config_bytes c ++ zeros (4096 - length (config_bytes c)) → stop ≡ length (config_bytes c)
+    → Written out stop c
+written out stop c v is end =
+    let bytes = config_bytes c in
+    record {
+      some = omega (arith, end, some c v);
+      within = omega (arith, end, fits c v);
+      back = ap (λ s. config_in (take stop s)) is ∙ ap config_in (take_at bytes (zeros (4096 - length bytes)) stop (sym end)) ∙ back c v;
+      rest = ap (drop stop) is ∙ drop_at bytes (zeros (4096 - length bytes)) stop (sym end) ∙ ap (λ n. zeros (4096 - n)) (sym end);
+    }

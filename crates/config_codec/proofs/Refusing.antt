@@ -12,7 +12,6 @@ use Rattle.config_codec.proofs.Returning.{fields_with, same_fields}
 use Rattle.config_codec.proofs.Testing.{valid_from}
 
 pub tops_read : (bytes after tops : List ℕ) (blocks : ℕ) → blocks ≡ number_in (from_blocks bytes) → after ≡ from_pointers bytes → tops ≡ drop (52 * blocks) after → tops ≡ from_tops bytes
-unfolding from_tops
 tops_read bytes after tops blocks e f g = g ∙ ap (drop (52 * blocks)) f ∙ ap (λ n. drop (52 * n) (from_pointers bytes)) e
 
 pub fields_read : (bytes after tops : List ℕ) (pool : ℕ) (name : List ℕ) (blocks number next_member : ℕ) (pointers : List (Option Pointer)) (sectors mirror : ℕ) (first second : LeafConfig)

@@ -73,27 +73,21 @@ split c =
     ∙ split_head c (pointers ++ rest_tops c)
 
 at_pool : (c : Fields) → from_pool (config_bytes c) ≡ rest_pool c
-unfolding from_pool
 at_pool c = ap (drop 4) (split c) ∙ behind_count 1 (rest_pool c)
 
 at_name : (c : Fields) → from_name (config_bytes c) ≡ rest_name c
-unfolding from_name
 at_name c = ap (drop 8) (at_pool c) ∙ behind_number c.pool.0 (rest_name c)
 
 at_blocks : (c : Fields) → from_blocks (config_bytes c) ≡ rest_blocks c
-unfolding from_blocks
 at_blocks c = ap behind_text (at_name c) ∙ behind_text_is c.name (rest_blocks c)
 
 at_number : (c : Fields) → from_number (config_bytes c) ≡ rest_number c
-unfolding from_number
 at_number c = ap (drop 8) (at_blocks c) ∙ behind_number c.blocks (rest_number c)
 
 at_next_member : (c : Fields) → from_next_member (config_bytes c) ≡ rest_next_member c
-unfolding from_next_member
 at_next_member c = ap (drop 8) (at_number c) ∙ behind_number c.number.0 (rest_next_member c)
 
 at_pointers : (c : Fields) → from_pointers (config_bytes c) ≡ rest_pointers c
-unfolding from_pointers
 at_pointers c = ap (drop 8) (at_next_member c) ∙ behind_number c.next_member (rest_pointers c)
 
 kept_pointer : (c : Fields) → IsValid c → (a : ℕ) (p : Pointer) → slice_get c.pointers a ≡ Some (Some p) → IsKept p
@@ -114,26 +108,21 @@ blocks_are : (c : Fields) → IsValid c → number_in (from_blocks (config_bytes
 blocks_are c v = ap number_in (at_blocks c) ∙ number_is c.blocks (rest_number c) (omega (arith, v.blocks.1))
 
 at_tops : (c : Fields) → IsValid c → from_tops (config_bytes c) ≡ rest_tops c
-unfolding from_tops
 at_tops c v =
     let long : length (flat_map pointer_bytes c.pointers) ≡ 52 * c.blocks = length-pointers c.pointers (all_kept c v) ∙ ap (λ n. 52 * n) v.counted in
     ap (λ n. drop (52 * n) (from_pointers (config_bytes c))) (blocks_are c v) ∙ ap (drop (52 * c.blocks)) (at_pointers c)
     ∙ drop_at (flat_map pointer_bytes c.pointers) (rest_tops c) (52 * c.blocks) long
 
 at_sectors : (c : Fields) → IsValid c → from_sectors (from_tops (config_bytes c)) ≡ rest_sectors c
-unfolding from_sectors
 at_sectors c v = ap (drop 4) (at_tops c v) ∙ behind_count 1 (rest_sectors c)
 
 at_mirror : (c : Fields) → IsValid c → from_mirror (from_tops (config_bytes c)) ≡ rest_mirror c
-unfolding from_mirror
 at_mirror c v = ap (λ s. drop 1 (drop 8 s)) (at_sectors c v) ∙ ap (drop 1) (behind_number c.sectors (1 ∷ rest_mirror c))
 
 at_first : (c : Fields) → IsValid c → from_first (from_tops (config_bytes c)) ≡ rest_first c
-unfolding from_first
 at_first c v = ap (λ s. drop 1 (drop 8 s)) (at_mirror c v) ∙ ap (drop 1) (behind_number c.mirror.0 (2 ∷ rest_first c))
 
 at_second : (c : Fields) → IsValid c → from_second (from_tops (config_bytes c)) ≡ rest_second c
-unfolding from_second
 at_second c v = ap behind_leaf (at_first c v) ∙ behind_leaf_is c.first (rest_second c)
 
 pointers_back : (c : Fields) → IsValid c → pointers_in (number_in (from_blocks (config_bytes c))) (from_pointers (config_bytes c)) ≡ c.pointers

@@ -47,42 +47,42 @@ behind_leaf bytes = drop 5 (behind_text (drop 9 bytes))
 -- The bytes from a field on, which is behind the field before it.
 
 -- behind the version
-unfoldable pub from_pool : List ℕ → List ℕ
+abbrev pub from_pool : List ℕ → List ℕ
 from_pool bytes = drop 4 bytes
 
-unfoldable pub from_name : List ℕ → List ℕ
+abbrev pub from_name : List ℕ → List ℕ
 from_name bytes = drop 8 (from_pool bytes)
 
-unfoldable pub from_blocks : List ℕ → List ℕ
+abbrev pub from_blocks : List ℕ → List ℕ
 from_blocks bytes = behind_text (from_name bytes)
 
-unfoldable pub from_number : List ℕ → List ℕ
+abbrev pub from_number : List ℕ → List ℕ
 from_number bytes = drop 8 (from_blocks bytes)
 
-unfoldable pub from_next_member : List ℕ → List ℕ
+abbrev pub from_next_member : List ℕ → List ℕ
 from_next_member bytes = drop 8 (from_number bytes)
 
-unfoldable pub from_pointers : List ℕ → List ℕ
+abbrev pub from_pointers : List ℕ → List ℕ
 from_pointers bytes = drop 8 (from_next_member bytes)
 
-unfoldable pub from_tops : List ℕ → List ℕ
+abbrev pub from_tops : List ℕ → List ℕ
 from_tops bytes = drop (52 * number_in (from_blocks bytes)) (from_pointers bytes)
 
 -- The bytes of the tops from a field on.
 
 -- behind their number
-unfoldable pub from_sectors : List ℕ → List ℕ
+abbrev pub from_sectors : List ℕ → List ℕ
 from_sectors tops = drop 4 tops
 
 -- behind the sectors and a kind
-unfoldable pub from_mirror : List ℕ → List ℕ
+abbrev pub from_mirror : List ℕ → List ℕ
 from_mirror tops = drop 1 (drop 8 (from_sectors tops))
 
 -- behind the mirror's number and the number of its children
-unfoldable pub from_first : List ℕ → List ℕ
+abbrev pub from_first : List ℕ → List ℕ
 from_first tops = drop 1 (drop 8 (from_mirror tops))
 
-unfoldable pub from_second : List ℕ → List ℕ
+abbrev pub from_second : List ℕ → List ℕ
 from_second tops = behind_leaf (from_first tops)
 
 -- the fields as they stand in the bytes, valid or not

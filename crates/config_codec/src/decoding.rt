@@ -1,14 +1,14 @@
 //! Reading a configuration (the layout is in `encoding.rt`). The fields are taken out, valid or not, and
 //! written again: just the bytes that come out so are a configuration. So version, kinds, counts, flags
 //! and holes need no test of their own, and each configuration has one spelling.
-ghost use Rattle.std.specs.Prelude.{◌≡◌, ◌*◌, ◌&&◌, false, drop, Option, option_map, IfOk, OnOk, IsErrOf, IsTrue};
+ghost use Rattle.std.specs.Prelude.{◌≡◌, ◌*◌, ◌&&◌, false, drop, Option, option_map, IfOk, IfSome, OnOk, IsErrOf, IsTrue};
 ghost use Rattle.std.specs.Str.{bytes_eq};
 ghost use Rattle.mp_base.specs.Name.{is_name};
 ghost use Rattle.config_codec.specs.declared.unread.Unread.TheVariants.{NoConfig};
 ghost use Rattle.config_codec.specs.Fields.{config_fields};
 ghost use Rattle.config_codec.specs.Reading.{number_in, text_in, from_pool, from_name, from_blocks, from_number, from_next_member, from_pointers, from_sectors, from_mirror, from_first, from_second, pointer_in, pointers_in, leaf_in, behind_leaf, fields_of, config_in};
 ghost use Rattle.config_codec.specs.Spelling.{config_bytes};
-ghost use Rattle.config_codec.specs.Validity.{is_valid, are_names};
+ghost use Rattle.config_codec.specs.Validity.{IsValid, is_valid, are_names};
 
 use crate::config::{Config, LeafConfig, Pointer};
 use crate::cursor::Cursor;
@@ -50,7 +50,8 @@ struct Top {
 
 /// The configuration that the bytes are. `None` comes exactly where they are none.
 pub fn decode(alloc: Global, bytes: &[u8]) -> Result<Option<Config>, MemFault>
-    ensures { IfOk result (λ found. option_map config_fields found ≡ config_in bytes.now) }
+    ensures found { IfOk result (λ found. option_map config_fields found ≡ config_in bytes.now) }
+    ensures valid { IfOk result (λ found. IfSome found (λ config. IsValid (config_fields config))) }
 {
     match read(alloc, bytes) {
         Ok(config) => Ok(kept(config, bytes)),
@@ -62,7 +63,8 @@ pub fn decode(alloc: Global, bytes: &[u8]) -> Result<Option<Config>, MemFault>
 fn kept(config: Config, bytes: &[u8]) -> Option<Config>
     requires names { IsTrue (are_names (config_fields config)) }
     requires fields { config_fields config ≡ fields_of bytes.now }
-    ensures { option_map config_fields result ≡ config_in bytes.now }
+    ensures found { option_map config_fields result ≡ config_in bytes.now }
+    ensures valid { IfSome result (λ config. IsValid (config_fields config)) }
 {
     if is_spelled(&config, bytes) {
         Some(config)
@@ -113,7 +115,6 @@ fn read(alloc: Global, bytes: &[u8]) -> Result<Config, Unread>
     })
 }
 
-#[tactic(auto, unfolding(crate::specs::Reading::from_pool, crate::specs::Reading::from_name, crate::specs::Reading::from_blocks, crate::specs::Reading::from_number, crate::specs::Reading::from_next_member, crate::specs::Reading::from_pointers))]
 fn read_head<'a>(cursor: &mut Cursor<'a>) -> Head<'a>
     ensures pool { result.pool.0 ≡ number_in (from_pool cursor.old) }
     ensures name { result.name.now ≡ text_in (from_name cursor.old) }
@@ -132,7 +133,6 @@ fn read_head<'a>(cursor: &mut Cursor<'a>) -> Head<'a>
     }
 }
 
-#[tactic(auto, unfolding(crate::specs::Reading::from_sectors, crate::specs::Reading::from_mirror, crate::specs::Reading::from_first, crate::specs::Reading::from_second))]
 fn read_top(alloc: Global, cursor: &mut Cursor) -> Result<Top, Unread>
     ensures sectors { IfOk result (λ top. top.sectors ≡ number_in (from_sectors cursor.old)) }
     ensures mirror { IfOk result (λ top. top.mirror.0 ≡ number_in (from_mirror cursor.old)) }

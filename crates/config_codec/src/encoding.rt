@@ -20,11 +20,12 @@
 //!
 //! Bytes are a configuration exactly where they are those of fields in these ranges, and nothing follows
 //! (`specs/Validity.antt` has all that is asked of them).
-ghost use Rattle.std.specs.Prelude.{◌≡◌, ◌+◌, ◌-◌, ◌*◌, ◌≤◌, ◌++◌, length};
+ghost use Rattle.std.specs.Prelude.{◌≡◌, ◌+◌, ◌-◌, ◌*◌, ◌≤◌, ◌++◌, length, take, Some};
 ghost use Rattle.std.specs.List.{flat_map};
 ghost use Rattle.mp_base.specs.Block.{zeros};
 ghost use Rattle.config_codec.specs.Fields.{parts_fields, parts_leaf};
 ghost use Rattle.config_codec.specs.Pieces.{Puts};
+ghost use Rattle.config_codec.specs.Reading.{config_in};
 ghost use Rattle.config_codec.specs.Spelling.{pointer_bytes, leaf_bytes, head_bytes, tops_bytes, config_bytes};
 ghost use Rattle.config_codec.specs.Validity.{IsValid};
 
@@ -59,13 +60,15 @@ const FIRST_TOP: u32 = 0;
 /// The bytes of a pointer, and of a hole.
 pub(crate) const POINTER_BYTES: usize = 52;
 
-/// Writes a configuration to the front of a sector, and zeros behind it. Answers the configuration's
-/// length in bytes.
+/// Writes a valid configuration to the front of a sector, and zeros behind it. Answers the configuration's
+/// length in bytes, at most 1,949: so many bytes of the sector are read back as this configuration. Takes
+/// no memory.
 pub fn encode_into(c: &Parts, out: &mut [u8]) -> usize
     requires valid { IsValid (parts_fields c.now) }
     requires sector { length out.old ≡ 4096 }
     ensures bytes { out.new ≡ config_bytes (parts_fields c.now) ++ zeros (4096 - length (config_bytes (parts_fields c.now))) }
     ensures stop { result ≡ length (config_bytes (parts_fields c.now)) }
+    ensures back { config_in (take result out.new) ≡ Some (parts_fields c.now) }
 {
     let at = put_head(c, out);
     let at = put_pointers(c.pointers, out, at);

@@ -18,4 +18,3 @@ pub use decoding::decode;
 pub use encoding::encode_into;
 pub use laws::{each_has_one_spelling, validity_is_tested};
 pub use parts::{LeafParts, Parts};
-pub use validity::MOST_BLOCKS;

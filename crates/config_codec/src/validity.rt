@@ -8,7 +8,7 @@ use crate::parts::Parts;
 use mp_base::{Group, Guid};
 
 /// The most blocks of a volume, as long as a configuration has all of its pointers.
-pub const MOST_BLOCKS: u64 = 32;
+pub(crate) const MOST_BLOCKS: u64 = 32;
 
 /// The last number of a group and of a member.
 const LAST_NUMBER: u64 = 1 << 62;

@@ -8,6 +8,7 @@ use Rattle.mp_base.specs.declared.refusal.Refusal.TheVariants as refusals
 use Rattle.bank_core.specs.declared.bank.Fault.{Fault}
 use Rattle.bank_core.specs.Asks.{Ask, Reads, Writes, Flushes, Admits, Ejects, ask_of, asks_of}
 use Rattle.bank_core.specs.Calls.{AllCaused, IsCaused, device_of, fault_of}
+use Rattle.bank_core.proofs.Composing.{caused_counts}
 use Rattle.bank_core.specs.Disk.{Call, Read, Write, Flush, Admit, Eject, Noted}
 use Rattle.pool_wire.specs.declared.reply.Reply.{Reply}
 use Rattle.pool_wire.specs.declared.reply.Reply.TheVariants as replies
@@ -64,13 +65,6 @@ until_none (ask ∷ asks) [] n = (n.0, tt)
 until_none (ask ∷ asks) (Some trouble ∷ outside) n = (n.0, tt)
 until_none (ask ∷ asks) (None ∷ outside) n = (n.0, until_none asks outside n.1)
 
-falls_not : (made : List Noted) (before after : ℕ → ℕ) → AllCaused made before after → (d : ℕ) → before d ≤ after d
-falls_not [] before after all d = let same = all d in omega arith
-falls_not (noted ∷ more) before after all d = no_fall (before d) (all.0 d) (after d) (all.1.counts d) (falls_not more all.0 after all.2 d)
-  where
-    no_fall : (a b c : ℕ) → a ≤ b → b ≤ c → a ≤ c
-    no_fall a b c l m = omega arith
-
 rose_later : (a b c : ℕ) → b ≤ c → Rose a b → Rose a c
 rose_later a b c l r = omega arith
 
@@ -123,7 +117,7 @@ rose_in noted more before between after none caused all met rest None is =
     let behind = rest (later_trouble (trouble_of [] noted.call) (troubles [] more) (fine_trouble noted.call none is) met) in
     (behind.0, rose_before (before behind.0) (between behind.0) (after behind.0) (caused.counts behind.0) behind.1)
 rose_in noted more before between after none caused all met rest (Some fault) is =
-    let d = device_of noted.call in (d, rose_later (before d) (between d) (after d) (falls_not more between after all d) (caused.cause fault is))
+    let d = device_of noted.call in (d, rose_later (before d) (between d) (after d) (caused_counts more between after all d) (caused.cause fault is))
 
 -- some call met trouble: the count of its device rose
 trouble_rose : (made : List Noted) (before after : ℕ → ℕ) → NoReads (asks_of made) → AllCaused made before after → has_trouble (troubles [] made) ≡ true

@@ -2,7 +2,8 @@
 use Rattle.std.proofs.Common.{◌≡◌, ℕ, List, [], ◌∷◌, ◌++◌, Option, Some, refl, inl, inr, ◌⊎◌, sym, ◌∙◌, ap, subst, append_assoc}
 use Rattle.bank_core.specs.Disk.{Sectors, Noted, AllAnswer, run}
 use Rattle.bank_core.specs.Story.{Story, now}
-use Rattle.bank_core.specs.Calls.{Made}
+use Rattle.bank_core.specs.Calls.{Made, AllCaused}
+use Rattle.bank_core.proofs.Composing.{caused_split}
 use Rattle.pool_wire.specs.declared.reply.NamedLeaf.{NamedLeaf}
 use Rattle.pool_wire.specs.declared.reply.Reply.TheVariants as replies
 use Rattle.pool_wire.specs.declared.request.Request.TheVariants as requests
@@ -12,7 +13,8 @@ use Rattle.host_front.specs.declared.status.Status.{Status}
 use Rattle.host_front.specs.Machine.{HostState, Entry, Step, Replay, started, named_pool, line_wants}
 use Rattle.host_front.specs.Session.{Ran}
 use Rattle.pool_core.specs.Clash.{Clash}
-use Rattle.host_front.specs.Kept.{HostIsKept, AreWhole, LosesBlock, SomeClashes, IsCommitted, EndsWell, IsReached, IsPlaceOf, ReadsWell}
+use Rattle.host_front.specs.Kept.{HostIsKept, AreWhole, LosesBlock, SomeClashes, IsCommitted, EndsWell, IsReached, IsPlaceOf, ReadsWell, SyncsWell, EndByCause}
+use Rattle.host_front.proofs.KeptCommits.{sync_ends}
 use Rattle.host_front.proofs.KeptHistory.{replay_keeps, exhausted_is_lost, good_member_answers, answers_behind, clashes_more}
 use Rattle.host_front.proofs.KeptLines.{lines_whole}
 
@@ -135,13 +137,40 @@ told_answers story story' f g calls made =
     let goes = made.told story' refl in
     subst (λ begun. AllAnswer (now begun) calls) (sym (same_some story goes.story goes.before)) goes.answers
 
--- each read of a run over a bank that tells
-pub run_reads_well : (table : List HostDevice) (status : Status) (story story' : Story) (f g : ℕ → ℕ) (left left' sink sink' : Option (List ℕ))
-    (ran : Ran (started table) status (Some story) (Some story') f g left left' sink sink') (first rest : List Entry) (entry : Entry) (name : List ℕ) (a : ℕ)
-    → ran.entries ≡ first ++ entry ∷ rest → entry.asked ≡ Some (requests.Read name a)
-    → ReadsWell (now story) (started table) first entry ran.handles.calls name a ⊎ SomeClashes (started table) first ran.handles.calls
-run_reads_well table status story story' f g left left' sink sink' ran first rest entry name a are asked =
-    history_reads_well (now story) table first entry rest ran.handles.calls ran.state name a
-    (subst AreWhole are (lines_whole ran.entries ran.lines ran.handles.asked))
-    (subst (λ entries. Replay (started table) entries ran.handles.calls ran.state) are ran.handles.replay)
-    (told_answers story story' f g ran.handles.calls ran.handles.made) asked
+-- a sync at its place
+syncs_at : (old : HostState) (first : List Entry) (entry : Entry) (calls : List Noted) (f g : ℕ → ℕ) (name : List ℕ) → Place old first entry calls → AllCaused calls f g
+    → entry.asked ≡ Some (requests.Sync name) → SyncsWell old first entry calls f g name
+syncs_at old first entry calls f g name p caused asked =
+    let behind = caused_split p.before (p.made ++ p.after) f g (subst (λ all. AllCaused all f g) p.place.calls_are caused) in
+    let own = caused_split p.made p.after behind.0 g behind.2 in
+    record {
+      h = p.h;
+      next = p.next;
+      before = p.before;
+      made = p.made;
+      after = p.after;
+      place = p.place;
+      counts = behind.0;
+      counts' = own.0;
+      caused_before = behind.1;
+      caused = own.1;
+      caused_after = own.2;
+      ends = λ s named spent. sync_ends p.h entry p.made p.next name s behind.0 own.0 p.place.step asked named spent own.1;
+    }
+
+-- each read and each sync of a run
+pub run_ends : (table : List HostDevice) (status : Status) (old new : Option Story) (f g : ℕ → ℕ) (left left' sink sink' : Option (List ℕ))
+    (ran : Ran (started table) status old new f g left left' sink sink') → EndByCause table ran.entries ran.handles.calls old new f g
+run_ends table status old new f g left left' sink sink' ran = record {
+  reads = λ story story' told told' first rest entry name a are asked.
+      history_reads_well (now story) table first entry rest ran.handles.calls ran.state name a
+      (subst AreWhole are (lines_whole ran.entries ran.lines ran.handles.asked))
+      (subst (λ entries. Replay (started table) entries ran.handles.calls ran.state) are ran.handles.replay)
+      (told_answers story story' f g ran.handles.calls
+      (subst (λ end. Made (Some story) end f g ran.handles.calls) told' (subst (λ begin. Made begin new f g ran.handles.calls) told ran.handles.made))) asked;
+  syncs = λ first rest entry name are asked.
+      syncs_at (started table) first entry ran.handles.calls f g name
+      (place_in (started table) first entry rest ran.handles.calls ran.state
+      (subst (λ entries. Replay (started table) entries ran.handles.calls ran.state) are ran.handles.replay))
+      ran.handles.made.caused asked;
+}

@@ -10,6 +10,7 @@ use Rattle.host_front.specs.Machine.{HostState, started}
 use Rattle.host_front.specs.Session.{Ran, RanScript, IsUpTo}
 use Rattle.host_front.specs.Standing.{AreLookedUp}
 use Rattle.host_front.proofs.FoundDevices.{looked_up_on}
+use Rattle.host_front.proofs.KeptRuns.{run_ends}
 
 -- what ran ended with another status than that of bad usage
 pub ran_some : {h : HostState} {status : Status} {old new : Option Story} {f g : ℕ → ℕ} {left left' sink sink' : Option (List ℕ)}
@@ -48,9 +49,12 @@ pub ran_script : {status : Status} (number_of number_of' : List ℕ → Option �
     → ((name : List ℕ) → number_of' name ≡ number_of name) → ((d : ℕ) → size' d ≡ size d) → lookups' ≡ mid
     → old' ≡ old → ((d : ℕ) → f' d ≡ f d) → Ran (started table) status old' new f' g left left' sink sink'
     → RanScript status number_of' size' names lookups lookups' old new f g left left' sink sink'
-ran_script number_of number_of' size size' names lookups mid lookups' table found numbers sizes counts told faults ran = record {
-  table = table;
-  found = looked_up_on number_of number_of' size size' names (λ name dev e. numbers name ∙ e) (λ d some. sizes d)
-      lookups mid lookups' (still_at_most mid lookups' counts) host_devices table found;
-  ran = ran_from (sym told) faults ran;
-}
+ran_script number_of number_of' size size' names lookups mid lookups' table found numbers sizes counts told faults ran =
+    let mine = ran_from (sym told) faults ran in
+    record {
+      table = table;
+      found = looked_up_on number_of number_of' size size' names (λ name dev e. numbers name ∙ e) (λ d some. sizes d)
+          lookups mid lookups' (still_at_most mid lookups' counts) host_devices table found;
+      ran = mine;
+      ends = run_ends table _ _ _ _ _ _ _ _ _ mine;
+    }

@@ -1,9 +1,10 @@
 -- What stands behind what was committed, and what it takes to lose a block.
-use Rattle.std.specs.Prelude.{◌≡◌, ℕ, ◌+◌, ◌*◌, ◌++◌, ◌<◌, ◌⊎◌, true, List, [], ◌∷◌, length, Option, Some, None}
+use Rattle.std.specs.Prelude.{◌≡◌, ℕ, ◌+◌, ◌*◌, ◌++◌, ◌<◌, ◌⊎◌, true, false, List, [], ◌∷◌, length, Option, Some, None}
 use Rattle.bank_core.specs.declared.bank.Fault.{Fault}
 use Rattle.bank_core.specs.Asks.{Reads, ask_of}
-use Rattle.bank_core.specs.Calls.{fault_of}
+use Rattle.bank_core.specs.Calls.{fault_of, AllCaused}
 use Rattle.bank_core.specs.Disk.{Sector, Sectors, AllAnswer, Nothing, Noted, run, as_found}
+use Rattle.bank_core.specs.Story.{Story, now}
 use Rattle.mp_base.specs.declared.number.Group.{Group}
 use Rattle.mp_base.specs.declared.number.Guid.{Guid}
 use Rattle.mp_base.specs.declared.refusal.Refusal.TheVariants as refusals
@@ -15,7 +16,7 @@ use Rattle.pool_wire.specs.declared.request.Request.{Request}
 use Rattle.pool_wire.specs.declared.request.Request.TheVariants as requests
 use Rattle.pool_core.specs.declared.leaf.Leaf.{Leaf}
 use Rattle.pool_core.specs.Clash.{Clash}
-use Rattle.pool_core.specs.State.{Version, PoolState, data_start}
+use Rattle.pool_core.specs.State.{Version, PoolState, data_start, is_spent}
 use Rattle.host_front.specs.Machine.{HostState, Entry, Step, Replay, started, named_pool, line_wants}
 use Rattle.host_front.specs.declared.device.HostDevice.{HostDevice}
 
@@ -141,3 +142,27 @@ pub record ReadsWell (sectors : Sectors) (old : HostState) (entries : List Entry
   pub refused : (level index : ℕ) (named : List NamedLeaf) → entry.reply ≡ replies.Exhausted level index named → LosesBlock (run before sectors) h name a made ⊎ Clash made (line_wants h entry.asked)
   pub given : (s : PoolState) (version : Version) → named_pool name h.pool ≡ Some s → IsCommitted s a version
       → EndsWell (run before sectors) s.leaves version made entry.reply
+
+-- A sync among the entries of a history ended by the counts, which are those before and behind its own calls.
+pub record SyncsWell (old : HostState) (entries : List Entry) (entry : Entry) (calls : List Noted) (first last : ℕ → ℕ) (name : List ℕ) : Type 0 where
+  pub h : HostState
+  pub next : HostState
+  pub before : List Noted
+  pub made : List Noted
+  pub after : List Noted
+  pub place : IsPlaceOf old entries entry calls h next before made after
+  pub counts : ℕ → ℕ
+  pub counts' : ℕ → ℕ
+  pub caused_before : AllCaused before first counts
+  pub caused : AllCaused made counts counts'
+  pub caused_after : AllCaused after counts' last
+  pub ends : (s : PoolState) → named_pool name h.pool ≡ Some s → is_spent s ≡ false → EndsByCounts s counts counts' entry.reply
+
+-- Each read and each sync of a history ended by its cause: a read where the bank tells to the end, and up to a
+-- clash in a line before it, and a sync over every bank.
+pub record EndByCause (table : List HostDevice) (entries : List Entry) (calls : List Noted) (old new : Option Story) (before after : ℕ → ℕ) : Type 0 where
+  pub reads : (story story' : Story) → old ≡ Some story → new ≡ Some story' → (first rest : List Entry) (entry : Entry) (name : List ℕ) (a : ℕ)
+      → entries ≡ first ++ entry ∷ rest → entry.asked ≡ Some (requests.Read name a)
+      → ReadsWell (now story) (started table) first entry calls name a ⊎ SomeClashes (started table) first calls
+  pub syncs : (first rest : List Entry) (entry : Entry) (name : List ℕ) → entries ≡ first ++ entry ∷ rest → entry.asked ≡ Some (requests.Sync name)
+      → SyncsWell (started table) first entry calls before after name

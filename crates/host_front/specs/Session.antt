@@ -12,6 +12,7 @@ use Rattle.host_front.specs.declared.host.Host.{Host}
 use Rattle.host_front.specs.declared.status.Status.{Status}
 use Rattle.host_front.specs.declared.status.Status.TheVariants as statuses
 use Rattle.host_front.specs.FixedHost.{host_devices}
+use Rattle.host_front.specs.Kept.{EndByCause}
 use Rattle.host_front.specs.Lines.{lines_of, Ends, AreShort, longest}
 use Rattle.host_front.specs.Machine.{HostState, Entry, Step, Replay, started, texts}
 use Rattle.host_front.specs.Standing.{Stands, AreLookedUp}
@@ -83,12 +84,14 @@ pub record Ran (h : HostState) (status : Status) (old new : Option Story) (befor
   pub handles : Handles h lines old new before after sink sink' state entries bytes
   pub is_written : IsWritten status entries bytes
 
--- What a run that was begun did: it looked the host's devices up, and ran from a host of those that it found.
+-- What a run that was begun did: it looked the host's devices up, and ran from a host of those that it found,
+-- and each read and each sync of that history ended by its cause.
 pub record RanScript (status : Status) (number_of : List ℕ → Option ℕ) (size : ℕ → ℕ) (names : Option (List (List ℕ))) (lookups lookups' : ℕ)
     (old new : Option Story) (before after : ℕ → ℕ) (left left' sink sink' : Option (List ℕ)) : Type 0 where
   pub table : List HostDevice
   pub found : AreLookedUp number_of size names lookups lookups' host_devices table
   pub ran : Ran (started table) status old new before after left left' sink sink'
+  pub ends : EndByCause table ran.entries ran.handles.calls old new before after
 
 -- Nothing was read, written or asked of a device.
 pub record IsQuiet (old new : Option Story) (before after : ℕ → ℕ) (left left' sink sink' : Option (List ℕ)) : Type 0 where

@@ -16,7 +16,8 @@ use std::alloc::Global;
 ///
 /// `ran` is the theorem: what was written are the texts of the replies of one history, whose requests are
 /// those of the input's lines, whose entries are steps of the abstract machine one after another, and
-/// whose device calls are exactly the bank's (docs/MODEL.md, "A run").
+/// whose device calls are exactly the bank's (docs/MODEL.md, "A run"). Each read and each sync of this
+/// history ended by its cause (docs/MODEL.md, "A good member answers").
 pub fn run<B: Bank, S: Source, W: Sink>(
     alloc: Global,
     words: &[String],

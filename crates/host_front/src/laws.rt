@@ -12,15 +12,15 @@ ghost use Rattle.host_front.specs.declared.device.HostDevice.{HostDevice};
 ghost use Rattle.host_front.specs.declared.status.Status.{Status};
 ghost use Rattle.host_front.specs.Machine.{HostState, Entry, Step, line_wants, named_pool, started};
 ghost use Rattle.host_front.specs.Session.{Ran};
-ghost use Rattle.host_front.specs.Kept.{HostIsKept, IsWhole, LosesBlock, SomeClashes, IsCommitted, EndsWell, EndsByCounts, IsReached, ReadsWell};
+ghost use Rattle.host_front.specs.Kept.{HostIsKept, IsWhole, LosesBlock, SomeClashes, IsCommitted, EndsWell, EndsByCounts, IsReached};
 
 /// A good member always answers: a read is refused only where every leaf of the mirror missed the block,
 /// which is that its read failed, or found its sector damaged. It computes nothing: its clauses are the law.
 ///
-/// `keeps` is the invariant. `refuses` and `answers` speak of one line behind any others, and
-/// `reads_well` of each read of a run whose bank tells. `syncs` says of a sync while there are numbers left
-/// that it is suspended where a device's count of faults rises in it, and only there, and commits where none
-/// does, but for want of memory.
+/// `keeps` is the invariant. `refuses` and `answers` speak of a read behind any other lines. `syncs` says of a
+/// sync while there are numbers left that it is suspended where a device's count of faults rises in it, and
+/// only there, and commits where none does, but for want of memory. What `run` says of its own reads and
+/// syncs follows (`EndByCause`).
 pub fn good_member_answers()
     ensures keeps { (sectors : Sectors) (h : HostState) (entry : Entry) (made : List Noted) (next : HostState) → IsWhole entry.asked → HostIsKept sectors h
         → Step h entry made next → HostIsKept (run made sectors) next ⊎ Clash made (line_wants h entry.asked) }
@@ -30,10 +30,6 @@ pub fn good_member_answers()
     ensures answers { (sectors : Sectors) (table : List HostDevice) (entries : List Entry) (calls : List Noted) (h : HostState) (entry : Entry) (made : List Noted) (next : HostState)
         (name : List ℕ) (a : ℕ) (s : PoolState) (version : Version) → IsReached sectors table entries calls h entry made next → entry.asked ≡ Some (requests.Read name a)
         → named_pool name h.pool ≡ Some s → IsCommitted s a version → EndsWell (run calls sectors) s.leaves version made entry.reply ⊎ SomeClashes (started table) entries calls }
-    ensures reads_well { (table : List HostDevice) (status : Status) (story story' : Story) (f g : ℕ → ℕ) (left left' sink sink' : Option (List ℕ))
-        (ran : Ran (started table) status (Some story) (Some story') f g left left' sink sink') (first rest : List Entry) (entry : Entry) (name : List ℕ) (a : ℕ)
-        → ran.entries ≡ first ++ entry ∷ rest → entry.asked ≡ Some (requests.Read name a)
-        → ReadsWell (now story) (started table) first entry ran.handles.calls name a ⊎ SomeClashes (started table) first ran.handles.calls }
     ensures syncs { (h : HostState) (entry : Entry) (made : List Noted) (next : HostState) (name : List ℕ) (s : PoolState) (before after : ℕ → ℕ)
         → Step h entry made next → entry.asked ≡ Some (requests.Sync name) → named_pool name h.pool ≡ Some s → is_spent s ≡ false
         → AllCaused made before after → EndsByCounts s before after entry.reply }

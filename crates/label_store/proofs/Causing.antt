@@ -5,6 +5,7 @@ use Rattle.mp_base.specs.Outside.{Rose}
 use Rattle.bank_core.specs.declared.bank.Fault.{Fault}
 use Rattle.bank_core.specs.Asks.{Ask, Reads, Writes, Flushes, Admits, Ejects, ask_of, IsPart}
 use Rattle.bank_core.specs.Calls.{AllCaused, device_of}
+use Rattle.bank_core.proofs.Composing.{caused_counts, caused_split}
 use Rattle.bank_core.specs.Disk.{Noted, Call, Read, Write, Flush, Admit, Eject}
 use Rattle.label_store.specs.declared.member.Member.{Member}
 use Rattle.label_store.specs.Committing.{AreExcused}
@@ -29,15 +30,6 @@ device_asked (Write dev at bytes fault) = refl
 device_asked (Flush dev fault) = refl
 device_asked (Admit dev holds) = refl
 device_asked (Eject dev) = refl
-
-pub caused_counts : (made : List Noted) (f g : ℕ → ℕ) → AllCaused made f g → (d : ℕ) → f d ≤ g d
-caused_counts [] f g c d = let same = c d in omega arith
-caused_counts (noted ∷ made) f g c d = let x = c.1.counts d in let y = caused_counts made c.0 g c.2 d in omega arith
-
-pub caused_split : (first second : List Noted) (f h : ℕ → ℕ) → AllCaused (first ++ second) f h → (g : ℕ → ℕ) × AllCaused first f g × AllCaused second g h
-caused_split [] second f h c = (f, (λ d. refl), c)
-caused_split (noted ∷ first) second f h c =
-    let r = caused_split first second c.0 h c.2 in (r.0, (c.0, c.1, r.1), r.2)
 
 earlier : (x y z : ℕ) → x ≤ y → Rose y z → Rose x z
 earlier x y z le r = omega arith

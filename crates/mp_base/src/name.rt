@@ -1,5 +1,5 @@
 //! Names of pools and devices.
-ghost use Rattle.std.specs.Prelude.{◌≡◌, ◌↔◌, false, IfOk, IsErrOf};
+ghost use Rattle.std.specs.Prelude.{◌≡◌, ◌↔◌, false, IfOk, IsErrOf, IsTrue};
 ghost use Rattle.std.specs.List.{list_all};
 ghost use Rattle.mp_base.specs.Name.{is_name, is_name_byte, is_name_start, is_word};
 
@@ -65,6 +65,13 @@ impl Name {
         ensures { result.now ≡ self.now }
     {
         &self.bytes
+    }
+
+    /// Every name spells a name, as a fact for a caller's proof.
+    pub fn spells_a_name(&self)
+        ensures { IsTrue (is_name self.now) }
+    {
+        let _bytes = &self.bytes;
     }
 
     /// The same name once more.

@@ -1,7 +1,13 @@
 mod Commits
+mod Creating
+mod Ending
 mod Lists
+mod Looking
 mod ReadSteps
+mod Recording
 mod Representing
-mod Tries
-mod SyncEnds
+mod Seats
+mod Seeking
 mod SyncSteps
+mod Tries
+mod Validating

@@ -1,5 +1,5 @@
 -- What the calls of a pool did, against its abstract state.
-use Rattle.std.specs.Prelude.{◌≡◌, ℕ, ◌+◌, ◌*◌, ◌⊎◌, Bool, true, false, zero, suc, List, [], ◌∷◌, length, Option, Some, None, Result, Ok, Err}
+use Rattle.std.specs.Prelude.{◌≡◌, ℕ, ◌+◌, ◌*◌, ◌⊎◌, Bool, true, false, zero, suc, List, [], length, Option, Some, None, Result, Ok, Err}
 use Rattle.mp_base.specs.declared.number.Group.{Group}
 use Rattle.mp_base.specs.declared.refusal.Refusal.{Refusal}
 use Rattle.mp_base.specs.declared.refusal.Refusal.TheVariants as refusals
@@ -20,7 +20,7 @@ use Rattle.pool_core.specs.Keeping.{Represents}
 use Rattle.pool_core.specs.Opening.{IsIdentified, recommitted}
 use Rattle.pool_core.specs.Outside.{troubles, last_given}
 use Rattle.pool_core.specs.Reading.{wanted, read_asks, read_answer}
-use Rattle.pool_core.specs.State.{PoolState, is_spent, last_number}
+use Rattle.pool_core.specs.State.{PoolState, last_number}
 use Rattle.pool_core.specs.Syncing.{sync_plan, flush_plan, synced}
 
 -- These calls are those of a read, and this is its answer, by what came from outside.

@@ -2,11 +2,10 @@
 -- last commit. Of a committed block it keeps where it stands and its sum.
 use Rattle.std.specs.Prelude.{◌≡◌, ℕ, ◌+◌, ◌<◌, ◌≤◌, List, [], ◌∷◌, length, Option, Some, None, slice_get}
 use Rattle.std.specs.Option.{option_map}
-use Rattle.config_codec.specs.Fields.{config_fields}
 use Rattle.pool_core.specs.declared.pool.Pool.{Pool}
 use Rattle.pool_core.specs.Opening.{leaf_on}
 use Rattle.pool_core.specs.Recorded.{pointer_of}
-use Rattle.pool_core.specs.State.{LeafState, Known, Version, PoolState, leaves}
+use Rattle.pool_core.specs.State.{LeafState, Known, Version, PoolState}
 
 abbrev pub first_of : Pool → LeafState
 first_of pool = leaf_on pool.config.first pool.first_dev

@@ -1,5 +1,6 @@
 pub mod Clash
 pub mod Commits
+pub mod Committing
 pub mod Copies
 pub mod Done
 pub mod Heads
@@ -11,6 +12,7 @@ pub mod Outside
 pub mod Reading
 pub mod Recorded
 pub mod State
+pub mod Steps
 pub mod Syncing
 pub mod Tries
 pub mod Writing

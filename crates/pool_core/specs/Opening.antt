@@ -1,5 +1,5 @@
 -- An opening: the state of the record that was found, which is committed again under the next number.
-use Rattle.std.specs.Prelude.{◌≡◌, ◌≢◌, ℕ, ◌+◌, ◌<◌, Bool, true, false, List, [], ◌∷◌, ◌++◌, length, Option, Some, None, Result, Ok, Err, slice_get, cond}
+use Rattle.std.specs.Prelude.{◌≡◌, ◌≢◌, ℕ, ◌+◌, ◌<◌, Bool, true, false, List, [], ◌∷◌, ◌++◌, length, Option, Some, None, Result, Ok, slice_get, cond}
 use Rattle.std.specs.Option.{option_map}
 use Rattle.std.specs.Str.{bytes_eq}
 use Rattle.bank_core.specs.declared.bank.Fault.{Fault}
@@ -10,7 +10,7 @@ use Rattle.config_codec.specs.declared.config.LeafConfig.{LeafConfig}
 use Rattle.config_codec.specs.Fields.{Fields}
 use Rattle.config_codec.specs.Reading.{config_in}
 use Rattle.pool_core.specs.Recorded.{pointer_of}
-use Rattle.pool_core.specs.State.{LeafState, Content, Known, Summed, Version, PoolState}
+use Rattle.pool_core.specs.State.{LeafState, Known, Summed, Version, PoolState}
 
 -- A record that this history drew up: its configuration, and what it commits.
 pub record Draft : Type 0 where

@@ -1,5 +1,5 @@
 -- What a pool's record says: the configuration of its state, and what a round of it writes.
-use Rattle.std.specs.Prelude.{ℕ, zero, suc, ◌-◌, List, [], ◌∷◌, ◌++◌, length, map, Option, Some, None}
+use Rattle.std.specs.Prelude.{ℕ, zero, suc, ◌-◌, List, [], ◌∷◌, ◌++◌, length, map, Option}
 use Rattle.std.specs.Option.{option_map}
 use Rattle.mp_base.specs.Block.{zeros}
 use Rattle.config_codec.specs.declared.config.Pointer.{Pointer}

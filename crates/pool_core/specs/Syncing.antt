@@ -1,6 +1,6 @@
 -- A sync: each block that was written goes to each leaf, in order of address, and then each leaf is
 -- flushed. Then comes a round of the record of what is committed by it.
-use Rattle.std.specs.Prelude.{ℕ, ◌+◌, List, [], ◌∷◌, ◌++◌, map, Option, Some, None}
+use Rattle.std.specs.Prelude.{ℕ, ◌+◌, List, [], ◌++◌, map, Option, Some, None}
 use Rattle.std.specs.List.{flat_map}
 use Rattle.bank_core.specs.Asks.{Ask, Writes, Flushes}
 use Rattle.pool_core.specs.Recorded.{addresses}

@@ -1,16 +1,17 @@
 //! The opening of a pool: the newest record is looked for, and committed again before anything is read by it.
-ghost use Rattle.std.specs.Prelude.{◌≡◌, ◌≢◌, ℕ, ◌+◌, ◌<◌, ◌≤◌, List, Option, Some, IfOk, IfSome, OnErr, slice_get};
+ghost use Rattle.std.specs.Prelude.{◌≡◌, ◌≢◌, ℕ, ◌+◌, ◌<◌, ◌≤◌, List, Some, IfOk, IfSome, OnErr, slice_get};
 ghost use Rattle.config_codec.specs.Fields.{config_fields};
 ghost use Rattle.config_codec.specs.Validity.{IsValid};
 ghost use Rattle.label_store.specs.Newest.{ReadsOnly};
 ghost use Rattle.pool_core.specs.Done.{Seeks, Identifies};
+ghost use Rattle.pool_core.specs.Steps.{LooksFor};
 
 use crate::Pool;
 use crate::rule::ConfigRule;
 use bank_core::Bank;
 use config_codec::{Config, LeafConfig, decode};
 use label_store::{identity, newest};
-use mp_base::{Block, Guid, MemFault, Name, Refusal};
+use mp_base::{MemFault, Name, Refusal};
 use std::alloc::Global;
 
 /// The configuration of the newest record of this name that is verified on one of these devices; of two
@@ -48,18 +49,30 @@ pub fn has_members<B: Bank>(bank: &mut B, config: &Config, first: u32, second: u
     ensures identifies { Identifies (B.size bank.old) (config_fields config.now) first second
         (B.told bank.old) (B.told bank.new) (B.faults bank.old) (B.faults bank.new) result }
 {
-    if !has_member(bank, config.pool, &config.first, first) {
+    if !has_member(bank, config, &config.first, first) {
         return false;
     }
-    has_member(bank, config.pool, &config.second, second)
+    has_member(bank, config, &config.second, second)
 }
 
-fn has_member<B: Bank>(bank: &mut B, pool: Guid, leaf: &LeafConfig, dev: u32) -> bool {
-    matches!(identity(bank, dev, pool, leaf.member), Ok(true))
+fn has_member<B: Bank>(bank: &mut B, config: &Config, leaf: &LeafConfig, dev: u32) -> bool
+    requires room { 320 ≤ B.size bank.old dev }
+    ensures size { (d : ℕ) → B.size bank.new d ≡ B.size bank.old d }
+    ensures numbers { (other : List ℕ) → B.number_of bank.new other ≡ B.number_of bank.old other }
+    ensures lookups { B.lookup_faults bank.new ≡ B.lookup_faults bank.old }
+    ensures looks { LooksFor (config_fields config.now) leaf.now dev (B.size bank.old dev)
+        (B.told bank.old) (B.told bank.new) (B.faults bank.old) (B.faults bank.new) result }
+{
+    match identity(bank, dev, config.pool, leaf.member) {
+        Ok(found) => found,
+        Err(_) => false,
+    }
 }
 
 impl Pool {
+    ghost use Rattle.std.specs.Prelude.{Option};
     ghost use Rattle.pool_core.specs.Done.{OpensIf};
+    ghost use Rattle.pool_core.specs.Keeping.{IsSeated};
     ghost use Rattle.pool_core.specs.Opening.{IsCommitted, found_state};
     ghost use Rattle.pool_core.specs.State.{Version, last_number};
 
@@ -81,6 +94,7 @@ impl Pool {
         ensures size { (d : ℕ) → B.size bank.new d ≡ B.size bank.old d }
         ensures numbers { (other : List ℕ) → B.number_of bank.new other ≡ B.number_of bank.old other }
         ensures lookups { B.lookup_faults bank.new ≡ B.lookup_faults bank.old }
+        ensures seated { IfOk result (λ pool. IsSeated (B.size bank.old) pool) }
         ensures opens { (committed : ℕ → Option Version) → IsCommitted (config_fields config) committed
             → OpensIf (B.size bank.old) (found_state (config_fields config) committed first second)
             (B.told bank.old) (B.told bank.new) (B.faults bank.old) (B.faults bank.new) result }
@@ -89,9 +103,9 @@ impl Pool {
             Ok(pool) => pool,
             Err(MemFault) => return Err(Refusal::Memory),
         };
-        pool.config.number.0 += 1;
-        pool.flush_leaves(bank).map_err(|_| pool.suspended(1))?;
-        pool.close_round(bank)?;
+        pool.draw_number();
+        let flushed = pool.flush_leaves(bank);
+        pool.end_commit(bank, flushed)?;
         Ok(pool)
     }
 }

@@ -1,23 +1,22 @@
 //! Writes: a block is accepted into the open group, and stands in memory until a sync.
-ghost use Rattle.std.specs.Prelude.{◌≡◌, ℕ, length, MatchResult, nat_lt, true, false};
+ghost use Rattle.std.specs.Prelude.{◌≡◌, ℕ, length};
 
 use crate::Pool;
 use mp_base::{Block, Refusal};
 
 impl Pool {
-    ghost use Rattle.std.specs.Prelude.{Some, None, slice_get};
-    ghost use Rattle.std.specs.Option.{option_copied};
     ghost use Rattle.pool_core.specs.State.{PoolState};
-    ghost use Rattle.pool_core.specs.Keeping.{Represents, leaves_of};
+    ghost use Rattle.pool_core.specs.Keeping.{Represents, IsSeated, leaves_of};
     ghost use Rattle.pool_core.specs.Writing.{Puts};
 
     /// Accepts a block at an address. It is committed by the next sync that answers `Ok`.
     pub fn put(&mut self, address: u64, block: &[u8]) -> Result<(), Refusal>
         requires { length block.now ≡ 4096 }
         ensures leaves { leaves_of self.new ≡ leaves_of self.old }
+        ensures seated { (size : ℕ → ℕ) → IsSeated size self.old → IsSeated size self.new }
         ensures put { (s : PoolState) → Represents self.old s → Puts s address block.now self.new result }
     {
-        let blocks = self.map.len() as u64;
+        let blocks = self.config.blocks;
         if address >= blocks {
             return Err(Refusal::BadAddress { limit: blocks });
         }

@@ -2,5 +2,5 @@ use Rattle.std.proofs.Common.{ap, Err, sym}
 use Rattle.config_codec.proofs.Deciding.{is_none}
 use Rattle.config_codec.proofs.decoding.decode.Goals as goal
 
-pub returns-in-Err-NoConfig : goal.returns-in-Err-NoConfig
-returns-in-Err-NoConfig c = sym (is_none c.args.bytes.now (c.in-Err-NoConfig.ensures.none (ap Err c.in-Err-NoConfig.field-0-is)))
+pub returns-in-Err-NoConfig-clause-found : goal.returns-in-Err-NoConfig-clause-found
+returns-in-Err-NoConfig-clause-found c = sym (is_none c.args.bytes.now (c.in-Err-NoConfig.ensures.none (ap Err c.in-Err-NoConfig.field-0-is)))

@@ -1,8 +1,8 @@
 use Rattle.std.proofs.Common.{arith, ◌∙◌}
 use Rattle.std.proofs.lemmas.Result.{err_from_is_err_and}
 use Rattle.bank_core.proofs.Parting.{part_more}
-use Rattle.pool_core.specs.Keeping.{leaves_of}
-use Rattle.pool_core.proofs.SyncSteps.{one_more, stops_within, seated_on}
+use Rattle.pool_core.proofs.Seats.{seated_on}
+use Rattle.pool_core.proofs.SyncSteps.{one_more, stops_within}
 use Rattle.pool_core.proofs.pool.Pool.write_blocks.Goals as goal
 
 pub returns-in_err-write_block-clause-part : goal.returns-in_err-write_block-clause-part
@@ -16,6 +16,6 @@ loop-at-preserved g c = record {
   size = λ d. c.write_block.ensures.size d ∙ c.loop-at.invariant.size d;
   numbers = λ name. c.write_block.ensures.numbers name ∙ c.loop-at.invariant.numbers name;
   lookups = c.write_block.ensures.lookups ∙ c.loop-at.invariant.lookups;
-  seated = seated_on _ _ (leaves_of c.args.self.now) c.write_block.ensures.size c.loop-at.invariant.seated;
+  seated = seated_on _ _ c.args.self.now c.write_block.ensures.size c.loop-at.invariant.seated;
   part = λ s r. rw one_more (part_more (c.loop-at.invariant.part s r) (c.in_ok-write_block.ensures.part s r));
 }

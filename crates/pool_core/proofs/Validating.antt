@@ -1,0 +1,103 @@
+-- What stays valid of a configuration where its number rises or a pointer changes.
+use Rattle.std.proofs.Common.{◌≡◌, ℕ, ◌+◌, ◌*◌, ◌/◌, ◌^◌, ◌<◌, ◌≤◌, Bool, true, false, List, Option, Some, None, length, set, refl, arith, sym, ◌∙◌, ap, subst, cond}
+use Rattle.std.specs.Prelude.{slice_get, IfSome}
+use Rattle.sha2.specs.Sha256.{sha256}
+use Rattle.sha2.proofs.Facts256.{length-sha256}
+use Rattle.std.proofs.lemmas.List.{length-set}
+use Rattle.std.proofs.lemmas.Bool.{eqb-true, eqb-false}
+use Rattle.std.proofs.Common.{◌==◌}
+use Rattle.mp_base.specs.declared.number.Group.{Group}
+use Rattle.config_codec.specs.declared.config.Pointer.{Pointer}
+use Rattle.config_codec.specs.Fields.{Fields}
+use Rattle.config_codec.specs.Validity.{IsValid, IsPointer}
+use Rattle.pool_core.specs.declared.pool.Pool.{Pool}
+use Rattle.pool_core.specs.Committing.{free_sector, next_pointer, IsNext}
+use Rattle.pool_core.proofs.Lists.{same_some, set_get_same, set_get_other}
+
+pointer_later : (number number' : Group) (a : ℕ) (p : Pointer) → number.0 ≤ number'.0 → IsPointer number a p → IsPointer number' a p
+pointer_later number number' a p le is = record { birth = (is.birth.0, omega (arith, is.birth.1)); sector = is.sector; sum = is.sum }
+
+-- the same configuration under a later number
+pub valid_later : (c : Fields) (number : Group) → IsValid c → c.number.0 ≤ number.0 → number.0 ≤ 2 ^ 62 → IsValid (record c { number = number })
+valid_later c number v le most = record {
+  pool = v.pool;
+  name = v.name;
+  blocks = v.blocks;
+  number = (omega (arith, v.number.0), most);
+  next_member = v.next_member;
+  counted = v.counted;
+  pointers = λ a p e. pointer_later c.number number a p le (v.pointers a p e);
+  sectors = v.sectors;
+  mirror = v.mirror;
+  first = v.first;
+  second = v.second;
+  not_first = v.not_first;
+  not_second = v.not_second;
+  two_members = v.two_members;
+  first_name = v.first_name;
+  second_name = v.second_name;
+  two_devices = v.two_devices;
+}
+
+-- a pointer where it was set, or elsewhere
+pointer_at : (number : Group) (slots : List (Option Pointer)) (a x : ℕ) (next : Option Pointer) (p : Pointer) (t : Bool) → (x == a) ≡ t
+    → ((p' : Pointer) → next ≡ Some p' → IsPointer number a p') → ((p' : Pointer) → slice_get slots x ≡ Some (Some p') → IsPointer number x p')
+    → slice_get (set slots a next) x ≡ Some (Some p) → IsPointer number x p
+pointer_at number slots a x next p true is new old e =
+    let same : x ≡ a = eqb-true x a is in
+    let here : slice_get (set slots a next) a ≡ Some (Some p) = subst (λ i. slice_get (set slots a next) i ≡ Some (Some p)) same e in
+    subst (λ i. IsPointer number i p) (sym same) (new p (sym (set_get_same slots a next (Some p) here)))
+pointer_at number slots a x next p false is new old e = old p (set_get_other slots a x next (Some p) (eqb-false x a is) e)
+
+-- the same configuration with another pointer
+pub valid_set : (c : Fields) (a : ℕ) (next : Option Pointer) → IsValid c → ((p : Pointer) → next ≡ Some p → IsPointer c.number a p)
+    → IsValid (record c { pointers = set c.pointers a next })
+valid_set c a next v is = record {
+  pool = v.pool;
+  name = v.name;
+  blocks = v.blocks;
+  number = v.number;
+  next_member = v.next_member;
+  counted = length-set c.pointers a next ∙ v.counted;
+  pointers = λ x p e. pointer_at c.number c.pointers a x next p (x == a) refl is (v.pointers x) e;
+  sectors = v.sectors;
+  mirror = v.mirror;
+  first = v.first;
+  second = v.second;
+  not_first = v.not_first;
+  not_second = v.not_second;
+  two_members = v.two_members;
+  first_name = v.first_name;
+  second_name = v.second_name;
+  two_devices = v.two_devices;
+}
+
+-- a pointer's sector is one of the first 64
+pub low_sector : (c : Fields) (a : ℕ) (p : Pointer) → IsValid c → a < length c.pointers → slice_get c.pointers a ≡ Some (Some p) → p.sector < 64
+low_sector c a p v inside e = omega (arith, (v.pointers a p e).sector, v.counted, v.blocks.1)
+
+pub low_option : (c : Fields) (a : ℕ) (p : Option Pointer) → IsValid c → a < length c.pointers → slice_get c.pointers a ≡ Some p → IfSome p (λ q. q.sector < 64)
+low_option c a None v inside e = tt
+low_option c a (Some p) v inside e = low_sector c a p v inside e
+
+-- the free sector of an address is one of its two
+cond_home : (a : ℕ) (t : Bool) → cond t (2 * a + 1) (2 * a) / 2 ≡ a
+cond_home a true = omega arith
+cond_home a false = omega arith
+
+pub free_home : (a : ℕ) (pointer : Option Pointer) → free_sector a pointer / 2 ≡ a
+free_home a None = omega arith
+free_home a (Some p) = cond_home a (p.sector == 2 * a)
+
+next_pointer_is : (number : Group) (a : ℕ) (pointer : Option Pointer) (block : Option (List ℕ)) (p : Pointer) → 1 ≤ number.0
+    → ((q : Pointer) → pointer ≡ Some q → IsPointer number a q) → next_pointer number a pointer block ≡ Some p → IsPointer number a p
+next_pointer_is number a pointer None p some old e = old p e
+next_pointer_is number a pointer (Some block) p some old e =
+    let new : Pointer = record { birth = number; sector = free_sector a pointer; sum = sha256 block } in
+    let is_new : IsPointer number a new = record { birth = (some, omega arith); sector = free_home a pointer; sum = length-sha256 block } in
+    subst (IsPointer number a) (same_some new p e) is_new
+
+-- the pointer that an address has next is one
+pub next_is : (pool : Pool) (a : ℕ) (next : Option Pointer) (p : Pointer) → IsNext pool a next → next ≡ Some p → IsPointer pool.config.number a p
+next_is pool a next p n e =
+    next_pointer_is pool.config.number a n.pointer n.block p pool.valid.number.0 (λ q is. pool.valid.pointers a q (n.pointer_is ∙ ap Some is)) (sym n.is ∙ e)
