@@ -1,57 +1,74 @@
 -- Lines that were answered, against the abstract machine.
-use Rattle.std.proofs.Common.{◌≡◌, ℕ, true, false, List, [], Option, Some, None, Result, Err, refl, inl, inr, ◌⊎◌, sym, ◌∙◌, ap, subst}
-use Rattle.std.specs.Str.{bytes_eq}
-use Rattle.mp_base.specs.declared.number.Group.{Group}
+use mathlib.Core.Path.{fun_ext}
+use Rattle.std.proofs.Common.{◌≡◌, ℕ, true, false, List, [], Option, Some, None, Result, Err, refl, inl, inr, ◌⊎◌, sym, ◌∙◌, ap, subst, bytes_eq}
 use Rattle.mp_base.specs.declared.refusal.Refusal.{Refusal}
 use Rattle.mp_base.specs.declared.refusal.Refusal.TheVariants as refusals
+use Rattle.bank_core.specs.Calls.{Made}
 use Rattle.bank_core.specs.Disk.{Noted}
 use Rattle.bank_core.specs.Story.{Story}
 use Rattle.bank_core.proofs.Composing.{made_none}
+use Rattle.label_store.specs.Newest.{AreReads}
 use Rattle.pool_wire.specs.declared.reply.Reply.{Reply}
 use Rattle.pool_wire.specs.declared.reply.Reply.TheVariants as replies
 use Rattle.pool_wire.specs.declared.request.Request.{Request}
 use Rattle.pool_wire.specs.declared.request.Request.TheVariants as requests
 use Rattle.pool_core.specs.declared.pool.Pool.{Pool}
-use Rattle.pool_core.specs.Clash.{Clash}
-use Rattle.pool_core.specs.Done.{IsRead, Syncs}
+use Rattle.pool_core.specs.Clash.{ClashesWith}
+use Rattle.pool_core.specs.Done.{IsRead}
 use Rattle.pool_core.specs.Keeping.{Represents}
-use Rattle.pool_core.specs.Outside.{troubles}
+use Rattle.pool_core.specs.Outside.{troubles, last_given}
 use Rattle.pool_core.specs.Reading.{wanted}
-use Rattle.pool_core.specs.State.{PoolState}
+use Rattle.pool_core.specs.State.{PoolState, leaves}
 use Rattle.pool_core.specs.Writing.{Puts, put_answer}
+use Rattle.host_machine.specs.Machine.{HostState, Entry, IsAnswered, WantsMemory, Clashes, line_wants, with_pool, named_pool, read_reply, reply_of}
 use Rattle.host_front.specs.declared.host.Host.{Host}
-use Rattle.host_front.specs.Machine.{HostState, Step, AreReads, answer, line_asks, with_pool, named_pool, read_reply, reply_of}
 use Rattle.host_front.specs.Replying.{Replies}
 use Rattle.host_front.specs.Session.{Answers}
-use Rattle.host_front.specs.Standing.{Stands, PoolStands}
+use Rattle.host_front.specs.Standing.{Keeps, PoolStands}
 
--- a line that made no device call
-pub answers_quiet : {host : Host} {reply : Reply} {told : Option Story} {faults : ℕ → ℕ} (h next : HostState) (asked : Option Request) → Stands host next
-    → (next, reply) ≡ answer h asked [] → [] ≡ line_asks h asked [] → Answers h asked told told faults faults host reply
-answers_quiet {host} {reply} {told} {faults} h next asked stands is asks = record {
-  entry = record { asked = asked; outside = []; reply = reply };
-  made = [];
+-- the sizes that a bank still has, as those of the abstract state
+pub same_sizes : (size size' : ℕ → ℕ) → ((d : ℕ) → size d ≡ size' d) → size ≡ size'
+same_sizes size size' same = fun_ext same
+
+pub sizes_on : (at size size' : ℕ → ℕ) → ((d : ℕ) → at d ≡ size d) → ((d : ℕ) → size' d ≡ size d) → (d : ℕ) → at d ≡ size' d
+sizes_on at size size' is same d = is d ∙ sym (same d)
+
+-- the entry of a line that made these calls
+abbrev pub entry_of : HostState → Option Request → ℕ → List Noted → Reply → Entry
+entry_of h asked second made reply =
+    record { asked = asked; second = second; outside = troubles (line_wants h asked) made; given = last_given made; reply = reply }
+
+pub answers_by : {host : Host} {reply : Reply} {old new : Option Story} {f g size : ℕ → ℕ} (h next : HostState) (asked : Option Request) (second : ℕ) (made : List Noted)
+    → Made old new f g made → Keeps size host next
+    → IsAnswered h asked (entry_of h asked second made reply) made next
+    ⊎ (WantsMemory h (entry_of h asked second made reply) made next ⊎ Clashes h (entry_of h asked second made reply) made next)
+    → Answers h asked second old new f g size host reply
+answers_by {reply = reply} h next asked second made calls keeps step = record {
+  entry = entry_of h asked second made reply;
+  made = made;
   next = next;
   asked_is = refl;
+  second_is = refl;
   reply_is = refl;
-  calls = made_none told faults;
-  stands = stands;
-  step = record { outside = refl; step = inl (record { asks = asks; answer_is = is }) };
+  calls = calls;
+  keeps = keeps;
+  step = record { outside = refl; given = refl; step = step };
 }
 
+-- a line that made no device call
+pub answers_quiet : {host : Host} {reply : Reply} {told : Option Story} {faults size : ℕ → ℕ} (h next : HostState) (asked : Option Request) (second : ℕ) → Keeps size host next
+    → IsAnswered h asked (entry_of h asked second [] reply) [] next → Answers h asked second told told faults faults size host reply
+answers_quiet {told = told} {faults = faults} h next asked second keeps is = answers_by h next asked second [] (made_none told faults) keeps (inl is)
+
 -- a line for which there was no memory
-pub answers_memory : {host : Host} {told : Option Story} {faults : ℕ → ℕ} (h : HostState) (asked : Option Request) → Stands host h
-    → Answers h asked told told faults faults host (replies.Refused refusals.Memory)
-answers_memory {host} {told} {faults} h asked stands = record {
-  entry = record { asked = asked; outside = []; reply = replies.Refused refusals.Memory };
-  made = [];
-  next = h;
-  asked_is = refl;
-  reply_is = refl;
-  calls = made_none told faults;
-  stands = stands;
-  step = record { outside = refl; step = inr (inl (record { reply = refl; same = refl; reads = tt })) };
-}
+pub answers_without : {host : Host} {old new : Option Story} {f g size : ℕ → ℕ} (h : HostState) (asked : Option Request) (second : ℕ) (made : List Noted)
+    → Made old new f g made → AreReads made → Keeps size host h → Answers h asked second old new f g size host (replies.Refused refusals.Memory)
+answers_without h asked second made calls reads keeps =
+    answers_by h h asked second made calls keeps (inr (inl (record { reply = refl; same = refl; reads = reads })))
+
+pub answers_memory : {host : Host} {told : Option Story} {faults size : ℕ → ℕ} (h : HostState) (asked : Option Request) (second : ℕ) → Keeps size host h
+    → Answers h asked second told told faults faults size host (replies.Refused refusals.Memory)
+answers_memory {told = told} {faults = faults} h asked second keeps = answers_without h asked second [] (made_none told faults) tt keeps
 
 -- The host's pool has the name: its state.
 pub record IsNamed (pool : Pool) (h : HostState) (name : List ℕ) : Type 0 where
@@ -92,81 +109,50 @@ pub no_pool : (h : HostState) (name : List ℕ) → PoolStands None h.pool → n
 no_pool h name stands = no_pool_at name h.pool stands
 
 -- a host with a changed pool
-pub stands_with : {new : Host} (h : HostState) (pool : Pool) (s : PoolState) → h.table ≡ new.table.items → new.pool ≡ Some pool → Represents pool s
-    → Stands new (with_pool h s)
-stands_with {new} h pool s table is r = record { table = table; pool = subst (λ p. PoolStands p (Some s)) (sym is) r }
+pub keeps_with : {new : Host} (size : ℕ → ℕ) (h : HostState) (pool : Pool) (s : PoolState) → h.table ≡ new.table.items → ((d : ℕ) → h.size d ≡ size d)
+    → new.pool ≡ Some pool → Represents pool s → Keeps size new (with_pool h s)
+keeps_with {new} size h pool s table sizes is r = record { table = table; sizes = sizes; pool = subst (λ p. PoolStands p (Some s)) (sym is) r }
 
-same_pool : (h : HostState) (s : PoolState) → h.pool ≡ Some s → with_pool h s ≡ h
-same_pool h s is = ap (λ p. record { table = h.table; pool = p }) (sym is)
+pub same_pool : (h : HostState) (s : PoolState) → h.pool ≡ Some s → with_pool h s ≡ h
+same_pool h s is = ap (λ p. record { table = h.table; size = h.size; records = h.records; pool = p }) (sym is)
 
-write_cases : (new : Host) (told : Option Story) (faults : ℕ → ℕ) (h : HostState) (pool pool' : Pool) (name : List ℕ) (a : ℕ) (block : List ℕ) (reply : Reply)
-    (result : Result (Unit {0}) Refusal) (n : IsNamed pool h name) (p : Puts n.s a block pool' result) → h.table ≡ new.table.items → new.pool ≡ Some pool'
+write_cases : (new : Host) (told : Option Story) (faults size : ℕ → ℕ) (h : HostState) (pool pool' : Pool) (name : List ℕ) (a : ℕ) (block : List ℕ) (second : ℕ) (reply : Reply)
+    (result : Result (Unit {0}) Refusal) (n : IsNamed pool h name) (p : Puts n.s a block pool' result) → Keeps size new (with_pool h p.next)
     → reply ≡ reply_of (λ done. replies.Done) result
     → ((p.next, result) ≡ put_answer n.s a block) ⊎ ((p.next ≡ n.s) × (result ≡ Err refusals.Memory))
-    → Answers h (Some (requests.Write name a block)) told told faults faults new reply
-write_cases new told faults h pool pool' name a block reply result n p table is reply_is (inl e) =
-    answers_quiet h (with_pool h p.next) (Some (requests.Write name a block)) (stands_with h pool' p.next table is p.represents)
-    (rw (reply_is, n.named, ← e) refl) refl
-write_cases new told faults h pool pool' name a block reply result n p table is reply_is (inr e) =
-    rw (reply_is, e.1) (answers_memory h (Some (requests.Write name a block))
-    (subst (Stands new) (ap (with_pool h) e.0 ∙ same_pool h n.s n.is) (stands_with h pool' p.next table is p.represents)))
+    → Answers h (Some (requests.Write name a block)) second told told faults faults size new reply
+write_cases new told faults size h pool pool' name a block second reply result n p keeps reply_is (inl e) =
+    answers_quiet h (with_pool h p.next) (Some (requests.Write name a block)) second keeps (refl, rw (reply_is, n.named, ← e) refl)
+write_cases new told faults size h pool pool' name a block second reply result n p keeps reply_is (inr e) =
+    rw (reply_is, e.1) (answers_memory h (Some (requests.Write name a block)) second
+    (subst (Keeps size new) (ap (with_pool h) e.0 ∙ same_pool h n.s n.is) keeps))
 
 -- a write to the pool
-pub answers_write : {new : Host} {told : Option Story} {faults : ℕ → ℕ} {reply : Reply} (h : HostState) (pool pool' : Pool) (name : List ℕ) (a : ℕ) (block : List ℕ)
+pub answers_write : {new : Host} {told : Option Story} {faults size : ℕ → ℕ} {reply : Reply} (h : HostState) (pool pool' : Pool) (name : List ℕ) (a : ℕ) (block : List ℕ) (second : ℕ)
     (result : Result (Unit {0}) Refusal) → IsNamed pool h name → ((s : PoolState) → Represents pool s → Puts s a block pool' result)
-    → h.table ≡ new.table.items → new.pool ≡ Some pool' → reply ≡ reply_of (λ done. replies.Done) result
-    → Answers h (Some (requests.Write name a block)) told told faults faults new reply
-answers_write {new} {told} {faults} {reply} h pool pool' name a block result n puts table is reply_is =
-    let p = puts n.s n.represents in write_cases new told faults h pool pool' name a block reply result n p table is reply_is p.answer_is
+    → h.table ≡ new.table.items → ((d : ℕ) → h.size d ≡ size d) → new.pool ≡ Some pool' → reply ≡ reply_of (λ done. replies.Done) result
+    → Answers h (Some (requests.Write name a block)) second told told faults faults size new reply
+answers_write {new} {told} {faults} {size} {reply} h pool pool' name a block second result n puts table sizes is reply_is =
+    let p = puts n.s n.represents in
+    write_cases new told faults size h pool pool' name a block second reply result n p (keeps_with size h pool' p.next table sizes is p.represents) reply_is p.answer_is
 
--- a sync of the pool
-pub answers_sync : {new : Host} {old told : Option Story} {f g : ℕ → ℕ} {reply : Reply} (h : HostState) (pool pool' : Pool) (name : List ℕ)
-    (result : Result Group Refusal) → IsNamed pool h name → ((s : PoolState) → Represents pool s → Syncs s old told f g pool' result)
-    → h.table ≡ new.table.items → new.pool ≡ Some pool' → reply ≡ reply_of replies.Committed result
-    → Answers h (Some (requests.Sync name)) old told f g new reply
-answers_sync {new} {old} {told} {f} {g} {reply} h pool pool' name result n syncs table is reply_is =
-    let s = syncs n.s n.represents in
-    record {
-      entry = record { asked = Some (requests.Sync name); outside = troubles [] s.made; reply = reply };
-      made = s.made;
-      next = with_pool h s.next;
-      asked_is = refl;
-      reply_is = refl;
-      calls = s.calls;
-      stands = stands_with h pool' s.next table is s.represents;
-      step = record { outside = refl; step = inl (record { asks = rw n.named s.asks; answer_is = rw (reply_is, n.named, ← s.answer_is) refl }) };
-    }
-
-read_cases : (h : HostState) (name : List ℕ) (a : ℕ) (pool : Pool) (reply : Reply) (made : List Noted) (n : IsNamed pool h name)
-    → ((result : Result (List ℕ) Refusal) × IsRead n.s a made result × (reply ≡ read_reply n.s.leaves result))
-    ⊎ (((reply ≡ replies.Refused refusals.Memory) × AreReads made) ⊎ Clash made (wanted n.s a))
-    → Step h (record { asked = Some (requests.Read name a); outside = troubles (wanted n.s a) made; reply = reply }) made h
-read_cases h name a pool reply made n (inl is) = record {
-  outside = rw n.named refl;
-  step = inl (record { asks = rw n.named is.1.asks; answer_is = rw (n.named, is.2, is.1.answer_is) refl });
-}
-read_cases h name a pool reply made n (inr (inl memory)) = record {
-  outside = rw n.named refl;
-  step = inr (inl (record { reply = memory.0; same = refl; reads = memory.1 }));
-}
-read_cases h name a pool reply made n (inr (inr clash)) = record {
-  outside = rw n.named refl;
-  step = inr (inr (record { name = name; a = a; asked = refl; same = refl; clash = rw n.named clash }));
-}
+read_cases : (h : HostState) (name : List ℕ) (a second : ℕ) (pool : Pool) (reply : Reply) (made : List Noted) (n : IsNamed pool h name) → AreReads made
+    → ((result : Result (List ℕ) Refusal) × IsRead n.s a made result × (reply ≡ read_reply (leaves n.s) result))
+    ⊎ ((reply ≡ replies.Refused refusals.Memory) ⊎ ClashesWith made (wanted n.s a))
+    → IsAnswered h (Some (requests.Read name a)) (entry_of h (Some (requests.Read name a)) second made reply) made h
+    ⊎ (WantsMemory h (entry_of h (Some (requests.Read name a)) second made reply) made h ⊎ Clashes h (entry_of h (Some (requests.Read name a)) second made reply) made h)
+read_cases h name a second pool reply made n reads (inl is) = inl (rw n.named is.1.asks, rw (n.named, is.2, is.1.answer_is) refl)
+read_cases h name a second pool reply made n reads (inr (inl memory)) = inr (inl (record { reply = memory; same = refl; reads = reads }))
+read_cases h name a second pool reply made n reads (inr (inr clash)) = inr (inr (record { same = refl; reads = reads; clash = rw n.named clash }))
 
 -- a read of the pool
-pub answers_read : {host : Host} {old new : Option Story} {f g : ℕ → ℕ} {reply : Reply} (h : HostState) (pool : Pool) (name : List ℕ) (a : ℕ)
-    → IsNamed pool h name → ((s : PoolState) → Represents pool s → Replies s a old new f g reply) → Stands host h
-    → Answers h (Some (requests.Read name a)) old new f g host reply
-answers_read {host} {old} {new} {f} {g} {reply} h pool name a n gives stands =
+pub answers_read : {host : Host} {old new : Option Story} {f g size : ℕ → ℕ} {reply : Reply} (h : HostState) (pool : Pool) (name : List ℕ) (a second : ℕ)
+    → IsNamed pool h name → ((s : PoolState) → Represents pool s → Replies s a old new f g reply) → Keeps size host h
+    → Answers h (Some (requests.Read name a)) second old new f g size host reply
+answers_read {reply = reply} h pool name a second n gives keeps =
     let r = gives n.s n.represents in
-    record {
-      entry = record { asked = Some (requests.Read name a); outside = troubles (wanted n.s a) r.made; reply = reply };
-      made = r.made;
-      next = h;
-      asked_is = refl;
-      reply_is = refl;
-      calls = r.calls;
-      stands = stands;
-      step = read_cases h name a pool reply r.made n r.step;
-    }
+    answers_by h h (Some (requests.Read name a)) second r.made r.calls keeps (read_cases h name a second pool reply r.made n r.reads r.step)
+
+-- the same host over a bank whose devices still have these sizes
+pub keeps_on : {host : Host} {h : HostState} (size size' : ℕ → ℕ) → ((d : ℕ) → size' d ≡ size d) → Keeps size host h → Keeps size' host h
+keeps_on {host} {h} size size' same keeps = record { table = keeps.table; sizes = sizes_on h.size size size' keeps.sizes same; pool = keeps.pool }

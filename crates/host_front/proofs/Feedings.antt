@@ -8,15 +8,15 @@ use Rattle.host_front.specs.declared.stop.Stop.{Stop}
 use Rattle.host_front.specs.declared.stop.Stop.TheVariants as stops
 use Rattle.host_front.specs.Feeding.{Feeds, Breaks, Overflows, StopsBy, HandlesLine, BreaksLine}
 use Rattle.host_front.specs.Lines.{lines_of, newline, Ends, IsOpen, longest}
-use Rattle.host_front.specs.Machine.{HostState, Entry, texts}
+use Rattle.host_machine.specs.Machine.{HostState, Entry, texts}
 use Rattle.host_front.specs.Session.{CutsLast, Handles}
 use Rattle.host_front.specs.Standing.{Stands}
 use Rattle.host_front.proofs.LineEnds.{ended, newline_ends, byte_waits, ends_none, ends_more, short_more, overflow}
 use Rattle.host_front.proofs.Handling.{handles_none, handles_more, texts_more}
 
 -- a line that has ended
-pub line_feeds : {h : HostState} {old new : Option Story} {f g : ℕ → ℕ} {sink sink' : Option (List ℕ)} {host : Host} (waiting left : List ℕ) → left ≡ []
-    → IsOpen waiting → length waiting ≤ longest → HandlesLine h waiting old new f g sink sink' host → Feeds h waiting (newline ∷ []) left old new f g sink sink' host
+pub line_feeds : {h : HostState} {old new : Option Story} {f g : ℕ → ℕ} {sink sink' gave gave' : Option (List ℕ)} {size : ℕ → ℕ} {host : Host} (waiting left : List ℕ) → left ≡ []
+    → IsOpen waiting → length waiting ≤ longest → HandlesLine h waiting old new f g sink sink' gave gave' size host → Feeds h waiting (newline ∷ []) left old new f g sink sink' gave gave' size host
 line_feeds waiting left empty is_open fits l = rw empty (record {
   lines = waiting ∷ [];
   entries = l.entry ∷ [];
@@ -32,9 +32,9 @@ line_feeds waiting left empty is_open fits l = rw empty (record {
 pub cuts_one : (entry : Entry) (k : ℕ) → CutsLast (entry ∷ []) k
 cuts_one entry k = record { before = []; last = entry ∷ []; split = refl; one = omega arith; whole = omega arith }
 
-line_breaks : (h : HostState) (old new : Option Story) (f g : ℕ → ℕ) (sink sink' : Option (List ℕ)) (waiting : List ℕ)
-    → IsOpen waiting → length waiting ≤ longest → BreaksLine h waiting old new f g sink sink' → Breaks h waiting (newline ∷ []) old new f g sink sink'
-line_breaks h old new f g sink sink' waiting is_open fits l = record {
+line_breaks : (h : HostState) (old new : Option Story) (f g : ℕ → ℕ) (sink sink' gave gave' : Option (List ℕ)) (waiting : List ℕ)
+    → IsOpen waiting → length waiting ≤ longest → BreaksLine h waiting old new f g sink sink' gave gave' → Breaks h waiting (newline ∷ []) old new f g sink sink' gave gave'
+line_breaks h old new f g sink sink' gave gave' waiting is_open fits l = record {
   lines = waiting ∷ [];
   entries = l.entry ∷ [];
   next = l.next;
@@ -46,30 +46,30 @@ line_breaks h old new f g sink sink' waiting is_open fits l = record {
 }
 
 -- a line whose reply could not be written
-pub line_stops : (h : HostState) (old new : Option Story) (f g : ℕ → ℕ) (sink sink' : Option (List ℕ)) (waiting : List ℕ) (stop : Stop)
-    → (stop ≢ stops.TooLong) → IsOpen waiting → length waiting ≤ longest → BreaksLine h waiting old new f g sink sink'
-    → StopsBy stop h waiting (newline ∷ []) old new f g sink sink'
-line_stops h old new f g sink sink' waiting stops.Sink whole is_open fits l = line_breaks h old new f g sink sink' waiting is_open fits l
-line_stops h old new f g sink sink' waiting stops.Memory whole is_open fits l = line_breaks h old new f g sink sink' waiting is_open fits l
-line_stops h old new f g sink sink' waiting stops.TooLong whole is_open fits l = absurd (whole refl)
+pub line_stops : (h : HostState) (old new : Option Story) (f g : ℕ → ℕ) (sink sink' gave gave' : Option (List ℕ)) (waiting : List ℕ) (stop : Stop)
+    → (stop ≢ stops.TooLong) → IsOpen waiting → length waiting ≤ longest → BreaksLine h waiting old new f g sink sink' gave gave'
+    → StopsBy stop h waiting (newline ∷ []) old new f g sink sink' gave gave'
+line_stops h old new f g sink sink' gave gave' waiting stops.Sink whole is_open fits l = line_breaks h old new f g sink sink' gave gave' waiting is_open fits l
+line_stops h old new f g sink sink' gave gave' waiting stops.Memory whole is_open fits l = line_breaks h old new f g sink sink' gave gave' waiting is_open fits l
+line_stops h old new f g sink sink' gave gave' waiting stops.TooLong whole is_open fits l = absurd (whole refl)
 
 -- a byte that ends no line waits
-pub byte_feeds : {h : HostState} {told : Option Story} {faults : ℕ → ℕ} {sink : Option (List ℕ)} {host : Host} (waiting left : List ℕ) (b : ℕ) → left ≡ waiting ++ b ∷ []
-    → IsOpen waiting → (b == newline) ≡ false → length waiting < longest → Stands host h → Feeds h waiting (b ∷ []) left told told faults faults sink sink host
-byte_feeds {h} {told} {faults} {sink} {host} waiting left b is is_open other short stands = rw is (record {
+pub byte_feeds : {h : HostState} {told : Option Story} {faults : ℕ → ℕ} {sink gave : Option (List ℕ)} {size : ℕ → ℕ} {host : Host} (waiting left : List ℕ) (b : ℕ) → left ≡ waiting ++ b ∷ []
+    → IsOpen waiting → (b == newline) ≡ false → length waiting < longest → Stands size host h → Feeds h waiting (b ∷ []) left told told faults faults sink sink gave gave size host
+byte_feeds {h} {told} {faults} {sink} {gave} {size} {host} waiting left b is is_open other short stands = rw is (record {
   lines = [];
   entries = [];
   next = h;
   ends = byte_waits waiting b is_open other;
   short = tt;
   fits = rw length-append (omega arith);
-  handles = handles_none h told faults sink;
+  handles = handles_none h told faults sink gave;
   stands = stands;
 })
 
 -- or it finds no memory
-pub byte_breaks : {h : HostState} {told : Option Story} {faults : ℕ → ℕ} {sink : Option (List ℕ)} (waiting bytes : List ℕ) → Breaks h waiting bytes told told faults faults sink sink
-byte_breaks {h} {told} {faults} {sink} waiting bytes = record {
+pub byte_breaks : {h : HostState} {told : Option Story} {faults : ℕ → ℕ} {sink gave : Option (List ℕ)} (waiting bytes : List ℕ) → Breaks h waiting bytes told told faults faults sink sink gave gave
+byte_breaks {h} {told} {faults} {sink} {gave} waiting bytes = record {
   lines = [];
   entries = [];
   next = h;
@@ -77,48 +77,48 @@ byte_breaks {h} {told} {faults} {sink} waiting bytes = record {
   cut = record { before = []; last = []; split = refl; one = omega arith; whole = omega arith };
   first = λ rest. (lines_of (waiting ++ (bytes ++ rest)), refl);
   short = tt;
-  handles = handles_none h told faults sink;
+  handles = handles_none h told faults sink gave;
 }
 
 -- or its line is full
-pub byte_overflows : {h : HostState} {told : Option Story} {faults : ℕ → ℕ} {sink : Option (List ℕ)} (waiting : List ℕ) (b : ℕ) → IsOpen waiting
-    → (b == newline) ≡ false → longest ≤ length waiting → Overflows h waiting (b ∷ []) told told faults faults sink sink
-byte_overflows {h} {told} {faults} {sink} waiting b is_open other full = record {
+pub byte_overflows : {h : HostState} {told : Option Story} {faults : ℕ → ℕ} {sink gave : Option (List ℕ)} (waiting : List ℕ) (b : ℕ) → IsOpen waiting
+    → (b == newline) ≡ false → longest ≤ length waiting → Overflows h waiting (b ∷ []) told told faults faults sink sink gave gave
+byte_overflows {h} {told} {faults} {sink} {gave} waiting b is_open other full = record {
   lines = [];
   entries = [];
   next = h;
   first = λ rest. overflow waiting b rest is_open other full;
   short = tt;
-  handles = handles_none h told faults sink;
+  handles = handles_none h told faults sink gave;
 }
 
 -- nothing was taken yet
-pub feeds_none : {h : HostState} {told : Option Story} {faults : ℕ → ℕ} {sink : Option (List ℕ)} {host : Host} (waiting : List ℕ) → IsOpen waiting
-    → length waiting ≤ longest → Stands host h → Feeds h waiting [] waiting told told faults faults sink sink host
-feeds_none {h} {told} {faults} {sink} {host} waiting is_open fits stands = record {
+pub feeds_none : {h : HostState} {told : Option Story} {faults : ℕ → ℕ} {sink gave : Option (List ℕ)} {size : ℕ → ℕ} {host : Host} (waiting : List ℕ) → IsOpen waiting
+    → length waiting ≤ longest → Stands size host h → Feeds h waiting [] waiting told told faults faults sink sink gave gave size host
+feeds_none {h} {told} {faults} {sink} {gave} {size} {host} waiting is_open fits stands = record {
   lines = [];
   entries = [];
   next = h;
   ends = ends_none waiting is_open;
   short = tt;
   fits = fits;
-  handles = handles_none h told faults sink;
+  handles = handles_none h told faults sink gave;
   stands = stands;
 }
 
 -- a piece, and then more
-pub feeds_more : {h : HostState} {old mid new : Option Story} {f g k : ℕ → ℕ} {sink sink' sink'' : Option (List ℕ)} {host host' : Host} (waiting first between second left : List ℕ)
-    → (a : Feeds h waiting first between old mid f g sink sink' host) → Feeds a.next between second left mid new g k sink' sink'' host'
-    → Feeds h waiting (first ++ second) left old new f k sink sink'' host'
-feeds_more {h} {old} {mid} {new} {f} {g} {k} {sink} {sink'} {sink''} waiting first between second left a b = record {
+pub feeds_more : {h : HostState} {old mid new : Option Story} {f g k : ℕ → ℕ} {sink sink' sink'' gave gave' gave'' : Option (List ℕ)} {size size' : ℕ → ℕ} {host host' : Host} (waiting first between second left : List ℕ)
+    → (a : Feeds h waiting first between old mid f g sink sink' gave gave' size host) → Feeds a.next between second left mid new g k sink' sink'' gave' gave'' size' host'
+    → Feeds h waiting (first ++ second) left old new f k sink sink'' gave gave'' size' host'
+feeds_more {h} {old} {mid} {new} {f} {g} {k} {sink} {sink'} {sink''} {gave} {gave'} {gave''} waiting first between second left a b = record {
   lines = a.lines ++ b.lines;
   entries = a.entries ++ b.entries;
   next = b.next;
   ends = ends_more waiting first between second left a.lines b.lines a.ends b.ends;
   short = short_more a.lines b.lines a.short b.short;
   fits = b.fits;
-  handles = subst (Handles h (a.lines ++ b.lines) old new f k sink sink'' b.next (a.entries ++ b.entries)) (texts_more a.entries b.entries)
-      (handles_more h a.next b.next a.lines b.lines old mid new f g k sink sink' sink'' a.entries b.entries (texts a.entries) (texts b.entries) a.handles b.handles);
+  handles = subst (Handles h (a.lines ++ b.lines) old new f k sink sink'' gave gave'' b.next (a.entries ++ b.entries)) (texts_more a.entries b.entries)
+      (handles_more h a.next b.next a.lines b.lines old mid new f g k sink sink' sink'' gave gave' gave'' a.entries b.entries (texts a.entries) (texts b.entries) a.handles b.handles);
   stands = b.stands;
 }
 
@@ -144,9 +144,9 @@ cuts_more entries more k c = record {
   whole = rw (sym (texts_more entries c.before), length-append) (at_most_on (length (texts entries)) (length (texts c.before)) k c.whole);
 }
 
-module _ (h : HostState) (old mid new : Option Story) (f g k : ℕ → ℕ) (sink sink' sink'' : Option (List ℕ)) (host : Host) (waiting first between second : List ℕ)
-    (a : Feeds h waiting first between old mid f g sink sink' host) where
-  breaks_more : Breaks a.next between second mid new g k sink' sink'' → Breaks h waiting (first ++ second) old new f k sink sink''
+module _ (h : HostState) (old mid new : Option Story) (f g k : ℕ → ℕ) (sink sink' sink'' gave gave' gave'' : Option (List ℕ)) (size : ℕ → ℕ) (host : Host) (waiting first between second : List ℕ)
+    (a : Feeds h waiting first between old mid f g sink sink' gave gave' size host) where
+  breaks_more : Breaks a.next between second mid new g k sink' sink'' gave' gave'' → Breaks h waiting (first ++ second) old new f k sink sink'' gave gave''
   breaks_more b = record {
     lines = a.lines ++ b.lines;
     entries = a.entries ++ b.entries;
@@ -156,11 +156,11 @@ module _ (h : HostState) (old mid new : Option Story) (f g k : ℕ → ℕ) (sin
     first = λ rest. let more = b.first rest in
         (more.0, lines_on waiting first between second rest a.lines a.ends ∙ ap (λ l. a.lines ++ l) more.1 ∙ sym (append_assoc a.lines b.lines more.0));
     short = short_more a.lines b.lines a.short b.short;
-    handles = subst (Handles h (a.lines ++ b.lines) old new f k sink sink'' b.next (a.entries ++ b.entries)) (texts_front a.entries b.entries b.kept)
-        (handles_more h a.next b.next a.lines b.lines old mid new f g k sink sink' sink'' a.entries b.entries (texts a.entries) (take b.kept (texts b.entries)) a.handles b.handles);
+    handles = subst (Handles h (a.lines ++ b.lines) old new f k sink sink'' gave gave'' b.next (a.entries ++ b.entries)) (texts_front a.entries b.entries b.kept)
+        (handles_more h a.next b.next a.lines b.lines old mid new f g k sink sink' sink'' gave gave' gave'' a.entries b.entries (texts a.entries) (take b.kept (texts b.entries)) a.handles b.handles);
   }
 
-  overflows_more : Overflows a.next between second mid new g k sink' sink'' → Overflows h waiting (first ++ second) old new f k sink sink''
+  overflows_more : Overflows a.next between second mid new g k sink' sink'' gave' gave'' → Overflows h waiting (first ++ second) old new f k sink sink'' gave gave''
   overflows_more b = record {
     lines = a.lines ++ b.lines;
     entries = a.entries ++ b.entries;
@@ -168,25 +168,25 @@ module _ (h : HostState) (old mid new : Option Story) (f g k : ℕ → ℕ) (sin
     first = λ rest. let more = b.first rest in
         (more.0, more.1, lines_on waiting first between second rest a.lines a.ends ∙ ap (λ l. a.lines ++ l) more.2 ∙ sym (append_assoc a.lines b.lines (more.0 ∷ more.1)), more.3);
     short = short_more a.lines b.lines a.short b.short;
-    handles = subst (Handles h (a.lines ++ b.lines) old new f k sink sink'' b.next (a.entries ++ b.entries)) (texts_more a.entries b.entries)
-        (handles_more h a.next b.next a.lines b.lines old mid new f g k sink sink' sink'' a.entries b.entries (texts a.entries) (texts b.entries) a.handles b.handles);
+    handles = subst (Handles h (a.lines ++ b.lines) old new f k sink sink'' gave gave'' b.next (a.entries ++ b.entries)) (texts_more a.entries b.entries)
+        (handles_more h a.next b.next a.lines b.lines old mid new f g k sink sink' sink'' gave gave' gave'' a.entries b.entries (texts a.entries) (texts b.entries) a.handles b.handles);
   }
 
 -- a piece, and then what broke off
-pub stops_more : (h : HostState) (old mid new : Option Story) (f g k : ℕ → ℕ) (sink sink' sink'' : Option (List ℕ)) (host : Host) (waiting first between second : List ℕ) (stop : Stop)
-    → (a : Feeds h waiting first between old mid f g sink sink' host) → StopsBy stop a.next between second mid new g k sink' sink''
-    → StopsBy stop h waiting (first ++ second) old new f k sink sink''
-stops_more h old mid new f g k sink sink' sink'' host waiting first between second stops.Sink a b =
-    breaks_more h old mid new f g k sink sink' sink'' host waiting first between second a b
-stops_more h old mid new f g k sink sink' sink'' host waiting first between second stops.Memory a b =
-    breaks_more h old mid new f g k sink sink' sink'' host waiting first between second a b
-stops_more h old mid new f g k sink sink' sink'' host waiting first between second stops.TooLong a b =
-    overflows_more h old mid new f g k sink sink' sink'' host waiting first between second a b
+pub stops_more : (h : HostState) (old mid new : Option Story) (f g k : ℕ → ℕ) (sink sink' sink'' gave gave' gave'' : Option (List ℕ)) (size : ℕ → ℕ) (host : Host) (waiting first between second : List ℕ) (stop : Stop)
+    → (a : Feeds h waiting first between old mid f g sink sink' gave gave' size host) → StopsBy stop a.next between second mid new g k sink' sink'' gave' gave''
+    → StopsBy stop h waiting (first ++ second) old new f k sink sink'' gave gave''
+stops_more h old mid new f g k sink sink' sink'' gave gave' gave'' size host waiting first between second stops.Sink a b =
+    breaks_more h old mid new f g k sink sink' sink'' gave gave' gave'' size host waiting first between second a b
+stops_more h old mid new f g k sink sink' sink'' gave gave' gave'' size host waiting first between second stops.Memory a b =
+    breaks_more h old mid new f g k sink sink' sink'' gave gave' gave'' size host waiting first between second a b
+stops_more h old mid new f g k sink sink' sink'' gave gave' gave'' size host waiting first between second stops.TooLong a b =
+    overflows_more h old mid new f g k sink sink' sink'' gave gave' gave'' size host waiting first between second a b
 
 -- what follows in the piece changes nothing of it
-breaks_within : (h : HostState) (old new : Option Story) (f g : ℕ → ℕ) (sink sink' : Option (List ℕ)) (waiting bytes more : List ℕ)
-    → Breaks h waiting bytes old new f g sink sink' → Breaks h waiting (bytes ++ more) old new f g sink sink'
-breaks_within h old new f g sink sink' waiting bytes more b = record {
+breaks_within : (h : HostState) (old new : Option Story) (f g : ℕ → ℕ) (sink sink' gave gave' : Option (List ℕ)) (waiting bytes more : List ℕ)
+    → Breaks h waiting bytes old new f g sink sink' gave gave' → Breaks h waiting (bytes ++ more) old new f g sink sink' gave gave'
+breaks_within h old new f g sink sink' gave gave' waiting bytes more b = record {
   lines = b.lines;
   entries = b.entries;
   next = b.next;
@@ -197,11 +197,11 @@ breaks_within h old new f g sink sink' waiting bytes more b = record {
   handles = b.handles;
 }
 
-pub stops_within : (h : HostState) (old new : Option Story) (f g : ℕ → ℕ) (sink sink' : Option (List ℕ)) (waiting bytes more : List ℕ) (stop : Stop)
-    → StopsBy stop h waiting bytes old new f g sink sink' → StopsBy stop h waiting (bytes ++ more) old new f g sink sink'
-stops_within h old new f g sink sink' waiting bytes more stops.Sink b = breaks_within h old new f g sink sink' waiting bytes more b
-stops_within h old new f g sink sink' waiting bytes more stops.Memory b = breaks_within h old new f g sink sink' waiting bytes more b
-stops_within h old new f g sink sink' waiting bytes more stops.TooLong b = record {
+pub stops_within : (h : HostState) (old new : Option Story) (f g : ℕ → ℕ) (sink sink' gave gave' : Option (List ℕ)) (waiting bytes more : List ℕ) (stop : Stop)
+    → StopsBy stop h waiting bytes old new f g sink sink' gave gave' → StopsBy stop h waiting (bytes ++ more) old new f g sink sink' gave gave'
+stops_within h old new f g sink sink' gave gave' waiting bytes more stops.Sink b = breaks_within h old new f g sink sink' gave gave' waiting bytes more b
+stops_within h old new f g sink sink' gave gave' waiting bytes more stops.Memory b = breaks_within h old new f g sink sink' gave gave' waiting bytes more b
+stops_within h old new f g sink sink' gave gave' waiting bytes more stops.TooLong b = record {
   lines = b.lines;
   entries = b.entries;
   next = b.next;

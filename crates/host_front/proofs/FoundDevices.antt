@@ -1,13 +1,19 @@
 -- Look-ups, one after another.
-use Rattle.std.proofs.Common.{◌≡◌, ℕ, ◌+◌, ◌<◌, ◌≤◌, List, [], ◌∷◌, ◌++◌, Bool, Option, Some, take, refl, sym, ◌∙◌, ap, subst, inl, inr, ◌⊎◌, arith}
+use Rattle.std.proofs.Common.{◌≡◌, ℕ, ◌+◌, ◌<◌, ◌≤◌, List, [], ◌∷◌, ◌++◌, Bool, true, false, cond, Option, Some, None, bytes_eq, take, refl, sym, ◌∙◌, ap, subst, inl, inr, ◌⊎◌, arith}
 use Rattle.std.specs.Prelude.{slice_get}
 use Rattle.std.proofs.lemmas.List.{take_more}
+use Rattle.std.proofs.lemmas.Slice.Eq.{bytes_eq-Decides}
 use Rattle.std.proofs.lemmas.Option.{get_or_from_slice_get, slice_get_within}
 use Rattle.mp_base.specs.Outside.{Rose}
 use Rattle.bank_core.specs.Absent.{IsAbsent}
-use Rattle.host_front.specs.declared.device.HostDevice.{HostDevice}
+use Rattle.host_machine.specs.declared.device.HostDevice.{HostDevice}
+use Rattle.host_machine.specs.Devices.{number_in, AreApart}
+use Rattle.host_machine.specs.Fitness.{AreSized}
 use Rattle.host_front.specs.FixedHost.{host_devices}
-use Rattle.host_front.specs.Standing.{IsLookedUp, AreLookedUp, AreSized, LooksUp}
+use Rattle.host_front.specs.Standing.{IsLookedUp, AreLookedUp, LooksUp}
+
+none_some : (d : ℕ) → None ≡ Some d → ⊥
+none_some d e = cc
 
 at_most_on : (before mid after : ℕ) → before ≤ mid → mid ≤ after → before ≤ after
 at_most_on before mid after l m = omega arith
@@ -81,3 +87,27 @@ found_next number_of number_of' size size' names names' before mid after i table
     (looked_up_more number_of' size' names before mid after le (take i host_devices) table its.named device
     (looked_up_on number_of number_of' size size' names keeps sizes before mid mid (at_most_on mid mid mid (omega arith) (omega arith)) (take i host_devices) table found)
     its.looked_up)
+
+-- Where no two names have one number, no two devices of the table are one.
+
+a_number : (number_of : List ℕ → Option ℕ) (size : ℕ → ℕ) (names : Option (List (List ℕ))) (before after : ℕ) (named : List (List ℕ × Bool)) (table : List HostDevice)
+    → AreLookedUp number_of size names before after named table → (name : List ℕ) (d : ℕ) → number_in name table ≡ Some d → number_of name ≡ Some d
+a_number number_of size names before after [] table l name d is = absurd (none_some d (sym (ap (number_in name) l.0) ∙ is))
+a_number number_of size names before after (n ∷ named) [] l name d is = absurd l
+a_number number_of size names before after (n ∷ named) (device ∷ table) l name d is =
+    cases (bytes_eq device.name name) refl is (λ more. a_number number_of size names l.0 after named table l.3 name d more)
+  where
+    cases : (t : Bool) → bytes_eq device.name name ≡ t → cond t device.dev (number_in name table) ≡ Some d → (number_in name table ≡ Some d → number_of name ≡ Some d)
+        → number_of name ≡ Some d
+    cases true same here later = ap number_of (sym ((bytes_eq-Decides device.name name).0 same) ∙ l.2.name) ∙ (l.2.found d here).0
+    cases false other more later = later more
+
+pub are_apart : (number_of : List ℕ → Option ℕ) (size : ℕ → ℕ) (names : Option (List (List ℕ))) (before after : ℕ) (named : List (List ℕ × Bool)) (table : List HostDevice)
+    → ((one other : List ℕ) (d : ℕ) → number_of one ≡ Some d → number_of other ≡ Some d → one ≡ other)
+    → AreLookedUp number_of size names before after named table → AreApart table
+are_apart number_of size names before after named table apart l = record {
+  by = λ one other d a b. apart one other d (a_number number_of size names before after named table l one d a) (a_number number_of size names before after named table l other d b);
+}
+
+pub apart_none : AreApart []
+apart_none = record { by = λ one other d a b. absurd (none_some d a) }

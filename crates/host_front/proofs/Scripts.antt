@@ -10,7 +10,7 @@ use Rattle.host_front.specs.declared.stop.Stop.TheVariants as stops
 use Rattle.host_front.specs.Feeding.{Feeds, Breaks, Overflows, StopsBy, BreaksLine}
 use Rattle.host_front.specs.Finishing.{Finishes, Finished}
 use Rattle.host_front.specs.Lines.{lines_of}
-use Rattle.host_front.specs.Machine.{HostState, texts}
+use Rattle.host_machine.specs.Machine.{HostState, texts}
 use Rattle.host_front.specs.Session.{Handles, Ran}
 use Rattle.host_front.specs.SoFar.{SoFar, status_of}
 use Rattle.host_front.specs.Standing.{Stands}
@@ -27,13 +27,13 @@ given_more old mid new first second a b = record { by = λ rest e. a.by (second 
 given_still : (old mid new : Option (List ℕ)) (text : List ℕ) → Given old mid text → Given mid new [] → Given old new text
 given_still old mid new text a b = record { by = λ rest e. a.by rest (b.by rest e) }
 
-pub so_far_none : {h : HostState} {told : Option Story} {faults : ℕ → ℕ} {left sink : Option (List ℕ)} {host : Host} → Stands host h
-    → SoFar h [] told told faults faults left left sink sink host
+pub so_far_none : {h : HostState} {told : Option Story} {faults : ℕ → ℕ} {left sink gave : Option (List ℕ)} {size : ℕ → ℕ} {host : Host} → Stands size host h
+    → SoFar h [] told told faults faults left left sink sink gave gave size host
 so_far_none {left = left} stands = record { text = []; given = given_none left; feeds = feeds_none [] tt (omega arith) stands }
 
-pub so_far_more : {h : HostState} {old mid new : Option Story} {f g k : ℕ → ℕ} {left left' left'' sink sink' sink'' : Option (List ℕ)} {host host' : Host}
-    (waiting piece waiting' : List ℕ) → (a : SoFar h waiting old mid f g left left' sink sink' host) → Given left' left'' piece
-    → Feeds a.feeds.next waiting piece waiting' mid new g k sink' sink'' host' → SoFar h waiting' old new f k left left'' sink sink'' host'
+pub so_far_more : {h : HostState} {old mid new : Option Story} {f g k : ℕ → ℕ} {left left' left'' sink sink' sink'' gave gave' gave'' : Option (List ℕ)} {size size' : ℕ → ℕ} {host host' : Host}
+    (waiting piece waiting' : List ℕ) → (a : SoFar h waiting old mid f g left left' sink sink' gave gave' size host) → Given left' left'' piece
+    → Feeds a.feeds.next waiting piece waiting' mid new g k sink' sink'' gave' gave'' size' host' → SoFar h waiting' old new f k left left'' sink sink'' gave gave'' size' host'
 so_far_more {left = left} {left' = left'} {left'' = left''} waiting piece waiting' a given feeds = record {
   text = a.text ++ piece;
   given = given_more left left' left'' a.text piece a.given given;
@@ -41,9 +41,9 @@ so_far_more {left = left} {left' = left'} {left'' = left''} waiting piece waitin
 }
 
 -- a read of the input failed
-pub source_ran : {h : HostState} {old new : Option Story} {f g : ℕ → ℕ} {left left' left'' sink sink' : Option (List ℕ)} (host : Host) (waiting : List ℕ)
-    → SoFar h waiting old new f g left left' sink sink' host → Given left' left'' [] → Ran h statuses.SourceFault old new f g left left'' sink sink'
-source_ran {left = left} {left' = left'} {left'' = left''} host waiting a given = record {
+pub source_ran : {h : HostState} {old new : Option Story} {f g : ℕ → ℕ} {left left' left'' sink sink' gave gave' : Option (List ℕ)} (size : ℕ → ℕ) (host : Host) (waiting : List ℕ)
+    → SoFar h waiting old new f g left left' sink sink' gave gave' size host → Given left' left'' [] → Ran h statuses.SourceFault old new f g left left'' sink sink' gave gave'
+source_ran {left = left} {left' = left'} {left'' = left''} size host waiting a given = record {
   text = a.text;
   lines = a.feeds.lines;
   entries = a.feeds.entries;
@@ -56,8 +56,8 @@ source_ran {left = left} {left' = left'} {left'' = left''} host waiting a given 
   is_written = refl;
 }
 
-module _ (h : HostState) (old new : Option Story) (f g : ℕ → ℕ) (left left' sink sink' : Option (List ℕ)) (text : List ℕ) (given : Given left left' text) where
-  sink_ran : Breaks h [] text old new f g sink sink' → Ran h statuses.SinkFault old new f g left left' sink sink'
+module _ (h : HostState) (old new : Option Story) (f g : ℕ → ℕ) (left left' sink sink' gave gave' : Option (List ℕ)) (text : List ℕ) (given : Given left left' text) where
+  sink_ran : Breaks h [] text old new f g sink sink' gave gave' → Ran h statuses.SinkFault old new f g left left' sink sink' gave gave'
   sink_ran b = record {
     text = text;
     lines = b.lines;
@@ -71,7 +71,7 @@ module _ (h : HostState) (old new : Option Story) (f g : ℕ → ℕ) (left left
     is_written = (b.kept, b.cut, refl);
   }
 
-  memory_ran : Breaks h [] text old new f g sink sink' → Ran h statuses.Memory old new f g left left' sink sink'
+  memory_ran : Breaks h [] text old new f g sink sink' gave gave' → Ran h statuses.Memory old new f g left left' sink sink' gave gave'
   memory_ran b = record {
     text = text;
     lines = b.lines;
@@ -85,7 +85,7 @@ module _ (h : HostState) (old new : Option Story) (f g : ℕ → ℕ) (left left
     is_written = (b.kept, b.cut, refl);
   }
 
-  long_ran : Overflows h [] text old new f g sink sink' → Ran h statuses.LineTooLong old new f g left left' sink sink'
+  long_ran : Overflows h [] text old new f g sink sink' gave gave' → Ran h statuses.LineTooLong old new f g left left' sink sink' gave gave'
   long_ran b = record {
     text = text;
     lines = b.lines;
@@ -99,22 +99,22 @@ module _ (h : HostState) (old new : Option Story) (f g : ℕ → ℕ) (left left
     is_written = refl;
   }
 
-stopped_ran : (h : HostState) (old new : Option Story) (f g : ℕ → ℕ) (left left' sink sink' : Option (List ℕ)) (text : List ℕ) → Given left left' text
-    → (stop : Stop) → StopsBy stop h [] text old new f g sink sink' → Ran h (status_of stop) old new f g left left' sink sink'
-stopped_ran h old new f g left left' sink sink' text given stops.Sink b = sink_ran h old new f g left left' sink sink' text given b
-stopped_ran h old new f g left left' sink sink' text given stops.Memory b = memory_ran h old new f g left left' sink sink' text given b
-stopped_ran h old new f g left left' sink sink' text given stops.TooLong b = long_ran h old new f g left left' sink sink' text given b
+stopped_ran : (h : HostState) (old new : Option Story) (f g : ℕ → ℕ) (left left' sink sink' gave gave' : Option (List ℕ)) (text : List ℕ) → Given left left' text
+    → (stop : Stop) → StopsBy stop h [] text old new f g sink sink' gave gave' → Ran h (status_of stop) old new f g left left' sink sink' gave gave'
+stopped_ran h old new f g left left' sink sink' gave gave' text given stops.Sink b = sink_ran h old new f g left left' sink sink' gave gave' text given b
+stopped_ran h old new f g left left' sink sink' gave gave' text given stops.Memory b = memory_ran h old new f g left left' sink sink' gave gave' text given b
+stopped_ran h old new f g left left' sink sink' gave gave' text given stops.TooLong b = long_ran h old new f g left left' sink sink' gave gave' text given b
 
 -- a piece of the input broke off
-pub stop_ran : (h : HostState) (old mid new : Option Story) (f g k : ℕ → ℕ) (left left' left'' sink sink' sink'' : Option (List ℕ)) (host : Host)
-    (waiting piece : List ℕ) (stop : Stop) → (a : SoFar h waiting old mid f g left left' sink sink' host) → Given left' left'' piece
-    → StopsBy stop a.feeds.next waiting piece mid new g k sink' sink'' → Ran h (status_of stop) old new f k left left'' sink sink''
-stop_ran h old mid new f g k left left' left'' sink sink' sink'' host waiting piece stop a given b =
-    stopped_ran h old new f k left left'' sink sink'' (a.text ++ piece) (given_more left left' left'' a.text piece a.given given) stop
-    (stops_more h old mid new f g k sink sink' sink'' host [] a.text waiting piece stop a.feeds b)
+pub stop_ran : (h : HostState) (old mid new : Option Story) (f g k : ℕ → ℕ) (left left' left'' sink sink' sink'' gave gave' gave'' : Option (List ℕ)) (size : ℕ → ℕ) (host : Host)
+    (waiting piece : List ℕ) (stop : Stop) → (a : SoFar h waiting old mid f g left left' sink sink' gave gave' size host) → Given left' left'' piece
+    → StopsBy stop a.feeds.next waiting piece mid new g k sink' sink'' gave' gave'' → Ran h (status_of stop) old new f k left left'' sink sink'' gave gave''
+stop_ran h old mid new f g k left left' left'' sink sink' sink'' gave gave' gave'' size host waiting piece stop a given b =
+    stopped_ran h old new f k left left'' sink sink'' gave gave'' (a.text ++ piece) (given_more left left' left'' a.text piece a.given given) stop
+    (stops_more h old mid new f g k sink sink' sink'' gave gave' gave'' size host [] a.text waiting piece stop a.feeds b)
 
-module _ (h : HostState) (old mid new : Option Story) (f g k : ℕ → ℕ) (left left' left'' sink sink' sink'' : Option (List ℕ)) (host : Host) (waiting : List ℕ)
-    (a : SoFar h waiting old mid f g left left' sink sink' host) (given : Given left' left'' []) where
+module _ (h : HostState) (old mid new : Option Story) (f g k : ℕ → ℕ) (left left' left'' sink sink' sink'' gave gave' gave'' : Option (List ℕ)) (size : ℕ → ℕ) (host : Host) (waiting : List ℕ)
+    (a : SoFar h waiting old mid f g left left' sink sink' gave gave' size host) (given : Given left' left'' []) where
   -- the lines of all the text, with what waits as the last one
   all_lines : (rest : List ℕ) → rest ≡ [] → lines_of (a.text ++ rest) ≡ a.feeds.lines ++ lines_of waiting
   all_lines rest empty = a.feeds.ends.each rest ∙ ap (λ tail. a.feeds.lines ++ lines_of (waiting ++ tail)) empty
@@ -123,7 +123,7 @@ module _ (h : HostState) (old mid new : Option Story) (f g k : ℕ → ℕ) (lef
   whole_text : lines_of a.text ≡ a.feeds.lines ++ lines_of waiting
   whole_text = ap lines_of (sym (append-nil a.text)) ∙ all_lines [] refl
 
-  nothing_ran : ((rest : List ℕ) → left'' ≡ Some rest → rest ≡ []) → waiting ≡ [] → Ran h statuses.Done old mid f g left left'' sink sink'
+  nothing_ran : ((rest : List ℕ) → left'' ≡ Some rest → rest ≡ []) → waiting ≡ [] → Ran h statuses.Done old mid f g left left'' sink sink' gave gave'
   nothing_ran ended empty = record {
     text = a.text;
     lines = a.feeds.lines;
@@ -137,7 +137,7 @@ module _ (h : HostState) (old mid new : Option Story) (f g k : ℕ → ℕ) (lef
     is_written = refl;
   }
 
-  last_ran : ((rest : List ℕ) → left'' ≡ Some rest → rest ≡ []) → Finished a.feeds.next waiting mid new g k sink' sink'' → Ran h statuses.Done old new f k left left'' sink sink''
+  last_ran : ((rest : List ℕ) → left'' ≡ Some rest → rest ≡ []) → Finished a.feeds.next waiting mid new g k sink' sink'' gave' gave'' → Ran h statuses.Done old new f k left left'' sink sink'' gave gave''
   last_ran ended l = record {
     text = a.text;
     lines = a.feeds.lines ++ waiting ∷ [];
@@ -147,7 +147,7 @@ module _ (h : HostState) (old mid new : Option Story) (f g k : ℕ → ℕ) (lef
     given = given_still left left' left'' a.text a.given given;
     up_to = (ended, whole_text ∙ ap (λ last. a.feeds.lines ++ last) (last_line waiting a.feeds.ends.unended l.some));
     short = short_more a.feeds.lines (waiting ∷ []) a.feeds.short (a.feeds.fits, tt);
-    handles = handles_more h a.feeds.next l.line.next a.feeds.lines (waiting ∷ []) old mid new f g k sink sink' sink'' a.feeds.entries (l.line.entry ∷ [])
+    handles = handles_more h a.feeds.next l.line.next a.feeds.lines (waiting ∷ []) old mid new f g k sink sink' sink'' gave gave' gave'' a.feeds.entries (l.line.entry ∷ [])
         (texts a.feeds.entries) (texts (l.line.entry ∷ [])) a.feeds.handles l.line.handles;
     is_written = texts_more a.feeds.entries (l.line.entry ∷ []);
   }
@@ -161,16 +161,16 @@ module _ (h : HostState) (old mid new : Option Story) (f g k : ℕ → ℕ) (lef
         ∙ sym (append-nil (a.feeds.lines ++ waiting ∷ [])),
   )
 
-  broken_handles : (l : BreaksLine a.feeds.next waiting mid new g k sink' sink'')
-      → Handles h (a.feeds.lines ++ waiting ∷ []) old new f k sink sink'' l.next (a.feeds.entries ++ l.entry ∷ [])
+  broken_handles : (l : BreaksLine a.feeds.next waiting mid new g k sink' sink'' gave' gave'')
+      → Handles h (a.feeds.lines ++ waiting ∷ []) old new f k sink sink'' gave gave'' l.next (a.feeds.entries ++ l.entry ∷ [])
       (take (length (texts a.feeds.entries) + l.kept) (texts (a.feeds.entries ++ l.entry ∷ [])))
-  broken_handles l = subst (Handles h (a.feeds.lines ++ waiting ∷ []) old new f k sink sink'' l.next (a.feeds.entries ++ l.entry ∷ []))
+  broken_handles l = subst (Handles h (a.feeds.lines ++ waiting ∷ []) old new f k sink sink'' gave gave'' l.next (a.feeds.entries ++ l.entry ∷ []))
       (texts_front a.feeds.entries (l.entry ∷ []) l.kept)
-      (handles_more h a.feeds.next l.next a.feeds.lines (waiting ∷ []) old mid new f g k sink sink' sink'' a.feeds.entries (l.entry ∷ [])
+      (handles_more h a.feeds.next l.next a.feeds.lines (waiting ∷ []) old mid new f g k sink sink' sink'' gave gave' gave'' a.feeds.entries (l.entry ∷ [])
       (texts a.feeds.entries) (take l.kept (texts (l.entry ∷ []))) a.feeds.handles l.handles)
 
   broken_ran : (stop : Stop) → (stop ≡ stops.TooLong → ⊥) → 0 < length waiting → ((rest : List ℕ) → left'' ≡ Some rest → rest ≡ [])
-      → BreaksLine a.feeds.next waiting mid new g k sink' sink'' → Ran h (status_of stop) old new f k left left'' sink sink''
+      → BreaksLine a.feeds.next waiting mid new g k sink' sink'' gave' gave'' → Ran h (status_of stop) old new f k left left'' sink sink'' gave gave''
   broken_ran stops.Sink whole some ended l = record {
     text = a.text;
     lines = a.feeds.lines ++ waiting ∷ [];
@@ -198,8 +198,8 @@ module _ (h : HostState) (old mid new : Option Story) (f g k : ℕ → ℕ) (lef
   broken_ran stops.TooLong whole some ended l = absurd (whole refl)
 
   -- the input has ended
-  pub finish_ran : (status : Status) → ((rest : List ℕ) → left'' ≡ Some rest → rest ≡ []) → Finishes a.feeds.next status waiting mid new g k sink' sink''
-      → Ran h status old new f k left left'' sink sink''
-  finish_ran status ended (inl n) = rw (n.0, n.1.told, n.1.faults, n.1.written) (nothing_ran ended n.1.none)
+  pub finish_ran : (status : Status) → ((rest : List ℕ) → left'' ≡ Some rest → rest ≡ []) → Finishes a.feeds.next status waiting mid new g k sink' sink'' gave' gave''
+      → Ran h status old new f k left left'' sink sink'' gave gave''
+  finish_ran status ended (inl n) = rw (n.0, n.1.told, n.1.faults, n.1.written, n.1.untimed) (nothing_ran ended n.1.none)
   finish_ran status ended (inr (inl l)) = rw l.0 (last_ran ended l.1)
   finish_ran status ended (inr (inr b)) = rw b.status_is (broken_ran b.stop b.whole b.some ended b.line)

@@ -1,10 +1,10 @@
+pub mod Closing
 pub mod Codes
 pub mod Feeding
 pub mod Finishing
 pub mod FixedHost
-pub mod Kept
+pub mod Importing
 pub mod Lines
-pub mod Machine
 pub mod Making
 pub mod Replying
 pub mod Session

@@ -5,22 +5,23 @@ use Rattle.mp_base.specs.declared.refusal.Refusal.TheVariants as refusals
 use Rattle.bank_core.specs.Calls.{Made}
 use Rattle.bank_core.specs.Disk.{Noted}
 use Rattle.bank_core.specs.Story.{Story}
+use Rattle.label_store.specs.Newest.{AreReads}
 use Rattle.pool_wire.specs.declared.reply.Reply.{Reply}
 use Rattle.pool_wire.specs.declared.reply.Reply.TheVariants as replies
-use Rattle.pool_core.specs.declared.leaf.Leaf.{Leaf}
-use Rattle.pool_core.specs.Clash.{Clash}
+use Rattle.pool_core.specs.Clash.{ClashesWith}
 use Rattle.pool_core.specs.Done.{IsRead}
 use Rattle.pool_core.specs.Reading.{wanted}
-use Rattle.pool_core.specs.State.{PoolState}
-use Rattle.host_front.specs.Machine.{AreReads, read_reply}
+use Rattle.pool_core.specs.State.{LeafState, PoolState, leaves}
+use Rattle.host_machine.specs.Machine.{read_reply}
 
 -- the reply to a refused read, for which there may be no memory
-abbrev pub IsReadRefused : List Leaf → Refusal → Reply → Type 0
+abbrev pub IsReadRefused : List LeafState → Refusal → Reply → Type 0
 IsReadRefused leaves refusal reply = (reply ≡ read_reply leaves (Err refusal)) ⊎ (reply ≡ replies.Refused refusals.Memory)
 
 -- A read of a pool was answered by what its calls gave, or there was no memory, or wrong bytes passed by their sum.
 pub record Replies (s : PoolState) (a : ℕ) (old new : Option Story) (before after : ℕ → ℕ) (reply : Reply) : Type 0 where
   pub made : List Noted
   pub calls : Made old new before after made
-  pub step : ((answer : Result (List ℕ) Refusal) × IsRead s a made answer × (reply ≡ read_reply s.leaves answer))
-      ⊎ (((reply ≡ replies.Refused refusals.Memory) × AreReads made) ⊎ Clash made (wanted s a))
+  pub reads : AreReads made
+  pub step : ((answer : Result (List ℕ) Refusal) × IsRead s a made answer × (reply ≡ read_reply (leaves s) answer))
+      ⊎ ((reply ≡ replies.Refused refusals.Memory) ⊎ ClashesWith made (wanted s a))

@@ -7,35 +7,40 @@ use Rattle.bank_core.specs.Story.{Story}
 use Rattle.pool_wire.specs.Reading.{request_of}
 use Rattle.pool_wire.specs.declared.request.Request.{Request}
 use Rattle.pool_wire.specs.declared.reply.Reply.{Reply}
-use Rattle.host_front.specs.declared.device.HostDevice.{HostDevice}
+use Rattle.pool_history.specs.Records.{Rec}
+use Rattle.host_machine.specs.declared.device.HostDevice.{HostDevice}
+use Rattle.host_machine.specs.Devices.{AreApart}
+use Rattle.host_machine.specs.Machine.{HostState, Entry, Step, Replay, started, texts}
+use Rattle.host_machine.specs.Records.{AreDrawn}
 use Rattle.host_front.specs.declared.host.Host.{Host}
 use Rattle.host_front.specs.declared.status.Status.{Status}
 use Rattle.host_front.specs.declared.status.Status.TheVariants as statuses
 use Rattle.host_front.specs.FixedHost.{host_devices}
-use Rattle.host_front.specs.Kept.{EndByCause}
 use Rattle.host_front.specs.Lines.{lines_of, Ends, AreShort, longest}
-use Rattle.host_front.specs.Machine.{HostState, Entry, Step, Replay, started, texts}
-use Rattle.host_front.specs.Standing.{Stands, AreLookedUp}
+use Rattle.host_front.specs.Standing.{Keeps, AreLookedUp}
 
--- One line was answered: it is a step, with the calls that it made.
-pub record Answers (h : HostState) (asked : Option Request) (old new : Option Story) (before after : ℕ → ℕ) (host : Host) (reply : Reply) : Type 0 where
+-- One line was answered, at this second: it is a step, with the calls that it made.
+pub record Answers (h : HostState) (asked : Option Request) (second : ℕ) (old new : Option Story) (before after : ℕ → ℕ) (size : ℕ → ℕ) (host : Host) (reply : Reply) : Type 0 where
   pub entry : Entry
   pub made : List Noted
   pub next : HostState
   pub asked_is : entry.asked ≡ asked
+  pub second_is : entry.second ≡ second
   pub reply_is : entry.reply ≡ reply
   pub calls : Made old new before after made
-  pub stands : Stands host next
+  pub keeps : Keeps size host next
   pub step : Step h entry made next
 
--- Lines were answered, one after another, and these bytes written: a front of their reply lines.
-pub record Handles (h : HostState) (lines : List (List ℕ)) (old new : Option Story) (before after : ℕ → ℕ) (sink sink' : Option (List ℕ))
+-- Lines were answered, one after another, each at the second that the clock gave, and these bytes written: a
+-- front of their reply lines.
+pub record Handles (h : HostState) (lines : List (List ℕ)) (old new : Option Story) (before after : ℕ → ℕ) (sink sink' gave gave' : Option (List ℕ))
     (next : HostState) (entries : List Entry) (bytes : List ℕ) : Type 0 where
   pub calls : List Noted
   pub asked : map (λ entry. entry.asked) entries ≡ map request_of lines
   pub replay : Replay h entries calls next
   pub made : Made old new before after calls
   pub written : Taken sink sink' bytes
+  pub clock : Taken gave gave' (map (λ entry. entry.second) entries)
 
 -- The lines that were answered, by the status with which the run ended: `text` is what the input gave,
 -- `left` what it has left, where it tells.
@@ -71,8 +76,9 @@ IsWritten statuses.Memory entries bytes = (k : ℕ) × CutsLast entries k × (by
 IsWritten statuses.Usage entries bytes = ⊥
 
 -- A run of the machine from a state: one history, whose requests are those of the input's lines, whose
--- entries are steps one after another, whose device calls are the bank's, and whose replies are what was written.
-pub record Ran (h : HostState) (status : Status) (old new : Option Story) (before after : ℕ → ℕ) (left left' sink sink' : Option (List ℕ)) : Type 0 where
+-- entries are steps one after another, whose device calls are the bank's, whose seconds are the clock's, and
+-- whose replies are what was written.
+pub record Ran (h : HostState) (status : Status) (old new : Option Story) (before after : ℕ → ℕ) (left left' sink sink' gave gave' : Option (List ℕ)) : Type 0 where
   pub text : List ℕ
   pub lines : List (List ℕ)
   pub entries : List Entry
@@ -81,21 +87,22 @@ pub record Ran (h : HostState) (status : Status) (old new : Option Story) (befor
   pub given : Given left left' text
   pub up_to : IsUpTo status text left' lines
   pub short : AreShort lines
-  pub handles : Handles h lines old new before after sink sink' state entries bytes
+  pub handles : Handles h lines old new before after sink sink' gave gave' state entries bytes
   pub is_written : IsWritten status entries bytes
 
 -- What a run that was begun did: it looked the host's devices up, and ran from a host of those that it found,
--- and each read and each sync of that history ended by its cause.
+-- whatever records were drawn up before.
 pub record RanScript (status : Status) (number_of : List ℕ → Option ℕ) (size : ℕ → ℕ) (names : Option (List (List ℕ))) (lookups lookups' : ℕ)
-    (old new : Option Story) (before after : ℕ → ℕ) (left left' sink sink' : Option (List ℕ)) : Type 0 where
+    (old new : Option Story) (before after : ℕ → ℕ) (left left' sink sink' gave gave' : Option (List ℕ)) : Type 0 where
   pub table : List HostDevice
   pub found : AreLookedUp number_of size names lookups lookups' host_devices table
-  pub ran : Ran (started table) status old new before after left left' sink sink'
-  pub ends : EndByCause table ran.entries ran.handles.calls old new before after
+  pub apart : AreApart table
+  pub ran : (records : List Rec) → AreDrawn records → Ran (started table size records) status old new before after left left' sink sink' gave gave'
 
--- Nothing was read, written or asked of a device.
-pub record IsQuiet (old new : Option Story) (before after : ℕ → ℕ) (left left' sink sink' : Option (List ℕ)) : Type 0 where
+-- Nothing was read or written, and no device and no clock was asked.
+pub record IsQuiet (old new : Option Story) (before after : ℕ → ℕ) (left left' sink sink' gave gave' : Option (List ℕ)) : Type 0 where
   pub untold : new ≡ old
   pub unasked : (d : ℕ) → after d ≡ before d
   pub unread : left' ≡ left
   pub unwritten : sink' ≡ sink
+  pub untimed : gave' ≡ gave

@@ -3,37 +3,41 @@ use Rattle.std.specs.Prelude.{◌≡◌, ◌⊎◌, ℕ, ◌<◌, ◌≤◌, Lis
 use Rattle.mp_base.specs.Outside.{Rose}
 use Rattle.bank_core.specs.Absent.{IsAbsent}
 use Rattle.pool_core.specs.declared.pool.Pool.{Pool}
-use Rattle.pool_core.specs.Keeping.{Represents, IsSeated, leaves_of}
+use Rattle.pool_core.specs.Keeping.{Represents, IsSeated}
 use Rattle.pool_core.specs.State.{PoolState}
-use Rattle.host_front.specs.declared.device.HostDevice.{HostDevice}
+use Rattle.host_machine.specs.declared.device.HostDevice.{HostDevice}
+use Rattle.host_machine.specs.Devices.{AreApart}
+use Rattle.host_machine.specs.Fitness.{AreSized, IsFit}
+use Rattle.host_machine.specs.Machine.{HostState}
 use Rattle.host_front.specs.declared.host.Host.{Host}
 use Rattle.host_front.specs.FixedHost.{host_devices}
-use Rattle.host_front.specs.Machine.{HostState}
 
--- the pool, so far as there is one
+-- the pool, so far as one is open
 abbrev pub PoolStands : Option Pool → Option PoolState → Type 0
 PoolStands None None = Unit {0}
 PoolStands (Some pool) (Some s) = Represents pool s
 PoolStands None (Some s) = ⊥
 PoolStands (Some pool) None = ⊥
 
--- The host stands for this abstract state.
-pub record Stands (host : Host) (h : HostState) : Type 0 where
+-- The host, over a bank of these sizes, has this abstract state.
+pub record Keeps (size : ℕ → ℕ) (host : Host) (h : HostState) : Type 0 where
   pub table : h.table ≡ host.table.items
+  pub sizes : (d : ℕ) → h.size d ≡ size d
   pub pool : PoolStands host.pool h.pool
 
--- each device that was found is the bank's, of the size that the table has
-abbrev pub AreSized : (ℕ → ℕ) → List HostDevice → Type 0
-AreSized size [] = Unit {0}
-AreSized size (device ∷ table) = ((dev : ℕ) → device.dev ≡ Some dev → size dev ≡ device.sectors) × AreSized size table
+-- So it has, and the state is one that a run may reach.
+pub record Stands (size : ℕ → ℕ) (host : Host) (h : HostState) : Type 0 where
+  pub keeps : Keeps size host h
+  pub fit : IsFit h
 
 abbrev pub PoolIsSeated : (ℕ → ℕ) → Option Pool → Type 0
 PoolIsSeated size None = Unit {0}
-PoolIsSeated size (Some pool) = IsSeated size (leaves_of pool)
+PoolIsSeated size (Some pool) = IsSeated size pool
 
--- The host's devices are a bank's of these sizes.
+-- The host's devices are a bank's of these sizes, and no two of them are one.
 pub record HostIsSeated (size : ℕ → ℕ) (host : Host) : Type 0 where
   pub table : AreSized size host.table.items
+  pub apart : AreApart host.table.items
   pub pool : PoolIsSeated size host.pool
 
 -- A device of the table was looked up: it has this number and size, or its look-up found nothing, or failed.

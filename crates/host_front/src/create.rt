@@ -1,10 +1,12 @@
 //! The line `create`.
 ghost use Rattle.std.specs.Prelude.{◌≡◌, ℕ, ◌<◌, ◌≤◌, IfOk, None};
-ghost use Rattle.host_front.specs.Machine.{is_bad_size, member_of};
+ghost use Rattle.host_machine.specs.Devices.{member_of};
+ghost use Rattle.host_machine.specs.Machine.{is_bad_size};
 
 use crate::{Host, HostDevice};
+use bank_core::Bank;
 use mp_base::{Group, Guid, MemFault, Name, Refusal};
-use pool_core::{Leaf, MOST_BLOCKS, Pool};
+use pool_core::{CreateFault, MOST_BLOCKS, NewLeaf, Pool, pool_number};
 use pool_wire::Reply;
 
 /// The most blocks that a volume may ever have.
@@ -14,81 +16,123 @@ const MOST_ADDRESSES: u64 = 262_144;
 const FIRST_GROUP: Group = Group(1);
 
 impl Host {
-    ghost use Rattle.std.specs.Prelude.{Some, List, Option, IsTrue};
-    ghost use Rattle.bank_core.specs.Story.{Story};
+    ghost use Rattle.std.specs.Prelude.{Some, List, Option, IfSome};
     ghost use Rattle.pool_wire.specs.declared.request.Request.TheVariants.{Create};
-    ghost use Rattle.host_front.specs.Machine.{HostState, may_create};
-    ghost use Rattle.host_front.specs.Making.{Makes};
-    ghost use Rattle.host_front.specs.Standing.{Stands, HostIsSeated};
+    ghost use Rattle.pool_core.specs.Making.{made_state};
+    ghost use Rattle.host_machine.specs.Machine.{HostState, new_seats};
+    ghost use Rattle.host_front.specs.Making.{AreTwoSeats, MakesPool};
+    ghost use Rattle.host_front.specs.Standing.{Keeps, Stands, HostIsSeated};
     ghost use Rattle.host_front.specs.Session.{Answers};
 
-    pub(crate) fn create(&mut self, name: &Name, blocks: u64, first: &Name, second: &Name) -> Reply
-        ensures seated { (size : ℕ → ℕ) → HostIsSeated size self.old → HostIsSeated size self.new }
-        ensures answers { (h : HostState) (told : Option Story) (faults : ℕ → ℕ) → Stands self.old h
-            → Answers h (Some (Create name.now blocks first.now second.now)) told told faults faults self.new result }
+    pub(crate) fn create<B: Bank>(
+        &mut self,
+        bank: &mut B,
+        name: &Name,
+        blocks: u64,
+        first: &Name,
+        second: &Name,
+        time: u64,
+    ) -> Reply
+        requires seated { HostIsSeated (B.size bank.old) self.old }
+        ensures size { (d : ℕ) → B.size bank.new d ≡ B.size bank.old d }
+        ensures numbers { (name : List ℕ) → B.number_of bank.new name ≡ B.number_of bank.old name }
+        ensures lookups { B.lookup_faults bank.new ≡ B.lookup_faults bank.old }
+        ensures seated { HostIsSeated (B.size bank.new) self.new }
+        ensures answers { (h : HostState) → Stands (B.size bank.old) self.old h → Answers h (Some (Create name.now blocks first.now second.now)) time
+            (B.told bank.old) (B.told bank.new) (B.faults bank.old) (B.faults bank.new) (B.size bank.new) self.new result }
     {
         if is_bad_size(blocks) {
             return Reply::Refused(Refusal::BadAddress {
                 limit: MOST_ADDRESSES,
             });
         }
-        if !self.may_create(blocks, first, second) {
-            return Reply::Refused(Refusal::NotBuilt);
-        }
-        let dev = match member_of(&self.table, first) {
-            Some(dev) => dev,
+        let (dev, other) = match self.new_seats(blocks, first, second) {
+            Some(seats) => seats,
             None => return Reply::Refused(Refusal::NotBuilt),
         };
-        let other = match member_of(&self.table, second) {
-            Some(other) => other,
-            None => return Reply::Refused(Refusal::NotBuilt),
-        };
-        match self.make_pool(name, blocks, first, dev, second, other) {
-            Ok(pool) => {
-                self.pool = Some(pool);
-                Reply::Committed(FIRST_GROUP)
+        // the copies come first, so that want of memory makes no device call
+        match self.new_parts(name, first, dev, second, other) {
+            Ok((copy, first, second)) => {
+                self.make_pool(bank, copy, pool_number(name, time), blocks, first, second)
             }
             Err(MemFault) => Reply::Refused(Refusal::Memory),
         }
     }
 
-    // Whether this case of the line is built: there is one pool at most, of 32 blocks at most, on two devices.
-    fn may_create(&self, blocks: u64, first: &Name, second: &Name) -> bool
-        ensures is { (h : HostState) → Stands self.now h → result ≡ may_create h.pool blocks first.now second.now }
-        ensures few { IsTrue result → blocks ≤ 32 }
+    // The devices of the new members, where this case of the line is built: there is one pool at most, of 32
+    // blocks at most, on two devices that may become members.
+    fn new_seats(&self, blocks: u64, first: &Name, second: &Name) -> Option<(u32, u32)>
+        ensures is { (h : HostState) (size : ℕ → ℕ) → Keeps size self.now h → result ≡ new_seats h blocks first.now second.now }
+        ensures few { IfSome result (λ seats. blocks ≤ 32) }
+        ensures two { (size : ℕ → ℕ) → HostIsSeated size self.now → IfSome result (λ seats. AreTwoSeats size first.now second.now seats.0 seats.1) }
     {
         if self.pool.is_some() {
-            return false;
+            return None;
         }
-        blocks <= MOST_BLOCKS && first != second
+        if blocks > MOST_BLOCKS {
+            return None;
+        }
+        if first == second {
+            return None;
+        }
+        let dev = member_of(&self.table, first)?;
+        let other = member_of(&self.table, second)?;
+        Some((dev, other))
     }
 
-    // A new pool on these two devices.
-    fn make_pool(
+    // Copies of the names, with the devices of the new leaves.
+    fn new_parts(
         &self,
         name: &Name,
-        blocks: u64,
         first: &Name,
         dev: u32,
         second: &Name,
         other: u32,
-    ) -> Result<Pool, MemFault>
-        requires some { 0 < blocks }
-        requires few { blocks ≤ 32 }
-        ensures { IfOk result (λ pool. Makes name.now blocks first.now dev second.now other pool) }
+    ) -> Result<(Name, NewLeaf, NewLeaf), MemFault>
+        ensures { IfOk result (λ parts. parts ≡ (name.now, record { name = first.now; dev = dev }, record { name = second.now; dev = other })) }
     {
-        let first = Leaf {
-            member: Guid(2),
+        let first = NewLeaf {
             name: first.copy(self.alloc)?,
             dev,
         };
-        let second = Leaf {
-            member: Guid(3),
+        let second = NewLeaf {
             name: second.copy(self.alloc)?,
             dev: other,
         };
-        let name = name.copy(self.alloc)?;
-        Pool::create(self.alloc, name, blocks, first, second)
+        Ok((name.copy(self.alloc)?, first, second))
+    }
+
+    // Makes the pool, which is open where no device call failed.
+    fn make_pool<B: Bank>(
+        &mut self,
+        bank: &mut B,
+        name: Name,
+        number: Guid,
+        blocks: u64,
+        first: NewLeaf,
+        second: NewLeaf,
+    ) -> Reply
+        requires seated { HostIsSeated (B.size bank.old) self.old }
+        requires some { 0 < blocks }
+        requires few { blocks ≤ 32 }
+        requires number { 1 ≤ number.0 }
+        requires two { AreTwoSeats (B.size bank.old) first.name second.name first.dev second.dev }
+        ensures size { (d : ℕ) → B.size bank.new d ≡ B.size bank.old d }
+        ensures numbers { (name : List ℕ) → B.number_of bank.new name ≡ B.number_of bank.old name }
+        ensures lookups { B.lookup_faults bank.new ≡ B.lookup_faults bank.old }
+        ensures seated { HostIsSeated (B.size bank.new) self.new }
+        ensures makes { (h : HostState) → Keeps (B.size bank.old) self.old h
+            → MakesPool h (made_state (B.size bank.old) name number blocks (first.name, first.dev) (second.name, second.dev))
+            (B.told bank.old) (B.told bank.new) (B.faults bank.old) (B.faults bank.new) (B.size bank.new) self.new result }
+    {
+        match Pool::create(self.alloc, bank, name, number, blocks, first, second) {
+            Ok(pool) => {
+                self.pool = Some(pool);
+                Reply::Committed(FIRST_GROUP)
+            }
+            Err(CreateFault::Memory) => Reply::Refused(Refusal::Memory),
+            Err(CreateFault::Device(name)) => Reply::DeviceFault { name },
+        }
     }
 }
 

@@ -1,4 +1,4 @@
-//! The program's main entry over any bank, source and sink.
+//! The program's main entry over any bank, source, sink and clock.
 ghost use Rattle.std.specs.Prelude.{◌≡◌, ◌⊎◌, ◌↔◌, ℕ, List, map, true, false};
 ghost use Rattle.std.specs.String.{string_bytes};
 ghost use Rattle.mp_base.specs.Outside.{Rose};
@@ -9,32 +9,32 @@ use crate::found::find_devices;
 use crate::script::script;
 use crate::{Host, Status};
 use bank_core::Bank;
-use mp_base::{MemFault, Sink, Source};
+use mp_base::{Clock, MemFault, Sink, Source};
 use std::alloc::Global;
 
 /// Runs the command of these words, `script`: it answers each line of the input by one reply line.
 ///
 /// `ran` is the theorem: what was written are the texts of the replies of one history, whose requests are
-/// those of the input's lines, whose entries are steps of the abstract machine one after another, and
-/// whose device calls are exactly the bank's (docs/MODEL.md, "A run"). Each read and each sync of this
-/// history ended by its cause (docs/MODEL.md, "A good member answers").
-pub fn run<B: Bank, S: Source, W: Sink>(
+/// those of the input's lines, whose seconds are those that the clock gave, whose entries are steps of the
+/// abstract machine one after another, and whose device calls are exactly the bank's (docs/MODEL.md, "A run").
+pub fn run<B: Bank, S: Source, W: Sink, C: Clock>(
     alloc: Global,
     words: &[String],
     bank: &mut B,
     input: &mut S,
     output: &mut W,
+    clock: &mut C,
 ) -> Status
     ensures usage { (result ≡ Status.Usage) ↔ (is_script (map string_bytes words.now) ≡ false) }
     ensures idle { result ≡ Status.Usage → IsQuiet (B.told bank.old) (B.told bank.new) (B.faults bank.old) (B.faults bank.new)
-        (S.left input.old) (S.left input.new) (W.contents output.old) (W.contents output.new) }
+        (S.left input.old) (S.left input.new) (W.contents output.old) (W.contents output.new) (C.gave clock.old) (C.gave clock.new) }
     ensures unsought { result ≡ Status.Usage → B.lookup_faults bank.new ≡ B.lookup_faults bank.old }
     ensures ran { is_script (map string_bytes words.now) ≡ true
         → RanScript result (B.number_of bank.new) (B.size bank.new) (B.names bank.old) (B.lookup_faults bank.old) (B.lookup_faults bank.new)
         (B.told bank.old) (B.told bank.new) (B.faults bank.old) (B.faults bank.new)
-        (S.left input.old) (S.left input.new) (W.contents output.old) (W.contents output.new)
+        (S.left input.old) (S.left input.new) (W.contents output.old) (W.contents output.new) (C.gave clock.old) (C.gave clock.new)
         ⊎ ((result ≡ Status.Memory) × IsQuiet (B.told bank.old) (B.told bank.new) (B.faults bank.old) (B.faults bank.new)
-        (S.left input.old) (S.left input.new) (W.contents output.old) (W.contents output.new)) }
+        (S.left input.old) (S.left input.new) (W.contents output.old) (W.contents output.new) (C.gave clock.old) (C.gave clock.new)) }
     ensures source { result ≡ Status.SourceFault → Rose (S.faults input.old) (S.faults input.new) }
     ensures sink { result ≡ Status.SinkFault → Rose (W.faults output.old) (W.faults output.new) }
 {
@@ -46,7 +46,7 @@ pub fn run<B: Bank, S: Source, W: Sink>(
         Err(MemFault) => return Status::Memory,
     };
     let mut host = Host::new(alloc, table);
-    script(&mut host, bank, input, output)
+    script(&mut host, bank, input, output, clock)
 }
 
 // Whether the words are a command of the program.

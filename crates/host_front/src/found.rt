@@ -1,8 +1,9 @@
 //! The look-ups with which a run begins.
-ghost use Rattle.std.specs.Prelude.{◌≡◌, ℕ, ◌<◌, ◌≤◌, ◌⊎◌, List, Option, Some, None, IsTrue, IfOk, slice_get, take};
+ghost use Rattle.std.specs.Prelude.{◌≡◌, ℕ, ◌<◌, ◌≤◌, ◌⊎◌, List, Option, Some, None, IsTrue, IfOk, OnOk, slice_get, take};
 ghost use Rattle.mp_base.specs.Name.{is_name};
 ghost use Rattle.mp_base.specs.Outside.{Rose};
 ghost use Rattle.bank_core.specs.Absent.{IsAbsent};
+ghost use Rattle.host_machine.specs.Devices.{AreApart};
 ghost use Rattle.host_front.specs.FixedHost.{host_devices};
 ghost use Rattle.host_front.specs.Standing.{AreLookedUp, LooksUp};
 
@@ -21,6 +22,7 @@ pub(crate) fn find_devices<B: Bank>(
 ) -> Result<Vec<HostDevice>, MemFault>
     ensures found { IfOk result (λ table. AreLookedUp (B.number_of bank.new) (B.size bank.new) (B.names bank.old)
         (B.lookup_faults bank.old) (B.lookup_faults bank.new) host_devices table.items) }
+    ensures apart { IfOk result (λ table. AreApart table.items) }
     ensures told { B.told bank.new ≡ B.told bank.old }
     ensures faults { (d : ℕ) → B.faults bank.new d ≡ B.faults bank.old d }
 {
@@ -38,6 +40,7 @@ fn look_up<B: Bank>(alloc: Global, bank: &mut B, i: usize) -> Result<HostDevice,
     ensures looked_up { IfOk result (LooksUp (B.number_of bank.new) (B.size bank.new) (B.names bank.old)
         (B.lookup_faults bank.old) (B.lookup_faults bank.new) i) }
     ensures keeps { (other : List ℕ) (dev : ℕ) → B.number_of bank.old other ≡ Some dev → B.number_of bank.new other ≡ Some dev }
+    ensures apart { OnOk result ((one other : List ℕ) (dev : ℕ) → B.number_of bank.new one ≡ Some dev → B.number_of bank.new other ≡ Some dev → one ≡ other) }
     ensures sizes { (d : ℕ) → 0 < B.size bank.old d → B.size bank.new d ≡ B.size bank.old d }
     ensures names { B.names bank.new ≡ B.names bank.old }
     ensures told { B.told bank.new ≡ B.told bank.old }
@@ -65,6 +68,7 @@ fn find<B: Bank>(bank: &mut B, name: &Name) -> Result<Option<u32>, MemFault>
     ensures some { IfOk result (λ found. (dev : ℕ) → found ≡ Some dev → (B.number_of bank.new name.now ≡ Some dev) × (0 < B.size bank.new dev)) }
     ensures none { IfOk result (λ found. found ≡ None → IsAbsent (B.names bank.old) name.now ⊎ Rose (B.lookup_faults bank.old) (B.lookup_faults bank.new)) }
     ensures keeps { (other : List ℕ) (dev : ℕ) → B.number_of bank.old other ≡ Some dev → B.number_of bank.new other ≡ Some dev }
+    ensures apart { (one other : List ℕ) (dev : ℕ) → B.number_of bank.new one ≡ Some dev → B.number_of bank.new other ≡ Some dev → one ≡ other }
     ensures sizes { (d : ℕ) → 0 < B.size bank.old d → B.size bank.new d ≡ B.size bank.old d }
     ensures names { B.names bank.new ≡ B.names bank.old }
     ensures told { B.told bank.new ≡ B.told bank.old }

@@ -1,4 +1,4 @@
-//! A host: its devices, and the pool, once one was made. It answers lines.
+//! A host: its devices, and the pool that is open. It answers lines.
 ghost use Rattle.std.specs.Prelude.{◌≡◌, ℕ, List, Option};
 
 use crate::HostDevice;
@@ -19,13 +19,19 @@ pub struct Host {
 impl Host {
     ghost use Rattle.std.specs.Prelude.{Some};
     ghost use Rattle.pool_wire.specs.Reading.{request_of};
-    ghost use Rattle.host_front.specs.Machine.{HostState, started};
+    ghost use Rattle.pool_history.specs.Records.{Rec};
+    ghost use Rattle.host_machine.specs.Devices.{AreApart};
+    ghost use Rattle.host_machine.specs.Fitness.{AreSized};
+    ghost use Rattle.host_machine.specs.Machine.{HostState, started};
+    ghost use Rattle.host_machine.specs.Records.{AreDrawn};
     ghost use Rattle.host_front.specs.Standing.{Stands, HostIsSeated};
     ghost use Rattle.host_front.specs.Session.{Answers};
 
     /// A host of these devices, with no pool.
     pub fn new(alloc: Global, table: Vec<HostDevice>) -> Host
-        ensures { Stands result (started table.items) }
+        ensures seated { (size : ℕ → ℕ) → AreSized size table.items → AreApart table.items → HostIsSeated size result }
+        ensures stands { (size bank_size : ℕ → ℕ) (records : List Rec) → ((d : ℕ) → size d ≡ bank_size d) → AreSized size table.items
+            → AreApart table.items → AreDrawn records → Stands bank_size result (started table.items size records) }
     {
         Host {
             alloc,
@@ -34,32 +40,32 @@ impl Host {
         }
     }
 
-    /// Answers a line. A line outside the grammar is refused as not built.
-    pub fn answer<B: Bank>(&mut self, bank: &mut B, line: &[u8]) -> Reply
+    /// Answers a line, which was asked at this second. A line outside the grammar is refused as not built.
+    pub fn answer<B: Bank>(&mut self, bank: &mut B, line: &[u8], time: u64) -> Reply
         requires seated { HostIsSeated (B.size bank.old) self.old }
         ensures size { (d : ℕ) → B.size bank.new d ≡ B.size bank.old d }
         ensures numbers { (name : List ℕ) → B.number_of bank.new name ≡ B.number_of bank.old name }
         ensures lookups { B.lookup_faults bank.new ≡ B.lookup_faults bank.old }
         ensures seated { HostIsSeated (B.size bank.new) self.new }
-        ensures answers { (h : HostState) → Stands self.old h → Answers h (request_of line.now)
-            (B.told bank.old) (B.told bank.new) (B.faults bank.old) (B.faults bank.new) self.new result }
+        ensures answers { (h : HostState) → Stands (B.size bank.old) self.old h → Answers h (request_of line.now) time
+            (B.told bank.old) (B.told bank.new) (B.faults bank.old) (B.faults bank.new) (B.size bank.new) self.new result }
     {
         match read_line(self.alloc, line) {
-            Ok(request) => self.request(bank, &request),
+            Ok(request) => self.request(bank, &request, time),
             Err(LineFault::Bad) => Reply::Refused(Refusal::NotBuilt),
             Err(LineFault::Memory) => Reply::Refused(Refusal::Memory),
         }
     }
 
-    /// Answers a request.
-    pub fn request<B: Bank>(&mut self, bank: &mut B, request: &Request) -> Reply
+    /// Answers a request, which was asked at this second.
+    pub fn request<B: Bank>(&mut self, bank: &mut B, request: &Request, time: u64) -> Reply
         requires seated { HostIsSeated (B.size bank.old) self.old }
         ensures size { (d : ℕ) → B.size bank.new d ≡ B.size bank.old d }
         ensures numbers { (name : List ℕ) → B.number_of bank.new name ≡ B.number_of bank.old name }
         ensures lookups { B.lookup_faults bank.new ≡ B.lookup_faults bank.old }
         ensures seated { HostIsSeated (B.size bank.new) self.new }
-        ensures answers { (h : HostState) → Stands self.old h → Answers h (Some request.now)
-            (B.told bank.old) (B.told bank.new) (B.faults bank.old) (B.faults bank.new) self.new result }
+        ensures answers { (h : HostState) → Stands (B.size bank.old) self.old h → Answers h (Some request.now) time
+            (B.told bank.old) (B.told bank.new) (B.faults bank.old) (B.faults bank.new) (B.size bank.new) self.new result }
     {
         match request {
             Request::Nothing => Reply::Done,
@@ -68,8 +74,8 @@ impl Host {
                 blocks,
                 first,
                 second,
-            } => self.create(pool, *blocks, first, second),
-            Request::Import { .. } => Reply::Refused(Refusal::NotBuilt),
+            } => self.create(bank, pool, *blocks, first, second, time),
+            Request::Import { pool } => self.import(bank, pool),
             Request::Write {
                 pool,
                 address,

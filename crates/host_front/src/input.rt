@@ -4,14 +4,15 @@ ghost use Rattle.mp_base.specs.Outside.{Rose};
 ghost use Rattle.pool_wire.specs.Text.{text_of};
 ghost use Rattle.host_front.specs.Feeding.{Feeds, StopsBy, HandlesLine, BreaksLine};
 ghost use Rattle.host_front.specs.Lines.{IsOpen, longest};
-ghost use Rattle.host_front.specs.Machine.{HostState};
+ghost use Rattle.host_machine.specs.Machine.{HostState};
 ghost use Rattle.host_front.specs.Standing.{Stands, HostIsSeated};
 
 use crate::Host;
 use crate::output::write_all;
 use crate::stop::Stop;
 use bank_core::Bank;
-use mp_base::{MemFault, Sink};
+use host_machine::hosts_stay_fit;
+use mp_base::{Clock, MemFault, Sink};
 use pool_wire::{Reply, write_reply};
 use std::alloc::Global;
 
@@ -21,27 +22,33 @@ const NEWLINE: u8 = b'\n';
 /// The most bytes of a line.
 const LONGEST: usize = 16_384;
 
-// Answers one line, and writes its reply line.
-pub(crate) fn handle_line<B: Bank, W: Sink>(
+// Answers one line, at the second that the clock gives now, and writes its reply line.
+pub(crate) fn handle_line<B: Bank, W: Sink, C: Clock>(
     host: &mut Host,
     bank: &mut B,
     line: &[u8],
     output: &mut W,
+    clock: &mut C,
 ) -> Result<(), Stop>
     requires seated { HostIsSeated (B.size bank.old) host.old }
     ensures size { (d : ℕ) → B.size bank.new d ≡ B.size bank.old d }
     ensures numbers { (name : List ℕ) → B.number_of bank.new name ≡ B.number_of bank.old name }
     ensures lookups { B.lookup_faults bank.new ≡ B.lookup_faults bank.old }
     ensures seated { HostIsSeated (B.size bank.new) host.new }
-    ensures handles { OnOk result ((h : HostState) → Stands host.old h → HandlesLine h line.now (B.told bank.old) (B.told bank.new)
-        (B.faults bank.old) (B.faults bank.new) (W.contents output.old) (W.contents output.new) host.new) }
-    ensures breaks { OnErr result ((h : HostState) → Stands host.old h → BreaksLine h line.now (B.told bank.old) (B.told bank.new)
-        (B.faults bank.old) (B.faults bank.new) (W.contents output.old) (W.contents output.new)) }
+    ensures handles { OnOk result ((h : HostState) → Stands (B.size bank.old) host.old h → HandlesLine h line.now (B.told bank.old) (B.told bank.new)
+        (B.faults bank.old) (B.faults bank.new) (W.contents output.old) (W.contents output.new)
+        (C.gave clock.old) (C.gave clock.new) (B.size bank.new) host.new) }
+    ensures breaks { OnErr result ((h : HostState) → Stands (B.size bank.old) host.old h → BreaksLine h line.now (B.told bank.old) (B.told bank.new)
+        (B.faults bank.old) (B.faults bank.new) (W.contents output.old) (W.contents output.new)
+        (C.gave clock.old) (C.gave clock.new)) }
     ensures whole { result ≢ Err Stop.TooLong }
     ensures counts { W.faults output.old ≤ W.faults output.new }
     ensures cause { result ≡ Err Stop.Sink → Rose (W.faults output.old) (W.faults output.new) }
 {
-    let reply = host.answer(bank, line);
+    let time = clock.now();
+    let reply = host.answer(bank, line, time);
+    // the law by which the state behind the line is again one that a run may reach
+    hosts_stay_fit();
     let text = match reply_line(host.alloc, &reply) {
         Ok(text) => text,
         Err(MemFault) => return Err(Stop::Memory),
@@ -62,12 +69,13 @@ fn reply_line(alloc: Global, reply: &Reply) -> Result<Vec<u8>, MemFault>
 }
 
 // Takes one byte of the input behind what waits for its line's end.
-fn take_byte<B: Bank, W: Sink>(
+fn take_byte<B: Bank, W: Sink, C: Clock>(
     host: &mut Host,
     bank: &mut B,
     waiting: &mut Vec<u8>,
     b: u8,
     output: &mut W,
+    clock: &mut C,
 ) -> Result<(), Stop>
     requires seated { HostIsSeated (B.size bank.old) host.old }
     requires open_line { IsOpen waiting.old.items }
@@ -76,17 +84,19 @@ fn take_byte<B: Bank, W: Sink>(
     ensures numbers { (name : List ℕ) → B.number_of bank.new name ≡ B.number_of bank.old name }
     ensures lookups { B.lookup_faults bank.new ≡ B.lookup_faults bank.old }
     ensures seated { HostIsSeated (B.size bank.new) host.new }
-    ensures feeds { OnOk result ((h : HostState) → Stands host.old h → Feeds h waiting.old.items (b ∷ []) waiting.new.items (B.told bank.old) (B.told bank.new)
-        (B.faults bank.old) (B.faults bank.new) (W.contents output.old) (W.contents output.new) host.new) }
-    ensures stops { IfErr result (λ stop. (h : HostState) → Stands host.old h → StopsBy stop h waiting.old.items (b ∷ []) (B.told bank.old) (B.told bank.new)
-        (B.faults bank.old) (B.faults bank.new) (W.contents output.old) (W.contents output.new)) }
+    ensures feeds { OnOk result ((h : HostState) → Stands (B.size bank.old) host.old h → Feeds h waiting.old.items (b ∷ []) waiting.new.items (B.told bank.old) (B.told bank.new)
+        (B.faults bank.old) (B.faults bank.new) (W.contents output.old) (W.contents output.new)
+        (C.gave clock.old) (C.gave clock.new) (B.size bank.new) host.new) }
+    ensures stops { IfErr result (λ stop. (h : HostState) → Stands (B.size bank.old) host.old h → StopsBy stop h waiting.old.items (b ∷ []) (B.told bank.old) (B.told bank.new)
+        (B.faults bank.old) (B.faults bank.new) (W.contents output.old) (W.contents output.new)
+        (C.gave clock.old) (C.gave clock.new)) }
     ensures open_line { OnOk result (IsOpen waiting.new.items) }
     ensures fits { OnOk result (length waiting.new.items ≤ longest) }
     ensures counts { W.faults output.old ≤ W.faults output.new }
     ensures cause { result ≡ Err Stop.Sink → Rose (W.faults output.old) (W.faults output.new) }
 {
     if b == NEWLINE {
-        return end_line(host, bank, waiting, output);
+        return end_line(host, bank, waiting, output, clock);
     }
     if waiting.len() >= LONGEST {
         return Err(Stop::TooLong);
@@ -98,11 +108,12 @@ fn take_byte<B: Bank, W: Sink>(
 }
 
 // A line has ended: it is answered, and nothing waits.
-fn end_line<B: Bank, W: Sink>(
+fn end_line<B: Bank, W: Sink, C: Clock>(
     host: &mut Host,
     bank: &mut B,
     waiting: &mut Vec<u8>,
     output: &mut W,
+    clock: &mut C,
 ) -> Result<(), Stop>
     requires seated { HostIsSeated (B.size bank.old) host.old }
     requires open_line { IsOpen waiting.old.items }
@@ -111,15 +122,17 @@ fn end_line<B: Bank, W: Sink>(
     ensures numbers { (name : List ℕ) → B.number_of bank.new name ≡ B.number_of bank.old name }
     ensures lookups { B.lookup_faults bank.new ≡ B.lookup_faults bank.old }
     ensures seated { HostIsSeated (B.size bank.new) host.new }
-    ensures feeds { OnOk result ((h : HostState) → Stands host.old h → Feeds h waiting.old.items (10 ∷ []) waiting.new.items (B.told bank.old) (B.told bank.new)
-        (B.faults bank.old) (B.faults bank.new) (W.contents output.old) (W.contents output.new) host.new) }
-    ensures stops { IfErr result (λ stop. (h : HostState) → Stands host.old h → StopsBy stop h waiting.old.items (10 ∷ []) (B.told bank.old) (B.told bank.new)
-        (B.faults bank.old) (B.faults bank.new) (W.contents output.old) (W.contents output.new)) }
+    ensures feeds { OnOk result ((h : HostState) → Stands (B.size bank.old) host.old h → Feeds h waiting.old.items (10 ∷ []) waiting.new.items (B.told bank.old) (B.told bank.new)
+        (B.faults bank.old) (B.faults bank.new) (W.contents output.old) (W.contents output.new)
+        (C.gave clock.old) (C.gave clock.new) (B.size bank.new) host.new) }
+    ensures stops { IfErr result (λ stop. (h : HostState) → Stands (B.size bank.old) host.old h → StopsBy stop h waiting.old.items (10 ∷ []) (B.told bank.old) (B.told bank.new)
+        (B.faults bank.old) (B.faults bank.new) (W.contents output.old) (W.contents output.new)
+        (C.gave clock.old) (C.gave clock.new)) }
     ensures empty { OnOk result (waiting.new.items ≡ []) }
     ensures counts { W.faults output.old ≤ W.faults output.new }
     ensures cause { result ≡ Err Stop.Sink → Rose (W.faults output.old) (W.faults output.new) }
 {
-    match handle_line(host, bank, waiting, output) {
+    match handle_line(host, bank, waiting, output, clock) {
         Ok(()) => {
             waiting.clear();
             Ok(())
@@ -129,12 +142,13 @@ fn end_line<B: Bank, W: Sink>(
 }
 
 // Takes a piece of the input.
-pub(crate) fn feed<B: Bank, W: Sink>(
+pub(crate) fn feed<B: Bank, W: Sink, C: Clock>(
     host: &mut Host,
     bank: &mut B,
     waiting: &mut Vec<u8>,
     piece: &[u8],
     output: &mut W,
+    clock: &mut C,
 ) -> Result<(), Stop>
     requires seated { HostIsSeated (B.size bank.old) host.old }
     requires open_line { IsOpen waiting.old.items }
@@ -143,17 +157,19 @@ pub(crate) fn feed<B: Bank, W: Sink>(
     ensures numbers { (name : List ℕ) → B.number_of bank.new name ≡ B.number_of bank.old name }
     ensures lookups { B.lookup_faults bank.new ≡ B.lookup_faults bank.old }
     ensures seated { HostIsSeated (B.size bank.new) host.new }
-    ensures feeds { OnOk result ((h : HostState) → Stands host.old h → Feeds h waiting.old.items piece.now waiting.new.items (B.told bank.old) (B.told bank.new)
-        (B.faults bank.old) (B.faults bank.new) (W.contents output.old) (W.contents output.new) host.new) }
-    ensures stops { IfErr result (λ stop. (h : HostState) → Stands host.old h → StopsBy stop h waiting.old.items piece.now (B.told bank.old) (B.told bank.new)
-        (B.faults bank.old) (B.faults bank.new) (W.contents output.old) (W.contents output.new)) }
+    ensures feeds { OnOk result ((h : HostState) → Stands (B.size bank.old) host.old h → Feeds h waiting.old.items piece.now waiting.new.items (B.told bank.old) (B.told bank.new)
+        (B.faults bank.old) (B.faults bank.new) (W.contents output.old) (W.contents output.new)
+        (C.gave clock.old) (C.gave clock.new) (B.size bank.new) host.new) }
+    ensures stops { IfErr result (λ stop. (h : HostState) → Stands (B.size bank.old) host.old h → StopsBy stop h waiting.old.items piece.now (B.told bank.old) (B.told bank.new)
+        (B.faults bank.old) (B.faults bank.new) (W.contents output.old) (W.contents output.new)
+        (C.gave clock.old) (C.gave clock.new)) }
     ensures open_line { OnOk result (IsOpen waiting.new.items) }
     ensures fits { OnOk result (length waiting.new.items ≤ longest) }
     ensures counts { W.faults output.old ≤ W.faults output.new }
     ensures cause { result ≡ Err Stop.Sink → Rose (W.faults output.old) (W.faults output.new) }
 {
     for b in piece {
-        match take_byte(host, bank, waiting, *b, output) {
+        match take_byte(host, bank, waiting, *b, output, clock) {
             Ok(()) => {}
             Err(stop) => return Err(stop),
         }

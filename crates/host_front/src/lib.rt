@@ -2,12 +2,11 @@
 #![tactic(auto)]
 
 mod create;
-mod device;
 mod entry;
 mod found;
 mod host;
+mod import;
 mod input;
-mod laws;
 mod output;
 mod read;
 mod reading;
@@ -17,9 +16,8 @@ mod stop;
 mod sync;
 mod write;
 
-pub use device::HostDevice;
 pub use entry::run;
 pub use found::{HOST_DEVICES, host_device};
 pub use host::Host;
-pub use laws::good_member_answers;
+pub use host_machine::HostDevice;
 pub use status::Status;

@@ -10,7 +10,7 @@ use pool_wire::Reply;
 impl Host {
     ghost use Rattle.std.specs.Prelude.{Some, List, Option};
     ghost use Rattle.pool_wire.specs.declared.request.Request.TheVariants.{Read};
-    ghost use Rattle.host_front.specs.Machine.{HostState};
+    ghost use Rattle.host_machine.specs.Machine.{HostState};
     ghost use Rattle.host_front.specs.Standing.{Stands, HostIsSeated};
     ghost use Rattle.host_front.specs.Session.{Answers};
 
@@ -19,17 +19,17 @@ impl Host {
         ensures size { (d : ℕ) → B.size bank.new d ≡ B.size bank.old d }
         ensures numbers { (name : List ℕ) → B.number_of bank.new name ≡ B.number_of bank.old name }
         ensures lookups { B.lookup_faults bank.new ≡ B.lookup_faults bank.old }
-        ensures answers { (h : HostState) → Stands self.now h → Answers h (Some (Read name.now address))
-            (B.told bank.old) (B.told bank.new) (B.faults bank.old) (B.faults bank.new) self.now result }
+        ensures answers { (h : HostState) (second : ℕ) → Stands (B.size bank.old) self.now h → Answers h (Some (Read name.now address)) second
+            (B.told bank.old) (B.told bank.new) (B.faults bank.old) (B.faults bank.new) (B.size bank.new) self.now result }
     {
         match &self.pool {
             Some(pool) => {
                 if !pool.is_named(name) {
-                    return Reply::Refused(Refusal::NotBuilt);
+                    return Reply::Refused(Refusal::NoPool);
                 }
                 read_from(self.alloc, pool, bank, address)
             }
-            None => Reply::Refused(Refusal::NotBuilt),
+            None => Reply::Refused(Refusal::NoPool),
         }
     }
 }

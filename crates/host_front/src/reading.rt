@@ -2,7 +2,7 @@
 ghost use Rattle.std.specs.Prelude.{◌≡◌, ℕ, List, length, IfOk};
 ghost use Rattle.pool_core.specs.Keeping.{Represents, IsSeated, leaves_of};
 ghost use Rattle.pool_core.specs.State.{PoolState};
-ghost use Rattle.host_front.specs.Machine.{named};
+ghost use Rattle.host_machine.specs.Machine.{named};
 ghost use Rattle.host_front.specs.Replying.{IsReadRefused, Replies};
 
 use bank_core::Bank;
@@ -13,7 +13,7 @@ use std::alloc::Global;
 
 // Reads a block of the pool. The buffer comes first, so that want of memory makes no device call.
 pub(crate) fn read_from<B: Bank>(alloc: Global, pool: &Pool, bank: &mut B, address: u64) -> Reply
-    requires seated { IsSeated (B.size bank.old) (leaves_of pool.now) }
+    requires seated { IsSeated (B.size bank.old) pool.now }
     ensures size { (d : ℕ) → B.size bank.new d ≡ B.size bank.old d }
     ensures numbers { (name : List ℕ) → B.number_of bank.new name ≡ B.number_of bank.old name }
     ensures lookups { B.lookup_faults bank.new ≡ B.lookup_faults bank.old }
@@ -62,9 +62,9 @@ fn name_leaves(alloc: Global, pool: &Pool, seen: &SeenLeaves) -> Result<NamedLea
 {
     let mut named = NamedLeaves::new(alloc);
     for shown in seen.as_slice() {
-        if let Some(leaf) = pool.leaf(shown.member) {
+        if let Some(name) = pool.leaf_name(shown.member) {
             named.push(NamedLeaf {
-                name: leaf.name.copy(alloc)?,
+                name: name.copy(alloc)?,
                 seen: shown.seen,
             })?;
         }

@@ -1,7 +1,7 @@
 //! A script: the input is read to its end, piece by piece.
 ghost use Rattle.std.specs.Prelude.{◌≡◌, ◌≢◌, ℕ, ◌≤◌, List};
 ghost use Rattle.mp_base.specs.Outside.{Rose};
-ghost use Rattle.host_front.specs.Machine.{HostState};
+ghost use Rattle.host_machine.specs.Machine.{HostState};
 ghost use Rattle.host_front.specs.Session.{Ran};
 ghost use Rattle.host_front.specs.Finishing.{Finishes};
 ghost use Rattle.host_front.specs.Standing.{Stands, HostIsSeated};
@@ -9,24 +9,25 @@ ghost use Rattle.host_front.specs.Standing.{Stands, HostIsSeated};
 use crate::input::{feed, handle_line};
 use crate::{Host, Status};
 use bank_core::Bank;
-use mp_base::{Sink, Source};
+use mp_base::{Clock, Sink, Source};
 
 /// How many bytes are asked of the input at once.
 const PIECE: usize = 4096;
 
 // Answers the lines of the input, to its end.
-pub(crate) fn script<B: Bank, S: Source, W: Sink>(
+pub(crate) fn script<B: Bank, S: Source, W: Sink, C: Clock>(
     host: &mut Host,
     bank: &mut B,
     input: &mut S,
     output: &mut W,
+    clock: &mut C,
 ) -> Status
     requires seated { HostIsSeated (B.size bank.old) host.old }
     ensures size { (d : ℕ) → B.size bank.new d ≡ B.size bank.old d }
     ensures numbers { (name : List ℕ) → B.number_of bank.new name ≡ B.number_of bank.old name }
     ensures lookups { B.lookup_faults bank.new ≡ B.lookup_faults bank.old }
-    ensures ran { (h : HostState) → Stands host.old h → Ran h result (B.told bank.old) (B.told bank.new) (B.faults bank.old) (B.faults bank.new)
-        (S.left input.old) (S.left input.new) (W.contents output.old) (W.contents output.new) }
+    ensures ran { (h : HostState) → Stands (B.size bank.old) host.old h → Ran h result (B.told bank.old) (B.told bank.new) (B.faults bank.old) (B.faults bank.new)
+        (S.left input.old) (S.left input.new) (W.contents output.old) (W.contents output.new) (C.gave clock.old) (C.gave clock.new) }
     ensures source { result ≡ Status.SourceFault → Rose (S.faults input.old) (S.faults input.new) }
     ensures sink { result ≡ Status.SinkFault → Rose (W.faults output.old) (W.faults output.new) }
 {
@@ -38,22 +39,28 @@ pub(crate) fn script<B: Bank, S: Source, W: Sink>(
             Err(_) => return Status::SourceFault,
         };
         if n == 0 {
-            return finish(host, bank, &waiting, output);
+            return finish(host, bank, &waiting, output, clock);
         }
-        if let Err(stop) = feed(host, bank, &mut waiting, &buffer[..n], output) {
+        if let Err(stop) = feed(host, bank, &mut waiting, &buffer[..n], output, clock) {
             return stop.status();
         }
     }
 }
 
 // The input has ended: what waits is the last line.
-fn finish<B: Bank, W: Sink>(host: &mut Host, bank: &mut B, waiting: &[u8], output: &mut W) -> Status
+fn finish<B: Bank, W: Sink, C: Clock>(
+    host: &mut Host,
+    bank: &mut B,
+    waiting: &[u8],
+    output: &mut W,
+    clock: &mut C,
+) -> Status
     requires seated { HostIsSeated (B.size bank.old) host.old }
     ensures size { (d : ℕ) → B.size bank.new d ≡ B.size bank.old d }
     ensures numbers { (name : List ℕ) → B.number_of bank.new name ≡ B.number_of bank.old name }
     ensures lookups { B.lookup_faults bank.new ≡ B.lookup_faults bank.old }
-    ensures ends { (h : HostState) → Stands host.old h → Finishes h result waiting.now (B.told bank.old) (B.told bank.new) (B.faults bank.old) (B.faults bank.new)
-        (W.contents output.old) (W.contents output.new) }
+    ensures ends { (h : HostState) → Stands (B.size bank.old) host.old h → Finishes h result waiting.now (B.told bank.old) (B.told bank.new) (B.faults bank.old) (B.faults bank.new)
+        (W.contents output.old) (W.contents output.new) (C.gave clock.old) (C.gave clock.new) }
     ensures source { result ≢ Status.SourceFault }
     ensures counts { W.faults output.old ≤ W.faults output.new }
     ensures sink { result ≡ Status.SinkFault → Rose (W.faults output.old) (W.faults output.new) }
@@ -61,7 +68,7 @@ fn finish<B: Bank, W: Sink>(host: &mut Host, bank: &mut B, waiting: &[u8], outpu
     if waiting.is_empty() {
         return Status::Done;
     }
-    match handle_line(host, bank, waiting, output) {
+    match handle_line(host, bank, waiting, output, clock) {
         Ok(()) => Status::Done,
         Err(stop) => stop.status(),
     }

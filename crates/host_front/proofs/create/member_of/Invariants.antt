@@ -1,5 +1,5 @@
 use Rattle.std.proofs.Common.{◌≡◌, drop}
-use Rattle.host_front.specs.Machine.{member_of}
+use Rattle.host_machine.specs.Devices.{member_of}
 use Rattle.host_front.proofs.create.member_of.Given as goal
 
 abbrev pub invariant-loop-device : goal.invariant-loop-device

@@ -1,28 +1,42 @@
 use Rattle.std.proofs.Common.{◌≡◌, true, false, sym, ◌∙◌, inl}
-use Rattle.host_front.specs.Machine.{started}
-use Rattle.host_front.proofs.RunLaws.{ran_some, ran_script}
+use Rattle.host_machine.specs.Machine.{started}
+use Rattle.host_front.proofs.FoundDevices.{looked_up_sized}
+use Rattle.host_front.proofs.RunLaws.{some_ran, ran_script, sized_still}
+use Rattle.host_front.specs.FixedHost.{host_devices}
 use Rattle.host_front.proofs.entry.run.Goals as goal
 
 differ : true ≡ false → ⊥
 differ e = cc
 
+pub script-requires : goal.script-requires
+script-requires g c = record {
+  seated = c.new-host.ensures.seated _ (looked_up_sized _ _ _ _ _ host_devices c.in-Ok.table.items c.in-Ok.ensures.found) c.in-Ok.ensures.apart;
+}
+
 pub returns-clause-usage : goal.returns-clause-usage
 returns-clause-usage g c = (
-  λ e. absurd (ran_some (c.script.ensures.ran (started c.in-Ok.table.items) c.new-host.ensures) e),
+  λ e. absurd (some_ran _ c.in-Ok.table.items c.new-host.ensures.stands
+      (looked_up_sized _ _ _ _ _ host_devices c.in-Ok.table.items c.in-Ok.ensures.found) c.in-Ok.ensures.apart c.script.ensures.ran e),
   λ e. absurd (differ (sym c.if-not-is_script.false ∙ c.is_script.ensures ∙ e)),
 )
 
 pub returns-clause-idle : goal.returns-clause-idle
-returns-clause-idle g c = λ e. absurd (ran_some (c.script.ensures.ran (started c.in-Ok.table.items) c.new-host.ensures) e)
+returns-clause-idle g c = λ e. absurd (some_ran _ c.in-Ok.table.items c.new-host.ensures.stands
+    (looked_up_sized _ _ _ _ _ host_devices c.in-Ok.table.items c.in-Ok.ensures.found) c.in-Ok.ensures.apart c.script.ensures.ran e)
 
 pub returns-clause-unsought : goal.returns-clause-unsought
-returns-clause-unsought g c = λ e. absurd (ran_some (c.script.ensures.ran (started c.in-Ok.table.items) c.new-host.ensures) e)
+returns-clause-unsought g c = λ e. absurd (some_ran _ c.in-Ok.table.items c.new-host.ensures.stands
+    (looked_up_sized _ _ _ _ _ host_devices c.in-Ok.table.items c.in-Ok.ensures.found) c.in-Ok.ensures.apart c.script.ensures.ran e)
 
 pub returns-clause-ran : goal.returns-clause-ran
-returns-clause-ran g c = λ e. inl (ran_script
+returns-clause-ran g c = λ e.
+    let sized = looked_up_sized _ _ _ _ _ host_devices c.in-Ok.table.items c.in-Ok.ensures.found in
+    inl (ran_script
     (g.B.Bank.number_of c.find_devices.new.bank) (g.B.Bank.number_of c.script.new.bank)
     (g.B.Bank.size c.find_devices.new.bank) (g.B.Bank.size c.script.new.bank) (g.B.Bank.names c.args.bank.now)
     (g.B.Bank.lookup_faults c.args.bank.now) (g.B.Bank.lookup_faults c.find_devices.new.bank) (g.B.Bank.lookup_faults c.script.new.bank)
-    c.in-Ok.table.items c.in-Ok.ensures.found c.script.ensures.numbers c.script.ensures.size c.script.ensures.lookups
+    c.in-Ok.table.items c.in-Ok.ensures.found c.in-Ok.ensures.apart c.script.ensures.numbers c.script.ensures.size c.script.ensures.lookups
     c.in-Ok.ensures.told c.in-Ok.ensures.faults
-    (c.script.ensures.ran (started c.in-Ok.table.items) c.new-host.ensures))
+    (λ records drawn. c.script.ensures.ran (started c.in-Ok.table.items (g.B.Bank.size c.script.new.bank) records)
+    (c.new-host.ensures.stands (g.B.Bank.size c.script.new.bank) (g.B.Bank.size c.find_devices.new.bank) records c.script.ensures.size
+    (sized_still (g.B.Bank.size c.find_devices.new.bank) (g.B.Bank.size c.script.new.bank) c.in-Ok.table.items c.script.ensures.size sized) c.in-Ok.ensures.apart drawn)))

@@ -1,21 +1,28 @@
-use Rattle.std.proofs.Common.{ℕ, ◌≤◌, ◌∙◌, arith}
-use Rattle.host_front.proofs.FoundDevices.{found_next}
+use Rattle.std.proofs.Common.{ℕ, ◌≤◌, ◌+◌, ◌∙◌, arith, take}
+use Rattle.host_front.specs.FixedHost.{host_devices}
+use Rattle.host_front.specs.Standing.{AreLookedUp}
+use Rattle.host_front.proofs.FoundDevices.{found_next, are_apart}
 use Rattle.host_front.proofs.found.find_devices.Goals as goal
 
 at_most : (a b c : ℕ) → a ≤ b → b ≤ c → a ≤ c
 at_most a b c l m = omega arith
 
 pub loop-i-preserved : goal.loop-i-preserved
-loop-i-preserved g c = record {
-  found = found_next (g.B.Bank.number_of c.loop-i.bank) (g.B.Bank.number_of c.look_up.new.bank)
-      (g.B.Bank.size c.loop-i.bank) (g.B.Bank.size c.look_up.new.bank) (g.B.Bank.names c.args.bank.now) (g.B.Bank.names c.loop-i.bank)
-      (g.B.Bank.lookup_faults c.args.bank.now) (g.B.Bank.lookup_faults c.loop-i.bank) (g.B.Bank.lookup_faults c.look_up.new.bank)
-      c.loop-i.i c.loop-i.table.items c.push.new.self.items c.in_ok-device.device c.in_ok-device.ensures.keeps c.in_ok-device.ensures.sizes
-      c.in_ok-device.ensures.lookups c.loop-i.invariant.names c.loop-i.invariant.found
-      c.in_ok-device.ensures.looked_up c.in_ok-push.ensures.items;
-  names = c.in_ok-device.ensures.names ∙ c.loop-i.invariant.names;
-  told = c.in_ok-device.ensures.told ∙ c.loop-i.invariant.told;
-  faults = λ d. c.in_ok-device.ensures.faults d ∙ c.loop-i.invariant.faults d;
-  lookups = at_most (g.B.Bank.lookup_faults c.args.bank.now) (g.B.Bank.lookup_faults c.loop-i.bank) (g.B.Bank.lookup_faults c.look_up.new.bank)
-      c.loop-i.invariant.lookups c.in_ok-device.ensures.lookups;
-}
+loop-i-preserved g c =
+    let found : AreLookedUp (g.B.Bank.number_of c.look_up.new.bank) (g.B.Bank.size c.look_up.new.bank) (g.B.Bank.names c.args.bank.now)
+    (g.B.Bank.lookup_faults c.args.bank.now) (g.B.Bank.lookup_faults c.look_up.new.bank) (take (c.loop-i.i + 1) host_devices) c.push.new.self.items =
+    found_next (g.B.Bank.number_of c.loop-i.bank) (g.B.Bank.number_of c.look_up.new.bank)
+    (g.B.Bank.size c.loop-i.bank) (g.B.Bank.size c.look_up.new.bank) (g.B.Bank.names c.args.bank.now) (g.B.Bank.names c.loop-i.bank)
+    (g.B.Bank.lookup_faults c.args.bank.now) (g.B.Bank.lookup_faults c.loop-i.bank) (g.B.Bank.lookup_faults c.look_up.new.bank)
+    c.loop-i.i c.loop-i.table.items c.push.new.self.items c.in_ok-device.device c.in_ok-device.ensures.keeps c.in_ok-device.ensures.sizes
+    c.in_ok-device.ensures.lookups c.loop-i.invariant.names c.loop-i.invariant.found
+    c.in_ok-device.ensures.looked_up c.in_ok-push.ensures.items in
+    record {
+      found = found;
+      apart = are_apart _ _ _ _ _ (take (c.loop-i.i + 1) host_devices) c.push.new.self.items c.in_ok-device.ensures.apart found;
+      names = c.in_ok-device.ensures.names ∙ c.loop-i.invariant.names;
+      told = c.in_ok-device.ensures.told ∙ c.loop-i.invariant.told;
+      faults = λ d. c.in_ok-device.ensures.faults d ∙ c.loop-i.invariant.faults d;
+      lookups = at_most (g.B.Bank.lookup_faults c.args.bank.now) (g.B.Bank.lookup_faults c.loop-i.bank) (g.B.Bank.lookup_faults c.look_up.new.bank)
+          c.loop-i.invariant.lookups c.in_ok-device.ensures.lookups;
+    }

@@ -9,5 +9,5 @@ returns-in-Ok-clause-feeds g c = λ h stands.
 
 pub returns-in-Err-clause-stops : goal.returns-in-Err-clause-stops
 returns-in-Err-clause-stops g c = λ h stands.
-    line_stops h _ _ _ _ _ _ c.args.waiting.now.items c.in-Err.stop (λ same. c.in-Err.ensures.whole (rw same refl)) c.requires.open_line c.requires.fits
+    line_stops h _ _ _ _ _ _ _ _ c.args.waiting.now.items c.in-Err.stop (λ same. c.in-Err.ensures.whole (rw same refl)) c.requires.open_line c.requires.fits
     (rw c.deref.ensures.value at (c.in-Err.ensures.breaks h stands))

@@ -18,13 +18,13 @@ input-init g c = record {
 pub returns-then-n-eq0-clause-ran : goal.returns-then-n-eq0-clause-ran
 returns-then-n-eq0-clause-ran g c = λ h stands.
     let a = c.input.invariant.so_far h stands in
-    finish_ran h _ _ _ _ _ _ _ _ _ _ _ _ c.input.host c.input.waiting.items a (rw c.if-n-eq0.true at c.in-Ok.ensures.bytes) c.finish.result
+    finish_ran h _ _ _ _ _ _ _ _ _ _ _ _ _ _ _ _ c.input.host c.input.waiting.items a (rw c.if-n-eq0.true at c.in-Ok.ensures.bytes) c.finish.result
     (c.in-Ok.ensures.end c.if-n-eq0.true) (rw c.deref.ensures.value at (c.finish.ensures.ends a.feeds.next a.feeds.stands))
 
 pub returns-in-Err-feed-clause-ran : goal.returns-in-Err-feed-clause-ran
 returns-in-Err-feed-clause-ran g c = λ h stands.
     let a = c.input.invariant.so_far h stands in
-    rw c.status.ensures (stop_ran h _ _ _ _ _ _ _ _ _ _ _ _ c.input.host c.input.waiting.items _ c.in-Err-feed.stop a c.in-Ok.ensures.bytes
+    rw c.status.ensures (stop_ran h _ _ _ _ _ _ _ _ _ _ _ _ _ _ _ _ c.input.host c.input.waiting.items _ c.in-Err-feed.stop a c.in-Ok.ensures.bytes
     (c.in-Err-feed.ensures.stops a.feeds.next a.feeds.stands))
 
 pub input-preserved : goal.input-preserved

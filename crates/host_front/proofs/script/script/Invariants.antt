@@ -1,6 +1,6 @@
 use Rattle.std.proofs.Common.{◌≡◌, ℕ, ◌≤◌, ◌-◌, ◌^◌, List, length}
 use Rattle.host_front.specs.Lines.{IsOpen, longest}
-use Rattle.host_front.specs.Machine.{HostState}
+use Rattle.host_machine.specs.Machine.{HostState}
 use Rattle.host_front.specs.SoFar.{SoFar}
 use Rattle.host_front.specs.Standing.{Stands, HostIsSeated}
 use Rattle.host_front.proofs.script.script.Given as goal
@@ -11,9 +11,10 @@ invariant-input g l = record {
   numbers : (name : List ℕ) → g.B.Bank.number_of l.bank name ≡ g.B.Bank.number_of l.initial.bank name;
   lookups : g.B.Bank.lookup_faults l.bank ≡ g.B.Bank.lookup_faults l.initial.bank;
   seated : HostIsSeated (g.B.Bank.size l.bank) l.host;
-  so_far : (h : HostState) → Stands l.initial.host h → SoFar h l.waiting.items
+  so_far : (h : HostState) → Stands (g.B.Bank.size l.initial.bank) l.initial.host h → SoFar h l.waiting.items
       (g.B.Bank.told l.initial.bank) (g.B.Bank.told l.bank) (g.B.Bank.faults l.initial.bank) (g.B.Bank.faults l.bank)
-      (g.S.Source.left l.initial.input) (g.S.Source.left l.input) (g.W.Sink.contents l.initial.output) (g.W.Sink.contents l.output) l.host;
+      (g.S.Source.left l.initial.input) (g.S.Source.left l.input) (g.W.Sink.contents l.initial.output) (g.W.Sink.contents l.output)
+      (g.C.Clock.gave l.initial.clock) (g.C.Clock.gave l.clock) (g.B.Bank.size l.bank) l.host;
   open_line : IsOpen l.waiting.items;
   fits : length l.waiting.items ≤ longest;
   source : g.S.Source.faults l.initial.input ≤ g.S.Source.faults l.input;

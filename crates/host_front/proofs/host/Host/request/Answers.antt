@@ -4,13 +4,8 @@ use Rattle.host_front.proofs.Answering.{answers_quiet}
 use Rattle.host_front.proofs.host.Host.request.Goals as goal
 
 pub returns-in-Nothing-clause-answers : goal.returns-in-Nothing-clause-answers
-returns-in-Nothing-clause-answers g c = λ h stands. rw c.in-Nothing.is (answers_quiet h h (Some requests.Nothing) stands refl refl)
-
-pub returns-in-Import-clause-answers : goal.returns-in-Import-clause-answers
-returns-in-Import-clause-answers g c = λ h stands. rw c.in-Import.is (answers_quiet h h (Some (requests.Import c.in-Import.pool)) stands refl refl)
-
-pub returns-in-Create-clause-seated : goal.returns-in-Create-clause-seated
-returns-in-Create-clause-seated g c = c.create.ensures.seated _ c.requires.seated
+returns-in-Nothing-clause-answers g c = λ h stands.
+    rw c.in-Nothing.is (answers_quiet h h (Some requests.Nothing) c.args.time stands.keeps (refl, refl))
 
 pub returns-in-Write-clause-seated : goal.returns-in-Write-clause-seated
 returns-in-Write-clause-seated g c = c.write.ensures.seated _ c.requires.seated

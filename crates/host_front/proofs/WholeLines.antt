@@ -1,5 +1,5 @@
 -- What a line asks to write is a whole block.
-use Rattle.std.proofs.Common.{◌≡◌, ℕ, ◌-◌, ◌+◌, ◌≤◌, List, [], ◌∷◌, Option, Some, None, length, map, replicate, arith, inl, inr, ◌∙◌, ap, length-append}
+use Rattle.std.proofs.Common.{◌≡◌, ℕ, ◌-◌, ◌+◌, ◌≤◌, List, Option, Some, None, length, replicate, refl, arith, inl, inr, ◌∙◌, ap, length-append}
 use Rattle.std.proofs.lemmas.List.{length-replicate}
 use Rattle.mp_base.specs.Block.{padded, zeros, zero_block, block_bytes}
 use Rattle.pool_wire.specs.declared.request.Request.{Request}
@@ -8,8 +8,7 @@ use Rattle.pool_wire.specs.Reading.{request_of}
 use Rattle.pool_wire.specs.Grammar.{Asks}
 use Rattle.pool_wire.specs.Words.{IsData}
 use Rattle.pool_wire.proofs.Forms.{request_found}
-use Rattle.host_front.specs.Machine.{Entry}
-use Rattle.host_front.specs.Kept.{IsWhole, AreWhole}
+use Rattle.host_machine.specs.Fitness.{IsWhole}
 
 zero_whole : length zero_block ≡ 4096
 unfolding zero_block zeros block_bytes
@@ -38,10 +37,5 @@ line_whole_by : (line : List ℕ) (asked : Option Request) → request_of line �
 line_whole_by line None e = tt
 line_whole_by line (Some request) e = asks_whole line request (request_found line request e)
 
-pub lines_whole : (entries : List Entry) (lines : List (List ℕ)) → map (λ entry. entry.asked) entries ≡ map request_of lines → AreWhole entries
-lines_whole [] lines e = tt
-lines_whole (entry ∷ entries) [] e = absurd (cc)
-lines_whole (entry ∷ entries) (line ∷ lines) e =
-    let first : request_of line ≡ entry.asked = cc in
-    let rest : map (λ (entry : Entry). entry.asked) entries ≡ map request_of lines = cc in
-    (line_whole_by line entry.asked first, lines_whole entries lines rest)
+pub line_whole : (line : List ℕ) → IsWhole (request_of line)
+line_whole line = line_whole_by line (request_of line) refl

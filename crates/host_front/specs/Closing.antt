@@ -1,0 +1,10 @@
+-- What a refused sync leaves.
+use Rattle.std.specs.Prelude.{Option, None}
+use Rattle.mp_base.specs.declared.refusal.Refusal.{Refusal}
+use Rattle.mp_base.specs.declared.refusal.Refusal.TheVariants as refusals
+use Rattle.pool_core.specs.declared.pool.Pool.{Pool}
+
+-- no pool is open behind a suspended one
+abbrev pub left_by : Refusal → Option Pool → Option Pool
+left_by (refusals.Suspended group top faults) pool = None
+left_by refusal pool = pool

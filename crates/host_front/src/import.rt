@@ -1,0 +1,168 @@
+//! The line `import`.
+ghost use Rattle.std.specs.Prelude.{◌≡◌, ℕ, ◌+◌, ◌<◌, ◌≤◌, nat_le, if◌then◌else◌, IfOk, None};
+ghost use Rattle.host_machine.specs.Devices.{seat_of};
+
+use crate::{Host, HostDevice};
+use bank_core::Bank;
+use config_codec::Config;
+use mp_base::{Group, MemFault, Name, Refusal};
+use pool_core::{Pool, has_members, seek};
+use pool_wire::Reply;
+
+/// No number from here on is drawn.
+const LAST_NUMBER: u64 = (1 << 62) - 64;
+
+/// The sectors of a device that aren't data sectors: those of its labels.
+const LABEL_SECTORS: u64 = 256;
+
+impl Host {
+    ghost use Rattle.std.specs.Prelude.{Some, List, Option, IfSome, OnErr};
+    ghost use Rattle.pool_wire.specs.declared.request.Request.TheVariants.{Import};
+    ghost use Rattle.label_store.specs.Newest.{ReadsOnly};
+    ghost use Rattle.config_codec.specs.Fields.{config_fields};
+    ghost use Rattle.config_codec.specs.Reading.{config_in};
+    ghost use Rattle.config_codec.specs.Validity.{IsValid};
+    ghost use Rattle.pool_core.specs.Done.{Seeks};
+    ghost use Rattle.pool_core.specs.State.{last_number};
+    ghost use Rattle.host_machine.specs.Devices.{all_handed};
+    ghost use Rattle.host_machine.specs.Machine.{HostState, open_seats};
+    ghost use Rattle.host_front.specs.Importing.{AreTwoRooms, OpensFound, OpensThere};
+    ghost use Rattle.host_front.specs.Standing.{Keeps, Stands, HostIsSeated};
+    ghost use Rattle.host_front.specs.Session.{Answers};
+
+    pub(crate) fn import<B: Bank>(&mut self, bank: &mut B, name: &Name) -> Reply
+        requires seated { HostIsSeated (B.size bank.old) self.old }
+        ensures size { (d : ℕ) → B.size bank.new d ≡ B.size bank.old d }
+        ensures numbers { (name : List ℕ) → B.number_of bank.new name ≡ B.number_of bank.old name }
+        ensures lookups { B.lookup_faults bank.new ≡ B.lookup_faults bank.old }
+        ensures seated { HostIsSeated (B.size bank.new) self.new }
+        ensures answers { (h : HostState) (second : ℕ) → Stands (B.size bank.old) self.old h → Answers h (Some (Import name.now)) second
+            (B.told bank.old) (B.told bank.new) (B.faults bank.old) (B.faults bank.new) (B.size bank.new) self.new result }
+    {
+        match self.newest_config(bank, name) {
+            Ok(Some(config)) => self.open_found(bank, config),
+            Ok(None) => Reply::Refused(Refusal::NoRecord),
+            Err(MemFault) => Reply::Refused(Refusal::Memory),
+        }
+    }
+
+    // The configuration of the newest record of the name, on all devices that are handed to an opening.
+    fn newest_config<B: Bank>(&self, bank: &mut B, name: &Name) -> Result<Option<Config>, MemFault>
+        requires seated { HostIsSeated (B.size bank.old) self.now }
+        ensures size { (d : ℕ) → B.size bank.new d ≡ B.size bank.old d }
+        ensures numbers { (name : List ℕ) → B.number_of bank.new name ≡ B.number_of bank.old name }
+        ensures lookups { B.lookup_faults bank.new ≡ B.lookup_faults bank.old }
+        ensures valid { IfOk result (λ found. IfSome found (λ config. IsValid (config_fields config))) }
+        ensures seeks { IfOk result (λ found. Seeks (B.size bank.old) (all_handed self.now.table.items) name.now
+            (B.told bank.old) (B.told bank.new) (B.faults bank.old) (B.faults bank.new) found) }
+        ensures reads { OnErr result (ReadsOnly (B.told bank.old) (B.told bank.new) (B.faults bank.old) (B.faults bank.new)) }
+    {
+        let devs = self.handed_devices()?;
+        seek(self.alloc, bank, &devs, name)
+    }
+
+    // The numbers of these devices, in host order.
+    fn handed_devices(&self) -> Result<Vec<u32>, MemFault>
+        ensures { IfOk result (λ devs. devs.items ≡ all_handed self.now.table.items) }
+    {
+        let mut devs = Vec::new(self.alloc);
+        for device in &self.table {
+            if let Some(dev) = device.handed() {
+                devs.push(dev)?;
+            }
+        }
+        Ok(devs)
+    }
+
+    // Opens the pool of the configuration that was found.
+    fn open_found<B: Bank>(&mut self, bank: &mut B, config: Config) -> Reply
+        requires seated { HostIsSeated (B.size bank.old) self.old }
+        requires valid { IsValid (config_fields config) }
+        ensures size { (d : ℕ) → B.size bank.new d ≡ B.size bank.old d }
+        ensures numbers { (name : List ℕ) → B.number_of bank.new name ≡ B.number_of bank.old name }
+        ensures lookups { B.lookup_faults bank.new ≡ B.lookup_faults bank.old }
+        ensures seated { HostIsSeated (B.size bank.new) self.new }
+        ensures opens { (h : HostState) (bytes : List ℕ) → Stands (B.size bank.old) self.old h → config_in bytes ≡ Some (config_fields config)
+            → OpensFound h bytes (config_fields config) (B.told bank.old) (B.told bank.new) (B.faults bank.old) (B.faults bank.new) (B.size bank.new) self.new result }
+    {
+        let number = config.number.0;
+        if number >= LAST_NUMBER {
+            return Reply::Refused(Refusal::TreeFull {
+                limit: LAST_NUMBER,
+                count: number + 1,
+            });
+        }
+        let (first, second) = match self.open_seats(&config) {
+            Some(seats) => seats,
+            None => return Reply::Refused(Refusal::NotBuilt),
+        };
+        if !has_members(bank, &config, first, second) {
+            return Reply::Refused(Refusal::NotBuilt);
+        }
+        self.open_on(bank, config, first, second)
+    }
+
+    // The devices of the pool's leaves, by their names. Beside an open pool no other is opened yet.
+    fn open_seats(&self, config: &Config) -> Option<(u32, u32)>
+        requires { IsValid (config_fields config.now) }
+        ensures is { (h : HostState) (size : ℕ → ℕ) → Keeps size self.now h → result ≡ open_seats h (config_fields config.now) }
+        ensures closed { IfSome result (λ seats. self.now.pool ≡ None) }
+        ensures two { (size : ℕ → ℕ) → HostIsSeated size self.now
+            → IfSome result (λ seats. AreTwoRooms size config.now.sectors seats.0 seats.1) }
+    {
+        if self.pool.is_some() {
+            return None;
+        }
+        let first = seat_of(&self.table, &config.first.name, config.sectors)?;
+        let second = seat_of(&self.table, &config.second.name, config.sectors)?;
+        Some((first, second))
+    }
+
+    // Opens the pool on these two devices: where a device call fails, no pool is open.
+    fn open_on<B: Bank>(&mut self, bank: &mut B, config: Config, first: u32, second: u32) -> Reply
+        requires seated { HostIsSeated (B.size bank.old) self.old }
+        requires closed { self.old.pool ≡ None }
+        requires valid { IsValid (config_fields config) }
+        requires number { config.number.0 < last_number }
+        requires two { AreTwoRooms (B.size bank.old) config.sectors first second }
+        ensures size { (d : ℕ) → B.size bank.new d ≡ B.size bank.old d }
+        ensures numbers { (name : List ℕ) → B.number_of bank.new name ≡ B.number_of bank.old name }
+        ensures lookups { B.lookup_faults bank.new ≡ B.lookup_faults bank.old }
+        ensures seated { HostIsSeated (B.size bank.new) self.new }
+        ensures opens { (h : HostState) (bytes : List ℕ) → Stands (B.size bank.old) self.old h → config_in bytes ≡ Some (config_fields config)
+            → OpensThere h bytes (config_fields config) first second (B.told bank.old) (B.told bank.new) (B.faults bank.old) (B.faults bank.new) (B.size bank.new) self.new result }
+    {
+        let number = config.number.0 + 1;
+        match Pool::open(self.alloc, bank, config, first, second) {
+            Ok(pool) => {
+                self.pool = Some(pool);
+                Reply::Committed(Group(number))
+            }
+            Err(refusal) => Reply::Refused(refusal),
+        }
+    }
+}
+
+// The number of the device of this name, if it has room for so many data sectors.
+fn seat_of(table: &[HostDevice], name: &Name, sectors: u64) -> Option<u32>
+    requires { sectors ≤ 1048320 }
+    ensures { result ≡ seat_of name.now sectors table.now }
+{
+    for device in table {
+        if &device.name == name {
+            return roomy(device, sectors);
+        }
+    }
+    None
+}
+
+fn roomy(device: &HostDevice, sectors: u64) -> Option<u32>
+    requires { sectors ≤ 1048320 }
+    ensures { result ≡ (if nat_le (sectors + 256) device.now.sectors then device.now.dev else None) }
+{
+    if sectors + LABEL_SECTORS <= device.sectors {
+        device.dev
+    } else {
+        None
+    }
+}
