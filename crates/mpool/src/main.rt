@@ -1,6 +1,7 @@
 //! `mpool script`: answers each line of its input by one line, over pools of mirrored devices.
 #![tactic(auto)]
 
+mod clock;
 mod devices;
 mod stdio;
 #[cfg(test)]
@@ -30,7 +31,15 @@ fn serve(rt: &HostRuntime) -> Status {
     };
     let mut input = stdio::Input::new(rt.stdin());
     let mut output = stdio::Output::new(rt.stdout());
-    host_front::run(rt.alloc(), &words, &mut bank, &mut input, &mut output)
+    let mut clock = clock::SystemClock::new(rt);
+    host_front::run(
+        rt.alloc(),
+        &words,
+        &mut bank,
+        &mut input,
+        &mut output,
+        &mut clock,
+    )
 }
 
 // The words behind the program's name. One that is no text is no command's.

@@ -1,8 +1,8 @@
 //! What scripts answer, over the devices of a host that no file describes.
 use crate::devices::host_bank;
-use bank_core::{Damage, Fault, MemBank};
+use bank_core::{Damage, Fault, ImageChoice, MemBank};
 use host_front::{Status, run};
-use mp_base::{MemSink, MemSource};
+use mp_base::{MemClock, MemSink, MemSource};
 use std::alloc::Global;
 use std::process::Abort;
 use std::test::Fail;
@@ -11,6 +11,15 @@ use std::test::Fail;
 const PLAINEST: &[u8] = b"create tank 16 mirror a b\nwrite tank 0 c0ffee\nsync tank\nread tank 0\n";
 
 const PLAINEST_REPLIES: &[u8] = b"ok 1\nok\nok 2\nok c0ffee\n";
+
+/// The plainest script without its read.
+const COMMITTED: &[u8] = b"create tank 16 mirror a b\nwrite tank 0 c0ffee\nsync tank\n";
+
+/// The same pool in another run.
+const IMPORTED: &[u8] = b"import tank\nread tank 0\n";
+
+/// The second at which the scripts run.
+const SECOND: u64 = 1_700_000_000;
 
 /// The devices a and b have these numbers, in the order of their look-ups.
 const A: u32 = 0;
@@ -54,7 +63,8 @@ fn run_words(
     let bytes = Vec::from_slice(alloc, script)?;
     let mut input = MemSource::new(bytes, streams.read_most, streams.failing_read);
     let mut output = MemSink::new(alloc, streams.write_most, streams.failing_write);
-    let status = run(alloc, words, bank, &mut input, &mut output);
+    let mut clock = MemClock::new(alloc, SECOND);
+    let status = run(alloc, words, bank, &mut input, &mut output, &mut clock);
     let written = Vec::from_slice(alloc, output.bytes())?;
     Ok(Outcome { status, written })
 }
@@ -81,6 +91,13 @@ fn run_plain(
     run_script(rt, alloc, &mut bank, script, streams)
 }
 
+/// How many device calls a script makes over a new bank.
+fn calls_of(rt: &impl Abort, alloc: Global, script: &[u8]) -> Result<u64, Fail> {
+    let mut bank = host_bank(alloc)?;
+    run_script(rt, alloc, &mut bank, script, &WHOLE)?;
+    Ok(bank.place())
+}
+
 #[test]
 fn scripts_answer_each_line_by_its_reply(rt: HostRuntime) -> Result<(), Fail> {
     let alloc = rt.alloc();
@@ -93,7 +110,7 @@ fn scripts_answer_each_line_by_its_reply(rt: HostRuntime) -> Result<(), Fail> {
         // a line that isn't one of the grammar's, and one before there is a pool
         (
             b"\n# a remark\nread tank 0\nread tank 00\ncreate tank 16 mirror a b\n",
-            b"ok\nok\nno 40 notbuilt\nno 40 notbuilt\nok 1\n",
+            b"ok\nok\nno 2 pool\nno 40 notbuilt\nok 1\n",
         ),
         (b"", b""),
     ];
@@ -203,19 +220,67 @@ fn other_words_are_no_command(rt: HostRuntime) -> Result<(), Fail> {
 }
 
 #[test]
-fn a_failed_write_suspends_its_group_and_keeps_its_writes(rt: HostRuntime) -> Result<(), Fail> {
+fn a_failed_write_suspends_its_group_and_closes_the_pool(rt: HostRuntime) -> Result<(), Fail> {
     let alloc = rt.alloc();
     let mut bank = host_bank(alloc)?;
-    // a's first write is the first call of all
-    bank.fail(A, 0, 0, Fault::Failed)?;
+    let created = calls_of(&rt, alloc, b"create tank 16 mirror a b\n")?;
+    // the sync's first call
+    bank.fail(A, created, created, Fault::Failed)?;
     let script =
-        b"create tank 16 mirror a b\nwrite tank 0 01\nsync tank\nread tank 0\nsync tank\nread tank 0\n";
+        b"create tank 16 mirror a b\nwrite tank 0 01\nsync tank\nread tank 0\nsync tank\nimport tank\nread tank 0\n";
     let outcome = run_script(&rt, alloc, &mut bank, script, &WHOLE)?;
     assert_eq!(rt; outcome.status, Status::Done);
     assert_eq!(rt;
         outcome.written.as_slice(),
-        b"ok 1\nok\nno 16 suspended 2 1 1\nok 01\nok 3\nok 01\n".as_slice()
+        b"ok 1\nok\nno 16 suspended 2 1 1\nno 2 pool\nno 2 pool\nok 2\nok -\n".as_slice()
     );
+    Ok(())
+}
+
+#[test]
+fn a_device_that_fails_is_named_and_leaves_no_pool(rt: HostRuntime) -> Result<(), Fail> {
+    let alloc = rt.alloc();
+    let cases: [(u32, &[u8]); 2] = [
+        (A, b"no 17 fault a\nno 2 pool\nno 21 norecord\nok 1\n"),
+        (B, b"no 17 fault b\nno 2 pool\nno 21 norecord\nok 1\n"),
+    ];
+    for (dev, replies) in cases {
+        let mut bank = host_bank(alloc)?;
+        bank.fail(dev, 0, 30, Fault::Failed)?;
+        let script =
+            b"create tank 16 mirror a b\nsync tank\nimport tank\ncreate tank 16 mirror a b\n";
+        let outcome = run_script(&rt, alloc, &mut bank, script, &WHOLE)?;
+        assert_eq!(rt; outcome.status, Status::Done);
+        assert_eq!(rt; outcome.written.as_slice(), replies);
+    }
+    Ok(())
+}
+
+#[test]
+fn an_import_answers_what_an_earlier_run_committed(rt: HostRuntime) -> Result<(), Fail> {
+    let alloc = rt.alloc();
+    let mut bank = host_bank(alloc)?;
+    run_script(&rt, alloc, &mut bank, COMMITTED, &WHOLE)?;
+    let script =
+        b"read tank 0\nimport other\nimport tank\nread tank 0\nread tank 1\nimport tank\ncreate tank 16 mirror c d\n";
+    let outcome = run_script(&rt, alloc, &mut bank, script, &WHOLE)?;
+    assert_eq!(rt; outcome.status, Status::Done);
+    assert_eq!(rt;
+        outcome.written.as_slice(),
+        b"no 2 pool\nno 21 norecord\nok 3\nok c0ffee\nok -\nno 40 notbuilt\nno 40 notbuilt\n".as_slice()
+    );
+    Ok(())
+}
+
+#[test]
+fn a_crash_behind_a_sync_leaves_its_block(rt: HostRuntime) -> Result<(), Fail> {
+    let alloc = rt.alloc();
+    let mut bank = host_bank(alloc)?;
+    run_script(&rt, alloc, &mut bank, COMMITTED, &WHOLE)?;
+    // some sectors keep their old bytes, some have the new ones, zeros or noise
+    let mut left = bank.after_crash(alloc, bank.place(), ImageChoice::Mixed(7))?;
+    let outcome = run_script(&rt, alloc, &mut left, IMPORTED, &WHOLE)?;
+    assert_eq!(rt; outcome.written.as_slice(), b"ok 3\nok c0ffee\n".as_slice());
     Ok(())
 }
 
@@ -236,8 +301,7 @@ fn damage(bank: &mut MemBank, place: u64, dev: u32) -> Result<(), Fail> {
 #[test]
 fn the_good_member_answers_and_two_damaged_ones_are_exhausted(rt: HostRuntime) -> Result<(), Fail> {
     let alloc = rt.alloc();
-    // two writes and two flushes go before the first read
-    const FIRST_READ: u64 = 4;
+    let first_read = calls_of(&rt, alloc, COMMITTED)?;
     let cases: [(&[u32], &[u8]); 4] = [
         (&[], b"ok c0ffee"),
         (&[A], b"ok c0ffee"),
@@ -247,7 +311,7 @@ fn the_good_member_answers_and_two_damaged_ones_are_exhausted(rt: HostRuntime) -
     for (damaged, reply) in cases {
         let mut bank = host_bank(alloc)?;
         for dev in damaged {
-            damage(&mut bank, FIRST_READ, *dev)?;
+            damage(&mut bank, first_read, *dev)?;
         }
         let outcome = run_script(&rt, alloc, &mut bank, PLAINEST, &WHOLE)?;
         assert_eq!(rt; outcome.status, Status::Done);
@@ -259,8 +323,8 @@ fn the_good_member_answers_and_two_damaged_ones_are_exhausted(rt: HostRuntime) -
         assert_eq!(rt; last, reply);
     }
     let mut bank = host_bank(alloc)?;
-    damage(&mut bank, FIRST_READ, A)?;
-    bank.fail(B, FIRST_READ, u64::MAX, Fault::Gone)?;
+    damage(&mut bank, first_read, A)?;
+    bank.fail(B, first_read, u64::MAX, Fault::Gone)?;
     let outcome = run_script(&rt, alloc, &mut bank, PLAINEST, &WHOLE)?;
     assert_eq!(rt;
         outcome.written.as_slice(),
@@ -269,49 +333,50 @@ fn the_good_member_answers_and_two_damaged_ones_are_exhausted(rt: HostRuntime) -
     Ok(())
 }
 
+/// A script that commits two blocks at one address, one after the other.
+const TWICE: &[u8] =
+    b"create tank 16 mirror a b\nwrite tank 0 01\nsync tank\nwrite tank 0 02\nsync tank\n";
+
+/// What an opening behind this script may read, by its replies: the block of the last sync that was
+/// acknowledged, or a later one.
+fn may_read(replies: &str, block: &str) -> bool {
+    if replies.ends_with("ok 3") {
+        return block == "ok 02";
+    }
+    if replies.contains("ok 2") {
+        return block == "ok 01" || block == "ok 02";
+    }
+    block == "ok -" || block == "ok 01"
+}
+
 #[test]
-fn one_failed_call_costs_one_sync_at_most_and_no_block(rt: HostRuntime) -> Result<(), Fail> {
+fn one_failed_call_loses_no_block_that_was_acknowledged(rt: HostRuntime) -> Result<(), Fail> {
     let alloc = rt.alloc();
-    let script =
-        b"create tank 16 mirror a b\nwrite tank 0 01\nsync tank\nread tank 0\nwrite tank 0 02\nwrite tank 3 03\nsync tank\nread tank 0\nread tank 3\nsync tank\nread tank 0\nread tank 3\n";
+    let calls = calls_of(&rt, alloc, TWICE)?;
     for dev in [A, B] {
-        let mut last_failed = 0;
-        for place in 0..24u64 {
+        for place in (5..calls).step_by(29) {
             let mut bank = host_bank(alloc)?;
             bank.fail(dev, place, place, Fault::Failed)?;
-            let outcome = run_script(&rt, alloc, &mut bank, script, &WHOLE)?;
+            let outcome = run_script(&rt, alloc, &mut bank, TWICE, &WHOLE)?;
             assert_eq!(rt; outcome.status, Status::Done);
             let text = String::from_utf8(outcome.written).map_err(|_| "no text")?;
-            let mut suspended = false;
-            for (line, reply) in text.lines().enumerate() {
-                match line {
-                    0 => assert_eq!(rt; reply, "ok 1"),
-                    1 | 4 | 5 => assert_eq!(rt; reply, "ok"),
-                    3 => assert_eq!(rt; reply, "ok 01"),
-                    7 | 10 => assert_eq!(rt; reply, "ok 02"),
-                    8 | 11 => assert_eq!(rt; reply, "ok 03"),
-                    _ => {
-                        let number = line / 4 + 2;
-                        let committed = format!(in alloc; "ok {number}")?;
-                        let refused = format!(in alloc; "no 16 suspended {number} 1 1")?;
-                        if reply == refused.as_str() {
-                            assert!(rt; !suspended);
-                            suspended = true;
-                        } else {
-                            assert_eq!(rt; reply, committed.as_str());
-                        }
-                    }
-                }
+            let replies = text.trim_end();
+            let created = replies.starts_with("ok 1");
+            // a call on the other device stands at this place
+            if bank.fault_count(dev) == 0 {
+                assert_eq!(rt; replies, "ok 1\nok\nok 2\nok\nok 3", "place {place}");
+                continue;
             }
-            if bank.fault_count(dev) > 0 {
-                last_failed = place;
-            } else {
-                assert!(rt; !suspended);
+            let opened = run_script(&rt, alloc, &mut bank, IMPORTED, &WHOLE)?;
+            let text = String::from_utf8(opened.written).map_err(|_| "no text")?;
+            let block = text.lines().nth(1).ok_or("no reply")?;
+            if created {
+                assert!(rt;
+                    may_read(replies, block),
+                    "place {place}: {replies}, {block}"
+                );
             }
         }
-        // seventeen calls, of which each device has some to the end
-        assert!(rt; last_failed > 12);
-        assert!(rt; last_failed < 23);
     }
     Ok(())
 }
