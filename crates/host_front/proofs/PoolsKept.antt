@@ -1,5 +1,6 @@
 -- A run keeps each pool, by the law of the machine's runs.
 use Rattle.std.proofs.Common.{◌≡◌, ℕ, List, Option, Some, subst, sym, ap, ◌∙◌}
+use Rattle.bank_core.specs.Calls.{AllCaused}
 use Rattle.bank_core.specs.Disk.{Noted, Sectors, AllAnswer}
 use Rattle.bank_core.specs.Story.{Story, Continues, now}
 use Rattle.pool_history.specs.Records.{Rec}
@@ -8,7 +9,7 @@ use Rattle.host_machine.specs.Devices.{AreApart}
 use Rattle.host_machine.specs.Fitness.{AreSized, IsFit, AreWhole}
 use Rattle.host_machine.specs.Machine.{HostState, Entry, Replay, started}
 use Rattle.host_machine.specs.Records.{AreDrawn}
-use Rattle.host_machine.specs.Runs.{KeepsPools}
+use Rattle.host_machine.specs.Runs.{KeepsPools, EndByCounts}
 use Rattle.host_front.specs.declared.status.Status.{Status}
 use Rattle.host_front.specs.Session.{Ran}
 use Rattle.host_front.proofs.WholeLines.{lines_whole}
@@ -17,6 +18,11 @@ use Rattle.host_front.proofs.WholeLines.{lines_whole}
 abbrev pub KeepsRuns : Type 0
 KeepsRuns = (h : HostState) (sectors : Sectors) (entries : List Entry) (calls : List Noted) (next : HostState) → AreWhole entries → IsFit h
     → AllAnswer sectors calls → (replay : Replay h entries calls next) → KeepsPools h sectors entries calls next replay
+
+-- and of how its entries end
+abbrev pub EndsRuns : Type 0
+EndsRuns = (h : HostState) (entries : List Entry) (calls : List Noted) (next : HostState) (start end : ℕ → ℕ) → Replay h entries calls next
+    → AllCaused calls start end → EndByCounts h entries calls next start end
 
 same_story : (one other : Story) → Some one ≡ Some other → one ≡ other
 same_story one other e = cc

@@ -15,7 +15,7 @@ use Rattle.host_front.specs.FixedHost.{host_devices}
 use Rattle.host_front.specs.Session.{Ran, RanScript, IsUpTo}
 use Rattle.host_front.specs.Standing.{AreLookedUp, Stands}
 use Rattle.host_front.proofs.Answering.{same_sizes}
-use Rattle.host_front.proofs.PoolsKept.{KeepsRuns, pools_kept}
+use Rattle.host_front.proofs.PoolsKept.{KeepsRuns, EndsRuns, pools_kept}
 use Rattle.host_front.proofs.FoundDevices.{looked_up_on}
 
 -- what ran ended with another status than that of bad usage
@@ -50,19 +50,22 @@ still_at_most : (a b : ℕ) → b ≡ a → a ≤ b
 still_at_most a b e = omega arith
 
 -- the look-ups, and then the run
-pub ran_script : KeepsRuns → {status : Status} (number_of number_of' : List ℕ → Option ℕ) (size size' : ℕ → ℕ) (names : Option (List (List ℕ))) (lookups mid lookups' : ℕ)
+pub ran_script : KeepsRuns → EndsRuns → {status : Status} (number_of number_of' : List ℕ → Option ℕ) (size size' : ℕ → ℕ) (names : Option (List (List ℕ))) (lookups mid lookups' : ℕ)
     {old old' new : Option Story} {f f' g : ℕ → ℕ} {left left' sink sink' gave gave' : Option (List ℕ)} (table : List HostDevice)
     → AreLookedUp number_of size names lookups mid host_devices table → AreApart table → AreSized size' table
     → ((name : List ℕ) → number_of' name ≡ number_of name) → ((d : ℕ) → size' d ≡ size d) → lookups' ≡ mid
     → old' ≡ old → ((d : ℕ) → f' d ≡ f d)
     → ((records : List Rec) → AreDrawn records → Ran (started table size' records) status old' new f' g left left' sink sink' gave gave')
     → RanScript status number_of' size' names lookups lookups' old new f g left left' sink sink' gave gave'
-ran_script law number_of number_of' size size' names lookups mid lookups' table found apart sized numbers sizes counts told faults ran = record {
+ran_script law ends number_of number_of' size size' names lookups mid lookups' table found apart sized numbers sizes counts told faults ran = record {
   table = table;
   found = looked_up_on number_of number_of' size size' names (λ name dev e. numbers name ∙ e) (λ d some. sizes d)
       lookups mid lookups' (still_at_most mid lookups' counts) host_devices table found;
   apart = apart;
   ran = λ records drawn. ran_from (sym told) faults (ran records drawn);
+  ends = λ records drawn.
+      let mine = ran_from (sym told) faults (ran records drawn) in
+      ends (started table size' records) mine.entries mine.handles.calls mine.state _ _ mine.handles.replay mine.handles.made.caused;
   pools = λ records drawn. pools_kept law table size' records apart sized drawn (ran_from (sym told) faults (ran records drawn));
 }
 

@@ -13,7 +13,7 @@ use Rattle.host_machine.specs.Devices.{AreApart}
 use Rattle.host_machine.specs.Machine.{HostState, Entry, Step, Replay, started, texts}
 use Rattle.host_machine.specs.Records.{AreDrawn}
 use Rattle.host_front.specs.declared.host.Host.{Host}
-use Rattle.host_machine.specs.Runs.{KeepsPools}
+use Rattle.host_machine.specs.Runs.{KeepsPools, EndByCounts}
 use Rattle.host_front.specs.declared.status.Status.{Status}
 use Rattle.host_front.specs.declared.status.Status.TheVariants as statuses
 use Rattle.host_front.specs.FixedHost.{host_devices}
@@ -92,14 +92,16 @@ pub record Ran (h : HostState) (status : Status) (old new : Option Story) (befor
   pub is_written : IsWritten status entries bytes
 
 -- What a run that was begun did: it looked the host's devices up, and ran from a host of those that it found,
--- whatever records were drawn up before. Where its bank tells, the run kept each pool that its devices had left,
--- and each pool that it made.
+-- whatever records were drawn up before. Each entry ended by the counts of its own calls. Where its bank tells, the
+-- run kept each pool that its devices had left, and each pool that it made.
 pub record RanScript (status : Status) (number_of : List ℕ → Option ℕ) (size : ℕ → ℕ) (names : Option (List (List ℕ))) (lookups lookups' : ℕ)
     (old new : Option Story) (before after : ℕ → ℕ) (left left' sink sink' gave gave' : Option (List ℕ)) : Type 0 where
   pub table : List HostDevice
   pub found : AreLookedUp number_of size names lookups lookups' host_devices table
   pub apart : AreApart table
   pub ran : (records : List Rec) → AreDrawn records → Ran (started table size records) status old new before after left left' sink sink' gave gave'
+  pub ends : (records : List Rec) (drawn : AreDrawn records)
+      → EndByCounts (started table size records) (ran records drawn).entries (ran records drawn).handles.calls (ran records drawn).state before after
   pub pools : (records : List Rec) (drawn : AreDrawn records) (story story' : Story) → old ≡ Some story → new ≡ Some story'
       → KeepsPools (started table size records) (now story) (ran records drawn).entries (ran records drawn).handles.calls (ran records drawn).state (ran records drawn).handles.replay
 

@@ -25,6 +25,7 @@ pub mod Rereading
 pub mod Rising
 pub mod RoundMarks
 pub mod RoundRuns
+pub mod RunCounts
 pub mod Running
 pub mod Settling
 pub mod Standings

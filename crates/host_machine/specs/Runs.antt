@@ -1,5 +1,9 @@
 -- What a run does to the pools that its devices had left.
 use Rattle.std.specs.Prelude.{◌≡◌, ◌⊎◌, ℕ, ◌<◌, true, false, List, [], ◌∷◌, ◌++◌, Some, None}
+use Rattle.mp_base.specs.declared.number.Group.{Group}
+use Rattle.mp_base.specs.declared.number.Guid.{Guid}
+use Rattle.mp_base.specs.declared.refusal.Refusal.TheVariants as refusals
+use Rattle.bank_core.specs.Calls.{AllCaused}
 use Rattle.bank_core.specs.Disk.{Noted, Sectors, run}
 use Rattle.pool_wire.specs.declared.reply.NamedLeaf.{NamedLeaf}
 use Rattle.pool_wire.specs.declared.reply.Reply.TheVariants as replies
@@ -10,8 +14,8 @@ use Rattle.pool_history.specs.Pools.{Pool, pool_after}
 use Rattle.pool_history.specs.Premises.{Premises, AreGood}
 use Rattle.pool_history.specs.Survival.{Survives}
 use Rattle.pool_core.specs.Heads.{head_of}
-use Rattle.pool_core.specs.State.{PoolState}
-use Rattle.host_machine.specs.Answering.{IsLost, HasClash, IsExcused}
+use Rattle.pool_core.specs.State.{PoolState, is_spent}
+use Rattle.host_machine.specs.Answering.{IsLost, HasClash, IsExcused, SomeRose, SuspendsByCounts, CommitsByCounts, CreatesByCounts}
 use Rattle.host_machine.specs.Births.{IsBorn, StampFails, LeavesPool, LeavesThroughout, new_pool}
 use Rattle.host_machine.specs.Devices.{all_handed}
 use Rattle.host_machine.specs.Machine.{HostState, Entry, is_bad_size, new_seats, new_state, IsCreate, IsImport, Step, Replay, named_pool}
@@ -83,3 +87,23 @@ pub record KeepsPools (h : HostState) (sectors : Sectors) (entries : List Entry)
       → (name : List ℕ) (blocks : ℕ) (one other : List ℕ) (seats : ℕ × ℕ) → entry.asked ≡ Some (requests.Create name blocks one other) → is_bad_size blocks ≡ false
       → new_seats at.old blocks one other ≡ Some seats → IsCreate at.old entry.second name blocks one other at.made at.new entry.reply
       → BeginsPool at.old (new_state at.old entry.second name blocks one other seats) (run at.first sectors) at.made at.new after at.rest next at.later
+
+-- How an entry of a run ended, by the counts of its own calls: a sync of the open pool with numbers left, a create
+-- with its devices found, and an opening that was suspended.
+pub record EndsByCounts (h : HostState) (before : List Entry) (entry : Entry) (after : List Entry) (calls : List Noted) (next : HostState) (start end : ℕ → ℕ) : Type 0 where
+  pub at : IsEntryOf h before entry after calls next
+  pub from : ℕ → ℕ
+  pub to : ℕ → ℕ
+  pub earlier : AllCaused at.first start from
+  pub caused : AllCaused at.made from to
+  pub later : AllCaused at.rest to end
+  pub syncs : (name : List ℕ) (s : PoolState) → entry.asked ≡ Some (requests.Sync name) → named_pool name at.old.pool ≡ Some s → is_spent s.number ≡ false
+      → SuspendsByCounts s from to entry.reply × CommitsByCounts s from to entry.reply
+  pub creates : (name : List ℕ) (blocks : ℕ) (one other : List ℕ) (seats : ℕ × ℕ) → entry.asked ≡ Some (requests.Create name blocks one other) → is_bad_size blocks ≡ false
+      → new_seats at.old blocks one other ≡ Some seats → CreatesByCounts one other seats from to entry.reply
+  pub imports : (name : List ℕ) (group : Group) (top : Guid) (faults : ℕ) → entry.asked ≡ Some (requests.Import name)
+      → entry.reply ≡ replies.Refused (refusals.Suspended group top faults) → SomeRose from to
+
+-- so each of them
+pub record EndByCounts (h : HostState) (entries : List Entry) (calls : List Noted) (next : HostState) (start end : ℕ → ℕ) : Type 0 where
+  pub each : (before : List Entry) (entry : Entry) (after : List Entry) → entries ≡ before ++ entry ∷ after → EndsByCounts h before entry after calls next start end

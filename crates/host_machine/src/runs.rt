@@ -1,11 +1,12 @@
 //! The laws of whole runs over the histories of pools (docs/MODEL.md, "Stops and openings").
 ghost use Rattle.std.specs.Prelude.{◌≡◌, ◌++◌, ◌∷◌, ℕ, List, Some};
+ghost use Rattle.bank_core.specs.Calls.{AllCaused};
 ghost use Rattle.bank_core.specs.Disk.{Noted, Sectors, AllAnswer, run};
 ghost use Rattle.pool_history.specs.Events.{Stops};
 ghost use Rattle.pool_history.specs.Pools.{Pool, after};
 ghost use Rattle.pool_history.specs.Records.{Rec, IsIn};
 ghost use Rattle.host_machine.specs.declared.device.HostDevice.{HostDevice};
-ghost use Rattle.host_machine.specs.Runs.{TakesIn, KeepsPools, IsEntryOf};
+ghost use Rattle.host_machine.specs.Runs.{TakesIn, KeepsPools, IsEntryOf, EndByCounts};
 ghost use Rattle.host_machine.specs.Devices.{number_in};
 ghost use Rattle.host_machine.specs.Fitness.{IsFit, AreWhole};
 ghost use Rattle.host_machine.specs.Machine.{HostState, Entry, Replay, started};
@@ -21,6 +22,8 @@ use crate::laws::{
 pub fn runs_keep_each_pool()
     ensures run { (h : HostState) (sectors : Sectors) (entries : List Entry) (calls : List Noted) (next : HostState) → AreWhole entries → IsFit h
         → AllAnswer sectors calls → (replay : Replay h entries calls next) → KeepsPools h sectors entries calls next replay }
+    ensures counts { (h : HostState) (entries : List Entry) (calls : List Noted) (next : HostState) (start end : ℕ → ℕ) → Replay h entries calls next
+        → AllCaused calls start end → EndByCounts h entries calls next start end }
     ensures entry { (h : HostState) (before : List Entry) (entry : Entry) (after : List Entry) (calls : List Noted) (next : HostState)
         → Replay h (before ++ entry ∷ after) calls next → IsEntryOf h before entry after calls next }
     ensures goes_on { (p : Pool) (old h : HostState) (made : List Noted) (entries : List Entry) (calls : List Noted) (next : HostState)

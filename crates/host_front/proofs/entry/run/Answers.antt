@@ -31,7 +31,7 @@ returns-clause-unsought g c = λ e. absurd (some_ran _ c.in-Ok.table.items c.new
 pub returns-clause-ran : goal.returns-clause-ran
 returns-clause-ran g c = λ e.
     let sized = looked_up_sized _ _ _ _ _ host_devices c.in-Ok.table.items c.in-Ok.ensures.found in
-    inl (ran_script c.runs_keep_each_pool.ensures.run
+    inl (ran_script c.runs_keep_each_pool.ensures.run c.runs_keep_each_pool.ensures.counts
     (g.B.Bank.number_of c.find_devices.new.bank) (g.B.Bank.number_of c.script.new.bank)
     (g.B.Bank.size c.find_devices.new.bank) (g.B.Bank.size c.script.new.bank) (g.B.Bank.names c.args.bank.now)
     (g.B.Bank.lookup_faults c.args.bank.now) (g.B.Bank.lookup_faults c.find_devices.new.bank) (g.B.Bank.lookup_faults c.script.new.bank)
