@@ -1,10 +1,9 @@
 -- The end of a commit: the pool is open as it was committed, or none is.
-use Rattle.std.proofs.Common.{◌≡◌, ◌≢◌, ℕ, zero, suc, Bool, true, false, List, [], Option, Some, None, Result, Ok, Err, refl, sym, ◌∙◌, ap, subst, inl}
+use Rattle.std.proofs.Common.{◌≡◌, ◌≢◌, ℕ, zero, suc, Bool, true, false, List, [], Option, Some, None, Result, Ok, Err, refl, sym, ap, subst, inl}
 use Rattle.mp_base.specs.declared.number.Group.{Group}
 use Rattle.mp_base.specs.declared.number.Guid.{Guid}
 use Rattle.mp_base.specs.declared.refusal.Refusal.{Refusal}
 use Rattle.mp_base.specs.declared.refusal.Refusal.TheVariants as refusals
-use Rattle.bank_core.specs.Asks.{Ask}
 use Rattle.bank_core.specs.Calls.{Made}
 use Rattle.bank_core.specs.Disk.{Noted}
 use Rattle.bank_core.specs.Story.{Story}
@@ -13,11 +12,11 @@ use Rattle.pool_wire.specs.declared.reply.Reply.TheVariants as replies
 use Rattle.pool_wire.specs.declared.request.Request.TheVariants as requests
 use Rattle.pool_core.specs.declared.pool.Pool.{Pool}
 use Rattle.pool_core.specs.Commits.{IsCommit}
-use Rattle.pool_core.specs.Done.{SyncsIf, Syncs, commit_answer}
+use Rattle.pool_core.specs.Done.{SyncsIf, commit_answer}
 use Rattle.pool_core.specs.Keeping.{Represents, IsSeated}
 use Rattle.pool_core.specs.State.{PoolState, is_spent}
 use Rattle.pool_core.specs.Syncing.{sync_plan, synced}
-use Rattle.host_machine.specs.Machine.{HostState, SyncsUnless, commit_outcome, with_pool}
+use Rattle.host_machine.specs.Machine.{HostState, SyncsUnless, commit_outcome}
 use Rattle.host_machine.specs.Records.{with_record}
 use Rattle.host_front.specs.declared.host.Host.{Host}
 use Rattle.host_front.specs.Closing.{left_by}

@@ -9,7 +9,6 @@ use Rattle.bank_core.proofs.Composing.{made_none, made_more}
 use Rattle.pool_wire.specs.Reading.{request_of}
 use Rattle.pool_wire.specs.Text.{text_of}
 use Rattle.pool_wire.specs.declared.reply.Reply.{Reply}
-use Rattle.pool_wire.specs.declared.request.Request.{Request}
 use Rattle.host_machine.specs.Fitness.{IsFit, IsWhole}
 use Rattle.host_machine.specs.Machine.{HostState, Entry, Step, Replay, texts}
 use Rattle.host_front.specs.declared.host.Host.{Host}

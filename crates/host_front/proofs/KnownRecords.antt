@@ -11,7 +11,7 @@ use Rattle.label_store.specs.Rounds.{config_of}
 use Rattle.pool_history.specs.Records.{Rec, Cell}
 use Rattle.pool_core.specs.Opening.{IsCommitted}
 use Rattle.pool_core.specs.Recorded.{pointer_of}
-use Rattle.pool_core.specs.State.{Content, Known, Summed, Version}
+use Rattle.pool_core.specs.State.{Known, Summed, Version}
 use Rattle.host_machine.specs.Records.{AreDrawn, IsDrawn, committed_in, slot_at, summed, version_of, versions_of}
 
 no_version : (version : Version) → None ≡ Some version → ⊥

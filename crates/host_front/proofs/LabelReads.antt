@@ -1,12 +1,12 @@
 -- The calls of looks and of searches for identities are reads.
-use Rattle.std.proofs.Common.{◌≡◌, ℕ, Bool, true, false, List, [], ◌∷◌, ◌++◌, take, Option, Result, Ok, Err, sym, subst}
+use Rattle.std.proofs.Common.{ℕ, Bool, true, false, List, [], ◌∷◌, ◌++◌, take, Result, Ok, Err, sym, subst}
 use Rattle.std.specs.List.{flat_map}
 use Rattle.mp_base.specs.declared.number.Guid.{Guid}
 use Rattle.bank_core.specs.declared.bank.Fault.{Fault}
 use Rattle.bank_core.specs.Asks.{Ask, Reads, Writes, Flushes, Admits, Ejects, ask_of, asks_of}
 use Rattle.bank_core.specs.Disk.{Call, Read, Write, Flush, Admit, Eject, Noted}
 use Rattle.label_store.specs.Identities.{AreMisses, IsSearch, rings_of}
-use Rattle.label_store.specs.Layout.{labels_of, ring_slots}
+use Rattle.label_store.specs.Layout.{labels_of}
 use Rattle.label_store.specs.Newest.{Parts, label_asks, IsLook, IsRead, AreReads}
 use Rattle.config_codec.specs.declared.config.LeafConfig.{LeafConfig}
 use Rattle.config_codec.specs.Fields.{Fields}

@@ -1,5 +1,5 @@
 -- The names of leaves, one after another.
-use Rattle.std.proofs.Common.{◌≡◌, ℕ, suc, ◌+◌, ◌<◌, List, [], ◌∷◌, ◌++◌, Option, Some, None, length, drop, get_or, refl, sym, ◌∙◌, ap, drop-cons, append_assoc, option_map, add-one}
+use Rattle.std.proofs.Common.{◌≡◌, ℕ, ◌+◌, ◌<◌, List, [], ◌∷◌, ◌++◌, Option, Some, None, length, drop, get_or, refl, sym, ◌∙◌, ap, drop-cons, append_assoc, option_map, add-one}
 use Rattle.mp_base.specs.declared.refusal.LeafSeen.{LeafSeen}
 use Rattle.pool_wire.specs.declared.reply.NamedLeaf.{NamedLeaf}
 use Rattle.pool_core.specs.Naming.{leaf_of}

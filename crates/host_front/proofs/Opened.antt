@@ -1,10 +1,9 @@
 -- Openings, against the abstract machine.
 use Rattle.std.proofs.lemmas.Bool.{le-leb, lt-leb}
-use Rattle.std.proofs.Common.{◌≡◌, ◌≢◌, ℕ, zero, suc, ◌+◌, ◌*◌, Bool, true, false, List, [], ◌∷◌, ◌++◌, length, ◌<◌, ◌≤◌, arith, Option, Some, None, Result, Ok, Err, refl, sym, ◌∙◌, ap, subst, inl, inr, ◌⊎◌, append-nil}
+use Rattle.std.proofs.Common.{◌≡◌, ℕ, zero, suc, ◌+◌, ◌*◌, Bool, true, false, List, [], ◌++◌, length, ◌<◌, ◌≤◌, arith, Option, Some, None, Result, Ok, Err, refl, sym, ap, subst, inl, inr, ◌⊎◌, append-nil}
 use Rattle.mp_base.specs.declared.number.Group.{Group}
 use Rattle.mp_base.specs.declared.refusal.Refusal.{Refusal}
 use Rattle.mp_base.specs.declared.refusal.Refusal.TheVariants as refusals
-use Rattle.bank_core.specs.Calls.{Made}
 use Rattle.bank_core.specs.Disk.{Noted}
 use Rattle.bank_core.specs.Story.{Story}
 use Rattle.bank_core.proofs.Composing.{made_none, made_more}
@@ -25,7 +24,7 @@ use Rattle.pool_core.specs.Opening.{IsIdentified, found_state, recommitted}
 use Rattle.pool_core.specs.State.{PoolState, is_spent, last_number}
 use Rattle.pool_core.specs.Syncing.{flush_plan}
 use Rattle.host_machine.specs.Devices.{all_handed}
-use Rattle.host_machine.specs.Machine.{HostState, IsImport, OpensIf as MachineOpens, OpensUnless, OpensBest, commit_outcome, open_seats, open_state, IsAnswered, WantsMemory, Clashes}
+use Rattle.host_machine.specs.Machine.{HostState, OpensIf as MachineOpens, OpensUnless, OpensBest, commit_outcome, open_seats, open_state, IsAnswered, WantsMemory, Clashes}
 use Rattle.host_machine.specs.Records.{committed_in}
 use Rattle.host_front.specs.declared.host.Host.{Host}
 use Rattle.host_front.specs.Importing.{AreTwoRooms, OpensFound, OpensThere}

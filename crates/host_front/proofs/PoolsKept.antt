@@ -1,5 +1,5 @@
 -- A run keeps each pool, by the law of the machine's runs.
-use Rattle.std.proofs.Common.{◌≡◌, ℕ, List, Option, Some, subst, sym, ap, ◌∙◌}
+use Rattle.std.proofs.Common.{◌≡◌, ℕ, List, Option, Some, subst, sym, ◌∙◌}
 use Rattle.bank_core.specs.Calls.{AllCaused}
 use Rattle.bank_core.specs.Disk.{Noted, Sectors, AllAnswer}
 use Rattle.bank_core.specs.Story.{Story, Continues, now}

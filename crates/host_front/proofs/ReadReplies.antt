@@ -1,5 +1,5 @@
 -- Reads, as replies.
-use Rattle.std.proofs.Common.{◌≡◌, ℕ, List, Option, Ok, Err, Result, inl, inr, ◌⊎◌, refl, sym, ap, subst, ◌∷◌, []}
+use Rattle.std.proofs.Common.{◌≡◌, ℕ, List, Option, Ok, Err, Result, inl, inr, ◌⊎◌, refl, sym, subst}
 use Rattle.mp_base.specs.declared.refusal.Refusal.{Refusal}
 use Rattle.mp_base.specs.declared.refusal.Refusal.TheVariants as refusals
 use Rattle.bank_core.specs.Disk.{Noted}
@@ -11,7 +11,7 @@ use Rattle.pool_core.specs.Clash.{ClashesWith}
 use Rattle.pool_core.specs.Done.{IsRead, Reads}
 use Rattle.pool_core.specs.Keeping.{Represents, leaves_of}
 use Rattle.pool_core.specs.Reading.{wanted}
-use Rattle.pool_core.specs.State.{LeafState, PoolState, leaves}
+use Rattle.pool_core.specs.State.{PoolState, leaves}
 use Rattle.host_machine.specs.Machine.{read_reply}
 use Rattle.host_front.specs.Replying.{IsReadRefused, Replies}
 

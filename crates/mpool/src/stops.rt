@@ -84,9 +84,12 @@ fn an_import_that_is_stopped_changes_no_block(rt: HostRuntime) -> Result<(), Fai
     let script = b"create tank 16 mirror a b\nwrite tank 0 01\nsync tank\n";
     replies(&rt, alloc, &mut bank, script)?;
     let reopened = b"import tank\nread tank 0\n";
-    for k in [12, 17] {
+    // a's uberblock isn't flushed yet, and then it is
+    for made in [11, 16] {
         for choice in [ImageChoice::New, ImageChoice::Mixed(2)] {
-            let mut left = bank.after_crash(alloc, CREATE_CALLS + k - 1, choice)?;
+            let stopped = CREATE_CALLS + made;
+            assert!(rt; stopped <= bank.place());
+            let mut left = bank.after_crash(alloc, stopped, choice)?;
             let first = replies(&rt, alloc, &mut left, b"import tank\n")?;
             let (before, behind) = match first.as_str() {
                 "ok 2\n" => ("ok 2\nok -\n", "ok 3\nok -\n"),
@@ -99,10 +102,16 @@ fn an_import_that_is_stopped_changes_no_block(rt: HostRuntime) -> Result<(), Fai
                 let mut again = left.after_crash(alloc, moment, choice)?;
                 let text = replies(&rt, alloc, &mut again, reopened)?;
                 if text.as_str() == before {
-                    assert!(rt; moment < OPENING_READS + 2 + 11, "at {moment} the old record is read");
+                    assert!(rt;
+                        moment < OPENING_READS + 2 + 11,
+                        "at {moment} the old record is read"
+                    );
                 } else {
                     assert_eq!(rt; text.as_str(), behind);
-                    assert!(rt; moment > OPENING_READS + 2 + 6, "at {moment} the new record is read");
+                    assert!(rt;
+                        moment > OPENING_READS + 2 + 6,
+                        "at {moment} the new record is read"
+                    );
                 }
             }
         }
@@ -119,7 +128,9 @@ write tank 0 04\nwrite tank 5 04\nsync tank\nread tank 5\n\
 write tank 0 05\nwrite tank 5 05\nsync tank\n";
 
 #[test]
-fn a_script_that_is_stopped_anywhere_keeps_what_was_acknowledged(rt: HostRuntime) -> Result<(), Fail> {
+fn a_script_that_is_stopped_anywhere_keeps_what_was_acknowledged(
+    rt: HostRuntime,
+) -> Result<(), Fail> {
     let alloc = rt.alloc();
     let mut bank = small_bank(alloc)?;
     let text = replies(&rt, alloc, &mut bank, LONG_SCRIPT)?;
@@ -132,7 +143,12 @@ fn a_script_that_is_stopped_anywhere_keeps_what_was_acknowledged(rt: HostRuntime
         let within = (moment - CREATE_CALLS) % (SYNC_CALLS + 1);
         let choice = CHOICES[(moment % 6) as usize];
         let mut left = bank.after_crash(alloc, moment, choice)?;
-        let text = replies(&rt, alloc, &mut left, b"import tank\nread tank 0\nread tank 5\n")?;
+        let text = replies(
+            &rt,
+            alloc,
+            &mut left,
+            b"import tank\nread tank 0\nread tank 5\n",
+        )?;
         let old = state_of(alloc, done)?;
         let new = state_of(alloc, done + 1)?;
         // the first flush of the second phase ends with call 17
@@ -159,8 +175,12 @@ fn state_of(alloc: Global, syncs: u64) -> Result<String, Fail> {
 fn an_opening_without_a_member_or_a_record_is_refused(rt: HostRuntime) -> Result<(), Fail> {
     let alloc = rt.alloc();
     let mut bank = small_bank(alloc)?;
-    let script = b"import tank\nread tank 0\ncreate tank 16 mirror a b\nimport tank\nimport pond\nsync pond\n";
+    let script =
+        b"import tank\nread tank 0\ncreate tank 16 mirror a b\nimport tank\nimport pond\nsync pond\n";
     let text = replies(&rt, alloc, &mut bank, script)?;
-    assert_eq!(rt; text.as_str(), "no 21 norecord\nno 2 pool\nok 1\nno 40 notbuilt\nno 21 norecord\nno 2 pool\n");
+    assert_eq!(rt;
+        text.as_str(),
+        "no 21 norecord\nno 2 pool\nok 1\nno 40 notbuilt\nno 21 norecord\nno 2 pool\n"
+    );
     Ok(())
 }
