@@ -4,6 +4,7 @@ pub mod Beginning
 pub mod CommitsAway
 pub mod Committing
 pub mod Creating
+pub mod Cutting
 pub mod EachLine
 pub mod Ending
 pub mod Finding
