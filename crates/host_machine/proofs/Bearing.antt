@@ -19,7 +19,7 @@ use Rattle.host_machine.specs.Records.{with_record}
 use Rattle.host_machine.specs.Tracking.{Follows}
 use Rattle.host_machine.proofs.Beginning.{IsNew, made_survives, made_tracks, made_ready}
 use Rattle.host_machine.proofs.Committing.{commit_follows, outcome_table, outcome_size}
-use Rattle.host_machine.proofs.RoundMarks.{marks_looked}
+use Rattle.host_machine.proofs.RoundMarks.{marks_open_none, marks_looked}
 use Rattle.host_machine.proofs.HostSeats.{member_number, member_room}
 use Rattle.host_machine.proofs.NewStates.{HasNewSeats, new_seats_found, seats_apart, some_blocks, top_room, made_valid}
 use Rattle.host_machine.proofs.Standings.{closed}
@@ -54,18 +54,19 @@ same_closed h e = ap (λ p. record { table = h.table; size = h.size; records = h
 module _ (h : HostState) (s : PoolState) (new : IsNew h s) (no_pool : h.pool ≡ None) (sectors : Sectors) where
   -- the first record's round
   round_follows : (stamps rest : List Noted) (failed : Option LeafState) → FirstRound h.size s rest failed
-      → Follows (new_pool h.size s (run stamps sectors)) (closed h) (λ d. ⊥) rest (create_outcome h s failed).0
+      → Follows (new_pool h.size s (run stamps sectors)) (closed h) (λ cost. ⊥) rest (create_outcome h s failed).0
   round_follows stamps rest failed (results, is_round, is) =
       let commits = commit_follows (new_pool h.size s (run stamps sectors)) h [] s rest (failures results)
       (record { before = []; round = rest; all = refl; outcome = None; part = refl; behind = (results, is_round, refl) }) in
       let long : length results ≡ 2 = phase_long (third_plan h.size (commit_of s)) (members_of s) is_round.in_second results is_round.third is_round.copies in
-      subst (Follows (new_pool h.size s (run stamps sectors)) (closed h) (λ d. ⊥) rest)
+      subst (Follows (new_pool h.size s (run stamps sectors)) (closed h) (λ cost. ⊥) rest)
       (sym (ap (λ f. (create_outcome h s f).0) is ∙ same_outcome h s results no_pool long)) (record {
         vs = commits.vs;
         calls = commits.calls;
         one_run = commits.one_run;
         devices = (outcome_table h s (failures results), outcome_size h s (failures results));
         looked = marks_looked (closed h) [] commits.vs commits.marks;
+        asked = inl (marks_open_none commits.vs commits.marks);
         keeps = λ d is. inl (ap (λ f. f d) commits.member ∙ is);
         safe = λ tracks twins sv good. commits.safe (made_ready h s new (run stamps sectors)) sv;
       })

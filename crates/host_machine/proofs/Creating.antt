@@ -10,14 +10,14 @@ use Rattle.pool_core.specs.State.{LeafState, PoolState}
 use Rattle.host_machine.specs.declared.device.HostDevice.{HostDevice}
 use Rattle.host_machine.specs.Machine.{HostState, Quietly, is_bad_size, new_seats, new_state, create_outcome, CreatesOn, CreatesUnless, IsCreate}
 use Rattle.host_machine.specs.Devices.{member_of}
-use Rattle.host_machine.specs.Tracking.{Follows}
+use Rattle.host_machine.specs.Tracking.{Cost, Device, Follows}
 use Rattle.host_machine.proofs.CommitsAway.{making_away}
 use Rattle.host_machine.proofs.NewStates.{new_seats_found}
 use Rattle.host_machine.proofs.Standings.{drawn_stays}
 use Rattle.host_machine.proofs.Following.{IsOn, without, first_lost, second_lost, reads_follow, taken_follow}
 
 -- A line that makes no call and leaves the host as it was.
-pub quiet_follows : (T : ℕ → Type 0) (p : Pool) (h : HostState) (made : List Noted) (next : HostState) (reply said : Reply) → Quietly made (h, said) next reply → Follows p h T made next
+pub quiet_follows : (T : Cost → Type 0) (p : Pool) (h : HostState) (made : List Noted) (next : HostState) (reply said : Reply) → Quietly made (h, said) next reply → Follows p h T made next
 quiet_follows T p h made next reply said q = reads_follow T p h made next (subst AreReads (sym q.0) tt) (ap (λ x. x.0) q.1)
 
 closed_by : (table : List HostDevice) (size : ℕ → ℕ) (records : List Rec) (pool : Option PoolState) (blocks : ℕ) (first other : List ℕ) (seats : ℕ × ℕ)
@@ -32,8 +32,8 @@ create_closed h blocks first other seats e = closed_by h.table h.size h.records 
 on_none : (a b : ℕ) (pool : Option PoolState) → pool ≡ None → IsOn a b pool
 on_none a b pool e = subst (IsOn a b) (sym e) tt
 
-made_follows : (T : ℕ → Type 0) (p : Pool) (h : HostState) (s : PoolState) (made : List Noted) (failed : Option LeafState) (next : HostState) (reply : Reply)
-    → ((d : ℕ) → (d ≡ s.first.dev) ⊎ (d ≡ s.second.dev) → T d) → h.pool ≡ None → AreMade h.size s made failed → (next, reply) ≡ create_outcome h s failed → Follows p h T made next
+made_follows : (T : Cost → Type 0) (p : Pool) (h : HostState) (s : PoolState) (made : List Noted) (failed : Option LeafState) (next : HostState) (reply : Reply)
+    → ((d : ℕ) → (d ≡ s.first.dev) ⊎ (d ≡ s.second.dev) → T (Device d)) → h.pool ≡ None → AreMade h.size s made failed → (next, reply) ≡ create_outcome h s failed → Follows p h T made next
 made_follows T p h s made None next reply takes closed m e =
     subst (Follows p h T made) (sym (ap (λ x. x.0) e))
     (taken_follow T p h s.first.dev s.second.dev made _ takes
@@ -45,21 +45,21 @@ made_follows T p h s made (Some leaf) next reply takes closed m e =
     (making_away (without p s.first.dev s.second.dev).member h.size s made (Some leaf) (first_lost p s.first.dev s.second.dev) (second_lost p s.first.dev s.second.dev) m)
     refl refl (drawn_stays s h.records) (on_none s.first.dev s.second.dev h.pool closed))
 
-on_follows : (T : ℕ → Type 0) (p : Pool) (h : HostState) (second : ℕ) (name : List ℕ) (blocks : ℕ) (first other : List ℕ) (seats : Option (ℕ × ℕ)) (made : List Noted) (next : HostState) (reply : Reply)
-    → ((d : ℕ) → (member_of first h.table ≡ Some d) ⊎ (member_of other h.table ≡ Some d) → T d) → new_seats h blocks first other ≡ seats → CreatesOn h second name blocks first other seats made next reply → Follows p h T made next
+on_follows : (T : Cost → Type 0) (p : Pool) (h : HostState) (second : ℕ) (name : List ℕ) (blocks : ℕ) (first other : List ℕ) (seats : Option (ℕ × ℕ)) (made : List Noted) (next : HostState) (reply : Reply)
+    → ((d : ℕ) → (member_of first h.table ≡ Some d) ⊎ (member_of other h.table ≡ Some d) → T (Device d)) → new_seats h blocks first other ≡ seats → CreatesOn h second name blocks first other seats made next reply → Follows p h T made next
 on_follows T p h second name blocks first other None made next reply takes e c = quiet_follows T p h made next reply _ c
 on_follows T p h second name blocks first other (Some seats) made next reply takes e c =
     let has = new_seats_found h blocks first other seats e in
     made_follows T p h (new_state h second name blocks first other seats) made c.0 next reply
     (λ d. ⊎_elim {A = d ≡ seats.0} {B = d ≡ seats.1} (λ is. takes d (inl (has.one ∙ ap Some (sym is)))) (λ is. takes d (inr (has.two ∙ ap Some (sym is))))) (create_closed h blocks first other seats e) c.1 c.2
 
-unless_follows : (T : ℕ → Type 0) (p : Pool) (h : HostState) (second : ℕ) (name : List ℕ) (blocks : ℕ) (first other : List ℕ) (bad : Bool) (made : List Noted) (next : HostState) (reply : Reply)
-    → ((d : ℕ) → (member_of first h.table ≡ Some d) ⊎ (member_of other h.table ≡ Some d) → T d) → CreatesUnless bad h second name blocks first other made next reply → Follows p h T made next
+unless_follows : (T : Cost → Type 0) (p : Pool) (h : HostState) (second : ℕ) (name : List ℕ) (blocks : ℕ) (first other : List ℕ) (bad : Bool) (made : List Noted) (next : HostState) (reply : Reply)
+    → ((d : ℕ) → (member_of first h.table ≡ Some d) ⊎ (member_of other h.table ≡ Some d) → T (Device d)) → CreatesUnless bad h second name blocks first other made next reply → Follows p h T made next
 unless_follows T p h second name blocks first other true made next reply takes c = quiet_follows T p h made next reply _ c
 unless_follows T p h second name blocks first other false made next reply takes c =
     on_follows T p h second name blocks first other (new_seats h blocks first other) made next reply takes refl c
 
-pub create_follows : (T : ℕ → Type 0) (p : Pool) (h : HostState) (second : ℕ) (name : List ℕ) (blocks : ℕ) (first other : List ℕ) (made : List Noted) (next : HostState) (reply : Reply)
-    → ((d : ℕ) → (member_of first h.table ≡ Some d) ⊎ (member_of other h.table ≡ Some d) → T d) → IsCreate h second name blocks first other made next reply → Follows p h T made next
+pub create_follows : (T : Cost → Type 0) (p : Pool) (h : HostState) (second : ℕ) (name : List ℕ) (blocks : ℕ) (first other : List ℕ) (made : List Noted) (next : HostState) (reply : Reply)
+    → ((d : ℕ) → (member_of first h.table ≡ Some d) ⊎ (member_of other h.table ≡ Some d) → T (Device d)) → IsCreate h second name blocks first other made next reply → Follows p h T made next
 create_follows T p h second name blocks first other made next reply takes c =
     unless_follows T p h second name blocks first other (is_bad_size blocks) made next reply takes c

@@ -14,7 +14,7 @@ use Rattle.host_machine.specs.Devices.{number_in}
 use Rattle.host_machine.specs.Fitness.{IsFit}
 use Rattle.host_machine.specs.Machine.{HostState, started}
 use Rattle.host_machine.specs.Records.{IsDrawn}
-use Rattle.host_machine.specs.Tracking.{Tracks, Follows, HasNoTwins}
+use Rattle.host_machine.specs.Tracking.{Cost, Tracks, Follows, HasNoTwins}
 
 acked_drawn : (live rest given : List Rec) (q r : Rec) → live ≡ q ∷ rest → IsIn r (live ++ given) → IsIn r (q ∷ (rest_of live ++ given))
 acked_drawn live rest given q r e is = subst (λ l. IsIn r (q ∷ (rest_of l ++ given))) (sym e) (subst (λ l. IsIn r (l ++ given)) e is)
@@ -85,7 +85,7 @@ known_cut p h vs next j q b mays table size s t is_q draws_q = record {
 }
 
 -- The two laws of a stop within a line.
-pub line_cut : (T : ℕ → Type 0) (p : Pool) (h : HostState) (made : List Noted) (next : HostState) (f : Follows p h T made next) → IsFit h → Tracks p h → HasNoTwins next.records
+pub line_cut : (T : Cost → Type 0) (p : Pool) (h : HostState) (made : List Noted) (next : HostState) (f : Follows p h T made next) → IsFit h → Tracks p h → HasNoTwins next.records
     → Survives head_of p → AreGood head_of p f.vs → (q : Rec) → IsIn q (drawn p) → 1 ≤ number_of q → (j : ℕ)
     → Tracks (pool_after (take j f.vs) p) (started next.table next.size next.records)
 line_cut T p h made next f fit tracks twins sv good q is some j =

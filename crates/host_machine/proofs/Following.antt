@@ -12,8 +12,8 @@ use Rattle.pool_core.specs.Heads.{head_of}
 use Rattle.pool_core.specs.State.{LeafState, PoolState}
 use Rattle.host_machine.specs.Devices.{number_in}
 use Rattle.host_machine.specs.Machine.{HostState}
-use Rattle.host_machine.specs.Tracking.{IsOpenAs, StandsIn, Tracks, Follows}
-use Rattle.host_machine.proofs.RoundMarks.{calls_marked, marks_looked}
+use Rattle.host_machine.specs.Tracking.{Cost, Device, IsOpenAs, StandsIn, Tracks, Follows}
+use Rattle.host_machine.proofs.RoundMarks.{calls_open_none, calls_marked, marks_looked}
 use Rattle.host_machine.proofs.Away.{AreAway, away_may, reads_away}
 
 -- an open pool is so behind calls
@@ -51,13 +51,14 @@ tracks_calls p h made t = record {
 }
 
 -- A line that makes reads alone and leaves the host as it was.
-pub reads_follow : (T : ℕ → Type 0) (p : Pool) (h : HostState) (made : List Noted) (next : HostState) → AreReads made → next ≡ h → Follows p h T made next
+pub reads_follow : (T : Cost → Type 0) (p : Pool) (h : HostState) (made : List Noted) (next : HostState) → AreReads made → next ≡ h → Follows p h T made next
 reads_follow T p h made next reads same = record {
   vs = as_events made;
   calls = calls_are made;
   one_run = calls_never_stop made;
   devices = (ap (λ (n : HostState). n.table) same, ap (λ (n : HostState). n.size) same);
   looked = marks_looked h [] (as_events made) (calls_marked made);
+  asked = inl (calls_open_none made);
   keeps = λ d is. inl (ap (λ (q : Pool). q.member d) (calls_after made p) ∙ is);
   safe = λ t twins sv good. (
     away_may head_of made p (reads_away p.member made reads),
@@ -99,16 +100,16 @@ stands_without p a b made first second (Some s) on = inr (record {
 })
 
 -- Each other device stays a member.
-lost_or : (T : ℕ → Type 0) (a b d : ℕ) (f : ℕ → Bool) → ((e : ℕ) → (e ≡ a) ⊎ (e ≡ b) → T e) → f d ≡ true → (at_device b false (at_device a false f) d ≡ true) ⊎ T d
+lost_or : (T : Cost → Type 0) (a b d : ℕ) (f : ℕ → Bool) → ((e : ℕ) → (e ≡ a) ⊎ (e ≡ b) → T (Device e)) → f d ≡ true → (at_device b false (at_device a false f) d ≡ true) ⊎ T (Device d)
 lost_or T a b d f takes is = by_tests (a == d) (b == d) refl refl
   where
-    by_tests : (t u : Bool) → (a == d) ≡ t → (b == d) ≡ u → (cond u false (cond t false (f d)) ≡ true) ⊎ T d
+    by_tests : (t u : Bool) → (a == d) ≡ t → (b == d) ≡ u → (cond u false (cond t false (f d)) ≡ true) ⊎ T (Device d)
     by_tests true u one two = inr (takes d (inl (sym (eqb-true a d one))))
     by_tests false true one two = inr (takes d (inr (sym (eqb-true b d two))))
     by_tests false false one two = inl is
 
 -- A line that takes two devices for another pool, and puts something on no others.
-pub taken_follow : (T : ℕ → Type 0) (p : Pool) (h : HostState) (a b : ℕ) (made : List Noted) (next : HostState) → ((d : ℕ) → (d ≡ a) ⊎ (d ≡ b) → T d) → AreAway (without p a b).member made
+pub taken_follow : (T : Cost → Type 0) (p : Pool) (h : HostState) (a b : ℕ) (made : List Noted) (next : HostState) → ((d : ℕ) → (d ≡ a) ⊎ (d ≡ b) → T (Device d)) → AreAway (without p a b).member made
     → next.table ≡ h.table → next.size ≡ h.size → ((r : Rec) → IsIn r h.records → IsIn r next.records) → IsOn a b next.pool → Follows p h T made next
 taken_follow T p h a b made next takes away table size kept on = record {
   vs = Loses a ∷ Loses b ∷ as_events made;
@@ -116,7 +117,8 @@ taken_follow T p h a b made next takes away table size kept on = record {
   one_run = calls_never_stop made;
   devices = (table, size);
   looked = marks_looked h [] (as_events made) (calls_marked made);
-  keeps = λ d is. ⊎_elim {A = at_device b false (at_device a false p.member) d ≡ true} {B = T d}
+  asked = inl (calls_open_none made);
+  keeps = λ d is. ⊎_elim {A = at_device b false (at_device a false p.member) d ≡ true} {B = T (Device d)}
       (λ still. inl (ap (λ (q : Pool). q.member d) (calls_after made (without p a b)) ∙ still)) (λ taken. inr taken) (lost_or T a b d p.member takes is);
   safe = λ t twins sv good. (
     (tt, (tt, away_may head_of made (without p a b) away)),

@@ -28,7 +28,7 @@ use Rattle.pool_core.specs.Syncing.{flush_plan}
 use Rattle.host_machine.specs.Devices.{all_handed}
 use Rattle.host_machine.specs.Fitness.{IsFit}
 use Rattle.host_machine.specs.Machine.{HostState, commit_outcome, open_state, IsImport}
-use Rattle.host_machine.specs.Tracking.{AreLooked, OpensAnother, Tracks, HasNoTwins, Follows}
+use Rattle.host_machine.specs.Tracking.{Cost, Device, Opening, AreLooked, OpensAnother, Tracks, HasNoTwins, Follows}
 use Rattle.host_machine.proofs.Away.{AreAway, away_more, away_may, reads_away, identified_reads, not_both}
 use Rattle.host_machine.proofs.Committing.{CommitFollows, commit_follows, outcome_table, outcome_size, outcome_records}
 use Rattle.host_machine.proofs.CommitsAway.{commit_away, flushes_away}
@@ -90,9 +90,9 @@ outcome_on : (h : HostState) (t : PoolState) (failed : ℕ) → IsOn t.first.dev
 outcome_on h t zero = (refl, refl)
 outcome_on h t (suc n) = tt
 
-module _ (T : ℕ → Type 0) (p : Pool) (h : HostState) (name : List ℕ) (reads : List Noted) (looks : List Parts) (made : List Noted) (next : HostState) (reply : Reply)
+module _ (T : Cost → Type 0) (p : Pool) (h : HostState) (name : List ℕ) (reads : List Noted) (looks : List Parts) (made : List Noted) (next : HostState) (reply : Reply)
     (fit : IsFit h) (look : IsLook h.size (all_handed h.table) looks reads) (answers : AllAnswer p.sectors reads)
-    (o : IsOpening h name looks made next reply) (takes : (d : ℕ) → OpensAnother p.name h name (reads ++ made) d → T d) where
+    (o : IsOpening h name looks made next reply) (takes : (d : ℕ) → OpensAnother p.name h name (reads ++ made) d → T (Device d)) (opens : name ≡ p.name → T Opening) where
   -- the state that was found, and the one that is committed
   abbrev found_here : PoolState
   found_here = open_state h o.found.blob.items o.c o.seats
@@ -114,7 +114,7 @@ module _ (T : ℕ → Type 0) (p : Pool) (h : HostState) (name : List ℕ) (read
       (commit_away member h.size (flush_plan found_here) found_again o.round o.failed one other (flushes_away member found_here) o.commit))
 
   -- each of its devices is taken
-  other_takes : name ≢ p.name → (d : ℕ) → (d ≡ o.seats.0) ⊎ (d ≡ o.seats.1) → T d
+  other_takes : name ≢ p.name → (d : ℕ) → (d ≡ o.seats.0) ⊎ (d ≡ o.seats.1) → T (Device d)
   other_takes other d which =
       let has = seats_found h o.c o.seats o.seats_are in
       takes d (record {
@@ -188,12 +188,13 @@ module _ (T : ℕ → Type 0) (p : Pool) (h : HostState) (name : List ℕ) (read
           subst (λ q. Tracks q (commit_outcome h found_again o.failed).0) (sym (calls_then reads (Looks here ∷ Opens r ∷ rest) p ∙ calls_then o.ids commits.vs opened)) safe.1,
         )
 
-    own_follows : Follows p h T (reads ++ (o.ids ++ o.round)) (commit_outcome h found_again o.failed).0
-    own_follows = record {
+    own_follows : name ≡ p.name → Follows p h T (reads ++ (o.ids ++ o.round)) (commit_outcome h found_again o.failed).0
+    own_follows same = record {
       vs = all_events;
       calls = all_calls;
       one_run = one_run;
       devices = (outcome_table h found_again o.failed, outcome_size h found_again o.failed);
+      asked = inr (opens same);
       looked = looked_mark (Opens r ∷ rest) (marks_looked h reads rest (marks_more (as_events o.ids) commits.vs (calls_marked o.ids) commits.marks));
       keeps = λ d is. inl (ap (λ (q : Pool). q.member d) (calls_then reads (Looks here ∷ Opens r ∷ rest) p ∙ calls_then o.ids commits.vs opened) ∙ ap (λ f. f d) commits.member ∙ is);
       safe = λ tracks twins sv good. moves tracks (twins_before h.records (commit_outcome h found_again o.failed).0.records (outcome_kept h found_again o.failed) twins) sv;
@@ -207,6 +208,7 @@ module _ (T : ℕ → Type 0) (p : Pool) (h : HostState) (name : List ℕ) (read
         ∙ ap (λ l. reads ++ l) (calls_are (o.ids ++ o.round));
     one_run = stops_never_more (as_events reads) (Looks here ∷ as_events (o.ids ++ o.round)) (calls_never_stop reads) (calls_never_stop (o.ids ++ o.round));
     devices = (outcome_table h found_again o.failed, outcome_size h found_again o.failed);
+    asked = inr (opens same);
     looked = looked_mark (as_events (o.ids ++ o.round)) (marks_looked h reads (as_events (o.ids ++ o.round)) (calls_marked (o.ids ++ o.round)));
     keeps = λ d is. inl (ap (λ f. f d) (member_kept (as_events reads ++ Looks here ∷ as_events (o.ids ++ o.round)) p
         (takes_none_more (as_events reads) (Looks here ∷ as_events (o.ids ++ o.round)) (calls_take_none reads) (calls_take_none (o.ids ++ o.round)))) ∙ is);
@@ -217,7 +219,7 @@ module _ (T : ℕ → Type 0) (p : Pool) (h : HostState) (name : List ℕ) (read
   }
 
   by_search : name ≡ p.name → Hit o.found.blob.items p.live ⊎ Missed o.found.blob.items p.live → Follows p h T (reads ++ (o.ids ++ o.round)) (commit_outcome h found_again o.failed).0
-  by_search same (inl hit) = own_follows hit.r hit.is_in hit.one
+  by_search same (inl hit) = own_follows hit.r hit.is_in hit.one same
   by_search same (inr missed) = none_follows same missed
 
   by_name : (t : Bool) → bytes_eq name p.name ≡ t → Follows p h T (reads ++ (o.ids ++ o.round)) (commit_outcome h found_again o.failed).0
@@ -230,13 +232,13 @@ module _ (T : ℕ → Type 0) (p : Pool) (h : HostState) (name : List ℕ) (read
       (subst (Follows p h T (reads ++ (o.ids ++ o.round))) (sym (ap (λ x. x.0) o.outcome)) (by_name (bytes_eq name p.name) refl))
 
 -- An import follows each pool.
-pub import_follows : (T : ℕ → Type 0) (p : Pool) (h : HostState) (name : List ℕ) (made : List Noted) (next : HostState) (reply : Reply) → IsFit h → AllAnswer p.sectors made
-    → ((d : ℕ) → OpensAnother p.name h name made d → T d) → IsImport h name made next reply → Follows p h T made next
-import_follows T p h name made next reply fit answers takes i =
+pub import_follows : (T : Cost → Type 0) (p : Pool) (h : HostState) (name : List ℕ) (made : List Noted) (next : HostState) (reply : Reply) → IsFit h → AllAnswer p.sectors made
+    → ((d : ℕ) → OpensAnother p.name h name made d → T (Device d)) → (name ≡ p.name → T Opening) → IsImport h name made next reply → Follows p h T made next
+import_follows T p h name made next reply fit answers takes opens i =
     subst (λ m. Follows p h T m next) (sym i.all) (by_case (opening_case h name i.looks next reply i.best i.more i.is_best i.opens))
   where
     by_case : IsUnopened h name i.looks i.more next reply ⊎ IsOpening h name i.looks i.more next reply → Follows p h T (i.reads ++ i.more) next
     by_case (inl u) = reads_follow T p h (i.reads ++ i.more) next (are_reads_more i.reads i.more (look_reads h.size (all_handed h.table) i.looks i.reads i.look) u.reads) u.same
     by_case (inr o) =
         opening_follows T p h name i.reads i.looks i.more next reply fit i.look (answer_first i.reads i.more p.sectors (subst (AllAnswer p.sectors) i.all answers)) o
-        (λ d taken. takes d (subst (λ m. OpensAnother p.name h name m d) (sym i.all) taken))
+        (λ d taken. takes d (subst (λ m. OpensAnother p.name h name m d) (sym i.all) taken)) opens

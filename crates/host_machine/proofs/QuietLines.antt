@@ -15,7 +15,7 @@ use Rattle.pool_core.specs.Outside.{Trouble}
 use Rattle.pool_core.specs.Reading.{Source, Memory, Hole, Copies, source_of, source_at, block_from, asks_to, asks_from}
 use Rattle.pool_core.specs.State.{LeafState, Known, PoolState, leaves, written, data_start}
 use Rattle.host_machine.specs.Machine.{HostState, named_pool, with_pool, refused, Quietly, write_answer, read_line_asks, read_line_answer}
-use Rattle.host_machine.specs.Tracking.{IsOpenAs, IsElsewhere, is_ours, StandsIn, Tracks, Follows}
+use Rattle.host_machine.specs.Tracking.{Cost, IsOpenAs, IsElsewhere, is_ours, StandsIn, Tracks, Follows}
 use Rattle.host_machine.proofs.Creating.{quiet_follows}
 use Rattle.host_machine.proofs.Following.{reads_follow}
 use Rattle.host_machine.proofs.Standings.{tracks_move}
@@ -45,7 +45,7 @@ pub answer_host : (h : HostState) (pool : Option PoolState) (a : ℕ) (outside :
 answer_host h None a outside given = refl
 answer_host h (Some s) a outside given = refl
 
-pub read_follows : (T : ℕ → Type 0) (p : Pool) (h next : HostState) (pool : Option PoolState) (a : ℕ) (outside : List (Option Trouble)) (given : List ℕ) (made : List Noted) (reply : Reply)
+pub read_follows : (T : Cost → Type 0) (p : Pool) (h next : HostState) (pool : Option PoolState) (a : ℕ) (outside : List (Option Trouble)) (given : List ℕ) (made : List Noted) (reply : Reply)
     → asks_of made ≡ read_line_asks pool a outside → (next, reply) ≡ read_line_answer h pool a outside given → Follows p h T made next
 read_follows T p h next pool a outside given made reply asks is =
     reads_follow T p h made next (are_reads made (subst AreReadAsks (sym asks) (line_reads pool a outside))) (ap (λ x. x.0) is ∙ answer_host h pool a outside given)
@@ -109,13 +109,14 @@ not_ours p s off = record { first = first_off (p.member s.first.dev) (p.member s
     second_off true b e = absurd (let no : true ≡ false = e in cc)
     second_off false b e = e
 
-accept_follows : (T : ℕ → Type 0) (p : Pool) (h : HostState) (s : PoolState) (a : ℕ) (block : List ℕ) (ours : Bool) → is_ours p s ≡ ours → h.pool ≡ Some s → Follows p h T [] (with_pool h (written s a block))
+accept_follows : (T : Cost → Type 0) (p : Pool) (h : HostState) (s : PoolState) (a : ℕ) (block : List ℕ) (ours : Bool) → is_ours p s ≡ ours → h.pool ≡ Some s → Follows p h T [] (with_pool h (written s a block))
 accept_follows T p h s a block true ours is = record {
   vs = Accepts a block ∷ [];
   calls = refl;
   one_run = tt;
   devices = (refl, refl);
   looked = tt;
+  asked = inl tt;
   keeps = λ d is. inl is;
   safe = λ tr twins sv good.
       let opened = ours_open p tr.first tr.second s ours (subst (StandsIn p tr.first tr.second) is tr.stands) in
@@ -127,6 +128,7 @@ accept_follows T p h s a block false off is = record {
   one_run = tt;
   devices = (refl, refl);
   looked = tt;
+  asked = inl tt;
   keeps = λ d is. inl is;
   safe = λ tr twins sv good.
       let elsewhere = not_ours p s off in
@@ -140,17 +142,17 @@ same_pool h s is = ap (λ pool. record h { pool = pool }) (sym is)
 abbrev pub put_if : Bool → PoolState → ℕ → List ℕ → Refusal → PoolState × Result (Unit {0}) Refusal
 put_if b s a block fault = if b then (written s a block, Ok tt) else (s, Err fault)
 
-put_follows : (T : ℕ → Type 0) (p : Pool) (h : HostState) (s : PoolState) (a : ℕ) (block : List ℕ) (b : Bool) (fault : Refusal) → h.pool ≡ Some s → Follows p h T [] (with_pool h (put_if b s a block fault).0)
+put_follows : (T : Cost → Type 0) (p : Pool) (h : HostState) (s : PoolState) (a : ℕ) (block : List ℕ) (b : Bool) (fault : Refusal) → h.pool ≡ Some s → Follows p h T [] (with_pool h (put_if b s a block fault).0)
 put_follows T p h s a block true fault is = accept_follows T p h s a block (is_ours p s) refl is
 put_follows T p h s a block false fault is = reads_follow T p h [] (with_pool h s) tt (same_pool h s is)
 
-write_by : (T : ℕ → Type 0) (p : Pool) (h next : HostState) (pool : Option PoolState) (a : ℕ) (block : List ℕ) (made : List Noted) (reply : Reply)
+write_by : (T : Cost → Type 0) (p : Pool) (h next : HostState) (pool : Option PoolState) (a : ℕ) (block : List ℕ) (made : List Noted) (reply : Reply)
     → ((s : PoolState) → pool ≡ Some s → h.pool ≡ Some s) → Quietly made (write_answer h pool a block) next reply → Follows p h T made next
 write_by T p h next None a block made reply named quiet = quiet_follows T p h made next reply (refused h refusals.NoPool).1 quiet
 write_by T p h next (Some s) a block made reply named quiet =
     subst (λ calls. Follows p h T calls next) (sym quiet.0) (subst (Follows p h T []) (sym (ap (λ x. x.0) quiet.1))
     (put_follows T p h s a block (nat_lt a s.blocks) (refusals.BadAddress s.blocks) (named s refl)))
 
-pub write_follows : (T : ℕ → Type 0) (p : Pool) (h next : HostState) (name : List ℕ) (a : ℕ) (block : List ℕ) (made : List Noted) (reply : Reply)
+pub write_follows : (T : Cost → Type 0) (p : Pool) (h next : HostState) (name : List ℕ) (a : ℕ) (block : List ℕ) (made : List Noted) (reply : Reply)
     → Quietly made (write_answer h (named_pool name h.pool) a block) next reply → Follows p h T made next
 write_follows T p h next name a block made reply quiet = write_by T p h next (named_pool name h.pool) a block made reply (λ s e. named_is name h.pool s e) quiet

@@ -8,7 +8,7 @@ use Rattle.pool_history.specs.Records.{Rec}
 use Rattle.pool_history.specs.Rounds.{all_true, acks_if, IsRoundEvents}
 use Rattle.pool_history.proofs.Thirds.{AreTurns, thirds_turns}
 use Rattle.host_machine.specs.Machine.{HostState}
-use Rattle.host_machine.specs.Tracking.{AreLooked}
+use Rattle.host_machine.specs.Tracking.{OpensNone, AreLooked}
 
 abbrev pub AreRoundMarks : List Event → Type 0
 AreRoundMarks [] = Unit {0}
@@ -77,3 +77,34 @@ round_marks size q members results vs r =
     (marks_more (as_events r.second) (r.thirds ++ acks_if (all_true results) q) (calls_marked r.second)
     (marks_more r.thirds (acks_if (all_true results) q)
     (turns_marked r.thirds (thirds_turns (third_plan size q.commit) q members r.in_second results r.thirds r.copies)) (acks_marked (all_true results) q))))
+
+-- so none of them is asked for
+pub marks_open_none : (vs : List Event) → AreRoundMarks vs → OpensNone vs
+marks_open_none [] m = tt
+marks_open_none (Calls noted ∷ vs) m = marks_open_none vs m
+marks_open_none (Accepts a block ∷ vs) m = absurd m
+marks_open_none (Looks known ∷ vs) m = absurd m
+marks_open_none (Opens r ∷ vs) m = absurd m
+marks_open_none (Begins q ∷ vs) m = marks_open_none vs m
+marks_open_none (Third q d ∷ vs) m = marks_open_none vs m
+marks_open_none (Ends q d ∷ vs) m = marks_open_none vs m
+marks_open_none (Acks q ∷ vs) m = marks_open_none vs m
+marks_open_none (Loses d ∷ vs) m = absurd m
+marks_open_none (Stops images ∷ vs) m = absurd m
+
+pub calls_open_none : (made : List Noted) → OpensNone (as_events made)
+calls_open_none [] = tt
+calls_open_none (noted ∷ made) = calls_open_none made
+
+pub none_more : (first second : List Event) → OpensNone first → OpensNone second → OpensNone (first ++ second)
+none_more [] second a b = b
+none_more (Calls noted ∷ first) second a b = none_more first second a b
+none_more (Accepts x block ∷ first) second a b = none_more first second a b
+none_more (Looks known ∷ first) second a b = absurd a
+none_more (Opens r ∷ first) second a b = none_more first second a b
+none_more (Begins q ∷ first) second a b = none_more first second a b
+none_more (Third q d ∷ first) second a b = none_more first second a b
+none_more (Ends q d ∷ first) second a b = none_more first second a b
+none_more (Acks q ∷ first) second a b = none_more first second a b
+none_more (Loses d ∷ first) second a b = none_more first second a b
+none_more (Stops images ∷ first) second a b = none_more first second a b

@@ -27,9 +27,10 @@ use Rattle.host_machine.specs.Answering.{IsOpenIn, IsLost, HasClash, IsExcused}
 use Rattle.host_machine.specs.Devices.{all_handed, number_in}
 use Rattle.host_machine.specs.Fitness.{IsFit, IsWhole, AreWhole}
 use Rattle.host_machine.specs.Machine.{HostState, Entry, is_bad_size, new_seats, new_state, IsCreate, IsImport, Step, Replay, started, named_pool}
-use Rattle.host_machine.specs.Tracking.{Takes, Tracks, Follows, FindsPool, HasNoTwins, is_ours}
+use Rattle.host_machine.specs.Tracking.{Cost, Device, Opening, OpensNone, Takes, Tracks, Follows, FindsPool, HasNoTwins, is_ours}
 use Rattle.host_machine.proofs.Knowing.{twins_before}
 use Rattle.host_machine.proofs.LookMarks.{looked_then}
+use Rattle.host_machine.proofs.RoundMarks.{none_more}
 
 -- the laws of one line
 abbrev pub StaysFit : Type 0
@@ -74,28 +75,32 @@ records_grow keeps h [] calls next r replay is = subst (λ g. IsIn r g.records) 
 records_grow keeps h (entry ∷ entries) calls next r replay is =
     records_grow keeps replay.2 entries replay.1 next r replay.5 (keeps h entry replay.0 replay.2 r replay.4 is)
 
-no_calls : (T : ℕ → Type 0) (p : Pool) (h next : HostState) (calls : List Noted) → calls ≡ [] → next ≡ h → Follows p h T calls next
+no_calls : (T : Cost → Type 0) (p : Pool) (h next : HostState) (calls : List Noted) → calls ≡ [] → next ≡ h → Follows p h T calls next
 no_calls T p h next calls none same = record {
   vs = [];
   calls = sym none;
   one_run = tt;
   devices = (ap (λ (g : HostState). g.table) same, ap (λ (g : HostState). g.size) same);
   looked = tt;
+  asked = inl tt;
   keeps = λ d is. inl is;
   safe = λ tracks twins left good. (tt, subst (λ g. Tracks p g) (sym same) tracks);
 }
 
 -- One history goes on by the next.
-pub follows_more : (T : ℕ → Type 0) (p : Pool) (h between next : HostState) (made more : List Noted) → ((r : Rec) → IsIn r between.records → IsIn r next.records)
+pub follows_more : (T : Cost → Type 0) (p : Pool) (h between next : HostState) (made more : List Noted) → ((r : Rec) → IsIn r between.records → IsIn r next.records)
     → (one : Follows p h T made between) → Follows (pool_after one.vs p) between T more next → Follows p h T (made ++ more) next
 follows_more T p h between next made more grow one two = record {
   vs = one.vs ++ two.vs;
   calls = calls_more one.vs two.vs ∙ ap (λ cs. cs ++ calls_of two.vs) one.calls ∙ ap (λ cs. made ++ cs) two.calls;
   one_run = stops_never_more one.vs two.vs one.one_run two.one_run;
   devices = (two.devices.0 ∙ one.devices.0, two.devices.1 ∙ one.devices.1);
+  asked = ⊎_elim {A = OpensNone one.vs} {B = T Opening}
+      (λ none. ⊎_elim {A = OpensNone two.vs} {B = T Opening} (λ either. inl (none_more one.vs two.vs none either)) (λ asks. inr asks) two.asked)
+      (λ asks. inr asks) one.asked;
   looked = looked_then h between one.vs two.vs one.devices.1 one.devices.0 one.looked two.looked;
-  keeps = λ d is. ⊎_elim {A = (pool_after one.vs p).member d ≡ true} {B = T d}
-      (λ still. ⊎_elim {A = (pool_after two.vs (pool_after one.vs p)).member d ≡ true} {B = T d}
+  keeps = λ d is. ⊎_elim {A = (pool_after one.vs p).member d ≡ true} {B = T (Device d)}
+      (λ still. ⊎_elim {A = (pool_after two.vs (pool_after one.vs p)).member d ≡ true} {B = T (Device d)}
       (λ yet. inl (ap (λ (q : Pool). q.member d) (pool_more one.vs two.vs p) ∙ yet)) (λ taken. inr taken) (two.keeps d still))
       (λ taken. inr taken) (one.keeps d is);
   safe = λ tracks twins left good.
@@ -105,20 +110,21 @@ follows_more T p h between next made more grow one two = record {
 }
 
 -- what is taken may be said to be more
-pub widen : (S T : ℕ → Type 0) (p : Pool) (h next : HostState) (made : List Noted) → ((d : ℕ) → S d → T d) → Follows p h S made next → Follows p h T made next
+pub widen : (S T : Cost → Type 0) (p : Pool) (h next : HostState) (made : List Noted) → ((cost : Cost) → S cost → T cost) → Follows p h S made next → Follows p h T made next
 widen S T p h next made more f = record {
   vs = f.vs;
   calls = f.calls;
   one_run = f.one_run;
   devices = f.devices;
   looked = f.looked;
-  keeps = λ d is. ⊎_elim {A = (pool_after f.vs p).member d ≡ true} {B = S d} (λ still. inl still) (λ taken. inr (more d taken)) (f.keeps d is);
+  asked = ⊎_elim {A = OpensNone f.vs} {B = S Opening} (λ none. inl none) (λ asks. inr (more Opening asks)) f.asked;
+  keeps = λ d is. ⊎_elim {A = (pool_after f.vs p).member d ≡ true} {B = S (Device d)} (λ still. inl still) (λ taken. inr (more (Device d) taken)) (f.keeps d is);
   safe = f.safe;
 }
 
 -- the pool's name is the same behind its events
-pub replay_follows : StaysFit → Keeps → FollowsLine → (T : ℕ → Type 0) (name : List ℕ) (p : Pool) (h : HostState) (entries : List Entry) (calls : List Noted) (next : HostState)
-    (replay : Replay h entries calls next) → ((d : ℕ) → TakesIn name h entries calls next replay d → T d) → p.name ≡ name
+pub replay_follows : StaysFit → Keeps → FollowsLine → (T : Cost → Type 0) (name : List ℕ) (p : Pool) (h : HostState) (entries : List Entry) (calls : List Noted) (next : HostState)
+    (replay : Replay h entries calls next) → ((cost : Cost) → TakesIn name h entries calls next replay cost → T cost) → p.name ≡ name
     → AreWhole entries → IsFit h → AllAnswer p.sectors calls → Follows p h T calls next
 replay_follows stays keeps line T name p h [] calls next replay takes named whole fit answers = no_calls T p h next calls replay.0 replay.1
 replay_follows stays keeps line T name p h (entry ∷ entries) calls next replay takes named whole fit answers =
@@ -276,8 +282,8 @@ meets_pool laws h sectors entries calls next whole fit answers replay first past
       },
     )
 
-pub goes_on : StaysFit → Keeps → FollowsLine → (T : ℕ → Type 0) (p : Pool) (old h : HostState) (made : List Noted) (entries : List Entry) (calls : List Noted) (next : HostState)
-    (replay : Replay h entries calls next) → ((d : ℕ) → TakesIn p.name h entries calls next replay d → T d)
+pub goes_on : StaysFit → Keeps → FollowsLine → (T : Cost → Type 0) (p : Pool) (old h : HostState) (made : List Noted) (entries : List Entry) (calls : List Noted) (next : HostState)
+    (replay : Replay h entries calls next) → ((cost : Cost) → TakesIn p.name h entries calls next replay cost → T cost)
     → AreWhole entries → IsFit h → Follows p old T made h → AllAnswer (run made p.sectors) calls → Follows p old T (made ++ calls) next
 goes_on stays keeps line T p old h made entries calls next replay takes whole fit one answers =
     let behind = run_sectors one.vs p one.one_run ∙ ap (λ cs. run cs p.sectors) one.calls in

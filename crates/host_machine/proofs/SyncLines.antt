@@ -22,14 +22,14 @@ use Rattle.pool_core.specs.Syncing.{writes_to, writes_at, flush_plan, sync_plan,
 use Rattle.host_machine.specs.Fitness.{IsFitPool, PoolIsFit, IsFit}
 use Rattle.host_machine.specs.Machine.{HostState, named_pool, refused, commit_outcome, SyncsUnless, IsSync}
 use Rattle.host_machine.specs.Records.{cell_with, cell_of, is_known_version}
-use Rattle.host_machine.specs.Tracking.{IsOpenAs, is_ours, StandsIn, Tracks, Follows}
+use Rattle.host_machine.specs.Tracking.{Cost, IsOpenAs, is_ours, StandsIn, Tracks, Follows}
 use Rattle.host_machine.proofs.Away.{AreAsksAway, asks_away_more, away_may}
 use Rattle.host_machine.proofs.CommitsAway.{commit_away, flushes_away}
 use Rattle.host_machine.proofs.Creating.{quiet_follows}
 use Rattle.host_machine.proofs.Committing.{IsReady, commit_follows, outcome_table, outcome_size, outcome_records}
 use Rattle.host_machine.proofs.Knowing.{cells_back, known_back}
 use Rattle.host_machine.proofs.NextStates.{fit_settled, synced_fit}
-use Rattle.host_machine.proofs.RoundMarks.{calls_marked, marks_looked}
+use Rattle.host_machine.proofs.RoundMarks.{marks_open_none, calls_open_none, calls_marked, marks_looked}
 use Rattle.host_machine.proofs.QuietLines.{ours_open, not_ours, named_is}
 use Rattle.host_machine.proofs.Settling.{same_some}
 use Rattle.host_machine.proofs.Standings.{tracks_move, drawn_stays, tracks_closed}
@@ -132,7 +132,7 @@ sync_away member s one two =
     asks_away_more member (flat_map (writes_at s) (addresses s.blocks)) (flush_plan s) (all_away member s (addresses s.blocks) one two) (flushes_away member s)
 
 -- A commit of a pool on other devices leaves this one as it stands.
-pub commit_elsewhere : (T : ℕ → Type 0) (p : Pool) (h : HostState) (plan : List Ask) (t : PoolState) (made : List Noted) (failed : ℕ)
+pub commit_elsewhere : (T : Cost → Type 0) (p : Pool) (h : HostState) (plan : List Ask) (t : PoolState) (made : List Noted) (failed : ℕ)
     → p.member t.first.dev ≡ false → p.member t.second.dev ≡ false → AreAsksAway p.member plan → IsCommit h.size plan t made failed → Follows p h T made (commit_outcome h t failed).0
 commit_elsewhere T p h plan t made failed one two away c = record {
   vs = as_events made;
@@ -140,6 +140,7 @@ commit_elsewhere T p h plan t made failed one two away c = record {
   one_run = calls_never_stop made;
   devices = (outcome_table h t failed, outcome_size h t failed);
   looked = marks_looked h [] (as_events made) (calls_marked made);
+  asked = inl (calls_open_none made);
   keeps = λ d is. inl (ap (λ (q : Pool). q.member d) (calls_after made p) ∙ is);
   safe = λ tr twins sv good. (
     away_may head_of made p (commit_away p.member h.size plan t made failed one two away c),
@@ -152,7 +153,7 @@ commit_elsewhere T p h plan t made failed one two away c = record {
 
 -- The line.
 
-synced_follows : (T : ℕ → Type 0) (p : Pool) (h : HostState) (s : PoolState) (made : List Noted) (failed : ℕ) (ours : Bool) → is_ours p s ≡ ours → h.pool ≡ Some s → IsFitPool h.size s → is_spent s.number ≡ false
+synced_follows : (T : Cost → Type 0) (p : Pool) (h : HostState) (s : PoolState) (made : List Noted) (failed : ℕ) (ours : Bool) → is_ours p s ≡ ours → h.pool ≡ Some s → IsFitPool h.size s → is_spent s.number ≡ false
     → IsCommit h.size (sync_plan s) (synced s) made failed → Follows p h T made (commit_outcome h (synced s) failed).0
 synced_follows T p h s made failed true ours is fit open_numbers c =
     let follows = commit_follows p h (sync_plan s) (synced s) made failed c in
@@ -162,6 +163,7 @@ synced_follows T p h s made failed true ours is fit open_numbers c =
       one_run = follows.one_run;
       devices = (outcome_table h (synced s) failed, outcome_size h (synced s) failed);
       looked = marks_looked h [] follows.vs follows.marks;
+      asked = inl (marks_open_none follows.vs follows.marks);
       keeps = λ d is. inl (ap (λ f. f d) follows.member ∙ is);
       safe = λ tr twins sv good.
           let opened = ours_open p tr.first tr.second s ours (subst (StandsIn p tr.first tr.second) is tr.stands) in
@@ -171,17 +173,17 @@ synced_follows T p h s made failed false off is fit open_numbers c =
     let elsewhere = not_ours p s off in
     commit_elsewhere T p h (sync_plan s) (synced s) made failed elsewhere.first elsewhere.second (sync_away p.member s elsewhere.first elsewhere.second) c
 
-sync_by : (T : ℕ → Type 0) (p : Pool) (h next : HostState) (s : PoolState) (spent : Bool) (made : List Noted) (reply : Reply) → IsFit h → h.pool ≡ Some s → is_spent s.number ≡ spent
+sync_by : (T : Cost → Type 0) (p : Pool) (h next : HostState) (s : PoolState) (spent : Bool) (made : List Noted) (reply : Reply) → IsFit h → h.pool ≡ Some s → is_spent s.number ≡ spent
     → SyncsUnless spent h s made next reply → Follows p h T made next
 sync_by T p h next s true made reply fit is spent quiet = quiet_follows T p h made next reply (refused h (refusals.TreeFull last_number (s.number + 1))).1 quiet
 sync_by T p h next s false made reply fit is spent (failed, c, e) =
     subst (Follows p h T made) (sym (ap (λ x. x.0) e))
     (synced_follows T p h s made failed (is_ours p s) refl is (subst (PoolIsFit h.size) is fit.pool) spent c)
 
-sync_named : (T : ℕ → Type 0) (p : Pool) (h next : HostState) (pool : Option PoolState) (made : List Noted) (reply : Reply) → IsFit h → ((s : PoolState) → pool ≡ Some s → h.pool ≡ Some s)
+sync_named : (T : Cost → Type 0) (p : Pool) (h next : HostState) (pool : Option PoolState) (made : List Noted) (reply : Reply) → IsFit h → ((s : PoolState) → pool ≡ Some s → h.pool ≡ Some s)
     → IsSync h pool made next reply → Follows p h T made next
 sync_named T p h next None made reply fit named quiet = quiet_follows T p h made next reply (refused h refusals.NoPool).1 quiet
 sync_named T p h next (Some s) made reply fit named syncs = sync_by T p h next s (is_spent s.number) made reply fit (named s refl) refl syncs
 
-pub sync_follows : (T : ℕ → Type 0) (p : Pool) (h next : HostState) (name : List ℕ) (made : List Noted) (reply : Reply) → IsFit h → IsSync h (named_pool name h.pool) made next reply → Follows p h T made next
+pub sync_follows : (T : Cost → Type 0) (p : Pool) (h next : HostState) (name : List ℕ) (made : List Noted) (reply : Reply) → IsFit h → IsSync h (named_pool name h.pool) made next reply → Follows p h T made next
 sync_follows T p h next name made reply fit syncs = sync_named T p h next (named_pool name h.pool) made reply fit (λ s e. named_is name h.pool s e) syncs

@@ -26,7 +26,7 @@ pub record IsBorn (size : ℕ → ℕ) (s : PoolState) (sectors : Sectors) (made
   pub survives : Survives head_of (new_pool size s (run stamps sectors))
   pub between : HostState
   pub tracks : Tracks (new_pool size s (run stamps sectors)) between
-  pub follows : Follows (new_pool size s (run stamps sectors)) between (λ d. ⊥) rest next
+  pub follows : Follows (new_pool size s (run stamps sectors)) between (λ cost. ⊥) rest next
 
 -- the stamp of a leaf, up to the first call that failed
 abbrev pub IsStamp : (size : ℕ → ℕ) → PoolState → LeafState → List Noted → Option Fault → Type 0

@@ -19,18 +19,18 @@ use Rattle.host_machine.specs.Answering.{IsLost, HasClash, IsExcused, SomeRose, 
 use Rattle.host_machine.specs.Births.{IsBorn, StampFails, LeavesPool, LeavesThroughout, new_pool}
 use Rattle.host_machine.specs.Devices.{all_handed}
 use Rattle.host_machine.specs.Machine.{HostState, Entry, is_bad_size, new_seats, new_state, IsCreate, IsImport, Step, Replay, named_pool}
-use Rattle.host_machine.specs.Tracking.{Takes, Tracks, Follows, FindsPool, HasNoTwins, is_ours}
+use Rattle.host_machine.specs.Tracking.{Cost, Takes, Tracks, Follows, FindsPool, HasNoTwins, is_ours}
 
--- a line of a run takes this device from the pool of this name
-abbrev pub TakesIn : (own : List ℕ) (h : HostState) (entries : List Entry) (calls : List Noted) (next : HostState) → Replay h entries calls next → (d : ℕ) → Type 0
-TakesIn own h [] calls next replay d = ⊥
-TakesIn own h (entry ∷ entries) calls next replay d = Takes own h entry.asked replay.0 d ⊎ TakesIn own replay.2 entries replay.1 next replay.5 d
+-- what the lines of a run cost the pool of this name
+abbrev pub TakesIn : (own : List ℕ) (h : HostState) (entries : List Entry) (calls : List Noted) (next : HostState) → Replay h entries calls next → Cost → Type 0
+TakesIn own h [] calls next replay cost = ⊥
+TakesIn own h (entry ∷ entries) calls next replay cost = Takes own h entry.asked replay.0 cost ⊎ TakesIn own replay.2 entries replay.1 next replay.5 cost
 
 -- What a run's calls do to a pool that its devices have left: they are moves of its history, which stands
 -- in the host behind them; it loses no device but one that a line takes; and at each moment of the run the
 -- devices are left by the history so far. It is so where no two blocks of the records have one sum, and where
 -- the premises hold at each opening.
-pub record KeepsPool (first : Pool) (past : List Event) (h : HostState) (sectors : Sectors) (IsTaken : ℕ → Type 0) (calls : List Noted) (next : HostState) : Type 0 where
+pub record KeepsPool (first : Pool) (past : List Event) (h : HostState) (sectors : Sectors) (IsTaken : Cost → Type 0) (calls : List Noted) (next : HostState) : Type 0 where
   pub follows : Follows (pool_after past first) h IsTaken calls next
   pub leaves : HasNoTwins next.records → AreGood head_of (pool_after past first) follows.vs → LeavesThroughout first past sectors follows.vs calls
   pub tracks : HasNoTwins next.records → AreGood head_of (pool_after past first) follows.vs → Tracks (pool_after follows.vs (pool_after past first)) next

@@ -86,15 +86,30 @@ pub record OpensAnother (own : List ℕ) (h : HostState) (name : List ℕ) (made
   pub config : config_in found.blob.items ≡ Some c
   pub leaf : (seat_of c.first.name c.sectors h.table ≡ Some d) ⊎ (seat_of c.second.name c.sectors h.table ≡ Some d)
 
--- The line takes this device from the pool of this name: a new pool is made on it, or another one opened.
-abbrev pub Takes : (own : List ℕ) → HostState → Option Request → List Noted → (d : ℕ) → Type 0
-Takes own h None made d = ⊥
-Takes own h (Some requests.Nothing) made d = ⊥
-Takes own h (Some (requests.Create pool blocks first second)) made d = (member_of first h.table ≡ Some d) ⊎ (member_of second h.table ≡ Some d)
-Takes own h (Some (requests.Import pool)) made d = OpensAnother own h pool made d
-Takes own h (Some (requests.Write pool a block)) made d = ⊥
-Takes own h (Some (requests.Read pool a)) made d = ⊥
-Takes own h (Some (requests.Sync pool)) made d = ⊥
+-- What a line may cost a pool: one of its devices, or that the premises of an opening are asked for.
+pub data Cost : Type 0 where
+  Device : (d : ℕ) → Cost
+  Opening : Cost
+
+-- a create takes its two devices
+abbrev pub CreateTakes : (first second : List ℕ) → HostState → Cost → Type 0
+CreateTakes first second h (Device d) = (member_of first h.table ≡ Some d) ⊎ (member_of second h.table ≡ Some d)
+CreateTakes first second h Opening = ⊥
+
+-- an opening asks for the premises of its own pool, and takes the devices of its leaves from each other
+abbrev pub ImportTakes : (own : List ℕ) → HostState → (name : List ℕ) → List Noted → Cost → Type 0
+ImportTakes own h name made (Device d) = OpensAnother own h name made d
+ImportTakes own h name made Opening = name ≡ own
+
+-- what a line costs the pool of this name
+abbrev pub Takes : (own : List ℕ) → HostState → Option Request → List Noted → Cost → Type 0
+Takes own h None made cost = ⊥
+Takes own h (Some requests.Nothing) made cost = ⊥
+Takes own h (Some (requests.Create pool blocks first second)) made cost = CreateTakes first second h cost
+Takes own h (Some (requests.Import pool)) made cost = ImportTakes own h pool made cost
+Takes own h (Some (requests.Write pool a block)) made cost = ⊥
+Takes own h (Some (requests.Read pool a)) made cost = ⊥
+Takes own h (Some (requests.Sync pool)) made cost = ⊥
 
 -- These calls end in a look at the labels of all devices that are handed, and this is what was found.
 pub record IsLooked (h : HostState) (calls : List Noted) (known : ℕ → ℕ → Option (List ℕ)) : Type 0 where
@@ -119,17 +134,33 @@ AreLooked h calls (Acks q ∷ vs) = AreLooked h calls vs
 AreLooked h calls (Loses d ∷ vs) = AreLooked h calls vs
 AreLooked h calls (Stops images ∷ vs) = AreLooked h calls vs
 
+-- no opening is among these events
+abbrev pub OpensNone : List Event → Type 0
+OpensNone [] = Unit {0}
+OpensNone (Calls noted ∷ vs) = OpensNone vs
+OpensNone (Accepts a block ∷ vs) = OpensNone vs
+OpensNone (Looks known ∷ vs) = ⊥
+OpensNone (Opens r ∷ vs) = OpensNone vs
+OpensNone (Begins q ∷ vs) = OpensNone vs
+OpensNone (Third q d ∷ vs) = OpensNone vs
+OpensNone (Ends q d ∷ vs) = OpensNone vs
+OpensNone (Acks q ∷ vs) = OpensNone vs
+OpensNone (Loses d ∷ vs) = OpensNone vs
+OpensNone (Stops images ∷ vs) = OpensNone vs
+
 -- These calls led the machine from one host to the next. They are those of a history of the pool without a
 -- stop. Its events exist whatever the pool is; it loses no device but one that was taken; and premises are
--- asked for only where the calls looked at all labels, and of what they found. Where the pool stood in the
--- old host, the events are moves that it may make, and it stands in the new host as they leave it.
-pub record Follows (p : Pool) (h : HostState) (IsTaken : ℕ → Type 0) (made : List Noted) (next : HostState) : Type 0 where
+-- asked for only where an opening of it was asked, where the calls looked at all labels, and of what they found.
+-- Where the pool stood in the old host, the events are moves that it may make, and it stands in the new host as
+-- they leave it.
+pub record Follows (p : Pool) (h : HostState) (IsTaken : Cost → Type 0) (made : List Noted) (next : HostState) : Type 0 where
   pub vs : List Event
   pub calls : calls_of vs ≡ made
   pub one_run : IsOneRun vs
   pub devices : (next.table ≡ h.table) × (next.size ≡ h.size)
   pub looked : AreLooked h [] vs
-  pub keeps : (d : ℕ) → p.member d ≡ true → ((pool_after vs p).member d ≡ true) ⊎ IsTaken d
+  pub asked : OpensNone vs ⊎ IsTaken Opening
+  pub keeps : (d : ℕ) → p.member d ≡ true → ((pool_after vs p).member d ≡ true) ⊎ IsTaken (Device d)
   pub safe : Tracks p h → HasNoTwins next.records → Survives head_of p → AreGood head_of p vs → Mays head_of p vs × Tracks (pool_after vs p) next
 
 -- The reply to an opening of the pool: never that there is no record; and where it opened, the record that

@@ -27,7 +27,7 @@ pub fn runs_keep_each_pool()
     ensures entry { (h : HostState) (before : List Entry) (entry : Entry) (after : List Entry) (calls : List Noted) (next : HostState)
         → Replay h (before ++ entry ∷ after) calls next → IsEntryOf h before entry after calls next }
     ensures goes_on { (p : Pool) (old h : HostState) (made : List Noted) (entries : List Entry) (calls : List Noted) (next : HostState)
-        (replay : Replay h entries calls next) → AreWhole entries → IsFit h → Follows p old (λ d. ⊥) made h → AllAnswer (run made p.sectors) calls
+        (replay : Replay h entries calls next) → AreWhole entries → IsFit h → Follows p old (λ cost. ⊥) made h → AllAnswer (run made p.sectors) calls
         → Follows p old (TakesIn p.name h entries calls next replay) (made ++ calls) next }
 {
     hosts_stay_fit();

@@ -20,6 +20,6 @@ pub fn stops_may_come_within_a_line()
     ensures line { (p : Pool) (h : HostState) (entry : Entry) (made : List Noted) (next : HostState) (f : Follows p h (Takes p.name h entry.asked made) made next) → IsFit h
         → Tracks p h → HasNoTwins next.records → Survives head_of p → AreGood head_of p f.vs → (q : Rec) → IsIn q (drawn p) → 1 ≤ number_of q → (j : ℕ)
         → Tracks (pool_after (take j f.vs) p) (started next.table next.size next.records) }
-    ensures born { (p : Pool) (h : HostState) (made : List Noted) (next : HostState) (f : Follows p h (λ d. ⊥) made next) → Tracks p h → HasNoTwins next.records
+    ensures born { (p : Pool) (h : HostState) (made : List Noted) (next : HostState) (f : Follows p h (λ cost. ⊥) made next) → Tracks p h → HasNoTwins next.records
         → Survives head_of p → AreGood head_of p f.vs → (j : ℕ) → Tracks (pool_after (take j f.vs) p) (started next.table next.size next.records) }
 {}
