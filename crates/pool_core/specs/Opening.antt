@@ -1,39 +1,18 @@
 -- An opening: the state of the record that was found, which is committed again under the next number.
-use Rattle.std.specs.Prelude.{◌≡◌, ◌≢◌, ℕ, ◌+◌, ◌<◌, Bool, true, false, List, [], ◌∷◌, ◌++◌, length, Option, Some, None, Result, Ok, slice_get, cond}
+use Rattle.std.specs.Prelude.{◌≡◌, ◌≢◌, ℕ, ◌+◌, ◌<◌, Bool, true, false, List, [], ◌++◌, length, Option, Some, None, Result, Ok, slice_get}
 use Rattle.std.specs.Option.{option_map}
-use Rattle.std.specs.Str.{bytes_eq}
 use Rattle.bank_core.specs.declared.bank.Fault.{Fault}
 use Rattle.bank_core.specs.Disk.{Noted}
 use Rattle.label_store.specs.Identities.{IsSearch}
 use Rattle.config_codec.specs.declared.config.Pointer.{Pointer}
 use Rattle.config_codec.specs.declared.config.LeafConfig.{LeafConfig}
 use Rattle.config_codec.specs.Fields.{Fields}
-use Rattle.config_codec.specs.Reading.{config_in}
 use Rattle.pool_core.specs.Recorded.{pointer_of}
 use Rattle.pool_core.specs.State.{LeafState, Known, Summed, Version, PoolState}
-
--- A record that this history drew up: its configuration, and what it commits.
-pub record Draft : Type 0 where
-  pub config : List ℕ
-  pub committed : ℕ → Option Version
 
 -- what a pointer says of a block, apart from the block
 abbrev pub version_of : Pointer → Version
 version_of p = record { birth = p.birth.0; sector = p.sector; content = Summed p.sum }
-
-abbrev pub slot_at : Option (Option Pointer) → Option Version
-slot_at None = None
-slot_at (Some None) = None
-slot_at (Some (Some p)) = Some (version_of p)
-
--- what a record commits, where its configuration is all that is known of it
-abbrev pub unknown : Fields → ℕ → Option Version
-unknown c a = slot_at (slice_get c.pointers a)
-
--- what the record of this configuration commits: as this history drew it up, where it did
-abbrev pub drafted : List Draft → List ℕ → Fields → ℕ → Option Version
-drafted [] config c = unknown c
-drafted (draft ∷ drafts) config c = cond (bytes_eq draft.config config) draft.committed (drafted drafts config c)
 
 abbrev pub leaf_on : LeafConfig → ℕ → LeafState
 leaf_on leaf dev = record { member = leaf.member; name = leaf.name; dev = dev }
@@ -77,8 +56,3 @@ IsIdentified size c first second made found = (one : List Noted) × (more : List
 pub record IsCommitted (c : Fields) (committed : ℕ → Option Version) : Type 0 where
   pub pointers : (a : ℕ) → a < c.blocks → slice_get c.pointers a ≡ Some (option_map pointer_of (committed a))
   pub whole : (a : ℕ) (version : Version) (block : List ℕ) → committed a ≡ Some version → version.content ≡ Known block → length block ≡ 4096
-
--- each draft is one of a configuration
-abbrev pub AreDrafts : List Draft → Type 0
-AreDrafts [] = Unit {0}
-AreDrafts (draft ∷ drafts) = ((c : Fields) × (config_in draft.config ≡ Some c) × IsCommitted c draft.committed) × AreDrafts drafts
