@@ -1,31 +1,14 @@
-//! The devices of a host that no file describes: in memory, and empty when the program starts.
-ghost use Rattle.std.specs.Prelude.{◌≡◌, ℕ, ◌<◌, IfOk, map};
-ghost use Rattle.bank_core.specs.MemBank.{bank_names, bank_size, bank_calls};
-ghost use Rattle.host_front.specs.FixedHost.{host_devices};
-
-use bank_core::MemBank;
-use host_front::{HOST_DEVICES, host_device};
-use mp_base::{MemFault, Name, NameFault};
+//! The devices of a host that no file describes: the files of one folder.
+use bank_files::FileBank;
+use mp_base::MemFault;
 use std::alloc::Global;
+use std::fs::Files;
 
-/// How many sectors each device has.
-const DEVICE_SECTORS: u64 = 1000;
+/// The folder of the devices' files, below the one where the program runs.
+const FOLDER: &str = "dev";
 
-/// A bank of the host's devices.
-pub fn host_bank(alloc: Global) -> Result<MemBank, MemFault>
-    ensures names { IfOk result (λ bank. bank_names bank ≡ map (λ named. named.0) host_devices) }
-    ensures sizes { IfOk result (λ bank. (d : ℕ) → d < 7 → bank_size bank d ≡ DEVICE_SECTORS) }
-    ensures early { IfOk result (λ bank. bank_calls bank ≡ 0) }
-{
-    let mut bank = MemBank::new(alloc);
-    for i in 0..HOST_DEVICES {
-        let (word, _) = host_device(i);
-        let name = match Name::new(alloc, word) {
-            Ok(name) => name,
-            Err(NameFault::Memory) => return Err(MemFault),
-            Err(NameFault::Bad) => unreachable!(),
-        };
-        bank.add(name, DEVICE_SECTORS)?;
-    }
-    Ok(bank)
+/// A bank of the devices in the folder, none of which was looked up yet.
+pub fn host_bank<R: Files>(rt: &R, alloc: Global) -> Result<FileBank<'_, R>, MemFault> {
+    let folder = format!(in alloc; "{FOLDER}")?;
+    FileBank::new(rt, alloc, folder)
 }

@@ -28,7 +28,7 @@ fn serve(rt: &HostRuntime) -> Status {
         Ok(words) => words,
         Err(status) => return status,
     };
-    let Ok(mut bank) = devices::host_bank(rt.alloc()) else {
+    let Ok(mut bank) = devices::host_bank(rt, rt.alloc()) else {
         return Status::Memory;
     };
     let mut input = stdio::Input::new(rt.stdin());

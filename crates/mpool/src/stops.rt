@@ -19,7 +19,7 @@ const CHOICES: [ImageChoice; 6] = [
     ImageChoice::Mixed(5),
 ];
 
-fn name(alloc: Global, word: &[u8]) -> Result<Name, Fail> {
+pub(crate) fn name(alloc: Global, word: &[u8]) -> Result<Name, Fail> {
     Ok(Name::new(alloc, word).map_err(|_| "no name")?)
 }
 

@@ -1,5 +1,5 @@
-//! What scripts answer, over the devices of a host that no file describes.
-use crate::devices::host_bank;
+//! What scripts answer, over the devices of a host in memory.
+use crate::stops::name;
 use bank_core::{Damage, Fault, ImageChoice, MemBank};
 use host_front::{Status, run};
 use mp_base::{MemClock, MemSink, MemSource};
@@ -78,6 +78,19 @@ fn run_script(
 ) -> Result<Outcome, Fail> {
     let words = vec![in alloc; format!(in alloc; "script")?]?;
     run_words(rt, alloc, &words, bank, script, streams)
+}
+
+/// A bank in memory of the host's devices, of 1,000 sectors each.
+fn host_bank(alloc: Global) -> Result<MemBank, Fail> {
+    let mut bank = MemBank::new(alloc);
+    bank.add(name(alloc, b"a")?, 1000)?;
+    bank.add(name(alloc, b"b")?, 1000)?;
+    bank.add(name(alloc, b"c")?, 1000)?;
+    bank.add(name(alloc, b"d")?, 1000)?;
+    bank.add(name(alloc, b"n")?, 1000)?;
+    bank.add(name(alloc, b"s")?, 1000)?;
+    bank.add(name(alloc, b"t")?, 1000)?;
+    Ok(bank)
 }
 
 /// Runs a script over a new bank.
