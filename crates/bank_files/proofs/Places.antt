@@ -1,6 +1,6 @@
 -- The places of names, and the numbers of devices.
-use Rattle.std.proofs.Common.{◌+◌, ◌++◌, [], ◌∷◌, not, ◌≡◌, ◌≢◌, ℕ, ◌<◌, ◌≤◌, Bool, true, false, cond, ltb, eqb, List, length, Option, Some, None, refl, sym, ap, ◌∙◌, arith, subst}
-use Rattle.std.specs.Prelude.{position, nat_lt, slice_index}
+use Rattle.std.proofs.Common.{◌+◌, ◌++◌, [], ◌∷◌, not, ◌≡◌, ◌≢◌, ℕ, ◌<◌, ◌≤◌, Bool, true, false, cond, eqb, List, length, Option, Some, None, refl, sym, ap, ◌∙◌, arith, subst}
+use Rattle.std.specs.Prelude.{nat_lt, slice_index}
 use Rattle.std.specs.List.{position_or_len}
 use Rattle.std.specs.Str.{bytes_eq}
 use Rattle.std.proofs.lemmas.List.Folds.{position_or_len_push}

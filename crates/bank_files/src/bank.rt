@@ -10,6 +10,7 @@ use bank_core::{Bank, Fault, FindFault};
 use mp_base::{MemFault, Name};
 use std::alloc::Global;
 use std::fs::Files;
+use std::os::fd::AsRawFd;
 
 /// The most names that are asked for.
 const MOST_NAMES: usize = 64;
@@ -139,7 +140,10 @@ impl<'r, R: Files> FileBank<'r, R> {
     }
 }
 
-impl<'r, R: Files> Bank for FileBank<'r, R> {
+impl<'r, R: Files> Bank for FileBank<'r, R>
+where
+    R::File: AsRawFd,
+{
     ghost use Rattle.std.specs.Prelude.{None, slice_index};
     ghost use Rattle.bank_files.specs.Asked.{number_in};
 

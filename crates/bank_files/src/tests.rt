@@ -6,6 +6,7 @@ use std::alloc::{Allocator, Global};
 use std::fs;
 use std::fs::{File, Files, Metadata, OpenFile, OpenOptions};
 use std::io::{self, Read, Seek, SeekFrom, Write};
+use std::os::fd::{AsRawFd, RawFd};
 use std::os::unix::fs::symlink;
 use std::process::Abort;
 use std::rt::HostRuntime;
@@ -63,6 +64,12 @@ impl OpenFile for UnsyncedFile {
 
     fn sync_data(&self) -> io::Result<()> {
         Err(io::ErrorKind::Other.into())
+    }
+}
+
+impl AsRawFd for UnsyncedFile {
+    fn as_raw_fd(&self) -> RawFd {
+        self.file.as_raw_fd()
     }
 }
 

@@ -1,4 +1,4 @@
-use Rattle.std.proofs.Common.{rules, ap, ◌∙◌}
+use Rattle.std.proofs.Common.{ap, ◌∙◌}
 use Rattle.std.specs.Prelude.{slice_index}
 use Rattle.bank_files.specs.Asked.{place_in}
 use Rattle.bank_files.proofs.Places.{one_number, number_stays, other_place}
