@@ -1,8 +1,9 @@
 //! What scripts answer, over the devices of a host in memory.
+use crate::clock::SystemClock;
 use crate::stops::name;
 use bank_core::{Damage, Fault, ImageChoice, MemBank};
 use host_front::{Status, run};
-use mp_base::{MemClock, MemSink, MemSource};
+use mp_base::{Clock, MemClock, MemSink, MemSource};
 use std::alloc::Global;
 use std::process::Abort;
 use std::test::Fail;
@@ -212,6 +213,16 @@ fn a_line_may_have_16384_bytes(rt: HostRuntime) -> Result<(), Fail> {
         assert_eq!(rt; outcome.status, status);
         assert_eq!(rt; outcome.written.as_slice(), replies);
     }
+    Ok(())
+}
+
+#[test]
+fn the_clock_gives_the_seconds_of_the_system(rt: HostRuntime) -> Result<(), Fail> {
+    let mut clock = SystemClock::new(&rt);
+    let first = clock.now();
+    // behind the year 2024, which a clock that can't be read isn't
+    assert!(rt; first > 1_735_689_600);
+    assert!(rt; clock.now() >= first);
     Ok(())
 }
 
