@@ -13,6 +13,17 @@ pub enum Refusal {
     BadAddress {
         limit: u64,
     },
+    /// 6: no leaf of the pool has the name.
+    NoVdev,
+    /// 8: without the device this group could be read from no leaf of its top, and it is the least such group.
+    Required {
+        group: Group,
+    },
+    /// 10: the device needs so many sectors, and has fewer.
+    TooSmall {
+        need: u64,
+        has: u64,
+    },
     /// 15: no leaf of the top has the bytes of this key, each by what was seen of it.
     Exhausted {
         level: u32,
@@ -25,8 +36,12 @@ pub enum Refusal {
         top: Guid,
         faults: u64,
     },
-    /// 17: a call on this member's device failed while it was stamped or committed.
+    /// 17: a call on this member's device failed while it was stamped or committed, or its identity was looked for.
     DeviceFault {
+        member: Guid,
+    },
+    /// 18: every ring of this member's device was read, and none says that it is the member's.
+    WrongLabel {
         member: Guid,
     },
     /// 19: there was no memory.
