@@ -14,7 +14,7 @@ IsRun-at [] i d are inside = absurd (omega arith)
 IsRun-at (run ∷ runs) zero d are inside = are.0
 IsRun-at (run ∷ runs) (suc i) d are inside = IsRun-at runs i d are.2 (omega arith)
 
-or_nil : (a b : Bool) → (a || (b || false)) ≡ (a || b)
+pub or_nil : (a b : Bool) → (a || (b || false)) ≡ (a || b)
 or_nil true b = refl
 or_nil false true = refl
 or_nil false false = refl

@@ -17,7 +17,7 @@ IsRun-among r [] are among = absurd among
 IsRun-among r (x ∷ runs) are (inl e) = subst IsRun e are.0
 IsRun-among r (x ∷ runs) are (inr h) = IsRun-among r runs are.2 h
 
-apart_among : (q r : Run) (runs : List Run) → StandsApart q runs → IsAmong r runs → touches q r ≡ false
+pub apart_among : (q r : Run) (runs : List Run) → StandsApart q runs → IsAmong r runs → touches q r ≡ false
 apart_among q r [] apart among = absurd among
 apart_among q r (x ∷ runs) apart (inl e) = subst (λ s. touches q s ≡ false) e apart.0
 apart_among q r (x ∷ runs) apart (inr h) = apart_among q r runs apart.1 h

@@ -34,7 +34,7 @@ or_turn false true false = refl
 or_turn false false true = refl
 or_turn false false false = refl
 
-or_step : (a b c : Bool) → (a || (b || c)) ≡ ((a || b) || c)
+pub or_step : (a b c : Bool) → (a || (b || c)) ≡ ((a || b) || c)
 or_step true b c = refl
 or_step false b c = refl
 
@@ -47,7 +47,7 @@ in_placed-step true run r runs g is is_run is_r touching apart =
 in_placed-step false run r runs g is is_run is_r touching apart =
     ap (λ x. spans r g || x) apart ∙ or_step (spans r g) (in_runs runs g) (spans run g)
 
-or_false : (a : Bool) → (a || false) ≡ a
+pub or_false : (a : Bool) → (a || false) ≡ a
 or_false true = refl
 or_false false = refl
 

@@ -2,9 +2,12 @@
 #![tactic(auto)]
 
 mod choice;
+mod laws;
+mod ranges;
 mod run;
 mod set;
 #[cfg(test)]
 mod tests;
 
+pub use laws::ranges_are_exact;
 pub use set::GroupSet;

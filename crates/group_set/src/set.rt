@@ -3,10 +3,12 @@ ghost use Rattle.std.specs.Prelude.{◌≡◌, ℕ, ◌+◌, ◌-◌, ◌^◌, �
 ghost use Rattle.std.specs.List.{list_all};
 ghost use Rattle.group_set.specs.Runs.{between};
 ghost use Rattle.group_set.specs.Groups.{holds, run_count, SameGroups, begins, IsMaximalRun, CountsRuns, KeepsRoom, IsWidened};
+ghost use Rattle.group_set.specs.Ranges.{in_ranges, Rises, ranges_upto};
 
 use crate::choice::{first_from, hull, is_in, next_in};
+use crate::ranges::{ranges_of, runs_of};
 use crate::run::{Run, append, keep_within, place, place_all, push_common};
-use mp_base::{Group, MemFault};
+use mp_base::{Group, GroupRange, MemFault, Ranges};
 use std::alloc::Global;
 use std::marker::Model;
 
@@ -209,6 +211,27 @@ impl GroupSet {
             self.runs.clear();
             append(&mut self.runs, all);
         }
+    }
+
+    /// The groups as ranges, in rising order, as many as there are maximal runs.
+    pub fn to_ranges(&self, alloc: Global) -> Result<Ranges, MemFault>
+        ensures ranges { IfOk result (λ ranges. (n : ℕ) → ((g : ℕ) → holds self.now g ≡ true → g ≤ n) → ranges ≡ ranges_upto (holds self.now) n) }
+        ensures groups { IfOk result (λ ranges. (g : ℕ) → in_ranges ranges g ≡ holds self.now g) }
+        ensures rises { IfOk result (Rises 1 (2 ^ 62)) }
+        ensures count { IfOk result (λ ranges. length ranges ≡ run_count self.now) }
+    {
+        ranges_of(alloc, &self.runs)
+    }
+
+    /// The groups of these ranges, with room for no further run.
+    pub fn from_ranges(alloc: Global, ranges: &[GroupRange]) -> Result<GroupSet, MemFault>
+        requires { Rises 1 (2 ^ 62) ranges.now }
+        ensures groups { IfOk result (λ set. (g : ℕ) → holds set g ≡ in_ranges ranges.now g) }
+        ensures ranges { IfOk result (λ set. run_count set ≡ length ranges.now) }
+    {
+        Ok(GroupSet {
+            runs: runs_of(alloc, ranges)?,
+        })
     }
 
     /// The groups that all the sets have.

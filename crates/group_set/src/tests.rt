@@ -1,6 +1,8 @@
 //! Sets of groups against lists of their groups.
+ghost use Rattle.std.specs.Prelude.{◌≡◌};
+
 use crate::GroupSet;
-use mp_base::{Group, MemFault};
+use mp_base::{Group, GroupRange, MemFault};
 use std::alloc::Global;
 use std::test::Fail;
 
@@ -106,5 +108,40 @@ fn what_all_sets_have(rt: HostRuntime) -> Result<(), Fail> {
         same.assign(&all);
     }
     assert_eq!(rt; listed(alloc, &same)?.as_slice(), [4, 5, 9].as_slice());
+    Ok(())
+}
+
+fn range(low: u64, high: u64) -> GroupRange
+    ensures low { result.low.0 ≡ low }
+    ensures high { result.high.0 ≡ high }
+{
+    GroupRange {
+        low: Group(low),
+        high: Group(high),
+    }
+}
+
+#[test]
+fn a_set_is_written_down_as_ranges_and_read_back(rt: HostRuntime) -> Result<(), Fail> {
+    let alloc = rt.alloc();
+    let rows: [(&[(u64, u64)], &[GroupRange]); 5] = [
+        (&[], &[]),
+        (&[(7, 7)], &[range(7, 7)]),
+        (&[(9, 12), (1, 5)], &[range(1, 5), range(9, 12)]),
+        (&[(7, 8), (3, 4), (5, 5)], &[range(3, 5), range(7, 8)]),
+        (
+            &[(1 << 62, 1 << 62), (5, 6), (3, 4)],
+            &[range(3, 6), range(1 << 62, 1 << 62)],
+        ),
+    ];
+    for (runs, written) in rows {
+        let ranges = set_of(alloc, runs)?.to_ranges(alloc)?;
+        assert_eq!(rt; ranges.as_slice(), written);
+        let again = GroupSet::from_ranges(alloc, ranges.as_slice())?;
+        assert_eq!(rt; again.to_ranges(alloc)?.as_slice(), written);
+        assert_eq!(rt; again.ranges(), written.len());
+    }
+    let fresh = GroupSet::from_ranges(alloc, &[range(2, 4), range(6, 6)])?;
+    assert_eq!(rt; listed(alloc, &fresh)?.as_slice(), [2, 3, 4, 6].as_slice());
     Ok(())
 }
