@@ -1,4 +1,3 @@
-pub mod Lists
 pub mod Passing
 pub mod Sweeps
 pub mod Tops

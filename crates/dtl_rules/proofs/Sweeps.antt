@@ -24,10 +24,5 @@ all_more p vdevs i child inside at =
     ap (λ v. list_all p (flat_map leaves (take i vdevs)) && list_all p (leaves v)) at
     ∙ sym (ap (list_all p) (leaves_more vdevs i child inside) ∙ list_all-append p (flat_map leaves (take i vdevs)) (leaves (get_or vdevs i child)))
 
--- at the end these are the leaves of the vdev
-pub leaves_all : (vdev : Vdev) (inner : InnerVdev) (vdevs : List Vdev) (i : ℕ) → vdev ≡ Inner inner → vdevs ≡ inner.children.items → length vdevs ≤ i
-    → flat_map leaves (take i vdevs) ≡ leaves vdev
-leaves_all vdev inner vdevs i is same all = ap (flat_map leaves) (take_all i vdevs all ∙ same) ∙ sym (leaves_inner inner) ∙ sym (ap leaves is)
-
 -- the equations at a leaf and at an inner vdev
 pub ruleset at_vdev = (leaves_leaf, leaves_inner)

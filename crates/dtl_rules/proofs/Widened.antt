@@ -8,11 +8,11 @@ use Rattle.vdev_tree.specs.declared.vdev.Vdev.{Vdev}
 use Rattle.vdev_tree.specs.declared.vdev.InnerVdev.{InnerVdev}
 use Rattle.vdev_tree.specs.declared.vdev.LeafVdev.{LeafVdev}
 use Rattle.vdev_tree.specs.declared.vdev.Vdev.TheVariants.{Leaf, Inner}
-use Rattle.vdev_tree.specs.Tree.{leaves, is_top, is_mirror, form_of, form_over, marks, opening, closing}
-use Rattle.vdev_tree.proofs.Folds.{leaves_leaf, leaves_inner, form_leaf, form_inner, marks_at_leaf, marks_inner}
-use Rattle.dtl_rules.specs.Widening.{form_alone, ranges_of, most_ranges, none_has, WidensFirst, WidensLeaf}
+use Rattle.vdev_tree.specs.Tree.{leaves}
+use Rattle.vdev_tree.proofs.Folds.{leaves_leaf, leaves_inner}
+use Rattle.dtl_rules.specs.Widening.{ranges_of, most_ranges, none_has, WidensFirst, WidensLeaf}
 use Rattle.dtl_rules.proofs.Totals.{some_has_most}
-use Rattle.dtl_rules.proofs.Lists.{flat_more, flat_split, flat_set, drop_one}
+use Rattle.vdev_tree.proofs.Lists.{flat_more, flat_split, flat_set, drop_one}
 
 pub leaf_found : (r : ℕ) (b : Bool) (old new : LeafVdev) → b ≡ (ranges_of old == r) → OnTrue b (WidensLeaf old new)
     → OnTrue b (WidensFirst r (leaves (Leaf old)) (leaves (Leaf new)))
@@ -36,12 +36,6 @@ pub leaf_none : (r : ℕ) (b : Bool) (old : LeafVdev) → b ≡ (ranges_of old =
 leaf_none r true old large = tt
 leaf_none r false old large = ap (none_has r) (leaves_leaf old) ∙ none_step (ranges_of old == r) large
 
-pub leaf_built : (old new : LeafVdev) → marks (Leaf new) ≡ marks (Leaf old)
-leaf_built old new = marks_at_leaf new ∙ sym (marks_at_leaf old)
-
-pub leaf_form : (old new : LeafVdev) → form_of (Leaf new) ≡ form_of (Leaf old)
-leaf_form old new = form_leaf new ∙ sym (form_leaf old)
-
 pub inner_found : (r : ℕ) (b : Bool) (old new : InnerVdev) → OnTrue b (WidensFirst r (flat_map leaves old.children.items) (flat_map leaves new.children.items))
     → OnTrue b (WidensFirst r (leaves (Inner old)) (leaves (Inner new)))
 inner_found r true old new found =
@@ -55,23 +49,6 @@ inner_none r false old none = ap (none_has r) (leaves_inner old) ∙ none
 pub inner_same : (b : Bool) (old new : InnerVdev) → OnFalse b (flat_map leaves new.children.items ≡ flat_map leaves old.children.items) → OnFalse b (leaves (Inner new) ≡ leaves (Inner old))
 inner_same true old new same = tt
 inner_same false old new same = leaves_inner new ∙ same ∙ sym (leaves_inner old)
-
-pub inner_built : (old new : InnerVdev) → new.guid ≡ old.guid → new.kind ≡ old.kind → flat_map marks new.children.items ≡ flat_map marks old.children.items
-    → marks (Inner new) ≡ marks (Inner old)
-inner_built old new guid kind built =
-    marks_inner new ∙ ap (λ g. opening g new.kind ∷ (flat_map marks new.children.items ++ closing ∷ [])) guid
-    ∙ ap (λ k. opening old.guid k ∷ (flat_map marks new.children.items ++ closing ∷ [])) kind
-    ∙ ap (λ ms. opening old.guid old.kind ∷ (ms ++ closing ∷ [])) built ∙ sym (marks_inner old)
-
-forms_alone : (vdevs : List Vdev) → flat_map form_alone vdevs ≡ map form_of vdevs
-forms_alone [] = refl
-forms_alone (v ∷ vdevs) = ap (λ fs. form_of v ∷ fs) (forms_alone vdevs)
-
-pub inner_form : (old new : InnerVdev) → new.kind ≡ old.kind → flat_map form_alone new.children.items ≡ flat_map form_alone old.children.items
-    → form_of (Inner new) ≡ form_of (Inner old)
-inner_form old new kind forms =
-    form_inner new ∙ ap (λ k. form_over k (map form_of new.children.items)) kind
-    ∙ ap (form_over old.kind) (sym (forms_alone new.children.items) ∙ forms ∙ forms_alone old.children.items) ∙ sym (form_inner old)
 
 -- the same among other leaves, of which none before has so many ranges
 pub widened_among : (r : ℕ) (front old new behind : List LeafVdev) → none_has r front ≡ true → WidensFirst r old new → WidensFirst r (front ++ (old ++ behind)) (front ++ (new ++ behind))
@@ -109,11 +86,6 @@ pub none_more : (V : Type 0) (f : V → List LeafVdev) (r : ℕ) (ys : List V) (
 none_more V f r ys i d inside none here =
     ap (none_has r) (flat_more V LeafVdev f ys i d inside) ∙ list_all-append _ (flat_map f (take i ys)) (f (get_or ys i d))
     ∙ ap (λ b. b && none_has r (f (get_or ys i d))) none ∙ here
-
--- a tree of the same form is as valid
-pub is_top_form : (new old : Vdev) → form_of new ≡ form_of old → is_top old ≡ true → is_top new ≡ true
-unfolding is_top
-is_top_form new old form top = ap is_mirror form ∙ top
 
 -- one that has the most ranges is always found
 pub largest_found : (b : Bool) (most : ℕ) (old new : List LeafVdev) → most ≡ most_ranges old → 1 < most → OnTrue b (WidensFirst most old new)

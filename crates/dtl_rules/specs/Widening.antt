@@ -2,8 +2,7 @@
 use Rattle.std.specs.Prelude.{◌≡◌, ℕ, ◌+◌, ◌<◌, ◌≤◌, min, max, Bool, true, not, ◌==◌, List, [], ◌∷◌, ◌++◌, map}
 use Rattle.std.specs.List.{list_all, flat_map}
 use Rattle.group_set.specs.Groups.{Groups, run_count, IsWidened}
-use Rattle.vdev_tree.specs.Tree.{leaves, marks, Mark, Form, form_of}
-use Rattle.vdev_tree.specs.declared.vdev.Vdev.{Vdev}
+use Rattle.vdev_tree.specs.Tree.{leaves, marks, Mark}
 use Rattle.vdev_tree.specs.declared.top.Top.{Top}
 use Rattle.vdev_tree.specs.declared.vdev.LeafVdev.{LeafVdev}
 
@@ -17,10 +16,6 @@ marks_of tops = map (λ top. marks top.mirror) tops
 
 abbrev pub sectors_of : List Top → List ℕ
 sectors_of tops = map (λ top. top.sectors) tops
-
--- the form of a vdev, in a list of its own
-abbrev pub form_alone : Vdev → List Form
-form_alone vdev = form_of vdev ∷ []
 
 -- how many ranges the log of a leaf has
 abbrev pub ranges_of : LeafVdev → ℕ

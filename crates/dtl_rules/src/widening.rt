@@ -3,7 +3,8 @@ ghost use Rattle.std.specs.Prelude.{◌≡◌, ◌==◌, ◌+◌, ◌-◌, ◌^�
 ghost use Rattle.std.specs.Bool.{OnTrue, OnFalse};
 ghost use Rattle.std.specs.List.{flat_map};
 ghost use Rattle.vdev_tree.specs.Tree.{leaves, marks, form_of};
-ghost use Rattle.dtl_rules.specs.Widening.{leaves_of, ranges_of, form_alone, total_ranges, most_ranges, none_has, WidensFirst, WidensLeaf, Widenings, marks_of, sectors_of};
+ghost use Rattle.vdev_tree.specs.Changes.{form_alone};
+ghost use Rattle.dtl_rules.specs.Widening.{leaves_of, ranges_of, total_ranges, most_ranges, none_has, WidensFirst, WidensLeaf, Widenings, marks_of, sectors_of};
 
 use vdev_tree::{InnerVdev, LeafVdev, Top, Vdev};
 

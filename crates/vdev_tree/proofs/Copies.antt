@@ -8,21 +8,24 @@ use Rattle.vdev_tree.specs.declared.vdev.InnerVdev.{InnerVdev}
 use Rattle.vdev_tree.specs.declared.vdev.LeafVdev.{LeafVdev}
 use Rattle.vdev_tree.specs.declared.vdev.Vdev.TheVariants.{Leaf, Inner}
 use Rattle.vdev_tree.specs.Leaf.{SameLeaf}
-use Rattle.vdev_tree.specs.Tree.{leaves, form_of, form_over, marks, opening, closing, IsCopy, is_top, is_mirror}
-use Rattle.vdev_tree.proofs.Folds.{leaves_leaf, leaves_inner, form_leaf, form_inner, marks_at_leaf, marks_inner}
+use Rattle.vdev_tree.specs.Tree.{leaves, form_of, marks, IsCopy}
+use Rattle.vdev_tree.specs.Changes.{form_alone}
+use Rattle.vdev_tree.proofs.Folds.{leaves_leaf, leaves_inner}
+use Rattle.vdev_tree.proofs.Built.{leaf_built, leaf_form, inner_built, inner_form}
+use Rattle.vdev_tree.proofs.Lists.{AllZip-append}
 
 pub IsCopy-leaf : (new old : LeafVdev) → SameLeaf new old → IsCopy (Leaf new) (Leaf old)
 IsCopy-leaf new old same = record {
-  built = marks_at_leaf new ∙ sym (marks_at_leaf old);
-  form = form_leaf new ∙ sym (form_leaf old);
+  built = leaf_built old new;
+  form = leaf_form old new;
   leaves = subst (λ ls. AllZip SameLeaf ls (leaves (Leaf old))) (sym (leaves_leaf new)) (subst (λ ls. AllZip SameLeaf (new ∷ []) ls) (sym (leaves_leaf old)) (same, tt));
 }
 
-forms_of : (new old : List Vdev) → AllZip IsCopy new old → map form_of new ≡ map form_of old
+forms_of : (new old : List Vdev) → AllZip IsCopy new old → flat_map form_alone new ≡ flat_map form_alone old
 forms_of [] [] copies = refl
 forms_of [] (y ∷ ys) copies = absurd copies
 forms_of (x ∷ xs) [] copies = absurd copies
-forms_of (x ∷ xs) (y ∷ ys) copies = ap (λ f. f ∷ map form_of xs) copies.0.form ∙ ap (λ fs. form_of y ∷ fs) (forms_of xs ys copies.1)
+forms_of (x ∷ xs) (y ∷ ys) copies = ap (λ f. f ∷ flat_map form_alone xs) copies.0.form ∙ ap (λ fs. form_of y ∷ fs) (forms_of xs ys copies.1)
 
 marks_of_all : (new old : List Vdev) → AllZip IsCopy new old → flat_map marks new ≡ flat_map marks old
 marks_of_all [] [] copies = refl
@@ -30,26 +33,16 @@ marks_of_all [] (y ∷ ys) copies = absurd copies
 marks_of_all (x ∷ xs) [] copies = absurd copies
 marks_of_all (x ∷ xs) (y ∷ ys) copies = ap (λ m. m ++ flat_map marks xs) copies.0.built ∙ ap (λ ms. marks y ++ ms) (marks_of_all xs ys copies.1)
 
-AllZip-append : (cs bs xs ys : List LeafVdev) → AllZip SameLeaf cs bs → AllZip SameLeaf xs ys → AllZip SameLeaf (cs ++ xs) (bs ++ ys)
-AllZip-append [] [] xs ys first rest = rest
-AllZip-append [] (b ∷ bs) xs ys first rest = absurd first
-AllZip-append (a ∷ cs) [] xs ys first rest = absurd first
-AllZip-append (a ∷ cs) (b ∷ bs) xs ys first rest = (first.0, AllZip-append cs bs xs ys first.1 rest)
-
 leaves_of_all : (new old : List Vdev) → AllZip IsCopy new old → AllZip SameLeaf (flat_map leaves new) (flat_map leaves old)
 leaves_of_all [] [] copies = tt
 leaves_of_all [] (y ∷ ys) copies = absurd copies
 leaves_of_all (x ∷ xs) [] copies = absurd copies
-leaves_of_all (x ∷ xs) (y ∷ ys) copies = AllZip-append (leaves x) (leaves y) (flat_map leaves xs) (flat_map leaves ys) copies.0.leaves (leaves_of_all xs ys copies.1)
+leaves_of_all (x ∷ xs) (y ∷ ys) copies = AllZip-append LeafVdev SameLeaf (leaves x) (leaves y) (flat_map leaves xs) (flat_map leaves ys) copies.0.leaves (leaves_of_all xs ys copies.1)
 
 pub IsCopy-inner : (new old : InnerVdev) → new.guid ≡ old.guid → new.kind ≡ old.kind → AllZip IsCopy new.children.items old.children.items → IsCopy (Inner new) (Inner old)
 IsCopy-inner new old guid kind copies = record {
-  built = marks_inner new ∙ ap (λ g. opening g new.kind ∷ (flat_map marks new.children.items ++ closing ∷ [])) guid
-      ∙ ap (λ k. opening old.guid k ∷ (flat_map marks new.children.items ++ closing ∷ [])) kind
-      ∙ ap (λ ms. opening old.guid old.kind ∷ (ms ++ closing ∷ [])) (marks_of_all new.children.items old.children.items copies)
-      ∙ sym (marks_inner old);
-  form = form_inner new ∙ ap (λ k. form_over k (map form_of new.children.items)) kind
-      ∙ ap (form_over old.kind) (forms_of new.children.items old.children.items copies) ∙ sym (form_inner old);
+  built = inner_built old new guid kind (marks_of_all new.children.items old.children.items copies);
+  form = inner_form old new kind (forms_of new.children.items old.children.items copies);
   leaves = subst (λ ls. AllZip SameLeaf ls (leaves (Inner old))) (sym (leaves_inner new))
       (subst (λ ls. AllZip SameLeaf (flat_map leaves new.children.items) ls) (sym (leaves_inner old))
       (leaves_of_all new.children.items old.children.items copies));
@@ -68,8 +61,3 @@ pub copied_all : (vdev : Vdev) (new old : InnerVdev) (vdevs : List Vdev) (i : �
     → new.guid ≡ old.guid → new.kind ≡ old.kind → AllZip IsCopy new.children.items (take i vdevs) → IsCopy (Inner new) vdev
 copied_all vdev new old vdevs i is same all guid kind copies =
     subst (IsCopy (Inner new)) (sym is) (IsCopy-inner new old guid kind (subst (AllZip IsCopy new.children.items) (take_all i vdevs all ∙ same) copies))
-
--- a copy of a top's mirror is one
-pub is_top_copy : (new old : Vdev) → IsCopy new old → is_top old ≡ true → is_top new ≡ true
-unfolding is_top
-is_top_copy new old copy top = ap is_mirror copy.form ∙ top

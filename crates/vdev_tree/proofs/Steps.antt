@@ -1,11 +1,12 @@
 -- The steps of loops over the children of an inner vdev.
-use Rattle.std.proofs.Common.{◌≡◌, ℕ, ◌+◌, ◌<◌, ◌≤◌, Bool, true, false, List, [], ◌∷◌, ◌++◌, Option, Some, None, is_some, map, length, get_or, take, drop, take_all, refl, ap, sym, ◌∙◌}
-use Rattle.std.specs.List.{find, flat_map, list_any, list_all}
+use Rattle.std.proofs.Common.{◌≡◌, ℕ, zero, suc, ◌+◌, ◌<◌, ◌≤◌, Bool, true, false, List, [], ◌∷◌, ◌++◌, Option, Some, None, is_some, map, length, get_or, take, drop, take_all, refl, ap, sym, ◌∙◌, arith}
+use Rattle.std.specs.List.{find, flat_map, list_any, list_all, slice_get}
 use Rattle.std.specs.Option.{option_map, option_or}
 use Rattle.std.proofs.lemmas.List.{take_more, drop_more, take-append-drop, append-nil}
 use Rattle.std.proofs.lemmas.List.Concat.{flat_map-append}
 use Rattle.std.proofs.lemmas.List.Folds.{find-append}
 use Rattle.std.proofs.lemmas.Bool.{false≢true}
+use Rattle.std.proofs.lemmas.Option.{none-some}
 use Rattle.mp_base.specs.declared.number.Guid.{Guid}
 use Rattle.vdev_tree.specs.declared.vdev.Vdev.{Vdev}
 use Rattle.vdev_tree.specs.declared.vdev.InnerVdev.{InnerVdev}
@@ -79,3 +80,27 @@ state_all vdev inner vdevs i some_up all_online is same all up online =
     ap (λ a. state_by a all_online) up ∙ ap (state_by (list_any is_up (map state_of (take i vdevs)))) online
     ∙ ap (λ vs. state_by (list_any is_up (map state_of vs)) (list_all is_online (map state_of vs))) (take_all i vdevs all ∙ same)
     ∙ sym (state_inner inner) ∙ sym (ap state_of is)
+
+-- at the end these are the leaves of the vdev
+pub leaves_all : (vdev : Vdev) (inner : InnerVdev) (vdevs : List Vdev) (i : ℕ) → vdev ≡ Inner inner → vdevs ≡ inner.children.items → length vdevs ≤ i
+    → flat_map leaves (take i vdevs) ≡ leaves vdev
+leaves_all vdev inner vdevs i is same all = ap (flat_map leaves) (take_all i vdevs all ∙ same) ∙ sym (leaves_inner inner) ∙ sym (ap leaves is)
+
+get_behind : (xs ys : List LeafVdev) (n k : ℕ) → n ≡ length xs + k → slice_get (xs ++ ys) n ≡ slice_get ys k
+get_behind [] ys n k is = ap (slice_get ys) (let e : n ≡ k = omega arith in e)
+get_behind (x ∷ xs) ys zero k is = absurd (omega arith)
+get_behind (x ∷ xs) ys (suc n) k is = get_behind xs ys n k (omega arith)
+
+get_within : (xs ys : List LeafVdev) (k : ℕ) (x : LeafVdev) → slice_get xs k ≡ Some x → slice_get (xs ++ ys) k ≡ Some x
+get_within [] ys k x at = absurd (none-some x at)
+get_within (y ∷ xs) ys zero x at = at
+get_within (y ∷ xs) ys (suc k) x at = get_within xs ys k x at
+
+-- a leaf at a place of one child is at the place that has the leaves before this child before it
+pub leaf_of_child : (vdev : Vdev) (inner : InnerVdev) (vdevs : List Vdev) (i : ℕ) (child : Vdev) (place rest : ℕ) (leaf : LeafVdev) → vdev ≡ Inner inner
+    → vdevs ≡ inner.children.items → i < length vdevs → child ≡ get_or vdevs i child → place ≡ length (flat_map leaves (take i vdevs)) + rest
+    → slice_get (leaves child) rest ≡ Some leaf → slice_get (leaves vdev) place ≡ Some leaf
+leaf_of_child vdev inner vdevs i child place rest leaf is same inside at here found =
+    ap (λ ls. slice_get ls place) (ap leaves is ∙ leaves_inner inner ∙ ap (flat_map leaves) (sym same) ∙ leaves_split vdevs i child inside)
+    ∙ get_behind (flat_map leaves (take i vdevs)) (leaves (get_or vdevs i child) ++ flat_map leaves (drop (i + 1) vdevs)) place rest here
+    ∙ get_within (leaves (get_or vdevs i child)) (flat_map leaves (drop (i + 1) vdevs)) rest leaf (ap (λ v. slice_get (leaves v) rest) (sym at) ∙ found)

@@ -160,6 +160,10 @@ marks_of_inner inner = opening inner.guid inner.kind ∷ (joined inner.children.
 unfoldable pub marks : Vdev → List Mark
 marks = fold-Vdev (List Mark) (List Mark) marks_of_vdev marks_of_inner
 
+-- a mirror of two leaves, written out
+abbrev pub pair_marks : Guid → List Mark
+pair_marks mirror = opening mirror Mirror ∷ leaf_mark ∷ leaf_mark ∷ closing ∷ []
+
 -- a tree is a copy of another: it is built alike, and each leaf is a copy of the leaf at its place
 pub record IsCopy (new old : Vdev) : Type 0 where
   pub built : marks new ≡ marks old

@@ -1,6 +1,7 @@
 //! The tree of a top: mirrors, replacing and spare vdevs, and the leaves, with their states and logs.
 #![tactic(auto)]
 
+mod changes;
 mod form;
 #[cfg(test)]
 mod tests;

@@ -5,11 +5,11 @@ use mp_base::{Group, Guid, Name};
 use std::alloc::Global;
 use std::test::Fail;
 
-fn leaf(alloc: Global, number: u64, name: &[u8], state: State) -> Result<Vdev, Fail> {
+fn member(alloc: Global, number: u64, name: &[u8], state: State) -> Result<LeafVdev, Fail> {
     let mut log = GroupSet::new(alloc);
     log.reserve(1)?;
     log.insert(Group(7));
-    Ok(Vdev::Leaf(LeafVdev {
+    Ok(LeafVdev {
         guid: Guid(number),
         name: Name::new(alloc, name)?,
         dev: None,
@@ -23,7 +23,11 @@ fn leaf(alloc: Global, number: u64, name: &[u8], state: State) -> Result<Vdev, F
             writes: 0,
             mismatches: 0,
         },
-    }))
+    })
+}
+
+fn leaf(alloc: Global, number: u64, name: &[u8], state: State) -> Result<Vdev, Fail> {
+    Ok(Vdev::Leaf(member(alloc, number, name, state)?))
 }
 
 fn inner(number: u64, kind: Kind, children: Vec<Vdev>) -> Vdev {
@@ -94,9 +98,9 @@ fn a_valid_tree_makes_a_top(rt: HostRuntime) -> Result<(), Fail> {
     Ok(())
 }
 
-#[test]
-fn a_leaf_is_found_by_its_name_in_a_copy_too(rt: HostRuntime) -> Result<(), Fail> {
-    let alloc = rt.alloc();
+/// The mirror of a spare vdev, in which n (5) takes over from a (4) and the spare s (6) stands in, and of
+/// b (7).
+fn spared(alloc: Global) -> Result<Top, Fail> {
     let online = State::Online;
     let old = leaf(alloc, 4, b"a", online)?;
     let new = leaf(alloc, 5, b"n", online)?;
@@ -111,7 +115,13 @@ fn a_leaf_is_found_by_its_name_in_a_copy_too(rt: HostRuntime) -> Result<(), Fail
         Kind::Mirror,
         vec![in alloc; spare, leaf(alloc, 7, b"b", online)?]?,
     );
-    let top = Top::new(mirror, 500).ok_or("no top")?.copy(alloc)?;
+    Ok(Top::new(mirror, 500).ok_or("no top")?)
+}
+
+#[test]
+fn a_leaf_is_found_by_its_name_in_a_copy_too(rt: HostRuntime) -> Result<(), Fail> {
+    let alloc = rt.alloc();
+    let top = spared(alloc)?.copy(alloc)?;
     let rows: [(&[u8], Option<Guid>); 5] = [
         (b"a", Some(Guid(4))),
         (b"n", Some(Guid(5))),
@@ -123,5 +133,67 @@ fn a_leaf_is_found_by_its_name_in_a_copy_too(rt: HostRuntime) -> Result<(), Fail
         assert_eq!(rt; top.find(&Name::new(alloc, name)?), number);
     }
     assert_eq!(rt; top.mirror.guid(), Guid(1));
+    Ok(())
+}
+
+/// The number of the leaf at this place, its state, its device, and whether it is marked, is OFFLINE for a
+/// time and owes group 9.
+fn shown(top: &Top, place: usize) -> Option<(u64, State, Option<u32>, [bool; 3])> {
+    let leaf = top.leaf_at(place)?;
+    let owes = leaf.log.contains(Group(9));
+    Some((
+        leaf.guid.0,
+        leaf.state,
+        leaf.dev,
+        [leaf.marked, leaf.temporary, owes],
+    ))
+}
+
+#[test]
+fn a_leaf_that_was_away_owes_what_was_written_meanwhile(rt: HostRuntime) -> Result<(), Fail> {
+    let alloc = rt.alloc();
+    let online = State::Online;
+    let a = member(alloc, 2, b"a", online)?;
+    let b = member(alloc, 3, b"b", State::Degraded)?;
+    let mut top = Top::pair(alloc, Guid(1), 500, a, b)?;
+    top.set_state(Guid(2), State::Offline, true);
+    top.reserve(1)?;
+    top.owe(Group(9));
+    let there = Some((3, State::Degraded, None, [false; 3]));
+    assert_eq!(rt;
+        shown(&top, 0),
+        Some((2, State::Offline, None, [false, true, true]))
+    );
+    assert_eq!(rt; shown(&top, 1), there);
+    top.bring(Guid(2), 8);
+    assert_eq!(rt;
+        shown(&top, 0),
+        Some((2, online, Some(8), [true, false, true]))
+    );
+    assert_eq!(rt; shown(&top, 1), there);
+    assert_eq!(rt; shown(&top, 2), None);
+    Ok(())
+}
+
+#[test]
+fn a_change_comes_to_its_leaf_however_deep_it_stands(rt: HostRuntime) -> Result<(), Fail> {
+    let mut top = spared(rt.alloc())?;
+    top.set_state(Guid(5), State::Removed, false);
+    top.set_state(Guid(7), State::Faulted, false);
+    top.reserve(1)?;
+    top.owe(Group(9));
+    let rows = [
+        (4, State::Online, false),
+        (5, State::Removed, true),
+        (6, State::Online, false),
+        (7, State::Faulted, true),
+    ];
+    for (place, (number, state, owes)) in rows.into_iter().enumerate() {
+        assert_eq!(rt;
+            shown(&top, place),
+            Some((number, state, None, [false, false, owes]))
+        );
+    }
+    assert_eq!(rt; shown(&top, 4), None);
     Ok(())
 }

@@ -1,10 +1,10 @@
 //! Tops: the mirrors over which a pool spreads its blocks.
-ghost use Rattle.std.specs.Prelude.{◌≡◌, ◌↔◌, true, IfOk, IfSome, IsSome};
-ghost use Rattle.std.specs.Option.{option_map};
+ghost use Rattle.std.specs.Prelude.{◌≡◌, ◌↔◌, ◌∷◌, [], true, slice_get, IfOk, IfSome, IsSome};
+ghost use Rattle.std.specs.Option.{option_copied, option_map};
 ghost use Rattle.std.specs.List.{find};
-ghost use Rattle.vdev_tree.specs.Tree.{leaves, state_of, is_named, leaf_guid, is_top, IsCopy};
+ghost use Rattle.vdev_tree.specs.Tree.{leaves, marks, pair_marks, state_of, is_named, leaf_guid, is_top, IsCopy};
 
-use crate::vdev::{State, Vdev};
+use crate::vdev::{InnerVdev, Kind, LeafVdev, State, Vdev};
 use mp_base::{Guid, MemFault, Name};
 use std::alloc::Global;
 
@@ -32,6 +32,29 @@ impl Top {
         }
     }
 
+    /// A mirror of these two leaves, in this order.
+    pub fn pair(
+        alloc: Global,
+        mirror: Guid,
+        sectors: u64,
+        first: LeafVdev,
+        second: LeafVdev,
+    ) -> Result<Top, MemFault>
+        ensures leaves { IfOk result (λ top. leaves top.mirror ≡ first ∷ second ∷ []) }
+        ensures built { IfOk result (λ top. marks top.mirror ≡ pair_marks mirror) }
+        ensures sectors { IfOk result (λ top. top.sectors ≡ sectors) }
+    {
+        let children = vec![in alloc; Vdev::Leaf(first), Vdev::Leaf(second)]?;
+        Ok(Top {
+            mirror: Vdev::Inner(InnerVdev {
+                guid: mirror,
+                kind: Kind::Mirror,
+                children,
+            }),
+            sectors,
+        })
+    }
+
     /// The state of its mirror.
     pub fn state(&self) -> State
         ensures { result ≡ state_of self.now.mirror }
@@ -44,6 +67,13 @@ impl Top {
         ensures { result ≡ option_map leaf_guid (find (is_named name.now) (leaves self.now.mirror)) }
     {
         self.mirror.find(name)
+    }
+
+    /// The leaf at this place in tree order.
+    pub fn leaf_at(&self, place: usize) -> Option<&LeafVdev>
+        ensures { option_copied result ≡ slice_get (leaves self.now.mirror) place }
+    {
+        self.mirror.leaf_or_rest(place).ok()
     }
 
     /// An equal top, whose sets have at least as much room.

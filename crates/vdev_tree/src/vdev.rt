@@ -1,5 +1,5 @@
 //! Vdevs: the leaves, and the inner ones that hold others.
-ghost use Rattle.std.specs.Prelude.{◌≡◌, ◌∷◌, [], map, IfOk, IfSome, IfNone, Some};
+ghost use Rattle.std.specs.Prelude.{◌≡◌, ◌+◌, ◌∷◌, [], length, map, slice_get, IfOk, IfErr, IfSome, IfNone, Some};
 ghost use Rattle.std.specs.Option.{option_map};
 ghost use Rattle.std.specs.List.{find, AllZip};
 ghost use Rattle.vdev_tree.specs.Leaf.{is_up, is_online, SameLeaf};
@@ -161,6 +161,27 @@ impl Vdev {
                     }
                 }
                 None
+            }
+        }
+    }
+
+    /// The leaf at this place in tree order, or how many places behind the last leaf it is.
+    pub(crate) fn leaf_or_rest(&self, place: usize) -> Result<&LeafVdev, usize>
+        ensures leaf { IfOk result (λ leaf. slice_get (leaves self.now) place ≡ Some leaf.now) }
+        ensures rest { IfErr result (λ rest. place ≡ length (leaves self.now) + rest) }
+    {
+        match self {
+            Vdev::Leaf(leaf) if place == 0 => Ok(leaf),
+            Vdev::Leaf(_) => Err(place - 1),
+            Vdev::Inner(inner) => {
+                let mut rest = place;
+                for child in &inner.children {
+                    match child.leaf_or_rest(rest) {
+                        Ok(leaf) => return Ok(leaf),
+                        Err(behind) => rest = behind,
+                    }
+                }
+                Err(rest)
             }
         }
     }

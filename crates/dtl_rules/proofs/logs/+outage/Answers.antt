@@ -3,7 +3,8 @@ use Rattle.std.specs.List.{flat_map}
 use Rattle.vdev_tree.specs.Tree.{leaves}
 use Rattle.dtl_rules.specs.Rules.{is_out, outage_of}
 use Rattle.dtl_rules.specs.Logs.{in_extent}
-use Rattle.dtl_rules.proofs.Sweeps.{all_more, leaves_all}
+use Rattle.dtl_rules.proofs.Sweeps.{all_more}
+use Rattle.vdev_tree.proofs.Steps.{leaves_all}
 use Rattle.dtl_rules.proofs.logs.+outage.Goals as goal
 
 pub loop-child-preserved : goal.loop-child-preserved

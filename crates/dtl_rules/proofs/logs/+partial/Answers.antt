@@ -3,7 +3,8 @@ use Rattle.std.specs.List.{list_any, flat_map}
 use Rattle.group_set.specs.Groups.{holds}
 use Rattle.vdev_tree.specs.Tree.{leaves}
 use Rattle.dtl_rules.specs.Rules.{owes}
-use Rattle.dtl_rules.proofs.Sweeps.{some_more, leaves_all}
+use Rattle.dtl_rules.proofs.Sweeps.{some_more}
+use Rattle.vdev_tree.proofs.Steps.{leaves_all}
 use Rattle.dtl_rules.proofs.logs.+partial.Goals as goal
 
 pub loop-child-preserved : goal.loop-child-preserved

@@ -1,6 +1,6 @@
 use Rattle.std.proofs.Common.{arith, ap}
 use Rattle.dtl_rules.specs.Widening.{total_ranges, most_ranges}
-use Rattle.dtl_rules.proofs.Sweeps.{leaves_all}
+use Rattle.vdev_tree.proofs.Steps.{leaves_all}
 use Rattle.dtl_rules.proofs.Totals.{total_more, most_more, total_leaf, most_leaf}
 use Rattle.dtl_rules.proofs.widening.+tally_with.Goals as goal
 

@@ -2,9 +2,11 @@ use Rattle.std.proofs.Common.{◌≡◌, ℕ, [], ◌∷◌, get_or, arith, ap, 
 use Rattle.vdev_tree.specs.declared.vdev.Vdev.TheVariants.{outs-Leaf, outs-Inner}
 use Rattle.vdev_tree.specs.declared.vdev.Vdev.{Vdev}
 use Rattle.vdev_tree.specs.Tree.{leaves, marks, Mark, form_of, Form}
-use Rattle.dtl_rules.specs.Widening.{form_alone, WidensFirst}
-use Rattle.dtl_rules.proofs.Widened.{leaf_found, leaf_none, leaf_built, leaf_form, inner_found, inner_none, inner_same, inner_built, inner_form, found_at}
-use Rattle.dtl_rules.proofs.Lists.{same_at, drop_one, get_same}
+use Rattle.vdev_tree.specs.Changes.{form_alone}
+use Rattle.dtl_rules.specs.Widening.{WidensFirst}
+use Rattle.dtl_rules.proofs.Widened.{leaf_found, leaf_none, inner_found, inner_none, inner_same, found_at}
+use Rattle.vdev_tree.proofs.Built.{leaf_built, leaf_form, inner_built, inner_form}
+use Rattle.vdev_tree.proofs.Lists.{same_at, drop_one, get_same}
 use Rattle.dtl_rules.proofs.widening.+widen.Goals as goal
 use Rattle.dtl_rules.proofs.widening.+widen.Goals.{widen_child-Then-widen_first}
 

@@ -1,7 +1,8 @@
 use Rattle.std.proofs.Common.{◌≡◌, true, length, take, drop}
 use Rattle.std.specs.List.{flat_map}
 use Rattle.vdev_tree.specs.Tree.{leaves, marks}
-use Rattle.dtl_rules.specs.Widening.{none_has, form_alone}
+use Rattle.vdev_tree.specs.Changes.{form_alone}
+use Rattle.dtl_rules.specs.Widening.{none_has}
 use Rattle.dtl_rules.proofs.widening.+widen.Given as goal
 
 abbrev pub invariant-widen_child-loop-i : goal.invariant-widen_child-loop-i

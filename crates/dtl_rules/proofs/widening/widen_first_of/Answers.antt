@@ -3,7 +3,7 @@ use Rattle.vdev_tree.specs.Tree.{leaves, marks, Mark}
 use Rattle.vdev_tree.specs.declared.top.Top.{Top}
 use Rattle.vdev_tree.specs.declared.vdev.LeafVdev.{LeafVdev}
 use Rattle.dtl_rules.specs.Widening.{none_has, WidensFirst}
-use Rattle.dtl_rules.proofs.Lists.{same_at, same_more, drop_one, drop_set, get_same}
+use Rattle.vdev_tree.proofs.Lists.{same_at, same_more, drop_one, drop_set, get_same}
 use Rattle.dtl_rules.proofs.Widened.{found_at, none_more}
 use Rattle.dtl_rules.proofs.Tops.{top_leaves, top_marks, top_sectors, all_marks, all_sectors}
 use Rattle.dtl_rules.proofs.widening.widen_first_of.Goals as goal

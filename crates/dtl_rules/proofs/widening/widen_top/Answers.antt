@@ -1,4 +1,4 @@
-use Rattle.dtl_rules.proofs.Widened.{is_top_form}
+use Rattle.vdev_tree.proofs.Built.{is_top_form}
 use Rattle.dtl_rules.proofs.widening.widen_top.Goals as goal
 
 pub invariant_of-top : goal.invariant_of-top
