@@ -1,10 +1,8 @@
 -- The leaves under a vdev, child by child.
-use Rattle.std.proofs.Common.{◌≡◌, ℕ, ◌+◌, ◌<◌, ◌≤◌, Bool, ◌&&◌, ◌||◌, List, length, get_or, take, take_all, ap, sym, ◌∙◌}
+use Rattle.std.proofs.Common.{◌≡◌, ℕ, ◌+◌, ◌<◌, Bool, ◌&&◌, ◌||◌, List, length, get_or, take, ap, sym, ◌∙◌}
 use Rattle.std.specs.List.{list_any, list_all, flat_map}
 use Rattle.vdev_tree.specs.declared.vdev.Vdev.{Vdev}
-use Rattle.vdev_tree.specs.declared.vdev.InnerVdev.{InnerVdev}
 use Rattle.vdev_tree.specs.declared.vdev.LeafVdev.{LeafVdev}
-use Rattle.vdev_tree.specs.declared.vdev.Vdev.TheVariants.{Inner}
 use Rattle.vdev_tree.specs.Tree.{leaves}
 use Rattle.std.proofs.lemmas.List.Folds.{list_any-append, list_all-append}
 use Rattle.vdev_tree.proofs.Steps.{leaves_more}

@@ -159,19 +159,19 @@ fn a_leaf_that_was_away_owes_what_was_written_meanwhile(rt: HostRuntime) -> Resu
     top.set_state(Guid(2), State::Offline, true);
     top.reserve(1)?;
     top.owe(Group(9));
-    let there = Some((3, State::Degraded, None, [false; 3]));
     assert_eq!(rt;
         shown(&top, 0),
         Some((2, State::Offline, None, [false, true, true]))
     );
-    assert_eq!(rt; shown(&top, 1), there);
     top.bring(Guid(2), 8);
-    assert_eq!(rt;
-        shown(&top, 0),
-        Some((2, online, Some(8), [true, false, true]))
-    );
-    assert_eq!(rt; shown(&top, 1), there);
-    assert_eq!(rt; shown(&top, 2), None);
+    let places = [
+        Some((2, online, Some(8), [true, false, true])),
+        Some((3, State::Degraded, None, [false; 3])),
+        None,
+    ];
+    for (place, leaf) in places.into_iter().enumerate() {
+        assert_eq!(rt; shown(&top, place), leaf);
+    }
     Ok(())
 }
 
@@ -194,6 +194,5 @@ fn a_change_comes_to_its_leaf_however_deep_it_stands(rt: HostRuntime) -> Result<
             Some((number, state, None, [false, false, owes]))
         );
     }
-    assert_eq!(rt; shown(&top, 4), None);
     Ok(())
 }

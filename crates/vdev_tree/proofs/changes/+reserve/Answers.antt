@@ -1,10 +1,10 @@
-use Rattle.std.proofs.Common.{◌≡◌, ℕ, [], ◌∷◌, All, length, get_or, ap, sym, subst, ◌∙◌, arith}
+use Rattle.std.proofs.Common.{◌≡◌, [], ◌∷◌, get_or, ap, subst, ◌∙◌, arith}
 use Rattle.std.specs.List.{AllZip}
 use Rattle.std.proofs.Math.ListN.{length-set}
 use Rattle.vdev_tree.specs.declared.vdev.Vdev.{Vdev}
 use Rattle.vdev_tree.specs.declared.vdev.Vdev.TheVariants.{outs-Leaf, outs-Inner}
 use Rattle.vdev_tree.specs.Tree.{leaves, marks, Mark, form_of, Form}
-use Rattle.vdev_tree.specs.Changes.{form_alone, has_room, KeepsLog}
+use Rattle.vdev_tree.specs.Changes.{form_alone, KeepsLog}
 use Rattle.vdev_tree.proofs.Built.{leaf_built, leaf_form, inner_built, inner_form}
 use Rattle.vdev_tree.proofs.Changed.{leaf_changed, inner_changed, changed_more, changed_at, KeepsLog-refl, room_of_leaf, room_of_inner, room_more}
 use Rattle.vdev_tree.proofs.Lists.{here_still, unvisited_set, drop_one, drop_set, same_at, same_more}

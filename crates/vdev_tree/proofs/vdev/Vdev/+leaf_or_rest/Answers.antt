@@ -1,4 +1,4 @@
-use Rattle.std.proofs.Common.{arith, ◌∙◌, ap, length}
+use Rattle.std.proofs.Common.{arith, ap, length}
 use Rattle.vdev_tree.proofs.Steps.{leaf_of_child, leaves_all}
 use Rattle.vdev_tree.proofs.vdev.Vdev.+leaf_or_rest.Goals as goal
 
