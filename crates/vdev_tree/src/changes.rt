@@ -60,8 +60,10 @@ impl Top {
 
 /// What is done to a leaf.
 trait LeafChange {
+    // It may be done to this leaf.
     ghost may: { Self → LeafVdev → Type 0 };
 
+    // It makes the second leaf of the first.
     ghost changes: { Self → LeafVdev → LeafVdev → Type 0 };
 
     fn change(&self, leaf: &mut LeafVdev)
@@ -128,6 +130,7 @@ impl LeafChange for Owe {
     }
 }
 
+/// Does this to each leaf under the vdev.
 #[cycle(change)]
 fn change_leaves<C: LeafChange>(vdev: &mut Vdev, change: &C)
     requires { All (C.may change.now) (leaves vdev.old) }
