@@ -1,10 +1,10 @@
 -- The grammar of lines: `Asks line request` says that the line, as a whole, asks for the request. A line
 -- that asks for none is a bad one.
-use Rattle.std.specs.Prelude.{◌≡◌, ℕ, ◌⊎◌, List, [], ◌∷◌, ◌++◌, codes, IsTrue}
+use Rattle.std.specs.Prelude.{◌≡◌, ℕ, ◌⊎◌, List, [], ◌∷◌, ◌++◌, codes, IsTrue, true, false}
 use Rattle.mp_base.specs.Name.{is_name}
 use Rattle.pool_wire.specs.Words.{IsNumber, IsData}
 use Rattle.pool_wire.specs.declared.request.Request.{Request}
-use Rattle.pool_wire.specs.declared.request.Request.TheVariants.{Nothing, Create, Import, Write, Read, Sync}
+use Rattle.pool_wire.specs.declared.request.Request.TheVariants.{Nothing, Create, Import, Write, Read, Sync, Offline, Online, Logs}
 
 -- an empty line, and a line that begins with `#`, whatever follows
 abbrev pub IsRemark : List ℕ → Type 0
@@ -24,3 +24,10 @@ Asks line (Read pool address) =
     (number : List ℕ) × IsTrue (is_name pool) × IsNumber number address
     × (line ≡ codes "read " ++ (pool ++ (32 ∷ number)))
 Asks line (Sync pool) = IsTrue (is_name pool) × (line ≡ codes "sync " ++ pool)
+Asks line (Offline pool device false) =
+    IsTrue (is_name pool) × IsTrue (is_name device) × (line ≡ codes "offline " ++ (pool ++ (32 ∷ device)))
+Asks line (Offline pool device true) =
+    IsTrue (is_name pool) × IsTrue (is_name device) × (line ≡ codes "offline -t " ++ (pool ++ (32 ∷ device)))
+Asks line (Online pool device) =
+    IsTrue (is_name pool) × IsTrue (is_name device) × (line ≡ codes "online " ++ (pool ++ (32 ∷ device)))
+Asks line (Logs pool) = IsTrue (is_name pool) × (line ≡ codes "logs " ++ pool)

@@ -1,5 +1,5 @@
 -- Reading a line from left to right: a function on lists, which answers what the line asks, or none.
-use Rattle.std.specs.Prelude.{◌≡◌, ℕ, ◌+◌, Bool, ◌==◌, ◌&&◌, ◌||◌, nat_le, not, List, length, take, drop, slice_index, codes, Option, Some, None, option_map, Result, Ok, Err, if◌then◌else◌}
+use Rattle.std.specs.Prelude.{◌≡◌, ℕ, ◌+◌, Bool, true, false, ◌==◌, ◌&&◌, ◌||◌, nat_le, not, List, length, take, drop, slice_index, codes, Option, Some, None, option_map, Result, Ok, Err, if◌then◌else◌}
 use Rattle.std.specs.List.{list_all, position}
 use Rattle.std.specs.Result.{result_ok}
 use Rattle.std.specs.Str.{bytes_eq}
@@ -10,7 +10,7 @@ use Rattle.mp_base.specs.Name.{is_name}
 use Rattle.pool_wire.specs.declared.request.LineFault.{LineFault}
 use Rattle.pool_wire.specs.declared.request.LineFault.TheVariants.{Bad, Memory}
 use Rattle.pool_wire.specs.declared.request.Request.{Request}
-use Rattle.pool_wire.specs.declared.request.Request.TheVariants.{Nothing, Create, Import, Write, Read, Sync}
+use Rattle.pool_wire.specs.declared.request.Request.TheVariants.{Nothing, Create, Import, Write, Read, Sync, Offline, Online, Logs}
 
 infixl 10 ◌>>=◌
 abbrev pub ◌>>=◌ : {A B : Type 0} → Option A → (A → Option B) → Option B
@@ -109,6 +109,45 @@ sync_of text = do
   name ← name_of text
   Some (Sync name)
 
+-- POOL DEV, as the names of a pool and of a device
+unfoldable pub leaf_in : List ℕ → Option (List ℕ × List ℕ)
+leaf_in text = do
+  cut ← cut_word text
+  pool ← name_of cut.0
+  device ← name_of cut.1
+  Some (pool, device)
+
+unfoldable pub away_of : (temporary : Bool) → List ℕ → Option Request
+away_of temporary text = do
+  leaf ← leaf_in text
+  Some (Offline leaf.0 leaf.1 temporary)
+
+-- what stands behind `offline `; the word `-t` is no name
+unfoldable pub offline_of : List ℕ → Option Request
+offline_of text = do
+  cut ← cut_word text
+  if bytes_eq cut.0 (codes "-t") then away_of true cut.1 else away_of false text
+
+-- what stands behind `online `
+unfoldable pub online_of : List ℕ → Option Request
+online_of text = do
+  leaf ← leaf_in text
+  Some (Online leaf.0 leaf.1)
+
+-- what stands behind `logs `
+unfoldable pub logs_of : List ℕ → Option Request
+logs_of text = do
+  name ← name_of text
+  Some (Logs name)
+
+-- of the lines that speak of a pool's leaves, what the one asks whose first word is this one
+unfoldable pub leaf_verb_of : List ℕ → List ℕ → Option Request
+leaf_verb_of verb text =
+    if bytes_eq verb (codes "offline") then offline_of text
+    else if bytes_eq verb (codes "online") then online_of text
+    else if bytes_eq verb (codes "logs") then logs_of text
+    else None
+
 -- what a line asks whose first word is this one
 unfoldable pub verb_of : List ℕ → List ℕ → Option Request
 verb_of verb text =
@@ -117,7 +156,7 @@ verb_of verb text =
     else if bytes_eq verb (codes "write") then write_of text
     else if bytes_eq verb (codes "read") then read_of text
     else if bytes_eq verb (codes "sync") then sync_of text
-    else None
+    else leaf_verb_of verb text
 
 -- What a line asks, or none where it asks nothing that is built.
 unfoldable pub request_of : List ℕ → Option Request

@@ -1,11 +1,12 @@
 //! Lines, read from left to right.
 ghost use Rattle.std.specs.Prelude.{◌≡◌, ℕ, List, IfOk, IsErrOf, codes};
-ghost use Rattle.pool_wire.specs.Reading.{Gives, after_word, create_of, import_of, read_of, request_of, sync_of, verb_of, write_of};
+ghost use Rattle.pool_wire.specs.Reading.{Gives, after_word, away_of, create_of, import_of, leaf_in, leaf_verb_of, logs_of, offline_of, online_of, read_of, request_of, sync_of, verb_of, write_of};
 ghost use Rattle.pool_wire.specs.Grammar.{Asks};
 ghost use Rattle.pool_wire.specs.declared.request.Request.{Request};
 
 use crate::words::{cut_word, read_data, read_name, read_number};
 use crate::{LineFault, Request};
+use mp_base::Name;
 use std::alloc::Global;
 
 /// What the line asks; the byte 10 that ends it is no part of it (docs/FORMATS.md, "Lines").
@@ -59,6 +60,23 @@ fn read_verb(alloc: Global, verb: &[u8], text: &[u8]) -> Result<Request, LineFau
     }
     if verb == b"sync".as_slice() {
         return read_sync(alloc, text);
+    }
+    read_leaf_verb(alloc, verb, text)
+}
+
+/// The lines that speak of a pool's leaves.
+#[tactic(auto, unfolding(crate::specs::Reading::leaf_verb_of))]
+fn read_leaf_verb(alloc: Global, verb: &[u8], text: &[u8]) -> Result<Request, LineFault>
+    ensures { Gives (λ request. request) result (leaf_verb_of verb.now text.now) }
+{
+    if verb == b"offline".as_slice() {
+        return read_offline(alloc, text);
+    }
+    if verb == b"online".as_slice() {
+        return read_online(alloc, text);
+    }
+    if verb == b"logs".as_slice() {
+        return read_logs(alloc, text);
     }
     Err(LineFault::Bad)
 }
@@ -133,6 +151,55 @@ fn read_sync(alloc: Global, text: &[u8]) -> Result<Request, LineFault>
     ensures { Gives (λ request. request) result (sync_of text.now) }
 {
     Ok(Request::Sync {
+        pool: read_name(alloc, text)?,
+    })
+}
+
+#[tactic(auto, unfolding(crate::specs::Reading::offline_of))]
+fn read_offline(alloc: Global, text: &[u8]) -> Result<Request, LineFault>
+    ensures { Gives (λ request. request) result (offline_of text.now) }
+{
+    let (word, rest) = cut_word(text)?;
+    if word == b"-t".as_slice() {
+        return read_away(alloc, true, rest);
+    }
+    read_away(alloc, false, text)
+}
+
+#[tactic(auto, unfolding(crate::specs::Reading::away_of))]
+fn read_away(alloc: Global, temporary: bool, text: &[u8]) -> Result<Request, LineFault>
+    ensures { Gives (λ request. request) result (away_of temporary text.now) }
+{
+    let (pool, device) = read_leaf(alloc, text)?;
+    Ok(Request::Offline {
+        pool,
+        device,
+        temporary,
+    })
+}
+
+#[tactic(auto, unfolding(crate::specs::Reading::online_of))]
+fn read_online(alloc: Global, text: &[u8]) -> Result<Request, LineFault>
+    ensures { Gives (λ request. request) result (online_of text.now) }
+{
+    let (pool, device) = read_leaf(alloc, text)?;
+    Ok(Request::Online { pool, device })
+}
+
+/// The names of a pool and of a device.
+#[tactic(auto, unfolding(crate::specs::Reading::leaf_in))]
+fn read_leaf(alloc: Global, text: &[u8]) -> Result<(Name, Name), LineFault>
+    ensures { Gives (λ leaf. leaf) result (leaf_in text.now) }
+{
+    let (pool, device) = cut_word(text)?;
+    Ok((read_name(alloc, pool)?, read_name(alloc, device)?))
+}
+
+#[tactic(auto, unfolding(crate::specs::Reading::logs_of))]
+fn read_logs(alloc: Global, text: &[u8]) -> Result<Request, LineFault>
+    ensures { Gives (λ request. request) result (logs_of text.now) }
+{
+    Ok(Request::Logs {
         pool: read_name(alloc, text)?,
     })
 }

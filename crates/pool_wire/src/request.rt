@@ -35,6 +35,21 @@ pub enum Request {
     Sync {
         pool: Name,
     },
+    /// `offline POOL DEV`, or `offline -t POOL DEV`, which is temporary: until the pool is opened again.
+    Offline {
+        pool: Name,
+        device: Name,
+        temporary: bool,
+    },
+    /// `online POOL DEV`
+    Online {
+        pool: Name,
+        device: Name,
+    },
+    /// `logs POOL`: which groups each leaf lacks.
+    Logs {
+        pool: Name,
+    },
 }
 
 /// Why a line asks nothing that could be read.

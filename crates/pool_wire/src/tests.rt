@@ -1,7 +1,8 @@
 use super::*;
-use mp_base::{Block, Group, Guid, LeafSeen, Name, Refusal, Seen, SeenLeaves};
+use mp_base::{Block, Group, GroupRange, Guid, LeafSeen, Name, Ranges, Refusal, Seen, SeenLeaves};
 use std::alloc::Global;
 use std::test::*;
+use vdev_tree::State;
 
 /// What a line asks, in a word.
 fn kind(asked: &Result<Request, LineFault>) -> &'static str {
@@ -12,6 +13,20 @@ fn kind(asked: &Result<Request, LineFault>) -> &'static str {
         Ok(Request::Write { .. }) => "write",
         Ok(Request::Read { .. }) => "read",
         Ok(Request::Sync { .. }) => "sync",
+        Ok(
+            Request::Offline {
+                temporary: false,
+                ..
+            },
+        ) => "offline",
+        Ok(
+            Request::Offline {
+                temporary: true,
+                ..
+            },
+        ) => "offline -t",
+        Ok(Request::Online { .. }) => "online",
+        Ok(Request::Logs { .. }) => "logs",
         Err(LineFault::Bad) => "bad",
         Err(LineFault::Memory) => "memory",
     }
@@ -57,10 +72,54 @@ fn a_line_is_read_or_bad(rt: HostRuntime) {
         (b"sync TANK", "bad"),
         (b"sync spare", "bad"),
         (b"sync", "bad"),
-        (b"offline tank a", "bad"),
+        (b"offline tank a", "offline"),
+        (b"offline -t tank a", "offline -t"),
+        (b"offline tank", "bad"),
+        (b"offline -t tank", "bad"),
+        (b"offline -t a", "bad"),
+        (b"offline -x tank a", "bad"),
+        (b"offline tank -t a", "bad"),
+        (b"offline  tank a", "bad"),
+        (b"offline tank  a", "bad"),
+        (b"offline tank a b", "bad"),
+        (b"offline tank mirror", "bad"),
+        (b"offline", "bad"),
+        (b"online tank a", "online"),
+        (b"online tank A", "bad"),
+        (b"online -t tank a", "bad"),
+        (b"online tank", "bad"),
+        (b"logs tank", "logs"),
+        (b"logs tank a", "bad"),
+        (b"logs tank ", "bad"),
+        (b"logs", "bad"),
+        (b"detach tank a", "bad"),
     ] {
         assert_eq!(rt; kind(&read_line(rt.alloc(), line)), want);
     }
+}
+
+/// The pool and the device that a line names.
+fn leaf_named(asked: &Request) -> Option<(&Name, &Name)> {
+    match asked {
+        Request::Offline { pool, device, .. } => Some((pool, device)),
+        Request::Online { pool, device } => Some((pool, device)),
+        _ => None,
+    }
+}
+
+#[test]
+fn the_pool_is_named_before_the_device(rt: HostRuntime) -> Result<(), Fail> {
+    for line in [
+        b"offline tank a".as_slice(),
+        b"offline -t tank a",
+        b"online tank a",
+    ] {
+        let asked = read_line(rt.alloc(), line).ok().ok_or("the line is read")?;
+        let (pool, device) = leaf_named(&asked).ok_or("the line names a device")?;
+        assert_eq!(rt; pool.as_bytes(), b"tank".as_slice());
+        assert_eq!(rt; device.as_bytes(), b"a".as_slice());
+    }
+    Ok(())
 }
 
 /// The text of the block that a line writes.
@@ -178,6 +237,103 @@ fn replies_have_their_texts(rt: HostRuntime) -> Result<(), Fail> {
         (
             Reply::Refused(Refusal::NotBuilt),
             b"no 40 notbuilt".as_slice(),
+        ),
+    ] {
+        let text = write_reply(alloc, &reply).ok().ok_or("there is memory")?;
+        assert_eq!(rt; text.as_slice(), want);
+    }
+    Ok(())
+}
+
+#[test]
+fn a_state_is_told_in_capitals(rt: HostRuntime) -> Result<(), Fail> {
+    for (state, want) in [
+        (State::Online, b"ok ONLINE".as_slice()),
+        (State::Degraded, b"ok DEGRADED"),
+        (State::Faulted, b"ok FAULTED"),
+        (State::Offline, b"ok OFFLINE"),
+        (State::Removed, b"ok REMOVED"),
+        (State::Unavail, b"ok UNAVAIL"),
+    ] {
+        let text = write_reply(rt.alloc(), &Reply::State(state))
+            .ok()
+            .ok_or("there is memory")?;
+        assert_eq!(rt; text.as_slice(), want);
+    }
+    Ok(())
+}
+
+/// A leaf of this name, which lacks the groups from each low one to its high one.
+fn leaf_log(alloc: Global, name: &[u8], ranges: &[(u64, u64)]) -> Result<LeafLog, LineFault> {
+    let name = match Name::new(alloc, name) {
+        Ok(name) => name,
+        Err(_) => return Err(LineFault::Bad),
+    };
+    let mut log = Ranges::new(alloc);
+    for (low, high) in ranges {
+        log.push(GroupRange {
+            low: Group(*low),
+            high: Group(*high),
+        })?;
+    }
+    Ok(LeafLog { name, log })
+}
+
+/// The reply that tells of two leaves, a and b, with these logs.
+fn told_logs(alloc: Global, a: &[(u64, u64)], b: &[(u64, u64)]) -> Result<Vec<u8>, LineFault> {
+    let mut leaves = LeafLogs::new(alloc);
+    leaves.push(leaf_log(alloc, b"a", a)?)?;
+    leaves.push(leaf_log(alloc, b"b", b)?)?;
+    Ok(write_reply(alloc, &Reply::Logs(leaves))?)
+}
+
+#[test]
+fn logs_are_told_leaf_by_leaf(rt: HostRuntime) -> Result<(), Fail> {
+    let none = [].as_slice();
+    for (a, b, want) in [
+        (none, none, b"ok a=- b=-".as_slice()),
+        ([(5, 7)].as_slice(), none, b"ok a=5-7 b=-"),
+        (
+            [(1, 1), (3, 4)].as_slice(),
+            [(9, 9)].as_slice(),
+            b"ok a=1,3-4 b=9",
+        ),
+    ] {
+        let text = told_logs(rt.alloc(), a, b).ok().ok_or("there is memory")?;
+        assert_eq!(rt; text.as_slice(), want);
+    }
+    Ok(())
+}
+
+#[test]
+fn refusals_name_what_they_are_about(rt: HostRuntime) -> Result<(), Fail> {
+    let alloc = rt.alloc();
+    let other = Name::new(alloc, b"a").ok().ok_or("there is memory")?;
+    let away = Name::new(alloc, b"b").ok().ok_or("there is memory")?;
+    for (reply, want) in [
+        (Reply::Refused(Refusal::NoVdev), b"no 6 vdev".as_slice()),
+        (
+            Reply::Refused(Refusal::Required { group: Group(1) }),
+            b"no 8 required 1".as_slice(),
+        ),
+        (
+            Reply::Refused(Refusal::TooSmall {
+                need: 1000,
+                has: 320,
+            }),
+            b"no 10 small 1000 320".as_slice(),
+        ),
+        (
+            Reply::Refused(Refusal::WrongLabel { member: Guid(2) }),
+            b"no 18 label 2".as_slice(),
+        ),
+        (
+            Reply::WrongLabel { name: other },
+            b"no 18 label a".as_slice(),
+        ),
+        (
+            Reply::NoDevice { name: away },
+            b"no 26 nodevice b".as_slice(),
         ),
     ] {
         let text = write_reply(alloc, &reply).ok().ok_or("there is memory")?;

@@ -1,12 +1,14 @@
 //! The texts of replies.
 ghost use Rattle.std.specs.Prelude.{◌≡◌, ℕ, ◌<◌, true, false, List, [], ◌∷◌, ◌++◌, map, decimal, codes, length, slice_index, IfOk, OnOk, IfNone, IfSome, if◌then◌else◌, ◌==◌};
 ghost use Rattle.std.specs.List.{list_all};
-ghost use Rattle.pool_wire.specs.Text.{exhausted_text, fault_text, leaf_text, limit_text, named_leaf_text, refusal_text, seen_text, suspended_text, text_of};
+ghost use Rattle.pool_wire.specs.Text.{exhausted_text, fault_text, label_text, leaf_text, limit_text, named_leaf_text, no_device_text, refusal_text, seen_text, small_text, state_text, suspended_text, text_of};
 ghost use Rattle.pool_wire.specs.Words.{IsData, are_bytes, block_text, digits_text, is_zero, trimmed, with_commas};
 
+use crate::logs::write_logs;
 use crate::{NamedLeaf, Reply};
 use mp_base::{Block, Group, Guid, LeafSeen, MemFault, Refusal, Seen};
 use std::alloc::Global;
+use vdev_tree::State;
 
 /// The text of the reply, without the byte 10 that ends it (docs/FORMATS.md, "Replies").
 pub fn write_reply(alloc: Global, reply: &Reply) -> Result<Vec<u8>, MemFault>
@@ -16,6 +18,8 @@ pub fn write_reply(alloc: Global, reply: &Reply) -> Result<Vec<u8>, MemFault>
         Reply::Done => Ok(Vec::from_slice(alloc, b"ok")?),
         Reply::Committed(group) => write_committed(alloc, *group),
         Reply::Data(block) => write_block(alloc, block),
+        Reply::State(state) => write_state(alloc, *state),
+        Reply::Logs(leaves) => write_logs(alloc, leaves.as_slice()),
         Reply::Refused(refusal) => write_refusal(alloc, refusal),
         Reply::Exhausted {
             level,
@@ -26,6 +30,8 @@ pub fn write_reply(alloc: Global, reply: &Reply) -> Result<Vec<u8>, MemFault>
             write_exhausted(alloc, *level, *index, &leaves)
         }
         Reply::DeviceFault { name } => write_fault(alloc, name.as_bytes()),
+        Reply::WrongLabel { name } => write_wrong_label(alloc, name.as_bytes()),
+        Reply::NoDevice { name } => write_no_device(alloc, name.as_bytes()),
     }
 }
 
@@ -39,6 +45,27 @@ fn write_committed(alloc: Global, group: Group) -> Result<Vec<u8>, MemFault>
 {
     let number = group.0;
     Ok(format!(in alloc; "ok {number}")?.into_bytes())
+}
+
+fn write_state(alloc: Global, state: State) -> Result<Vec<u8>, MemFault>
+    ensures { IfOk result (λ bytes. bytes.items ≡ codes "ok " ++ state_text state) }
+{
+    let mut text = Vec::from_slice(alloc, b"ok ")?;
+    text.extend_from_slice(state_word(state))?;
+    Ok(text)
+}
+
+fn state_word(state: State) -> &'static [u8]
+    ensures { result.now ≡ state_text state }
+{
+    match state {
+        State::Online => b"ONLINE",
+        State::Degraded => b"DEGRADED",
+        State::Faulted => b"FAULTED",
+        State::Offline => b"OFFLINE",
+        State::Removed => b"REMOVED",
+        State::Unavail => b"UNAVAIL",
+    }
 }
 
 /// The block in hexadecimal digits without the zero bytes at its end, `-` where it has none but zeros.
@@ -86,6 +113,9 @@ fn write_refusal(alloc: Global, refusal: &Refusal) -> Result<Vec<u8>, MemFault>
         Refusal::BadAddress { limit } => Ok(format!(in alloc;
             "no 3 address {limit}"
         )?.into_bytes()),
+        Refusal::NoVdev => Ok(Vec::from_slice(alloc, b"no 6 vdev")?),
+        Refusal::Required { group } => write_required(alloc, *group),
+        Refusal::TooSmall { need, has } => write_too_small(alloc, *need, *has),
         Refusal::Exhausted {
             level,
             index,
@@ -96,11 +126,25 @@ fn write_refusal(alloc: Global, refusal: &Refusal) -> Result<Vec<u8>, MemFault>
         }
         Refusal::Suspended { group, top, faults } => write_suspended(alloc, *group, *top, *faults),
         Refusal::DeviceFault { member } => write_member_fault(alloc, *member),
+        Refusal::WrongLabel { member } => write_member_label(alloc, *member),
         Refusal::Memory => Ok(Vec::from_slice(alloc, b"no 19 memory")?),
         Refusal::NoRecord => Ok(Vec::from_slice(alloc, b"no 21 norecord")?),
         Refusal::TreeFull { limit, count } => write_limit(alloc, *limit, *count),
         Refusal::NotBuilt => Ok(Vec::from_slice(alloc, b"no 40 notbuilt")?),
     }
+}
+
+fn write_required(alloc: Global, group: Group) -> Result<Vec<u8>, MemFault>
+    ensures { IfOk result (λ bytes. bytes.items ≡ codes "no 8 required " ++ decimal group.0) }
+{
+    let group = group.0;
+    Ok(format!(in alloc; "no 8 required {group}")?.into_bytes())
+}
+
+fn write_too_small(alloc: Global, need: u64, has: u64) -> Result<Vec<u8>, MemFault>
+    ensures { IfOk result (λ bytes. bytes.items ≡ small_text need has) }
+{
+    Ok(format!(in alloc; "no 10 small {need} {has}")?.into_bytes())
 }
 
 fn write_suspended(alloc: Global, group: Group, top: Guid, faults: u64) -> Result<Vec<u8>, MemFault>
@@ -124,6 +168,31 @@ fn write_fault(alloc: Global, name: &[u8]) -> Result<Vec<u8>, MemFault>
     ensures { IfOk result (λ bytes. bytes.items ≡ fault_text name.now) }
 {
     let mut text = Vec::from_slice(alloc, b"no 17 fault ")?;
+    text.extend_from_slice(name)?;
+    Ok(text)
+}
+
+/// The member's number stands where its device's name isn't known.
+fn write_member_label(alloc: Global, member: Guid) -> Result<Vec<u8>, MemFault>
+    ensures { IfOk result (λ bytes. bytes.items ≡ label_text (decimal member.0)) }
+{
+    let member = member.0;
+    let name = format!(in alloc; "{member}")?;
+    write_wrong_label(alloc, name.as_bytes())
+}
+
+fn write_wrong_label(alloc: Global, name: &[u8]) -> Result<Vec<u8>, MemFault>
+    ensures { IfOk result (λ bytes. bytes.items ≡ label_text name.now) }
+{
+    let mut text = Vec::from_slice(alloc, b"no 18 label ")?;
+    text.extend_from_slice(name)?;
+    Ok(text)
+}
+
+fn write_no_device(alloc: Global, name: &[u8]) -> Result<Vec<u8>, MemFault>
+    ensures { IfOk result (λ bytes. bytes.items ≡ no_device_text name.now) }
+{
+    let mut text = Vec::from_slice(alloc, b"no 26 nodevice ")?;
     text.extend_from_slice(name)?;
     Ok(text)
 }
@@ -173,7 +242,7 @@ fn write_leaves(alloc: Global, leaves: &[LeafSeen]) -> Result<Vec<u8>, MemFault>
 }
 
 /// Puts a comma before the leaf at this place, unless it is the first.
-fn push_comma(text: &mut Vec<u8>, at: usize) -> Result<(), MemFault>
+pub(crate) fn push_comma(text: &mut Vec<u8>, at: usize) -> Result<(), MemFault>
     ensures { OnOk result (text.new.items ≡ (if at == 0 then text.old.items else text.old.items ++ 44 ∷ [])) }
 {
     if at > 0 {
