@@ -32,7 +32,7 @@ flush_sparing p dev = record {
 }
 
 -- what the labels need lies in them
-label_below : (head_of : List ℕ → Option Head) (p : Pool) (d : ℕ) (status : Status) (s : ℕ) (bytes : List ℕ) → p.member d ≡ true → IsOf head_of p status
+label_below : (head_of : List ℕ → Option Head) (p : Pool) (d : ℕ) (status : Status) (s : ℕ) (bytes : List ℕ) → p.member d ≡ true → IsOf head_of p d status
     → NeedsLabel (seat p d) status s bytes → s < 128
 label_below head_of p d (Odd r) s bytes is of (inl (e, b)) = omega arith
 label_below head_of p d (Odd r) s bytes is of (inr (i, lt, e, b)) = let few = few_of head_of p r d of.1 is in omega arith
