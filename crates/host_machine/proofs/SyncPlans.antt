@@ -76,7 +76,7 @@ sync_sparing size p s fit sv idle committed room =
     free dev a below = record {
       low = λ is. omega arith;
       high = λ is. let wide = room dev is in let inside = free_below size s a fit below in omega (arith, wide, inside);
-      unused = λ r b cell is live e same. free_differs size s a b (version_of cell) fit (live_version r b cell live e) (same_start (other_sector a (s.committed a)) cell.sector same);
+      unused = λ r b cell is live e has same. free_differs size s a b (version_of cell) fit (live_version r b cell live e) (same_start (other_sector a (s.committed a)) cell.sector same);
     }
 
 -- What is brought.
