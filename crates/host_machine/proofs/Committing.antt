@@ -17,7 +17,7 @@ use Rattle.pool_history.specs.Events.{Event, IsOneRun, as_events, calls_of}
 use Rattle.pool_history.specs.Moves.{AreSparing, IsDrawnUp, Mays}
 use Rattle.pool_history.specs.Needs.{Held}
 use Rattle.pool_history.specs.Pools.{Pool, drawn, pool_after, seat}
-use Rattle.pool_history.specs.Records.{Rec, Cell, IsIn, number_of, block_of, data_start}
+use Rattle.pool_history.specs.Records.{Rec, Cell, IsIn, number_of, takes_part, block_of, data_start}
 use Rattle.pool_history.specs.Rounds.{all_true, IsRoundEvents, AreMembersOf, RoundEnds}
 use Rattle.pool_history.specs.Survival.{Fits, Survives}
 use Rattle.pool_history.proofs.Folding.{with_calls, calls_are, calls_more, calls_after, calls_sectors, calls_then, mays_calls, stops_never_more, calls_never_stop}
@@ -87,11 +87,11 @@ two_seated p first second one two (suc (suc i)) m e = absurd (none_some m e)
 seat_is : (p : Pool) (leaf : LeafState) (d : ℕ) → p.guid leaf.dev ≡ leaf.member → d ≡ leaf.dev → Some (member_at leaf) ≡ Some (seat p d)
 seat_is p leaf d guid same = subst (λ e. Some (member_at leaf) ≡ Some (seat p e)) (sym same) (ap (λ g. Some (record { dev = leaf.dev; guid = g })) (sym guid))
 
-two_members : (p : Pool) (first second : LeafState) → p.guid first.dev ≡ first.member → p.guid second.dev ≡ second.member
-    → ((d : ℕ) → p.member d ≡ true → (d ≡ first.dev) ⊎ (d ≡ second.dev)) → AreMembersOf p (member_at first ∷ member_at second ∷ [])
-two_members p first second one two members = record {
-  seated = λ i m e is. two_seated p first second one two i m e;
-  all = λ d is. ⊎_elim (λ same. (zero, seat_is p first d one same)) (λ same. (suc zero, seat_is p second d two same)) (members d is);
+two_members : (p : Pool) (q : Rec) (first second : LeafState) → p.guid first.dev ≡ first.member → p.guid second.dev ≡ second.member
+    → ((d : ℕ) → p.member d ≡ true → (d ≡ first.dev) ⊎ (d ≡ second.dev)) → ((d : ℕ) → takes_part q d ≡ true) → AreMembersOf p q (member_at first ∷ member_at second ∷ [])
+two_members p q first second one two members takes = record {
+  seated = λ i m e is. (two_seated p first second one two i m e, takes m.dev);
+  all = λ d is part. ⊎_elim (λ same. (zero, seat_is p first d one same)) (λ same. (suc zero, seat_is p second d two same)) (members d is);
 }
 
 two_apart : (first second : LeafState) → first.dev ≢ second.dev → AreApart (member_at first ∷ member_at second ∷ [])
@@ -153,7 +153,7 @@ module _ (p : Pool) (h : HostState) (plan : List Ask) (t : PoolState) (ready : I
     fits = fits_behind before;
     number_is = ready.number;
     blocks_are = ready.blocks;
-    held = ready.held before part;
+    held = λ d a cell is at has. ready.held before part d a cell is at;
   }
 
   survives_behind : (before : List Noted) (outcome : Option Fault) → Survives head_of p → IsPart plan before outcome → Survives head_of (with_calls before p)
@@ -168,7 +168,7 @@ module _ (p : Pool) (h : HostState) (plan : List Ask) (t : PoolState) (ready : I
   round_moves before results vs sv part events =
       mays_calls head_of before vs p (part_may head_of plan before None p ready.sparing part)
       (round_may head_of (with_calls before p) (record_of t) (members_of t) results vs (survives_behind before None sv part) (drawn_up_behind before part)
-      (let are = two_members p t.first t.second first_guid second_guid on_leaf in record { seated = are.seated; all = are.all })
+      (let are = two_members p (record_of t) t.first t.second first_guid second_guid on_leaf (λ d. refl) in record { seated = are.seated; all = are.all })
       (two_apart t.first t.second (subst (λ (l : LeafState). l.dev ≢ t.second.dev) (sym ready.first) (subst (λ (l : LeafState). ready.tracks.first.dev ≢ l.dev) (sym ready.second) ready.tracks.apart)))
       (subst (λ size. IsRoundEvents size (record_of t) (members_of t) results vs) same_sizes events))
 
@@ -199,6 +199,7 @@ opens_as p p' behind h plan t made ready name pool written ends = record {
   number = sym ends.top;
   acked = sym (ap number_of ends.acked);
   committed = λ a. known_is (t.committed a) (ready.known a) ∙ sym (ap (λ (r : Rec). option_map version_of (r.cells a)) ends.reads);
+  current = λ d g. ap (λ (r : Rec). r.owes d g) ends.reads;
   written = λ a. known_wanted (t.writes a) (t.committed a) (ready.no_writes a) (ready.known a) ∙ ap Known (ready.blocks a ∙ sym (ap (λ f. f a) (ends.written ∙ written)));
 }
 

@@ -25,6 +25,7 @@ open_calls p s made o = record {
   number = o.number;
   acked = o.acked;
   committed = o.committed;
+  current = o.current;
   written = o.written;
 }
 

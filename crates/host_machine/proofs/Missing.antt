@@ -145,22 +145,25 @@ all_miss p at block (leaf ∷ rest) (noted ∷ made) held answers asks none =
     asks none
 
 -- each block of the record that the pool reads is held
-cell_held : (p : Pool) (a : ℕ) (cell : Cell) → Survives head_of p → p.reads.cells a ≡ Some cell → IsHeldAt p (data_start + cell.sector) cell.block
-cell_held p a cell left is d member =
+abbrev HoldsRead : Pool → (a : ℕ) → Type 0
+HoldsRead p a = (cell : Cell) → p.reads.cells a ≡ Some cell → IsHeldAt p (data_start + cell.sector) cell.block
+
+cell_held : (p : Pool) (a : ℕ) → Survives head_of p → ((d g : ℕ) → p.reads.owes d g ≡ false) → HoldsRead p a
+cell_held p a left current cell is d member =
     left.held d (data_start + cell.sector) cell.block
-    (member, inr (record { r = p.reads; is_live = left.reads_live; a = a; cell = cell; cell_is = is; sector_is = refl; bytes_are = refl }))
+    (member, inr (record { r = p.reads; is_live = left.reads_live; a = a; cell = cell; cell_is = is; has = current d cell.birth; sector_is = refl; bytes_are = refl }))
 
 -- by whether a leaf served
-copies_end : (p : Pool) (s : PoolState) (a : ℕ) (cell : Cell) (block : List ℕ) (made : List Noted) (reply : Reply) (is : Bool) → Survives head_of p → p.reads.cells a ≡ Some cell
+copies_end : (p : Pool) (s : PoolState) (a : ℕ) (cell : Cell) (block : List ℕ) (made : List Noted) (reply : Reply) (is : Bool) → HoldsRead p a → p.reads.cells a ≡ Some cell
     → block ≡ p.written a → cell.block ≡ p.written a → AllAnswer p.sectors made
     → asks_of made ≡ asks_to (data_start + cell.sector) (leaves s) (troubles (Known block) made) → is_served (leaves s) (troubles (Known block) made) ≡ is
     → reply ≡ read_reply (leaves s) (copies_give is a block (shown (leaves s) (troubles (Known block) made))) → (reply ≡ replies.Data (p.written a)) ⊎ IsLost p s a made
-copies_end p s a cell block made reply true left is same last answers asks met e = inl (e ∙ ap replies.Data same)
-copies_end p s a cell block made reply false left is same last answers asks met e = inr (record {
+copies_end p s a cell block made reply true holds is same last answers asks met e = inl (e ∙ ap replies.Data same)
+copies_end p s a cell block made reply false holds is same last answers asks met e = inr (record {
   cell = cell;
   committed = is;
   last = sym last;
-  missed = all_miss p (data_start + cell.sector) block (leaves s) made (subst (IsHeldAt p (data_start + cell.sector)) (last ∙ sym same) (cell_held p a cell left is)) answers asks met;
+  missed = all_miss p (data_start + cell.sector) block (leaves s) made (subst (IsHeldAt p (data_start + cell.sector)) (last ∙ sym same) (holds cell is)) answers asks met;
 })
 
 some_known : (one other : List ℕ) → Known one ≡ Known other → one ≡ other
@@ -176,28 +179,28 @@ copy_of : (p : Pool) (a : ℕ) (version : Version) (cell : Option Cell) → p.re
 copy_of p a version None is e = absurd (cc)
 copy_of p a version (Some cell) is e = record { cell = cell; is = is; version_is = cc }
 
-copies_by : (p : Pool) (s : PoolState) (a : ℕ) (version : Version) (made : List Noted) (reply : Reply) (given : List ℕ) → Survives head_of p → IsCopyOf p a version
+copies_by : (p : Pool) (s : PoolState) (a : ℕ) (version : Version) (made : List Noted) (reply : Reply) (given : List ℕ) → HoldsRead p a → IsCopyOf p a version
     → version.content ≡ Known (p.written a) → AllAnswer p.sectors made → asks_of made ≡ asks_from (Copies version) (leaves s) (troubles version.content made)
     → reply ≡ read_reply (leaves s) (answer_from (Copies version) a (leaves s) (troubles version.content made) given)
     → (reply ≡ replies.Data (p.written a)) ⊎ IsLost p s a made
-copies_by p s a version made reply given left copy known answers asks e =
+copies_by p s a version made reply given holds copy known answers asks e =
     let w = p.written a in
     let sector : version.sector ≡ copy.cell.sector = ap (λ (v : Version). v.sector) copy.version_is in
     let content : Known copy.cell.block ≡ Known w = sym (ap (λ (v : Version). v.content) copy.version_is) ∙ known in
-    copies_end p s a copy.cell w made reply (is_served (leaves s) (troubles (Known w) made)) left copy.is refl (some_known copy.cell.block w content) answers
+    copies_end p s a copy.cell w made reply (is_served (leaves s) (troubles (Known w) made)) holds copy.is refl (some_known copy.cell.block w content) answers
     (asks ∙ ap (λ c. asks_to (data_start + version.sector) (leaves s) (troubles c made)) known ∙ ap (λ n. asks_to (data_start + n) (leaves s) (troubles (Known w) made)) sector) refl
     (e ∙ ap (λ c. read_reply (leaves s) (copies_give (is_served (leaves s) (troubles c made)) a (served c given) (shown (leaves s) (troubles c made)))) known)
 
 -- by where the block is found
-source_ends : (p : Pool) (s : PoolState) (a : ℕ) (writes : Option (List ℕ)) (committed : Option Version) (made : List Noted) (reply : Reply) (given : List ℕ) → Survives head_of p
+source_ends : (p : Pool) (s : PoolState) (a : ℕ) (writes : Option (List ℕ)) (committed : Option Version) (made : List Noted) (reply : Reply) (given : List ℕ) → HoldsRead p a
     → committed ≡ versions_of p.reads a → block_from (source_of writes committed) ≡ Known (p.written a) → AllAnswer p.sectors made
     → asks_of made ≡ asks_from (source_of writes committed) (leaves s) (troubles (block_from (source_of writes committed)) made)
     → reply ≡ read_reply (leaves s) (answer_from (source_of writes committed) a (leaves s) (troubles (block_from (source_of writes committed)) made) given)
     → (reply ≡ replies.Data (p.written a)) ⊎ IsLost p s a made
-source_ends p s a (Some block) committed made reply given left is known answers asks e = inl (e ∙ ap replies.Data (some_known block (p.written a) known))
-source_ends p s a None None made reply given left is known answers asks e = inl (e ∙ ap replies.Data (some_known zero_block (p.written a) known))
-source_ends p s a None (Some version) made reply given left is known answers asks e =
-    copies_by p s a version made reply given left (copy_of p a version (p.reads.cells a) refl is) known answers asks e
+source_ends p s a (Some block) committed made reply given holds is known answers asks e = inl (e ∙ ap replies.Data (some_known block (p.written a) known))
+source_ends p s a None None made reply given holds is known answers asks e = inl (e ∙ ap replies.Data (some_known zero_block (p.written a) known))
+source_ends p s a None (Some version) made reply given holds is known answers asks e =
+    copies_by p s a version made reply given holds (copy_of p a version (p.reads.cells a) refl is) known answers asks e
 
 -- what a line answered of a read of the open pool
 record IsReadLine (s : PoolState) (a : ℕ) (made : List Noted) (reply : Reply) (given : List ℕ) : Type 0 where
@@ -207,7 +210,7 @@ record IsReadLine (s : PoolState) (a : ℕ) (made : List Noted) (reply : Reply) 
 line_ends : (p : Pool) (s : PoolState) (a : ℕ) (made : List Noted) (reply : Reply) (given : List ℕ) → IsOpenAs p s → Survives head_of p → AllAnswer p.sectors made
     → nat_lt a s.blocks ≡ true → IsReadLine s a made reply given → (reply ≡ replies.Data (p.written a)) ⊎ IsLost p s a made
 line_ends p s a made reply given is_open left answers inside line =
-    source_ends p s a (s.writes a) (s.committed a) made reply given left (is_open.committed a) (is_open.written a) answers
+    source_ends p s a (s.writes a) (s.committed a) made reply given (cell_held p a left is_open.current) (is_open.committed a) (is_open.written a) answers
     (line.asks ∙ ap (λ t. cond t (asks_from (source_at s a) (leaves s) (troubles (wanted s a) made)) []) inside)
     (line.reply_is ∙ ap (λ t. read_reply (leaves s) (cond t (answer_from (source_at s a) a (leaves s) (troubles (wanted s a) made) given) (Err (refusals.BadAddress s.blocks)))) inside)
 

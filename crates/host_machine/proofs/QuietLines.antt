@@ -85,6 +85,7 @@ accepts_open p s a block is = record {
   number = is.number;
   acked = is.acked;
   committed = is.committed;
+  current = is.current;
   written = λ x. written_wanted (a == x) s x block (p.written x) (is.written x);
 }
 

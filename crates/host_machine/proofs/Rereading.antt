@@ -158,5 +158,5 @@ module _ (p : Pool) (h : HostState) (fit : IsFit h) (tracks : Tracks p h) (reads
     held = λ before part d a cell is e.
         (away_survives behind before (part_away behind.member (flush_plan (open_state h config c seats)) before None (flushes_away behind.member (open_state h config c seats)) part) sv).held
         d (data_start + cell.sector) cell.block
-        (is, inr (record { r = r; is_live = live; a = a; cell = cell; cell_is = sym (same_cells a) ∙ e; sector_is = refl; bytes_are = refl }));
+        (is, inr (record { r = r; is_live = live; a = a; cell = cell; cell_is = sym (same_cells a) ∙ e; has = known.drawn.current d cell.birth; sector_is = refl; bytes_are = refl }));
   }

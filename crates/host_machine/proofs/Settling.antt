@@ -145,6 +145,7 @@ settled_drawn t settled known = record {
       ∙ ap (λ v. Some (option_map pointer_of v)) (known_is (t.committed a) (known a)) ∙ ap Some (map_twice (cell_of (t.committed a)));
   beyond = λ a above. ap cell_of (settled.beyond a above);
   whole = settled.whole;
+  current = λ d g. refl;
 }
 
 -- its configuration with a member's uberblock

@@ -57,6 +57,7 @@ stands_calls made p first second (Some s) (inl (one, two, is)) = inl (
     number = is.number;
     acked = is.acked;
     committed = is.committed;
+    current = is.current;
     written = is.written;
   },
 )

@@ -87,7 +87,7 @@ module _ (p : Pool) (h : HostState) (s : PoolState) (tr : Tracks p h) (one : s.f
   all_held : (before : List Noted) → IsPart (sync_plan s) before None → (d a : ℕ) (cell : Cell) → p.member d ≡ true → cell_of ((synced s).committed a) ≡ Some cell
       → Held (run before p.sectors d (data_start + cell.sector)) cell.block
   all_held before part d a cell member e = ⊎_elim
-      (λ old. reads_held p (sync_plan s) before d a cell sv sparing part member (sym (ap cell_of (is.committed a) ∙ cells_back (p.reads.cells a)) ∙ old))
+      (λ old. reads_held p (sync_plan s) before d a cell sv sparing part is.current member (sym (ap cell_of (is.committed a) ∙ cells_back (p.reads.cells a)) ∙ old))
       (λ new. subst (λ (c : Cell). Held (run before p.sectors d (data_start + c.sector)) c.block) new.2 (new_held before d a new.0 part member new.1))
       (next_cell (s.number + 1) a (s.committed a) (s.writes a) cell e)
 

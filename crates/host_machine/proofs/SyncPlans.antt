@@ -1,5 +1,5 @@
 -- The plan of a sync spares what is needed, and brings each block to both leaves.
-use Rattle.std.proofs.Common.{◌≡◌, ◌≢◌, ◌⊎◌, ℕ, ◌+◌, ◌<◌, ◌≤◌, ◌==◌, zero, suc, true, List, [], ◌∷◌, length, Option, Some, None, refl, sym, ap, ◌∙◌, subst, arith, inl, inr, ⊎_elim}
+use Rattle.std.proofs.Common.{◌≡◌, ◌≢◌, ◌⊎◌, ℕ, ◌+◌, ◌<◌, ◌≤◌, ◌==◌, zero, suc, true, false, List, [], ◌∷◌, length, Option, Some, None, refl, sym, ap, ◌∙◌, subst, arith, inl, inr, ⊎_elim}
 use Rattle.std.specs.Prelude.{slice_get}
 use Rattle.std.specs.List.{flat_map}
 use Rattle.std.specs.Option.{option_map}
@@ -76,7 +76,7 @@ sync_sparing size p s fit sv idle committed room =
     free dev a below = record {
       low = λ is. omega arith;
       high = λ is. let wide = room dev is in let inside = free_below size s a fit below in omega (arith, wide, inside);
-      unused = λ r b cell is live e same. free_differs size s a b (version_of cell) fit (live_version r b cell live e) (same_start (other_sector a (s.committed a)) cell.sector same);
+      unused = λ r b cell is live e has same. free_differs size s a b (version_of cell) fit (live_version r b cell live e) (same_start (other_sector a (s.committed a)) cell.sector same);
     }
 
 -- What is brought.
@@ -138,14 +138,14 @@ stands_held x block st = record { still = st.still; stands = inl st.stable }
 
 -- A cell of the record that the pool reads is held on each member behind a plan that spares what is needed.
 pub reads_held : (p : Pool) (plan : List Ask) (before : List Noted) (d a : ℕ) (cell : Cell) → Survives head_of p → AreSparing p plan → IsPart plan before None
-    → p.member d ≡ true → p.reads.cells a ≡ Some cell → Held (run before p.sectors d (data_start + cell.sector)) cell.block
-reads_held p plan before d a cell sv sparing part is e =
+    → ((e g : ℕ) → p.reads.owes e g ≡ false) → p.member d ≡ true → p.reads.cells a ≡ Some cell → Held (run before p.sectors d (data_start + cell.sector)) cell.block
+reads_held p plan before d a cell sv sparing part current is e =
     untouched_held before d (data_start + cell.sector) (p.sectors d (data_start + cell.sector)) cell.block
     (part_spares plan before None d (data_start + cell.sector) part (sparing.off d (data_start + cell.sector) cell.block needs))
     (sv.held d (data_start + cell.sector) cell.block needs)
   where
     needs : Needs p d (data_start + cell.sector) cell.block
-    needs = (is, inr (record { r = p.reads; is_live = sv.reads_live; a = a; cell = cell; cell_is = e; sector_is = refl; bytes_are = refl }))
+    needs = (is, inr (record { r = p.reads; is_live = sv.reads_live; a = a; cell = cell; cell_is = e; has = current d cell.birth; sector_is = refl; bytes_are = refl }))
 
 -- And a block that a sync wrote stands on each leaf behind its plan.
 pub sync_held : (size : ℕ → ℕ) (s : PoolState) (sectors : Sectors) (before : List Noted) (i a : ℕ) (leaf : LeafState) (block : List ℕ) → IsFitPool size s → IsPart (sync_plan s) before None

@@ -38,9 +38,9 @@ is_known_version (Some version) = is_known_content version.content
 abbrev pub is_known : PoolState → Bool
 is_known s = list_all (λ a. is_known_version (s.committed a)) (addresses s.blocks)
 
--- the record of a pool as it stands
+-- The record of a pool as it stands. Its logs are empty: so far no member is ever away.
 abbrev pub record_of : PoolState → Rec
-record_of s = record { commit = commit_of s; cells = λ a. cell_of (s.committed a) }
+record_of s = record { commit = commit_of s; cells = λ a. cell_of (s.committed a); owes = λ d g. false }
 
 -- the records drawn up so far, with this one where its blocks are known
 abbrev pub with_record : PoolState → List Rec → List Rec
@@ -60,7 +60,8 @@ abbrev pub committed_in : List Rec → List ℕ → Fields → ℕ → Option Ve
 committed_in [] config c = λ a. slot_at (slice_get c.pointers a)
 committed_in (r ∷ records) config c = cond (bytes_eq (config_of r.commit) config) (versions_of r) (committed_in records config c)
 
--- A record as it is drawn up: its configuration, sealed into one sector, has a pointer for each of its blocks.
+-- A record as it is drawn up: its configuration, sealed into one sector, has a pointer for each of its blocks,
+-- and its logs are empty.
 pub record IsDrawn (r : Rec) (c : Fields) : Type 0 where
   pub config : config_in (config_of r.commit) ≡ Some c
   pub length_is : r.commit.length ≡ length (config_of r.commit)
@@ -70,6 +71,8 @@ pub record IsDrawn (r : Rec) (c : Fields) : Type 0 where
   pub pointers : (a : ℕ) → a < c.blocks → slice_get c.pointers a ≡ Some (option_map (λ cell. pointer_of (version_of cell)) (r.cells a))
   pub beyond : (a : ℕ) → c.blocks ≤ a → r.cells a ≡ None
   pub whole : (a : ℕ) (cell : Cell) → r.cells a ≡ Some cell → length cell.block ≡ 4096
+  -- so far no member is ever away
+  pub current : (d g : ℕ) → r.owes d g ≡ false
 
 -- so each of these
 abbrev pub AreDrawn : List Rec → Type 0

@@ -36,6 +36,8 @@ pub record IsOpenAs (p : Pool) (s : PoolState) : Type 0 where
   pub number : s.number ≡ p.top
   pub acked : s.number ≡ number_of p.acked
   pub committed : (a : ℕ) → s.committed a ≡ versions_of p.reads a
+  -- so far no member is ever away
+  pub current : (d g : ℕ) → p.reads.owes d g ≡ false
   pub written : (a : ℕ) → wanted s a ≡ Known (p.written a)
 
 -- The open pool is another one, on other devices.

@@ -1,4 +1,4 @@
--- Which asks spare what is needed: a flush, a block that is written where no live record has one, and many such asks.
+-- Which asks spare what is needed: a flush, a block that is written where no live record needs one, and many such asks.
 use Rattle.std.proofs.Common.{◌≡◌, ◌≢◌, ◌⊎◌, ℕ, ◌+◌, ◌%◌, ◌/◌, ◌<◌, ◌≤◌, ◌==◌, ◌&&◌, zero, suc, true, false, List, [], ◌∷◌, ◌++◌, length, map, Option, Some, refl, arith, inl, inr, ◌∙◌, ⊎_elim}
 use Rattle.std.specs.Prelude.{slice_get, slice_index}
 use Rattle.std.specs.List.{flat_map}
@@ -32,7 +32,7 @@ flush_sparing p dev = record {
 }
 
 -- what the labels need lies in them
-label_below : (head_of : List ℕ → Option Head) (p : Pool) (d : ℕ) (status : Status) (s : ℕ) (bytes : List ℕ) → p.member d ≡ true → IsOf head_of p status
+label_below : (head_of : List ℕ → Option Head) (p : Pool) (d : ℕ) (status : Status) (s : ℕ) (bytes : List ℕ) → p.member d ≡ true → IsOf head_of p d status
     → NeedsLabel (seat p d) status s bytes → s < 128
 label_below head_of p d (Odd r) s bytes is of (inl (e, b)) = omega arith
 label_below head_of p d (Odd r) s bytes is of (inr (i, lt, e, b)) = let few = few_of head_of p r d of.1 is in omega arith
@@ -52,11 +52,12 @@ ring_off_data size at (suc (suc (suc (suc label)))) t few lt low high = absurd (
 off_one : (at s : ℕ) → at ≢ s → (s < at) ⊎ (at + 1 ≤ s)
 off_one at s ne = ⊎_elim (λ lt. inl lt) (λ le. inr (omega (arith, le, ne))) (cases_lt s at)
 
--- A block goes between the labels of a device, to a sector where no live record has one.
+-- A block goes between the labels of a device, to a sector where no live record has one that the member there
+-- has to have.
 pub record IsFreeAt (p : Pool) (dev at : ℕ) : Type 0 where
   pub low : p.member dev ≡ true → 128 ≤ at
   pub high : p.member dev ≡ true → at + 128 < p.size dev
-  pub unused : (r : Rec) (a : ℕ) (cell : Cell) → p.member dev ≡ true → IsIn r p.live → r.cells a ≡ Some cell → at ≢ data_start + cell.sector
+  pub unused : (r : Rec) (a : ℕ) (cell : Cell) → p.member dev ≡ true → IsIn r p.live → r.cells a ≡ Some cell → r.owes dev cell.birth ≡ false → at ≢ data_start + cell.sector
 
 pub write_sparing : (head_of : List ℕ → Option Head) (p : Pool) (dev at : ℕ) (block : List ℕ) → Survives head_of p → length block ≡ 4096 → IsFreeAt p dev at
     → AreSparing p (Writes dev at block ∷ [])
@@ -86,7 +87,7 @@ write_sparing head_of p dev at block sv long free = record {
       tt,
     )
     here_spares s bytes (is, inr cell) =
-        (outside_one dev at dev s block one (off_one at s (λ e. free.unused cell.r cell.a cell.cell is cell.is_live cell.cell_is (e ∙ cell.sector_is))), tt)
+        (outside_one dev at dev s block one (off_one at s (λ e. free.unused cell.r cell.a cell.cell is cell.is_live cell.cell_is cell.has (e ∙ cell.sector_is))), tt)
 
     by_all : (d s : ℕ) (bytes : List ℕ) → Needs p d s bytes → Spares (Writes dev at block ∷ []) d s
     by_all d = by_device (λ e. (s : ℕ) (bytes : List ℕ) → Needs p e s bytes → Spares (Writes dev at block ∷ []) e s) dev d here_spares

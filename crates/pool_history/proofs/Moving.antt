@@ -14,7 +14,7 @@ use Rattle.pool_history.specs.Labels.{Status, Odd, Even, Lost, begun}
 use Rattle.pool_history.specs.Moves.{IsSparing, IsDrawnUp, MayStand, MayAck, MayStop, May, puts}
 use Rattle.pool_history.specs.Needs.{Held, NeedsLabel, NeedsCell}
 use Rattle.pool_history.specs.Pools.{Pool, drawn, seat, after, noted_since, at_device}
-use Rattle.pool_history.specs.Records.{Rec, IsIn, number_of, data_start, above, rest_of}
+use Rattle.pool_history.specs.Records.{Rec, IsIn, number_of, takes_part, data_start, above, rest_of}
 use Rattle.pool_history.specs.Survival.{Survives, Fits, IsOf, IsAmong, IsDrawnUber, IsKnownUber, IsNoted, IsKnownRing}
 use Rattle.pool_history.proofs.OnePool.{pools_kept}
 use Rattle.pool_history.proofs.Folding.{taken_false}
@@ -72,11 +72,11 @@ fits_after head_of (Calls noted) p r f = record { pool_is = f.pool_is; is_record
 fits_after head_of v p r f = record { pool_is = f.pool_is; is_record = f.is_record; name_is = f.name_is; places = f.places; blocks = f.blocks }
 
 -- So does a status, while its record stays live.
-status_after : (head_of : List ℕ → Option Head) (v : Event) (p : Pool) (status : Status) → ((r : Rec) → IsIn r p.live → IsIn r (after v p).live)
-    → IsOf head_of p status → IsOf head_of (after v p) status
-status_after head_of v p (Odd r) stays is = (stays r is.0, fits_after head_of v p r is.1)
-status_after head_of v p (Even r) stays is = (stays r is.0, fits_after head_of v p r is.1)
-status_after head_of v p Lost stays is = tt
+status_after : (head_of : List ℕ → Option Head) (v : Event) (p : Pool) (d : ℕ) (status : Status) → ((r : Rec) → IsIn r p.live → IsIn r (after v p).live)
+    → IsOf head_of p d status → IsOf head_of (after v p) d status
+status_after head_of v p d (Odd r) stays is = (stays r is.0, fits_after head_of v p r is.1, is.2)
+status_after head_of v p d (Even r) stays is = (stays r is.0, fits_after head_of v p r is.1, is.2)
+status_after head_of v p d Lost stays is = tt
 
 -- A ring's sector that no event has changed, where what was known still is.
 ring_as : (p p' : Pool) (d s : ℕ) → p.sectors d s ≡ p'.sectors d s → p.since d s ≡ p'.since d s
@@ -102,7 +102,7 @@ calls_survive head_of p noted sv m = record {
   held = λ d s bytes n. call_held noted.call d s _ bytes (m.off d s bytes n) (hurt_held (noted.damage d s) (p.sectors d s) bytes (sv.held d s bytes n));
   rings = λ d place is inside. ring_of d (place_at (p.size d) place) (m.known d place is inside) (sv.rings d place is inside);
   places = sv.places;
-  status_live = λ d is. status_after head_of (Calls noted) p (p.status d) (λ r i. i) (sv.status_live d is);
+  status_live = λ d is. status_after head_of (Calls noted) p d (p.status d) (λ r i. i) (sv.status_live d is);
   acked_live = sv.acked_live;
   reads_live = sv.reads_live;
   not_below = sv.not_below;
@@ -127,7 +127,7 @@ accepts_survive head_of p a block sv = record {
   held = sv.held;
   rings = λ d place is inside. ring_as p (after (Accepts a block) p) d (place_at (p.size d) place) refl refl (λ bytes known. known) (sv.rings d place is inside);
   places = sv.places;
-  status_live = λ d is. status_after head_of (Accepts a block) p (p.status d) (λ r i. i) (sv.status_live d is);
+  status_live = λ d is. status_after head_of (Accepts a block) p d (p.status d) (λ r i. i) (sv.status_live d is);
   acked_live = sv.acked_live;
   reads_live = sv.reads_live;
   not_below = sv.not_below;
@@ -146,7 +146,7 @@ opens_survive head_of p r sv live = record {
   held = sv.held;
   rings = λ d place is inside. ring_as p (after (Opens r) p) d (place_at (p.size d) place) refl refl (λ bytes known. known) (sv.rings d place is inside);
   places = sv.places;
-  status_live = λ d is. status_after head_of (Opens r) p (p.status d) (λ r i. i) (sv.status_live d is);
+  status_live = λ d is. status_after head_of (Opens r) p d (p.status d) (λ r i. i) (sv.status_live d is);
   acked_live = sv.acked_live;
   reads_live = live;
   not_below = sv.not_below;
@@ -172,35 +172,46 @@ begun_needs p d (Odd r) q s bytes n = by_test (slot_of (number_of r) == slot_of 
 begun_needs p d (Even r) q s bytes n = absurd n
 begun_needs p d Lost q s bytes n = absurd n
 
-begun_live : (head_of : List ℕ → Option Head) (p : Pool) (status : Status) (q : Rec) → IsOf head_of p status → IsOf head_of p (begun status q)
-begun_live head_of p (Odd r) q is = by_test (slot_of (number_of r) == slot_of (number_of q))
+begun_live : (head_of : List ℕ → Option Head) (p : Pool) (d : ℕ) (status : Status) (q : Rec) → IsOf head_of p d status → IsOf head_of p d (begun status q)
+begun_live head_of p d (Odd r) q is = by_test (slot_of (number_of r) == slot_of (number_of q))
   where
-    by_test : (t : Bool) → IsOf head_of p (cond t Lost (Odd r))
+    by_test : (t : Bool) → IsOf head_of p d (cond t Lost (Odd r))
     by_test true = tt
     by_test false = is
-begun_live head_of p (Even r) q is = tt
-begun_live head_of p Lost q is = tt
+begun_live head_of p d (Even r) q is = tt
+begun_live head_of p d Lost q is = tt
+
+-- what holds of both statuses
+either : (P : Status → Type 0) (t : Bool) (new old : Status) → P new → P old → P (cond t new old)
+either P true new old a b = a
+either P false new old a b = b
+
+part_needs : (p : Pool) (d : ℕ) (t : Bool) (status : Status) (q : Rec) (s : ℕ) (bytes : List ℕ) → NeedsLabel (seat p d) (cond t (begun status q) status) s bytes
+    → NeedsLabel (seat p d) status s bytes
+part_needs p d true status q s bytes n = begun_needs p d status q s bytes n
+part_needs p d false status q s bytes n = n
 
 -- a new record's blocks are held too
 begun_cells : (head_of : List ℕ → Option Head) (p : Pool) (q : Rec) (d s : ℕ) (bytes : List ℕ) → Survives head_of p → IsDrawnUp head_of p q → p.member d ≡ true
-    → NeedsCell (q ∷ p.live) s bytes → Held (p.sectors d s) bytes
+    → NeedsCell (q ∷ p.live) d s bytes → Held (p.sectors d s) bytes
 begun_cells head_of p q d s bytes sv m is n = of n.is_live
   where
     of : (n.r ≡ q) ⊎ IsIn n.r p.live → Held (p.sectors d s) bytes
     of (inl e) = subst (λ s. Held (p.sectors d s) bytes) (sym n.sector_is) (subst (λ b. Held (p.sectors d (data_start + n.cell.sector)) b) (sym n.bytes_are)
-        (m.held d n.a n.cell is (ap (λ r. r.cells n.a) (sym e) ∙ n.cell_is)))
-    of (inr i) = sv.held d s bytes (is, inr (record { r = n.r; is_live = i; a = n.a; cell = n.cell; cell_is = n.cell_is; sector_is = n.sector_is; bytes_are = n.bytes_are }))
+        (m.held d n.a n.cell is (ap (λ r. r.cells n.a) (sym e) ∙ n.cell_is) (ap (λ r. r.owes d n.cell.birth) (sym e) ∙ n.has)))
+    of (inr i) = sv.held d s bytes (is, inr (record { r = n.r; is_live = i; a = n.a; cell = n.cell; cell_is = n.cell_is; has = n.has; sector_is = n.sector_is; bytes_are = n.bytes_are }))
 
 -- A round begins.
 begins_survive : (head_of : List ℕ → Option Head) (p : Pool) (q : Rec) → Survives head_of p → IsDrawnUp head_of p q → Survives head_of (after (Begins q) p)
 begins_survive head_of p q sv m = record {
   sizes = sv.sizes;
-  held = λ d s bytes n. ⊎_elim (λ label. sv.held d s bytes (n.0, inl (begun_needs p d (p.status d) q s bytes label)))
+  held = λ d s bytes n. ⊎_elim (λ label. sv.held d s bytes (n.0, inl (part_needs p d (takes_part q d) (p.status d) q s bytes label)))
       (λ cell. begun_cells head_of p q d s bytes sv m n.0 cell) n.1;
   rings = λ d place is inside. ring_as p (after (Begins q) p) d (place_at (p.size d) place) refl refl
       (λ bytes known. known_more p (after (Begins q) p) d bytes refl (λ r i. inr i) known) (sv.rings d place is inside);
   places = λ r a cell d i at is. ⊎_elim (λ e. m.fits.places a cell (ap (λ r. r.cells a) (sym e) ∙ at) d is) (λ i. sv.places r a cell d i at is) i;
-  status_live = λ d is. status_after head_of (Begins q) p (begun (p.status d) q) (λ r i. inr i) (begun_live head_of p (p.status d) q (sv.status_live d is));
+  status_live = λ d is. status_after head_of (Begins q) p d (cond (takes_part q d) (begun (p.status d) q) (p.status d)) (λ r i. inr i)
+      (either (IsOf head_of p d) (takes_part q d) _ _ (begun_live head_of p d (p.status d) q (sv.status_live d is)) (sv.status_live d is));
   acked_live = inr sv.acked_live;
   reads_live = inr sv.reads_live;
   not_below = λ r i. ⊎_elim (λ e. subst (λ r. number_of p.acked ≤ number_of r) (sym e) low) (λ i. sv.not_below r i) i;
@@ -232,16 +243,17 @@ at_held p status d e s bytes here away is_member n = by_test (d == e) refl n
         subst (λ e. p.member e ≡ true → NeedsLabel (seat p e) status s bytes → Held (p.sectors e s) bytes) same here is_member n
     by_test false is n = away n
 
-at_live : (head_of : List ℕ → Option Head) (p : Pool) (status : Status) (d e : ℕ) → (p.member d ≡ true → IsOf head_of p status) → IsOf head_of p (p.status e)
-    → p.member e ≡ true → IsOf head_of p (at_device d status p.status e)
+at_live : (head_of : List ℕ → Option Head) (p : Pool) (status : Status) (d e : ℕ) → (p.member d ≡ true → IsOf head_of p d status) → IsOf head_of p e (p.status e)
+    → p.member e ≡ true → IsOf head_of p e (at_device d status p.status e)
 at_live head_of p status d e here away is_member = by_test (d == e) refl
   where
-    by_test : (t : Bool) → (d == e) ≡ t → IsOf head_of p (cond t status (p.status e))
-    by_test true is = let same : d ≡ e = grind (arith, nat_tests) in here (ap p.member same ∙ is_member)
+    by_test : (t : Bool) → (d == e) ≡ t → IsOf head_of p e (cond t status (p.status e))
+    by_test true is =
+        let same : d ≡ e = grind (arith, nat_tests) in subst (λ x. IsOf head_of p x status) same (here (ap p.member same ∙ is_member))
     by_test false is = away
 
 stand_held : (head_of : List ℕ → Option Head) (p : Pool) (q : Rec) (d : ℕ) (status : Status) → Survives head_of p → (p.member d ≡ true → MayStand head_of p q d status)
-    → (e s : ℕ) (bytes : List ℕ) → p.member e ≡ true → NeedsLabel (seat p e) (at_device d status p.status e) s bytes ⊎ NeedsCell p.live s bytes → Held (p.sectors e s) bytes
+    → (e s : ℕ) (bytes : List ℕ) → p.member e ≡ true → NeedsLabel (seat p e) (at_device d status p.status e) s bytes ⊎ NeedsCell p.live e s bytes → Held (p.sectors e s) bytes
 stand_held head_of p q d status sv m e s bytes is n =
     ⊎_elim (λ label. at_held p status d e s bytes (λ member. (m member).held s bytes) (λ label. sv.held e s bytes (is, inl label)) is label) (λ cell. sv.held e s bytes (is, inr cell)) n
 
@@ -251,7 +263,7 @@ third_survive head_of p q d sv m = record {
   held = λ e s bytes n. stand_held head_of p q d (Even q) sv m e s bytes n.0 n.1;
   rings = λ d' place is inside. ring_as p (after (Third q d) p) d' (place_at (p.size d') place) refl refl (λ bytes known. known) (sv.rings d' place is inside);
   places = sv.places;
-  status_live = λ e is. status_after head_of (Third q d) p (at_device d (Even q) p.status e) (λ r i. i) (at_live head_of p (Even q) d e (λ member. ((m member).is_live, (m member).fits)) (sv.status_live e is) is);
+  status_live = λ e is. status_after head_of (Third q d) p e (at_device d (Even q) p.status e) (λ r i. i) (at_live head_of p (Even q) d e (λ member. ((m member).is_live, (m member).fits, (m member).takes)) (sv.status_live e is) is);
   acked_live = sv.acked_live;
   reads_live = sv.reads_live;
   not_below = sv.not_below;
@@ -269,7 +281,7 @@ ends_survive head_of p q d sv m = record {
   held = λ e s bytes n. stand_held head_of p q d (Odd q) sv m e s bytes n.0 n.1;
   rings = λ d' place is inside. ring_as p (after (Ends q d) p) d' (place_at (p.size d') place) refl refl (λ bytes known. known) (sv.rings d' place is inside);
   places = sv.places;
-  status_live = λ e is. status_after head_of (Ends q d) p (at_device d (Odd q) p.status e) (λ r i. i) (at_live head_of p (Odd q) d e (λ member. ((m member).is_live, (m member).fits)) (sv.status_live e is) is);
+  status_live = λ e is. status_after head_of (Ends q d) p e (at_device d (Odd q) p.status e) (λ r i. i) (at_live head_of p (Odd q) d e (λ member. ((m member).is_live, (m member).fits, (m member).takes)) (sv.status_live e is) is);
   acked_live = sv.acked_live;
   reads_live = sv.reads_live;
   not_below = sv.not_below;
@@ -285,12 +297,11 @@ ends_survive head_of p q d sv m = record {
 acks_survive : (head_of : List ℕ → Option Head) (p : Pool) (q : Rec) → Survives head_of p → MayAck p q → Survives head_of (after (Acks q) p)
 acks_survive head_of p q sv m = record {
   sizes = sv.sizes;
-  held = λ d s bytes n. sv.held d s bytes (n.0, ⊎_elim (λ label. inl label) (λ cell. inr (alone s bytes cell)) n.1);
+  held = λ d s bytes n. sv.held d s bytes (n.0, ⊎_elim (λ label. inl (kept_needs d (takes_part q d) s bytes label)) (λ cell. inr (alone d s bytes cell)) n.1);
   rings = λ d place is inside. ring_as p (after (Acks q) p) d (place_at (p.size d) place) refl refl
       (λ bytes known. known_more p (after (Acks q) p) d bytes refl (λ r i. still_drawn r i) known) (sv.rings d place is inside);
   places = λ r a cell d i at is. ⊎_elim (λ e. sv.places q a cell d live (ap (λ r. r.cells a) (sym e) ∙ at) is) (λ none. absurd none) i;
-  status_live = λ d is. subst (IsOf head_of (after (Acks q) p)) (sym (m.all d is))
-      (inl refl, fits_after head_of (Acks q) p q (subst (IsOf head_of p) (m.all d is) (sv.status_live d is)).1);
+  status_live = λ d is. acked_live d is (takes_part q d) refl;
   acked_live = inl refl;
   reads_live = inl refl;
   not_below = λ r i. ⊎_elim (λ e. let le : number_of q ≤ number_of r = omega (arith, ap number_of e) in le) (λ none. absurd none) i;
@@ -306,13 +317,25 @@ acks_survive head_of p q sv m = record {
     live : IsIn q p.live
     live = subst (IsIn q) (sym m.newest) (inl refl)
 
-    alone : (s : ℕ) (bytes : List ℕ) → NeedsCell (q ∷ []) s bytes → NeedsCell p.live s bytes
-    alone s bytes n = record {
+    kept_needs : (d : ℕ) (t : Bool) (s : ℕ) (bytes : List ℕ) → NeedsLabel (seat p d) (cond t (p.status d) Lost) s bytes → NeedsLabel (seat p d) (p.status d) s bytes
+    kept_needs d true s bytes n = n
+    kept_needs d false s bytes n = absurd n
+
+    acked_live : (d : ℕ) → p.member d ≡ true → (t : Bool) → takes_part q d ≡ t → IsOf head_of (after (Acks q) p) d (cond t (p.status d) Lost)
+    acked_live d is true takes =
+        let odd = m.all d is takes in
+        subst (IsOf head_of (after (Acks q) p) d) (sym odd)
+        (inl refl, fits_after head_of (Acks q) p q (subst (IsOf head_of p d) odd (sv.status_live d is)).1, takes)
+    acked_live d is false out = tt
+
+    alone : (d s : ℕ) (bytes : List ℕ) → NeedsCell (q ∷ []) d s bytes → NeedsCell p.live d s bytes
+    alone d s bytes n = record {
       r = n.r;
       is_live = ⊎_elim (λ e. subst (λ r. IsIn r p.live) (sym e) live) (λ none. absurd none) n.is_live;
       a = n.a;
       cell = n.cell;
       cell_is = n.cell_is;
+      has = n.has;
       sector_is = n.sector_is;
       bytes_are = n.bytes_are;
     }
@@ -330,7 +353,7 @@ loses_survive head_of p d sv = record {
   held = λ e s bytes n. sv.held e s bytes (was e n.0, ⊎_elim (λ label. inl (label_was e s bytes label)) (λ cell. inr cell) n.1);
   rings = λ e place is inside. ring_as p (after (Loses d) p) e (place_at (p.size e) place) refl refl (λ bytes known. known) (sv.rings e place (was e is) inside);
   places = λ r a cell e i at is. sv.places r a cell e i at (was e is);
-  status_live = λ e is. status_after head_of (Loses d) p (at_device d Lost p.status e) (λ r i. i) (at_live head_of p Lost d e (λ member. tt) (sv.status_live e (was e is)) (was e is));
+  status_live = λ e is. status_after head_of (Loses d) p e (at_device d Lost p.status e) (λ r i. i) (at_live head_of p Lost d e (λ member. tt) (sv.status_live e (was e is)) (was e is));
   acked_live = sv.acked_live;
   reads_live = sv.reads_live;
   not_below = sv.not_below;
@@ -363,7 +386,7 @@ stops_survive head_of p images sv m = record {
     pending = tt;
   };
   places = sv.places;
-  status_live = λ d is. status_after head_of (Stops images) p (p.status d) (λ r i. i) (sv.status_live d is);
+  status_live = λ d is. status_after head_of (Stops images) p d (p.status d) (λ r i. i) (sv.status_live d is);
   acked_live = sv.acked_live;
   reads_live = sv.reads_live;
   not_below = sv.not_below;

@@ -20,7 +20,7 @@ use Rattle.pool_history.specs.Labels.{Odd, Even}
 use Rattle.pool_history.specs.Moves.{IsDrawnUp, MayAck, Mays}
 use Rattle.pool_history.specs.Needs.{NeedsLabel}
 use Rattle.pool_history.specs.Pools.{Pool, after, pool_after, seat}
-use Rattle.pool_history.specs.Records.{Rec, number_of}
+use Rattle.pool_history.specs.Records.{Rec, number_of, takes_part}
 use Rattle.pool_history.specs.Rounds.{all_true, acks_if, IsRoundEvents, AreMembersOf, RoundEnds}
 use Rattle.pool_history.specs.Survival.{Fits, Survives}
 use Rattle.pool_history.proofs.Folding.{since_after, with_calls, pool_more, calls_then, mays_more, mays_calls, calls_more, calls_are}
@@ -32,11 +32,12 @@ use Rattle.pool_history.proofs.Thirds.{AreReady, thirds_may, turns_pool, thirds_
 record Setting (head_of : List ℕ → Option Head) (p : Pool) (q : Rec) (ms : List Member) : Type 0 where
   survives : Survives head_of p
   drawn_up : IsDrawnUp head_of p q
-  members : AreMembersOf p ms
+  members : AreMembersOf p q ms
   apart : AreApart ms
 
-seated_of : (head_of : List ℕ → Option Head) (p : Pool) (q : Rec) (ms : List Member) → Setting head_of p q ms → (j : ℕ) (m : Member) → slice_get ms j ≡ Some m → p.member m.dev ≡ true → IsSeated p m
-seated_of head_of p q ms s j m e is = record { is_member = is; big = s.survives.sizes m.dev is; seat_is = s.members.seated j m e is }
+seated_of : (head_of : List ℕ → Option Head) (p : Pool) (q : Rec) (ms : List Member) → Setting head_of p q ms → (j : ℕ) (m : Member) → slice_get ms j ≡ Some m → p.member m.dev ≡ true → IsSeated p q m
+seated_of head_of p q ms s j m e is =
+    let at = s.members.seated j m e is in record { is_member = is; takes = at.1; big = s.survives.sizes m.dev is; seat_is = at.0 }
 
 -- the second phase leaves the configuration of a member's label 0
 second_off_part : (head_of : List ℕ → Option Head) (p : Pool) (q : Rec) (ms : List Member) (was is : List Bool) (made : List Noted) (d i : ℕ)
@@ -62,7 +63,7 @@ front_stands head_of p q ms results vs st r j m at on is s bytes (inl (e, b)) =
     (λ mine y part. ring_lands m.dev (p.size m.dev) (uberblock_of q.commit m) mine y seated.big
     (member_range head_of p q m st.drawn_up.fits seated).sum part) r.uberblocks))
   where
-    seated : IsSeated p m
+    seated : IsSeated p q m
     seated = seated_of head_of p q ms st j m at is
 
     there : s ≡ 0 + (32 + slot_of (number_of q))
@@ -76,7 +77,7 @@ front_stands head_of p q ms results vs st r j m at on is s bytes (inr (i, lt, e,
     (λ i' n e' ne. config_elsewhere_even n.dev (p.size n.dev) q.commit.blob m.dev _ (others ms j i' m n st.apart at e' ne))
     (λ mine y part. even_lands m.dev (p.size m.dev) q.commit.blob i mine y seated.big few lt part) r.configs)))
   where
-    seated : IsSeated p m
+    seated : IsSeated p q m
     seated = seated_of head_of p q ms st j m at is
 
     few : sectors_in q.commit.blob ≤ 28
@@ -90,8 +91,8 @@ fits_front : (head_of : List ℕ → Option Head) (p : Pool) (q : Rec) (first se
 fits_front head_of p q first second f =
     record { pool_is = f.pool_is; is_record = f.is_record; name_is = f.name_is; places = f.places; blocks = f.blocks }
 
-seated_front : (p : Pool) (m : Member) (q : Rec) (first second : List Noted) → IsSeated p m → IsSeated (front q first second p) m
-seated_front p m q first second s = record { is_member = s.is_member; big = s.big; seat_is = s.seat_is }
+seated_front : (p : Pool) (m : Member) (q : Rec) (first second : List Noted) → IsSeated p q m → IsSeated (front q first second p) q m
+seated_front p m q first second s = record { is_member = s.is_member; takes = s.takes; big = s.big; seat_is = s.seat_is }
 
 front_ready : (head_of : List ℕ → Option Head) (p : Pool) (q : Rec) (ms : List Member) (results : List Bool) (vs : List Event) → Setting head_of p q ms
     → (r : IsRoundEvents p.size q ms results vs) → AreReady head_of (front q r.first r.second p) q ms r.in_second
@@ -116,12 +117,12 @@ all_at (b ∷ results) zero c all e = same e ∙ (and_parts b (all_true results)
     same e = cc
 all_at (b ∷ results) (suc i) c all e = all_at results i c (and_parts b (all_true results) all).1 e
 
--- where none failed, each member's labels hold the new record
+-- where none failed, the labels of each member that takes part hold the new record
 all_odd : (head_of : List ℕ → Option Head) (p : Pool) (q : Rec) (ms : List Member) (results : List Bool) (vs : List Event) → Setting head_of p q ms
-    → (r : IsRoundEvents p.size q ms results vs) → all_true results ≡ true → (d : ℕ) → p.member d ≡ true
+    → (r : IsRoundEvents p.size q ms results vs) → all_true results ≡ true → (d : ℕ) → p.member d ≡ true → takes_part q d ≡ true
     → (pool_after r.thirds (front q r.first r.second p)).status d ≡ Odd q
-all_odd head_of p q ms results vs st r all d is =
-    let at = st.members.all d is in
+all_odd head_of p q ms results vs st r all d is takes =
+    let at = st.members.all d is takes in
     let result = thirds_result (third_plan p.size q.commit) q ms r.in_second results r.thirds at.0 (seat p d) at.1 r.copies in
     thirds_odd (third_plan p.size q.commit) q ms r.in_second results r.thirds (front q r.first r.second p) at.0 (seat p d) st.apart at.1
     (result.1 ∙ ap Some (all_at results at.0 result.0 all result.1)) r.copies
@@ -157,7 +158,7 @@ round_allowed head_of p q ms results vs st r =
 
 -- A round of a record that is drawn up is allowed.
 pub round_may : (head_of : List ℕ → Option Head) (p : Pool) (q : Rec) (members : List Member) (results : List Bool) (vs : List Event)
-    → Survives head_of p → IsDrawnUp head_of p q → AreMembersOf p members → AreApart members → IsRoundEvents p.size q members results vs → Mays head_of p vs
+    → Survives head_of p → IsDrawnUp head_of p q → AreMembersOf p q members → AreApart members → IsRoundEvents p.size q members results vs → Mays head_of p vs
 round_may head_of p q members results vs survives drawn_up are apart r =
     round_allowed head_of p q members results vs (record { survives = survives; drawn_up = drawn_up; members = are; apart = apart }) r
 

@@ -17,14 +17,15 @@ use Rattle.pool_history.specs.Labels.{Status, Odd, Even, Lost, begun}
 use Rattle.pool_history.specs.Moves.{AreKnown, AreSparing}
 use Rattle.pool_history.specs.Needs.{NeedsLabel, NeedsCell, Needs}
 use Rattle.pool_history.specs.Pools.{Pool, after, drawn, seat}
-use Rattle.pool_history.specs.Records.{Rec, Cell, IsIn, number_of, data_start}
+use Rattle.pool_history.specs.Records.{Rec, Cell, IsIn, number_of, takes_part, data_start}
 use Rattle.pool_history.specs.Survival.{Fits, IsKnownUber, IsOf, Survives}
 use Rattle.pool_history.proofs.RoundPlaces.{InFront, FrontRing, FrontPart, FrontData, InBack, BackRing, BackPart, BackData, first_spares, second_spares, third_spares}
 use Rattle.pool_history.proofs.Sparing.{spared_known}
 
--- A member of the pool, on its device. A device in the list that the pool has lost is no member.
-pub record IsSeated (p : Pool) (m : Member) : Type 0 where
+-- A member of the pool, on its device, that takes part in the round. A device in the list that the pool has lost is no member.
+pub record IsSeated (p : Pool) (q : Rec) (m : Member) : Type 0 where
   pub is_member : p.member m.dev ≡ true
+  pub takes : takes_part q m.dev ≡ true
   pub big : 320 ≤ p.size m.dev
   pub seat_is : m ≡ seat p m.dev
 
@@ -53,7 +54,7 @@ label_back : (m : Member) (r : Rec) (size s : ℕ) (bytes : List ℕ) → sector
 label_back m r size s bytes few (inl (e, b)) = BackRing (slot_of (number_of r)) (omega arith) e
 label_back m r size s bytes few (inr (i, lt, e, b)) = BackPart i (omega arith) e
 
-cell_between : (p : Pool) (d s : ℕ) (bytes : List ℕ) → HasPlaces p d → NeedsCell p.live s bytes → (128 ≤ s) × (s + 128 < p.size d)
+cell_between : (p : Pool) (d s : ℕ) (bytes : List ℕ) → HasPlaces p d → NeedsCell p.live d s bytes → (128 ≤ s) × (s + 128 < p.size d)
 cell_between p d s bytes places n =
     let below = places n.r n.a n.cell n.is_live n.cell_is in
     (omega (arith, n.sector_is), omega (arith, n.sector_is, below))
@@ -61,8 +62,8 @@ cell_between p d s bytes places n =
 pub few_of : (head_of : List ℕ → Option Head) (p : Pool) (r : Rec) (d : ℕ) → Fits head_of p r → p.member d ≡ true → sectors_in r.commit.blob ≤ 28
 few_of head_of p r d fits is = (fits.is_record d is).most
 
-odd_fits : (head_of : List ℕ → Option Head) (p : Pool) (status : Status) (r : Rec) → status ≡ Odd r → IsOf head_of p status → Fits head_of p r
-odd_fits head_of p status r e is = (subst (IsOf head_of p) e is).1
+odd_fits : (head_of : List ℕ → Option Head) (p : Pool) (d : ℕ) (status : Status) (r : Rec) → status ≡ Odd r → IsOf head_of p d status → Fits head_of p r
+odd_fits head_of p d status r e is = (subst (IsOf head_of p d) e is).1
 
 -- the new record's blocks lie there, and those of the old ones
 pub front_places : (head_of : List ℕ → Option Head) (p : Pool) (q : Rec) (d : ℕ) → Survives head_of p → Fits head_of p q → p.member d ≡ true
@@ -70,13 +71,14 @@ pub front_places : (head_of : List ℕ → Option Head) (p : Pool) (q : Rec) (d 
 front_places head_of p q d s fits is r a cell (inl e) at = fits.places a cell (ap (λ x. x.cells a) (sym e) ∙ at) d is
 front_places head_of p q d s fits is r a cell (inr old) at = s.places r a cell d old at is
 
-needs_front : (head_of : List ℕ → Option Head) (p : Pool) (q : Rec) (d s : ℕ) (bytes : List ℕ) → Survives head_of p → Fits head_of p q
+needs_front : (head_of : List ℕ → Option Head) (p : Pool) (q : Rec) (d s : ℕ) (bytes : List ℕ) → Survives head_of p → Fits head_of p q → takes_part q d ≡ true
     → Needs (after (Begins q) p) d s bytes → InFront (p.size d) (slot_of (number_of q)) s
-needs_front head_of p q d s bytes sv fits (is, inl label) =
-    let old = begun_label (seat p d) (p.status d) q s bytes label in
+needs_front head_of p q d s bytes sv fits takes (is, inl label) =
+    let old = begun_label (seat p d) (p.status d) q s bytes
+    (subst (λ t. NeedsLabel (seat p d) (cond t (begun (p.status d) q) (p.status d)) s bytes) takes label) in
     label_front (seat p d) old.0 (p.size d) (slot_of (number_of q)) s bytes
-    (few_of head_of p old.0 d (odd_fits head_of p (p.status d) old.0 old.1 (sv.status_live d is)) is) old.2 old.3
-needs_front head_of p q d s bytes sv fits (is, inr cell) =
+    (few_of head_of p old.0 d (odd_fits head_of p d (p.status d) old.0 old.1 (sv.status_live d is)) is) old.2 old.3
+needs_front head_of p q d s bytes sv fits takes (is, inr cell) =
     let b = cell_between (after (Begins q) p) d s bytes (front_places head_of p q d sv fits is) cell in
     FrontData b.0 b.1
 
@@ -97,7 +99,7 @@ ring_of size place lt = omega arith
 pub slot_below : (place : ℕ) → place % 32 < 32
 slot_below place = omega arith
 
-pub first_sparing : (head_of : List ℕ → Option Head) (p : Pool) (q : Rec) (m : Member) → Survives head_of p → Fits head_of p q → (p.member m.dev ≡ true → IsSeated p m)
+pub first_sparing : (head_of : List ℕ → Option Head) (p : Pool) (q : Rec) (m : Member) → Survives head_of p → Fits head_of p q → (p.member m.dev ≡ true → IsSeated p q m)
     → AreSparing (after (Begins q) p) (first_plan p.size q.commit m)
 first_sparing head_of p q m sv fits seated = record {
   plain = tt;
@@ -112,7 +114,7 @@ first_sparing head_of p q m sv fits seated = record {
     by_all : (d s : ℕ) (bytes : List ℕ) → Needs (after (Begins q) p) d s bytes → Spares (first_plan p.size q.commit m) d s
     by_all d = by_device (λ e. (s : ℕ) (bytes : List ℕ) → Needs (after (Begins q) p) e s bytes → Spares (first_plan p.size q.commit m) e s) m.dev d
         (λ s bytes needs. first_spares m.dev (p.size m.dev) (slot_of (number_of q)) q.commit.blob m.dev s (seated needs.0).big (few_of head_of p q m.dev fits needs.0)
-        (needs_front head_of p q m.dev s bytes sv fits needs))
+        (needs_front head_of p q m.dev s bytes sv fits (seated needs.0).takes needs))
         (λ ne s bytes needs. config_elsewhere_even m.dev (p.size m.dev) q.commit.blob d s ne)
 
 pub first_bytes : (k : ℕ) (bytes : List ℕ) → length bytes ≡ 4096 → k ≡ 0 → sector_of k bytes ≡ bytes
@@ -134,11 +136,11 @@ known_new : (p : Pool) (q : Rec) (m : Member) (bytes : List ℕ) → IsIn q (dra
 known_new p q m bytes is_in range seat_is e v is some =
     (q, is_in, sym (is_of_fields v bytes is) ∙ (ap fields_of e ∙ fields_are (uberblock_of q.commit m) range) ∙ ap (uberblock_of q.commit) seat_is)
 
-pub member_range : (head_of : List ℕ → Option Head) (p : Pool) (q : Rec) (m : Member) → Fits head_of p q → IsSeated p m → IsInRange (uberblock_of q.commit m)
+pub member_range : (head_of : List ℕ → Option Head) (p : Pool) (q : Rec) (m : Member) → Fits head_of p q → IsSeated p q m → IsInRange (uberblock_of q.commit m)
 member_range head_of p q m fits seated =
     subst (λ n. IsInRange (uberblock_of q.commit n)) (sym seated.seat_is) (fits.is_record m.dev seated.is_member).in_range
 
-pub second_sparing : (head_of : List ℕ → Option Head) (p : Pool) (q : Rec) (m : Member) → Survives head_of p → Fits head_of p q → (p.member m.dev ≡ true → IsSeated p m)
+pub second_sparing : (head_of : List ℕ → Option Head) (p : Pool) (q : Rec) (m : Member) → Survives head_of p → Fits head_of p q → (p.member m.dev ≡ true → IsSeated p q m)
     → AreSparing (after (Begins q) p) (second_plan p.size q.commit m)
 second_sparing head_of p q m sv fits seated = record {
   plain = tt;
@@ -167,7 +169,7 @@ second_sparing head_of p q m sv fits seated = record {
     by_all : (d s : ℕ) (bytes : List ℕ) → Needs (after (Begins q) p) d s bytes → Spares (second_plan p.size q.commit m) d s
     by_all d = by_device (λ e. (s : ℕ) (bytes : List ℕ) → Needs (after (Begins q) p) e s bytes → Spares (second_plan p.size q.commit m) e s) m.dev d
         (λ s bytes needs. second_spares m.dev (p.size m.dev) (uberblock_of q.commit m) m.dev s (seated needs.0).big (one needs.0)
-        (needs_front head_of p q m.dev s bytes sv fits needs))
+        (needs_front head_of p q m.dev s bytes sv fits (seated needs.0).takes needs))
         (λ ne s bytes needs. ring_elsewhere m.dev (p.size m.dev) (uberblock_of q.commit m) d s ne)
 
     no_aim : false ≡ true → ⊥
@@ -180,7 +182,7 @@ second_sparing head_of p q m sv fits seated = record {
         (one_there m.dev (label + (32 + slot_of (number_of q))) m.dev s (uberblock_bytes (uberblock_of q.commit m))
         (length-uberblock (uberblock_of q.commit m) (range here).sum) (one here) aimed)
 
-pub third_sparing : (head_of : List ℕ → Option Head) (p : Pool) (q : Rec) (m : Member) → Fits head_of p q → (p.member m.dev ≡ true → IsSeated p m) → p.status m.dev ≡ Even q
+pub third_sparing : (head_of : List ℕ → Option Head) (p : Pool) (q : Rec) (m : Member) → Fits head_of p q → (p.member m.dev ≡ true → IsSeated p q m) → p.status m.dev ≡ Even q
     → (p.member m.dev ≡ true → HasPlaces p m.dev) → AreSparing p (third_plan p.size q.commit m)
 third_sparing head_of p q m fits seated status places = record {
   plain = tt;

@@ -31,9 +31,9 @@ held_keeps x block h = of h.stands
     of (inr e) = inr (e, subst (λ pending. IsOnTheWay pending block) (sym h.still) tt)
 
 live_whole : (head_of : List ℕ → Option Head) (p : Pool) (r : Rec) (d : ℕ) → Survives head_of p → IsIn r p.live → p.member d ≡ true → IsWhole p r d
-live_whole head_of p r d sv live is a cell at =
+live_whole head_of p r d sv live is a cell at has =
     held_keeps (p.sectors d (data_start + cell.sector)) cell.block (sv.held d (data_start + cell.sector) cell.block
-    (is, inr (record { r = r; is_live = live; a = a; cell = cell; cell_is = at; sector_is = refl; bytes_are = refl })))
+    (is, inr (record { r = r; is_live = live; a = a; cell = cell; cell_is = at; has = has; sector_is = refl; bytes_are = refl })))
 
 pub survives_sound : (head_of : List ℕ → Option Head) (p : Pool) → Survives head_of p → IsSound p
 survives_sound head_of p sv = record {

@@ -33,7 +33,7 @@ stands_held st = record { still = st.still; stands = inl st.stable }
 pub record AreReady (head_of : List ℕ → Option Head) (p : Pool) (q : Rec) (ms : List Member) (was : List Bool) : Type 0 where
   pub is_live : IsIn q p.live
   pub fits : Fits head_of p q
-  pub seated : (j : ℕ) (m : Member) → slice_get ms j ≡ Some m → p.member m.dev ≡ true → IsSeated p m
+  pub seated : (j : ℕ) (m : Member) → slice_get ms j ≡ Some m → p.member m.dev ≡ true → IsSeated p q m
   pub places : (d : ℕ) → p.member d ≡ true → HasPlaces p d
   pub apart : AreApart ms
   pub stands : (j : ℕ) (m : Member) → slice_get ms j ≡ Some m → slice_get was j ≡ Some true → p.member m.dev ≡ true
@@ -44,9 +44,9 @@ fits_turned : (head_of : List ℕ → Option Head) (p : Pool) (q : Rec) (made : 
 fits_turned head_of p q made status f =
     record { pool_is = f.pool_is; is_record = f.is_record; name_is = f.name_is; places = f.places; blocks = f.blocks }
 
-seated_turned : (p : Pool) (m : Member) (made : List Noted) (status : ℕ → Status) → IsSeated p m
-    → IsSeated (record p { sectors = run made p.sectors; since = since_after made p.since; status = status }) m
-seated_turned p m made status s = record { is_member = s.is_member; big = s.big; seat_is = s.seat_is }
+seated_turned : (p : Pool) (q : Rec) (m : Member) (made : List Noted) (status : ℕ → Status) → IsSeated p q m
+    → IsSeated (record p { sectors = run made p.sectors; since = since_after made p.since; status = status }) q m
+seated_turned p q m made status s = record { is_member = s.is_member; takes = s.takes; big = s.big; seat_is = s.seat_is }
 
 apart_rest : (m : Member) (ms : List Member) → AreApart (m ∷ ms) → AreApart ms
 apart_rest m ms apart i j n o e f lt = apart (suc i) (suc j) n o e f (omega arith)
@@ -58,7 +58,7 @@ ready_rest : (head_of : List ℕ → Option Head) (p : Pool) (q : Rec) (m : Memb
 ready_rest head_of p q m ms b c was made status turn r = record {
   is_live = r.is_live;
   fits = fits_turned head_of p q made status r.fits;
-  seated = λ j n e is. seated_turned p n made status (r.seated (suc j) n e is);
+  seated = λ j n e is. seated_turned p q n made status (r.seated (suc j) n e is);
   places = r.places;
   apart = apart_rest m ms r.apart;
   stands = λ j n e on is s bytes needs. untouched_stands made n.dev s (p.sectors n.dev s) bytes
@@ -83,6 +83,7 @@ even_stands : (head_of : List ℕ → Option Head) (p : Pool) (q : Rec) (m : Mem
     → p.member m.dev ≡ true → MayStand head_of p q m.dev (Even q)
 even_stands head_of p q m ms was r is = record {
   is_live = r.is_live;
+  takes = (r.seated zero m refl is).takes;
   fits = r.fits;
   held = λ s bytes needs. stands_held (r.stands zero m refl refl is s bytes needs);
 }
@@ -95,7 +96,7 @@ part_sparing head_of p q m ms c was made turn r =
     turn_may head_of (third_plan p.size q.commit m) true c made (after (Third q m.dev) p)
     (third_sparing head_of (after (Third q m.dev) p) q m
     (fits_turned head_of p q [] (at_device m.dev (Even q) p.status) r.fits)
-    (λ is. seated_turned p m [] (at_device m.dev (Even q) p.status) (r.seated zero m refl is))
+    (λ is. seated_turned p q m [] (at_device m.dev (Even q) p.status) (r.seated zero m refl is))
     (ap (λ t. cond t (Even q) (p.status m.dev)) (eq-eqb m.dev m.dev refl))
     (r.places m.dev)) turn
 
@@ -105,11 +106,12 @@ odd_stands : (head_of : List ℕ → Option Head) (p : Pool) (q : Rec) (m : Memb
     → p.member m.dev ≡ true → MayStand head_of (with_calls made (after (Third q m.dev) p)) q m.dev (Odd q)
 odd_stands head_of p q m ms was made turn r is = record {
   is_live = r.is_live;
+  takes = seated.takes;
   fits = fits_turned head_of p q made (at_device m.dev (Even q) p.status) r.fits;
   held = λ s bytes needs. stands_held (by_part s bytes needs);
 }
   where
-    seated : IsSeated p m
+    seated : IsSeated p q m
     seated = r.seated zero m refl is
 
     few : sectors_in q.commit.blob ≤ 28

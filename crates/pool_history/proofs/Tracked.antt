@@ -6,7 +6,7 @@ use Rattle.pool_history.specs.Events.{Event, Calls, Accepts, Looks, Opens, Begin
 use Rattle.pool_history.specs.Labels.{Status, Odd, Even, Lost, begun}
 use Rattle.pool_history.specs.Moves.{Mays, IsDrawnUp, MayAck}
 use Rattle.pool_history.specs.Pools.{Pool, after, pool_after}
-use Rattle.pool_history.specs.Records.{Rec, IsIn, number_of}
+use Rattle.pool_history.specs.Records.{Rec, IsIn, number_of, takes_part}
 use Rattle.pool_history.specs.Survival.{Survives, IsOf}
 use Rattle.pool_history.specs.Tracking.{MayBegin, Keeps, KeepsLabels, AreNear, HasPromise}
 
@@ -14,71 +14,86 @@ use Rattle.pool_history.specs.Tracking.{MayBegin, Keeps, KeepsLabels, AreNear, H
 slots_differ : (n a b : ℕ) → n ≤ a → a < n + 32 → n ≤ b → b < n + 32 → b ≢ a → (a % 32 == b % 32) ≡ false
 slots_differ n a b la ha lb hb ne = let other : a % 32 ≢ b % 32 = λ e. ne (omega arith) in grind (arith, nat_tests)
 
--- the labels hold a live record
-abbrev IsLive : List Rec → Status → Type 0
-IsLive live (Odd r) = IsIn r live
-IsLive live (Even r) = IsIn r live
-IsLive live Lost = ⊥
+-- the labels hold a live record, and the member takes part in it
+abbrev IsLive : List Rec → (d : ℕ) → Status → Type 0
+IsLive live d (Odd r) = IsIn r live × (takes_part r d ≡ true)
+IsLive live d (Even r) = IsIn r live × (takes_part r d ≡ true)
+IsLive live d Lost = ⊥
 
--- A member whose labels hold this, and the numbers of the live records are near the acknowledged one's.
+-- A member whose labels hold this, and the numbers of the live records in which it takes part are near the
+-- acknowledged one's.
 record IsTracked (p : Pool) (d : ℕ) (status : Status) : Type 0 where
   member : p.member d ≡ true
   status_is : p.status d ≡ status
-  is_live : IsLive p.live status
+  is_live : IsLive p.live d status
   above : (r : Rec) → IsIn r p.live → number_of p.acked ≤ number_of r
-  near : AreNear p
+  near : (r : Rec) → IsIn r p.live → takes_part r d ≡ true → number_of r < number_of p.acked + 32
   top : number_of p.acked ≤ p.top
 
-more_live : (q : Rec) (live : List Rec) (status : Status) → IsLive live status → IsLive (q ∷ live) status
-more_live q live (Odd r) l = inr l
-more_live q live (Even r) l = inr l
-more_live q live Lost l = l
+more_live : (q : Rec) (live : List Rec) (d : ℕ) (status : Status) → IsLive live d status → IsLive (q ∷ live) d status
+more_live q live d (Odd r) l = (inr l.0, l.1)
+more_live q live d (Even r) l = (inr l.0, l.1)
+more_live q live d Lost l = l
 
 still_odd : (t : Bool) (r : Rec) → t ≡ false → cond t Lost (Odd r) ≡ Odd r
 still_odd t r e = rw e refl
 
+-- the number of a round that may begin is near
+begins_near : (acked : Rec) (status : Status) (q : Rec) → MayBegin acked status q → number_of q < number_of acked + 32
+begins_near acked (Odd r) q may = may.0
+begins_near acked (Even r) q may = absurd may
+begins_near acked Lost q may = absurd may
+
+-- its slot is another one
+begun_same : (p : Pool) (d : ℕ) (status : Status) (q : Rec) → IsTracked p d status → number_of p.acked ≤ number_of q → MayBegin p.acked status q → begun status q ≡ status
+begun_same p d (Odd r) q t over may =
+    let low : number_of p.acked ≤ number_of r = t.above r t.is_live.0 in
+    still_odd _ r (slots_differ (number_of p.acked) (number_of r) (number_of q) low (t.near r t.is_live.0 t.is_live.1) over may.0 may.1)
+begun_same p d (Even r) q t over may = absurd may
+begun_same p d Lost q t over may = absurd may
+
+-- and one that the member stays out of leaves its labels
+part_same : (b : Bool) (status : Status) (q : Rec) → (b ≡ true → begun status q ≡ status) → cond b (begun status q) status ≡ status
+part_same true status q same = same refl
+part_same false status q same = refl
+
 -- a round that begins leaves them
-begins_tracked : (head_of : List ℕ → Option Head) (p : Pool) (d : ℕ) (status : Status) (q : Rec) → IsTracked p d status → IsDrawnUp head_of p q → MayBegin p.acked status q
-    → IsTracked (after (Begins q) p) d status
-begins_tracked head_of p d (Odd r) q t drawn may =
-    let next : number_of q ≡ p.top + 1 = drawn.number_is in
-    let top : number_of p.acked ≤ p.top = t.top in
-    let over : number_of p.acked ≤ number_of q = omega arith in
-    let low : number_of p.acked ≤ number_of r = t.above r t.is_live in
-    let other = slots_differ (number_of p.acked) (number_of r) (number_of q) low (t.near r t.is_live) over may.0 may.1 in
-    record {
-      member = t.member;
-      status_is = ap (λ s. begun s q) t.status_is ∙ still_odd _ r other;
-      is_live = inr t.is_live;
-      above = above over;
-      near = near;
-      top = over;
-    }
+begins_tracked : (head_of : List ℕ → Option Head) (p : Pool) (d : ℕ) (status : Status) (q : Rec) → IsTracked p d status → IsDrawnUp head_of p q
+    → (takes_part q d ≡ true → MayBegin p.acked status q) → IsTracked (after (Begins q) p) d status
+begins_tracked head_of p d status q t drawn may = record {
+  member = t.member;
+  status_is = ap (λ s. cond (takes_part q d) (begun s q) s) t.status_is ∙ part_same (takes_part q d) status q (λ takes. begun_same p d status q t over (may takes));
+  is_live = more_live q p.live d status t.is_live;
+  above = above;
+  near = near;
+  top = over;
+}
   where
-    above : number_of p.acked ≤ number_of q → (k : Rec) → IsIn k (q ∷ p.live) → number_of p.acked ≤ number_of k
-    above over k (inl e) = subst (λ x. number_of p.acked ≤ number_of x) (sym e) over
-    above over k (inr i) = t.above k i
+    over : number_of p.acked ≤ number_of q
+    over = omega (arith, t.top, drawn.number_is)
 
-    near : (k : Rec) → IsIn k (q ∷ p.live) → number_of k < number_of p.acked + 32
-    near k (inl e) = subst (λ x. number_of x < number_of p.acked + 32) (sym e) may.0
+    above : (k : Rec) → IsIn k (q ∷ p.live) → number_of p.acked ≤ number_of k
+    above k (inl e) = subst (λ x. number_of p.acked ≤ number_of x) (sym e) over
+    above k (inr i) = t.above k i
+
+    near : (k : Rec) → IsIn k (q ∷ p.live) → takes_part k d ≡ true → number_of k < number_of p.acked + 32
+    near k (inl e) = subst (λ x. takes_part x d ≡ true → number_of x < number_of p.acked + 32) (sym e) (λ takes. begins_near p.acked status q (may takes))
     near k (inr i) = t.near k i
-begins_tracked head_of p d (Even r) q t drawn may = absurd may
-begins_tracked head_of p d Lost q t drawn may = absurd may
 
-live_if : (b : Bool) (live : List Rec) (new old : Status) → (b ≡ true → IsLive live new) → IsLive live old → IsLive live (cond b new old)
-live_if true live new old a b = a refl
-live_if false live new old a b = b
+live_if : (b : Bool) (live : List Rec) (d : ℕ) (new old : Status) → (b ≡ true → IsLive live d new) → IsLive live d old → IsLive live d (cond b new old)
+live_if true live d new old a b = a refl
+live_if false live d new old a b = b
 
 same_device : (e d : ℕ) → (e == d) ≡ true → e ≡ d
 same_device e d is = grind (arith, nat_tests)
 
 -- a third phase that begins or ends leaves this in them
-stands_tracked : (p : Pool) (d e : ℕ) (status new : Status) → IsTracked p d status → (p.member e ≡ true → IsLive p.live new)
+stands_tracked : (p : Pool) (d e : ℕ) (status new : Status) → IsTracked p d status → (p.member e ≡ true → IsLive p.live e new)
     → IsTracked (record p { status = λ x. cond (e == x) new (p.status x) }) d (cond (e == d) new status)
 stands_tracked p d e status new t live = record {
   member = t.member;
   status_is = ap (λ s. cond (e == d) new s) t.status_is;
-  is_live = live_if (e == d) p.live new status (λ is. live (ap p.member (same_device e d is) ∙ t.member)) t.is_live;
+  is_live = live_if (e == d) p.live d new status (λ is. subst (λ x. p.member x ≡ true → IsLive p.live x new) (same_device e d is) live t.member) t.is_live;
   above = t.above;
   near = t.near;
   top = t.top;
@@ -88,13 +103,17 @@ only_one : (P : Rec → Type 0) (q r : Rec) → P q → IsIn r (q ∷ []) → P 
 only_one P q r is (inl e) = subst P (sym e) is
 only_one P q r is (inr i) = absurd i
 
-acks_tracked : (p : Pool) (d : ℕ) (status : Status) (q : Rec) → IsTracked p d status → MayAck p q → IsTracked (after (Acks q) p) d (Odd q)
-acks_tracked p d status q t may = record {
+-- an acknowledgement leaves the labels of a member that took part
+acked_status : (p : Pool) (d : ℕ) (q : Rec) → takes_part q d ≡ true → (after (Acks q) p).status d ≡ p.status d
+acked_status p d q takes = ap (λ t. cond t (p.status d) Lost) takes
+
+acks_tracked : (p : Pool) (d : ℕ) (status : Status) (q : Rec) → IsTracked p d status → MayAck p q → takes_part q d ≡ true → IsTracked (after (Acks q) p) d (Odd q)
+acks_tracked p d status q t may takes = record {
   member = t.member;
-  status_is = may.all d t.member;
-  is_live = inl refl;
+  status_is = acked_status p d q takes ∙ may.all d t.member takes;
+  is_live = (inl refl, takes);
   above = λ r i. only_one (λ x. number_of q ≤ number_of x) q r (omega arith) i;
-  near = λ r i. only_one (λ x. number_of x < number_of q + 32) q r (omega arith) i;
+  near = λ r i part. only_one (λ x. number_of x < number_of q + 32) q r (omega arith) i;
   top = let e : number_of q ≡ p.top = may.number_is in omega arith;
 }
 
@@ -133,11 +152,11 @@ tracked head_of (Opens r ∷ vs) p d status t mays keeps =
 tracked head_of (Begins q ∷ vs) p d status t mays keeps =
     tracked head_of vs (after (Begins q) p) d status (begins_tracked head_of p d status q t mays.0 keeps.0) mays.1 keeps.1
 tracked head_of (Third q e ∷ vs) p d status t mays keeps =
-    tracked head_of vs (after (Third q e) p) d _ (stands_tracked p d e status (Even q) t (λ is. (mays.0 is).is_live)) mays.1 keeps
+    tracked head_of vs (after (Third q e) p) d _ (stands_tracked p d e status (Even q) t (λ is. ((mays.0 is).is_live, (mays.0 is).takes))) mays.1 keeps
 tracked head_of (Ends q e ∷ vs) p d status t mays keeps =
-    tracked head_of vs (after (Ends q e) p) d _ (stands_tracked p d e status (Odd q) t (λ is. (mays.0 is).is_live)) mays.1 keeps
+    tracked head_of vs (after (Ends q e) p) d _ (stands_tracked p d e status (Odd q) t (λ is. ((mays.0 is).is_live, (mays.0 is).takes))) mays.1 keeps
 tracked head_of (Acks q ∷ vs) p d status t mays keeps =
-    tracked head_of vs (after (Acks q) p) d (Odd q) (acks_tracked p d status q t mays.0) mays.1 keeps
+    tracked head_of vs (after (Acks q) p) d (Odd q) (acks_tracked p d status q t mays.0 keeps.0) mays.1 keeps.1
 tracked head_of (Loses e ∷ vs) p d status t mays keeps =
     tracked head_of vs (after (Loses e) p) d status (loses_tracked p d e status t keeps.0) mays.1 keeps.1
 tracked head_of (Stops images ∷ vs) p d status t mays keeps =
@@ -151,27 +170,31 @@ labels_stay head_of p d vs s near has mays keeps = tracked head_of vs p d (p.sta
   status_is = refl;
   is_live = by_status (p.status d) refl has.status_is;
   above = s.not_below;
-  near = near;
+  near = λ r i part. near r i;
   top = s.acked_top;
 }) mays keeps
   where
-    of : (status : Status) → p.status d ≡ status → IsOf head_of p status
-    of status e = subst (IsOf head_of p) e (s.status_live d has.is_member)
+    of : (status : Status) → p.status d ≡ status → IsOf head_of p d status
+    of status e = subst (IsOf head_of p d) e (s.status_live d has.is_member)
 
-    by_status : (status : Status) → p.status d ≡ status → (status ≡ Odd has.promised) ⊎ (status ≡ Even has.promised) → IsLive p.live status
-    by_status (Odd r) e is = (of (Odd r) e).0
-    by_status (Even r) e is = (of (Even r) e).0
+    by_status : (status : Status) → p.status d ≡ status → (status ≡ Odd has.promised) ⊎ (status ≡ Even has.promised) → IsLive p.live d status
+    by_status (Odd r) e is = let live = of (Odd r) e in (live.0, live.2)
+    by_status (Even r) e is = let live = of (Even r) e in (live.0, live.2)
     by_status Lost e (inl is) = absurd (cc)
     by_status Lost e (inr is) = absurd (cc)
 
--- And from an acknowledgement on.
-pub labels_stay_since : (head_of : List ℕ → Option Head) (p : Pool) (d : ℕ) (q : Rec) (vs : List Event) → p.member d ≡ true → Mays head_of p (Acks q ∷ vs)
+-- And from an acknowledgement on, in whose round the member takes part.
+pub labels_stay_since : (head_of : List ℕ → Option Head) (p : Pool) (d : ℕ) (q : Rec) (vs : List Event) → p.member d ≡ true → takes_part q d ≡ true
+    → Mays head_of p (Acks q ∷ vs)
     → KeepsLabels (after (Acks q) p) d vs → HasPromise (pool_after (Acks q ∷ vs) p) d
-labels_stay_since head_of p d q vs member mays keeps = tracked head_of vs (after (Acks q) p) d (p.status d) (record {
+labels_stay_since head_of p d q vs member takes mays keeps = tracked head_of vs (after (Acks q) p) d (Odd q) (record {
   member = member;
-  status_is = refl;
-  is_live = subst (IsLive (q ∷ [])) (sym (mays.0.all d member)) (inl refl);
+  status_is = odd;
+  is_live = (inl refl, takes);
   above = λ r i. only_one (λ x. number_of q ≤ number_of x) q r (omega arith) i;
-  near = λ r i. only_one (λ x. number_of x < number_of q + 32) q r (omega arith) i;
+  near = λ r i part. only_one (λ x. number_of x < number_of q + 32) q r (omega arith) i;
   top = let e : number_of q ≡ p.top = mays.0.number_is in omega arith;
-}) mays.1 keeps
+}) mays.1 (subst (λ status. Keeps d q status vs) odd keeps)
+  where
+    odd : (after (Acks q) p).status d ≡ Odd q
+    odd = acked_status p d q takes ∙ mays.0.all d member takes

@@ -39,7 +39,7 @@ pub record Promises (head_of : List ℕ → Option Head) (p : Pool) (d : ℕ) (r
 pub promises : (head_of : List ℕ → Option Head) (p : Pool) (d : ℕ) (r : Rec) → Survives head_of p → p.member d ≡ true
     → (p.status d ≡ Odd r) ⊎ (p.status d ≡ Even r) → Promises head_of p d r
 promises head_of p d r s member (inl e) =
-    let of : IsOf head_of p (Odd r) = subst (IsOf head_of p) e (s.status_live d member) in
+    let of : IsOf head_of p d (Odd r) = subst (IsOf head_of p d) e (s.status_live d member) in
     let needs : (at : ℕ) (bytes : List ℕ) → NeedsLabel (seat p d) (Odd r) at bytes → Held (p.sectors d at) bytes =
     λ at bytes need. s.held d at bytes (member, inl (subst (λ x. NeedsLabel (seat p d) x at bytes) (sym e) need)) in
     record {
@@ -51,7 +51,7 @@ promises head_of p d r s member (inl e) =
       part = λ i lt. needs _ _ (inr (i, lt, refl, refl));
     }
 promises head_of p d r s member (inr e) =
-    let of : IsOf head_of p (Even r) = subst (IsOf head_of p) e (s.status_live d member) in
+    let of : IsOf head_of p d (Even r) = subst (IsOf head_of p d) e (s.status_live d member) in
     let needs : (at : ℕ) (bytes : List ℕ) → NeedsLabel (seat p d) (Even r) at bytes → Held (p.sectors d at) bytes =
     λ at bytes need. s.held d at bytes (member, inl (subst (λ x. NeedsLabel (seat p d) x at bytes) (sym e) need)) in
     record {

@@ -11,7 +11,8 @@ pub data Status : Type 0 where
   -- nothing is promised
   Lost : Status
 
--- The round of q begins. Its first phase writes over the even labels, and its second over the slot of q.
+-- The round of q begins on a member that takes part in it. Its first phase writes over the even labels, and
+-- its second over the slot of q.
 abbrev pub begun : Status → Rec → Status
 begun (Odd r) q = cond (slot_of (number_of r) == slot_of (number_of q)) Lost (Odd r)
 begun (Even r) q = Lost

@@ -11,7 +11,7 @@ use Rattle.pool_history.specs.Events.{Event, Known, Calls, Accepts, Looks, Opens
 use Rattle.pool_history.specs.Labels.{Status, Odd, Even}
 use Rattle.pool_history.specs.Needs.{Held, Needs, NeedsLabel}
 use Rattle.pool_history.specs.Pools.{Pool, after, seat}
-use Rattle.pool_history.specs.Records.{Rec, Cell, IsIn, number_of, block_at, data_start}
+use Rattle.pool_history.specs.Records.{Rec, Cell, IsIn, number_of, takes_part, block_at, data_start}
 use Rattle.pool_history.specs.Survival.{Fits, IsAmong, IsKnownUber}
 
 -- the call is one on a device that stays
@@ -71,25 +71,26 @@ abbrev pub ReadsTrue : Sectors → Known → Type 0
 ReadsTrue sectors known = (d s : ℕ) (bytes : List ℕ) → known d s ≡ Some bytes → IsClean (sectors d s) → bytes ≡ (sectors d s).stable
 
 -- A record that may be drawn up now: the next number, the blocks that the pool would answer, each of them
--- held on each member.
+-- held on each member whose log in it lacks the group that the block was born in.
 pub record IsDrawnUp (head_of : List ℕ → Option Head) (p : Pool) (q : Rec) : Type 0 where
   pub fits : Fits head_of p q
   pub number_is : number_of q ≡ p.top + 1
   pub blocks_are : (a : ℕ) → block_at q a ≡ p.written a
-  pub held : (d a : ℕ) (cell : Cell) → p.member d ≡ true → q.cells a ≡ Some cell → Held (p.sectors d (data_start + cell.sector)) cell.block
+  pub held : (d a : ℕ) (cell : Cell) → p.member d ≡ true → q.cells a ≡ Some cell → q.owes d cell.birth ≡ false → Held (p.sectors d (data_start + cell.sector)) cell.block
 
--- The labels of a member have come to hold this.
+-- The labels of a member that takes part in the record's round have come to hold this.
 pub record MayStand (head_of : List ℕ → Option Head) (p : Pool) (q : Rec) (d : ℕ) (status : Status) : Type 0 where
   pub is_live : IsIn q p.live
+  pub takes : takes_part q d ≡ true
   pub fits : Fits head_of p q
   pub held : (s : ℕ) (bytes : List ℕ) → NeedsLabel (seat p d) status s bytes → Held (p.sectors d s) bytes
 
--- The record may be acknowledged: it is the newest, and each member's labels hold it.
+-- The record may be acknowledged: it is the newest, and the labels of each member that takes part hold it.
 pub record MayAck (p : Pool) (q : Rec) : Type 0 where
   pub rest : List Rec
   pub newest : p.live ≡ q ∷ rest
   pub number_is : number_of q ≡ p.top
-  pub all : (d : ℕ) → p.member d ≡ true → p.status d ≡ Odd q
+  pub all : (d : ℕ) → p.member d ≡ true → takes_part q d ≡ true → p.status d ≡ Odd q
 
 -- What a stop may leave: an image of each device, on which no ring sector holds a correct uberblock that
 -- neither stood there nor was written there in this run.

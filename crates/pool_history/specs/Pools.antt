@@ -5,7 +5,7 @@ use Rattle.bank_core.specs.Disk.{Call, Read, Write, Flush, Admit, Eject, Sectors
 use Rattle.label_store.specs.declared.member.Member.{Member}
 use Rattle.pool_history.specs.Events.{Event, Calls, Accepts, Looks, Opens, Begins, Third, Ends, Acks, Loses, Stops}
 use Rattle.pool_history.specs.Labels.{Status, Odd, Even, Lost, begun}
-use Rattle.pool_history.specs.Records.{Rec, number_of, block_at, nothing, above, rest_of}
+use Rattle.pool_history.specs.Records.{Rec, number_of, takes_part, block_at, nothing, above, rest_of}
 
 pub record Pool : Type 0 where
   pub name : List ℕ
@@ -55,15 +55,17 @@ noted_since (Eject dev) since d s = since d s
 abbrev pub at_device : {A : Type 0} → ℕ → A → (ℕ → A) → ℕ → A
 at_device d x f e = cond (d == e) x (f e)
 
+-- A round touches the labels of those members alone that take part in it. One that stayed out of an
+-- acknowledged round promises nothing any more, since the record that its labels hold is given up.
 abbrev pub after : Event → Pool → Pool
 after (Calls noted) p = record p { sectors = run (noted ∷ []) p.sectors; since = noted_since noted.call p.since }
 after (Accepts a block) p = record p { written = λ x. cond (a == x) block (p.written x) }
 after (Looks known) p = p
 after (Opens r) p = record p { reads = r; written = block_at r; top = number_of r; idle = false; missed = above (number_of r) p.live ++ p.missed }
-after (Begins q) p = record p { live = q ∷ p.live; top = number_of q; idle = false; status = λ d. begun (p.status d) q }
+after (Begins q) p = record p { live = q ∷ p.live; top = number_of q; idle = false; status = λ d. cond (takes_part q d) (begun (p.status d) q) (p.status d) }
 after (Third q d) p = record p { status = at_device d (Even q) p.status }
 after (Ends q d) p = record p { status = at_device d (Odd q) p.status }
-after (Acks q) p = record p { acked = q; reads = q; idle = true; live = q ∷ []; given = rest_of p.live ++ p.given }
+after (Acks q) p = record p { acked = q; reads = q; idle = true; live = q ∷ []; given = rest_of p.live ++ p.given; status = λ d. cond (takes_part q d) (p.status d) Lost }
 after (Loses d) p = record p { member = at_device d false p.member; status = at_device d Lost p.status }
 after (Stops images) p = record p { sectors = after_crash p.sectors images; since = λ d s. []; idle = false }
 

@@ -1,5 +1,5 @@
 -- Records: what a commit leaves for the next opening.
-use Rattle.std.specs.Prelude.{◌≡◌, ℕ, ◌⊎◌, nat_lt, cond, List, [], ◌∷◌, Option, Some, None}
+use Rattle.std.specs.Prelude.{◌≡◌, ℕ, ◌⊎◌, nat_lt, Bool, false, not, cond, List, [], ◌∷◌, Option, Some, None}
 use Rattle.mp_base.specs.Block.{zero_block}
 use Rattle.mp_base.specs.declared.number.Guid.{Guid}
 use Rattle.label_store.specs.Rounds.{Commit}
@@ -10,13 +10,20 @@ pub record Cell : Type 0 where
   pub sector : ℕ
   pub block : List ℕ
 
--- A record: a configuration, and the blocks that it commits, by their addresses.
+-- A record: a configuration, and the blocks that it commits, by their addresses. For each device it has a
+-- log: the groups whose blocks the member there need not have.
 pub record Rec : Type 0 where
   pub commit : Commit
   pub cells : ℕ → Option Cell
+  -- which groups the log of device d has
+  pub owes : (d g : ℕ) → Bool
 
 abbrev pub number_of : Rec → ℕ
 number_of r = r.commit.number.0
+
+-- A member takes part in a record's round exactly where its log in the record lacks the record's own number.
+abbrev pub takes_part : Rec → ℕ → Bool
+takes_part r d = not (r.owes d (number_of r))
 
 -- data sector 0 of a member is this sector of its device: the labels stand before it
 abbrev pub data_start : ℕ
@@ -30,9 +37,9 @@ block_of (Some cell) = cell.block
 abbrev pub block_at : Rec → ℕ → List ℕ
 block_at r a = block_of (r.cells a)
 
--- what a pool reads before its first commit: number 0, and nothing anywhere
+-- what a pool reads before its first commit: number 0, nothing anywhere, and empty logs
 abbrev pub nothing : Guid → Rec
-nothing pool = record { commit = record { pool = pool; number = record { 0 = 0 }; blob = []; length = 0 }; cells = λ a. None }
+nothing pool = record { commit = record { pool = pool; number = record { 0 = 0 }; blob = []; length = 0 }; cells = λ a. None; owes = λ d g. false }
 
 -- one of these
 abbrev pub IsIn : Rec → List Rec → Type 0

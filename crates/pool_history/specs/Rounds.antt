@@ -8,7 +8,7 @@ use Rattle.label_store.specs.Phases.{IsTurn, IsPhase}
 use Rattle.label_store.specs.Rounds.{first_plan, second_plan, third_plan}
 use Rattle.pool_history.specs.Events.{Event, Begins, Third, Ends, Acks, as_events}
 use Rattle.pool_history.specs.Pools.{Pool, drawn, seat}
-use Rattle.pool_history.specs.Records.{Rec, IsIn, number_of}
+use Rattle.pool_history.specs.Records.{Rec, IsIn, number_of, takes_part}
 
 abbrev pub ends_if : Bool → Rec → ℕ → List Event
 ends_if true q d = Ends q d ∷ []
@@ -46,10 +46,11 @@ pub record IsRoundEvents (size : ℕ → ℕ) (q : Rec) (members : List Member) 
   pub uberblocks : IsPhase (second_plan size q.commit) members in_first in_second second
   pub copies : IsThirds (third_plan size q.commit) q members in_second results thirds
 
--- Each member of the pool is in the list, under its own number. The list may have devices that the pool has lost.
-pub record AreMembersOf (p : Pool) (members : List Member) : Type 0 where
-  pub seated : (i : ℕ) (m : Member) → slice_get members i ≡ Some m → p.member m.dev ≡ true → m ≡ seat p m.dev
-  pub all : (d : ℕ) → p.member d ≡ true → (i : ℕ) × (slice_get members i ≡ Some (seat p d))
+-- Each member of the pool that takes part in the record's round is in the list, under its own number, and
+-- no other member is. The list may have devices that the pool has lost.
+pub record AreMembersOf (p : Pool) (q : Rec) (members : List Member) : Type 0 where
+  pub seated : (i : ℕ) (m : Member) → slice_get members i ≡ Some m → p.member m.dev ≡ true → (m ≡ seat p m.dev) × (takes_part q m.dev ≡ true)
+  pub all : (d : ℕ) → p.member d ≡ true → takes_part q d ≡ true → (i : ℕ) × (slice_get members i ≡ Some (seat p d))
 
 -- What the events of a round leave of a pool, by whether it was whole, that is whether no member failed, and
 -- by its calls. The record of a whole round is the acknowledged one, the pool reads it, and no other is live.

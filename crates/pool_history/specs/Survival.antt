@@ -1,10 +1,10 @@
 -- The invariant of all moments. It is what makes each crash leave a live record:
 --
--- 1. What a live record needs is held on each member: the blocks of all live records, and by what its
---    labels promise an uberblock and a configuration (`held`).
+-- 1. What a live record needs is held on each member: of the blocks of all live records those whose groups
+--    its log lacks, and by what its labels promise an uberblock and a configuration (`held`).
 -- 2. Each correct uberblock of a member's rings is that of a record that was drawn (`rings`).
--- 3. The record that a member's labels hold is live (`status_live`), and so are the last acknowledged one
---    and the one that the pool reads (`acked_live`, `reads_live`).
+-- 3. The record that a member's labels hold is live, and the member takes part in it (`status_live`); and
+--    live are the last acknowledged one and the one that the pool reads (`acked_live`, `reads_live`).
 -- 4. No live record has a number below the acknowledged one's, nor above the highest drawn, but those that
 --    an opening missed (`not_below`, `acked_top`, `live_top`, `newest_above`).
 -- 5. A record that was given up has a number below the acknowledged one's, but those (`given_below`).
@@ -19,7 +19,7 @@ use Rattle.label_store.specs.Uberblock.{IsUberblock}
 use Rattle.pool_history.specs.Labels.{Status, Odd, Even, Lost}
 use Rattle.pool_history.specs.Needs.{Held, Needs}
 use Rattle.pool_history.specs.Pools.{Pool, drawn, seat}
-use Rattle.pool_history.specs.Records.{Rec, Cell, IsIn, number_of, data_start}
+use Rattle.pool_history.specs.Records.{Rec, Cell, IsIn, number_of, takes_part, data_start}
 
 -- these bytes are one of the list
 abbrev pub IsAmong : List ℕ → List (List ℕ) → Type 0
@@ -55,18 +55,18 @@ pub record Fits (head_of : List ℕ → Option Head) (p : Pool) (r : Rec) : Type
   pub places : (a : ℕ) (cell : Cell) → r.cells a ≡ Some cell → (d : ℕ) → p.member d ≡ true → data_start + cell.sector + 128 < p.size d
   pub blocks : (a : ℕ) (cell : Cell) → r.cells a ≡ Some cell → length cell.block ≡ 4096
 
--- the labels promise a live record that fits, with a number of its own
-abbrev pub IsOf : (List ℕ → Option Head) → Pool → Status → Type 0
-IsOf head_of p (Odd r) = IsIn r p.live × Fits head_of p r
-IsOf head_of p (Even r) = IsIn r p.live × Fits head_of p r
-IsOf head_of p Lost = Unit {0}
+-- the labels of device d promise a live record that fits, and in which the member takes part
+abbrev pub IsOf : (List ℕ → Option Head) → Pool → (d : ℕ) → Status → Type 0
+IsOf head_of p d (Odd r) = IsIn r p.live × Fits head_of p r × (takes_part r d ≡ true)
+IsOf head_of p d (Even r) = IsIn r p.live × Fits head_of p r × (takes_part r d ≡ true)
+IsOf head_of p d Lost = Unit {0}
 
 pub record Survives (head_of : List ℕ → Option Head) (p : Pool) : Type 0 where
   pub sizes : (d : ℕ) → p.member d ≡ true → 320 ≤ p.size d
   pub held : (d s : ℕ) (bytes : List ℕ) → Needs p d s bytes → Held (p.sectors d s) bytes
   pub rings : (d place : ℕ) → p.member d ≡ true → place < 128 → IsKnownRing p d (place_at (p.size d) place)
   pub places : (r : Rec) (a : ℕ) (cell : Cell) (d : ℕ) → IsIn r p.live → r.cells a ≡ Some cell → p.member d ≡ true → data_start + cell.sector + 128 < p.size d
-  pub status_live : (d : ℕ) → p.member d ≡ true → IsOf head_of p (p.status d)
+  pub status_live : (d : ℕ) → p.member d ≡ true → IsOf head_of p d (p.status d)
   pub acked_live : IsIn p.acked p.live
   pub reads_live : IsIn p.reads p.live
   pub not_below : (r : Rec) → IsIn r p.live → number_of p.acked ≤ number_of r

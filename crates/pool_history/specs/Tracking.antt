@@ -4,7 +4,7 @@ use Rattle.std.specs.Prelude.{◌≡◌, ◌≢◌, ◌⊎◌, ℕ, ◌+◌, ◌
 use Rattle.pool_history.specs.Events.{Event, Calls, Accepts, Looks, Opens, Begins, Third, Ends, Acks, Loses, Stops}
 use Rattle.pool_history.specs.Labels.{Status, Odd, Even, Lost}
 use Rattle.pool_history.specs.Pools.{Pool}
-use Rattle.pool_history.specs.Records.{Rec, IsIn, number_of}
+use Rattle.pool_history.specs.Records.{Rec, IsIn, number_of, takes_part}
 
 -- A round may begin: its number is less than 32 above the acknowledged one and not that of the record which
 -- the labels hold, so it takes another slot; and the last third phase here, if any, has ended.
@@ -14,17 +14,18 @@ MayBegin acked (Even r) q = ⊥
 MayBegin acked Lost q = ⊥
 
 -- These events, while the labels of d hold this. Only third phases and acknowledgements change it, and with
--- an acknowledgement the count of numbers begins anew.
+-- an acknowledgement, in whose round the member takes part, the count of numbers begins anew. Of a round that
+-- it stays out of nothing is asked, as long as it isn't acknowledged.
 abbrev pub Keeps : (d : ℕ) → (acked : Rec) → Status → List Event → Type 0
 Keeps d acked status [] = Unit {0}
 Keeps d acked status (Calls noted ∷ vs) = Keeps d acked status vs
 Keeps d acked status (Accepts a block ∷ vs) = Keeps d acked status vs
 Keeps d acked status (Looks known ∷ vs) = Keeps d acked status vs
 Keeps d acked status (Opens r ∷ vs) = Keeps d acked status vs
-Keeps d acked status (Begins q ∷ vs) = MayBegin acked status q × Keeps d acked status vs
+Keeps d acked status (Begins q ∷ vs) = (takes_part q d ≡ true → MayBegin acked status q) × Keeps d acked status vs
 Keeps d acked status (Third q e ∷ vs) = Keeps d acked (cond (e == d) (Even q) status) vs
 Keeps d acked status (Ends q e ∷ vs) = Keeps d acked (cond (e == d) (Odd q) status) vs
-Keeps d acked status (Acks q ∷ vs) = Keeps d q (Odd q) vs
+Keeps d acked status (Acks q ∷ vs) = (takes_part q d ≡ true) × Keeps d q (Odd q) vs
 Keeps d acked status (Loses e ∷ vs) = (e ≢ d) × Keeps d acked status vs
 Keeps d acked status (Stops images ∷ vs) = Keeps d acked status vs
 

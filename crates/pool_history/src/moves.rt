@@ -19,8 +19,9 @@ ghost use Rattle.pool_history.specs.Survival.{Survives};
 /// `throughout`: where each event was one that the pool may have, the invariant holds behind each front of the
 /// list. A front may end anywhere: between two calls of a round, behind a failed call, behind a stop. What
 /// the code has to show of its calls is thus `Mays` and no more. `sound`: with the invariant every member
-/// keeps each block of every live record and of the one that the pool reads, but for damaged sectors, and
-/// while neither a round nor an opening is under way no place of theirs is free.
+/// keeps of every live record, and of the one that the pool reads, each block that was born in a group which
+/// its log in the record lacks, but for damaged sectors; and while neither a round nor an opening is under way
+/// no place of theirs is free.
 pub fn histories_keep_their_records()
     ensures throughout { (head_of : List ℕ → Option Head) (p : Pool) (vs : List Event) → Survives head_of p → Mays head_of p vs → (k : ℕ) → Survives head_of (pool_after (take k vs) p) }
     ensures sound { (head_of : List ℕ → Option Head) (p : Pool) → Survives head_of p → IsSound p }

@@ -15,7 +15,7 @@ ghost use Rattle.pool_history.specs.Moves.{Mays, ReadsTrue};
 ghost use Rattle.pool_history.specs.Openings.{IsVerifiedOn, IsYield, IsReadWhole, FindsLive};
 ghost use Rattle.pool_history.specs.Pools.{Pool, drawn, after, pool_after};
 ghost use Rattle.pool_history.specs.Premises.{Premises};
-ghost use Rattle.pool_history.specs.Records.{Rec, IsIn};
+ghost use Rattle.pool_history.specs.Records.{Rec, IsIn, takes_part};
 ghost use Rattle.pool_history.specs.Survival.{Survives};
 ghost use Rattle.pool_history.specs.Tracking.{KeepsLabels, AreNear, HasPromise};
 
@@ -56,15 +56,16 @@ pub fn looks_show_the_labels()
 /// The labels of a member go on promising a record, by the events alone. It computes nothing: its clauses
 /// are the law.
 ///
-/// `KeepsLabels` says of the events behind an acknowledgement: the member stays one; each round begins with
-/// a number less than 32 above the acknowledged one and other than that of the record which the member's
-/// labels hold; and none begins while a third phase on the member is unfinished. Failed calls, openings and
-/// stops may come anywhere. With a further acknowledgement the count begins anew. `since` is the law from an
-/// acknowledgement on, and `stays` from any moment at which the labels hold a record.
+/// `KeepsLabels` says of the events behind an acknowledgement: the member stays one; each round in which it
+/// takes part begins with a number less than 32 above the acknowledged one and other than that of the record
+/// which the member's labels hold; none of these begins while a third phase on the member is unfinished; and it
+/// takes part in each round that is acknowledged. Other rounds, failed calls, openings and stops may come
+/// anywhere. With a further acknowledgement the count begins anew. `since` is the law from the acknowledgement
+/// of a round on in which the member took part, and `stays` from any moment at which the labels hold a record.
 pub fn labels_stay_sound()
     ensures stays { (head_of : List ℕ → Option Head) (p : Pool) (d : ℕ) (vs : List Event) → Survives head_of p → AreNear p → HasPromise p d → Mays head_of p vs
         → KeepsLabels p d vs → HasPromise (pool_after vs p) d }
-    ensures since { (head_of : List ℕ → Option Head) (p : Pool) (d : ℕ) (q : Rec) (vs : List Event) → p.member d ≡ true → Mays head_of p (Acks q ∷ vs)
+    ensures since { (head_of : List ℕ → Option Head) (p : Pool) (d : ℕ) (q : Rec) (vs : List Event) → p.member d ≡ true → takes_part q d ≡ true → Mays head_of p (Acks q ∷ vs)
         → KeepsLabels (after (Acks q) p) d vs → HasPromise (pool_after (Acks q ∷ vs) p) d }
 {}
 

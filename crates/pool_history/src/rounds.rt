@@ -17,14 +17,14 @@ ghost use Rattle.pool_history.specs.Survival.{Survives};
 ///
 /// `marked`: the calls of a round are the calls of a round's events, so its marks stand where they belong.
 /// `allowed`: from a pool that keeps the invariant of all moments, each event of the round keeps it too, where
-/// the round is over all members of the pool, each on a device of its own. It may be over devices that the pool
-/// has lost as well. `ends`: what the events leave of the pool. The record is acknowledged exactly where no
+/// the round is over just the members of the pool that take part in it, each on a device of its own. It may be
+/// over devices that the pool has lost as well. `ends`: what the events leave of the pool. The record is acknowledged exactly where no
 /// member failed, and it is the only one that the round draws.
 pub fn rounds_may_be_made()
     ensures marked { (size : ℕ → ℕ) (q : Rec) (members : List Member) (results : List Bool) (made : List Noted) → IsRound size q.commit members results made
         → (vs : List Event) × (calls_of vs ≡ made) × IsRoundEvents size q members results vs }
     ensures allowed { (head_of : List ℕ → Option Head) (p : Pool) (q : Rec) (members : List Member) (results : List Bool) (vs : List Event)
-        → Survives head_of p → IsDrawnUp head_of p q → AreMembersOf p members → AreApart members → IsRoundEvents p.size q members results vs → Mays head_of p vs }
+        → Survives head_of p → IsDrawnUp head_of p q → AreMembersOf p q members → AreApart members → IsRoundEvents p.size q members results vs → Mays head_of p vs }
     ensures ends { (size : ℕ → ℕ) (p : Pool) (q : Rec) (members : List Member) (results : List Bool) (vs : List Event)
         → IsRoundEvents size q members results vs → RoundEnds p (pool_after vs p) q (all_true results) (calls_of vs) }
 {}
