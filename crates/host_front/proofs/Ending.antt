@@ -157,8 +157,12 @@ module _ {host : Host} {old new : Option Story} {f g size' : ℕ → ℕ} (size 
   answers_unless (refusals.Suspended group top faults) y is = answers_suspended group top faults y is
   answers_unless refusals.NoPool y is = answers_unsynced refusals.NoPool (λ g t f e. cc) y is
   answers_unless (refusals.BadAddress limit) y is = answers_unsynced (refusals.BadAddress limit) (λ g t f e. cc) y is
+  answers_unless refusals.NoVdev y is = answers_unsynced refusals.NoVdev (λ g t f e. cc) y is
+  answers_unless (refusals.Required group) y is = answers_unsynced (refusals.Required group) (λ g t f e. cc) y is
+  answers_unless (refusals.TooSmall need has) y is = answers_unsynced (refusals.TooSmall need has) (λ g t f e. cc) y is
   answers_unless (refusals.Exhausted level index leaves) y is = answers_unsynced (refusals.Exhausted level index leaves) (λ g t f e. cc) y is
   answers_unless (refusals.DeviceFault member) y is = answers_unsynced (refusals.DeviceFault member) (λ g t f e. cc) y is
+  answers_unless (refusals.WrongLabel member) y is = answers_unsynced (refusals.WrongLabel member) (λ g t f e. cc) y is
   answers_unless refusals.Memory y is = answers_unsynced refusals.Memory (λ g t f e. cc) y is
   answers_unless refusals.NoRecord y is = answers_unsynced refusals.NoRecord (λ g t f e. cc) y is
   answers_unless (refusals.TreeFull limit count) y is = answers_unsynced (refusals.TreeFull limit count) (λ g t f e. cc) y is
@@ -169,8 +173,12 @@ pub left_seated : (size size' : ℕ → ℕ) (refusal : Refusal) (pool : Pool) �
 left_seated size size' (refusals.Suspended group top faults) pool still seated = tt
 left_seated size size' refusals.NoPool pool still seated = pool_seated_on size size' pool still seated
 left_seated size size' (refusals.BadAddress limit) pool still seated = pool_seated_on size size' pool still seated
+left_seated size size' refusals.NoVdev pool still seated = pool_seated_on size size' pool still seated
+left_seated size size' (refusals.Required group) pool still seated = pool_seated_on size size' pool still seated
+left_seated size size' (refusals.TooSmall need has) pool still seated = pool_seated_on size size' pool still seated
 left_seated size size' (refusals.Exhausted level index leaves) pool still seated = pool_seated_on size size' pool still seated
 left_seated size size' (refusals.DeviceFault member) pool still seated = pool_seated_on size size' pool still seated
+left_seated size size' (refusals.WrongLabel member) pool still seated = pool_seated_on size size' pool still seated
 left_seated size size' refusals.Memory pool still seated = pool_seated_on size size' pool still seated
 left_seated size size' refusals.NoRecord pool still seated = pool_seated_on size size' pool still seated
 left_seated size size' (refusals.TreeFull limit count) pool still seated = pool_seated_on size size' pool still seated

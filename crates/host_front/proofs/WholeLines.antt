@@ -33,6 +33,10 @@ asks_whole line (requests.Import pool) asks = tt
 asks_whole line (requests.Write pool a block) asks = data_whole asks.1 block asks.4
 asks_whole line (requests.Read pool a) asks = tt
 asks_whole line (requests.Sync pool) asks = tt
+asks_whole line (requests.Offline pool device false) asks = asks.1
+asks_whole line (requests.Offline pool device true) asks = asks.1
+asks_whole line (requests.Online pool device) asks = asks.1
+asks_whole line (requests.Logs pool) asks = tt
 
 line_whole_by : (line : List ℕ) (asked : Option Request) → request_of line ≡ asked → IsWhole asked
 line_whole_by line None e = tt

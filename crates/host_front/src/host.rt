@@ -83,6 +83,9 @@ impl Host {
             } => self.write(pool, *address, block),
             Request::Read { pool, address } => self.read(bank, pool, *address),
             Request::Sync { pool } => self.sync(bank, pool),
+            Request::Offline { .. } => Reply::Refused(Refusal::NotBuilt),
+            Request::Online { .. } => Reply::Refused(Refusal::NotBuilt),
+            Request::Logs { .. } => Reply::Refused(Refusal::NotBuilt),
         }
     }
 }

@@ -24,6 +24,9 @@ answered_follows T p h next entry (Some (requests.Write pool a block)) made take
 answered_follows T p h next entry (Some (requests.Read pool a)) made takes fit all is =
     read_follows T p h next (named_pool pool h.pool) a entry.outside entry.given made entry.reply is.0 is.1
 answered_follows T p h next entry (Some (requests.Sync pool)) made takes fit all is = sync_follows T p h next pool made entry.reply fit is
+answered_follows T p h next entry (Some (requests.Offline pool device temporary)) made takes fit all is = quiet_follows T p h made next entry.reply (replies.Refused refusals.NotBuilt) is
+answered_follows T p h next entry (Some (requests.Online pool device)) made takes fit all is = quiet_follows T p h made next entry.reply (replies.Refused refusals.NotBuilt) is
+answered_follows T p h next entry (Some (requests.Logs pool)) made takes fit all is = quiet_follows T p h made next entry.reply (replies.Refused refusals.NotBuilt) is
 
 pub line_follows : (T : Cost → Type 0) (p : Pool) (h next : HostState) (entry : Entry) (made : List Noted) → ((cost : Cost) → Takes p.name h entry.asked made cost → T cost) → IsFit h → AllAnswer p.sectors made
     → IsAnswered h entry.asked entry made next ⊎ (WantsMemory h entry made next ⊎ Clashes h entry made next) → Follows p h T made next

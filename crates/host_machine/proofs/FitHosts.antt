@@ -130,6 +130,9 @@ answered_fit h next entry (Some (requests.Write pool a block)) made names whole 
 answered_fit h next entry (Some (requests.Read pool a)) made names whole fit is =
     same_fit h next fit (ap (λ x. x.0) is.1 ∙ answer_host h (named_pool pool h.pool) a entry.outside entry.given)
 answered_fit h next entry (Some (requests.Sync pool)) made names whole fit is = sync_fit h next (named_pool pool h.pool) made entry.reply fit (λ s e. named_is pool h.pool s e) is
+answered_fit h next entry (Some (requests.Offline pool device temporary)) made names whole fit is = quiet_fit h next made (refused h refusals.NotBuilt).1 entry.reply fit is
+answered_fit h next entry (Some (requests.Online pool device)) made names whole fit is = quiet_fit h next made (refused h refusals.NotBuilt).1 entry.reply fit is
+answered_fit h next entry (Some (requests.Logs pool)) made names whole fit is = quiet_fit h next made (refused h refusals.NotBuilt).1 entry.reply fit is
 
 pub line_fit : (h next : HostState) (entry : Entry) (made : List Noted)
     → ((name : List ℕ) (blocks : ℕ) (first other : List ℕ) → entry.asked ≡ Some (requests.Create name blocks first other) → AreNames name first other)

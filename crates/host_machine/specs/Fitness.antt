@@ -38,7 +38,7 @@ pub record IsFit (h : HostState) : Type 0 where
   pub drawn : AreDrawn h.records
   pub pool : PoolIsFit h.size h.pool
 
--- a write is of a whole block, and what a create names is spelled as a name
+-- a write is of a whole block, and the devices of a line are spelled as names, as is the pool of a create
 abbrev pub IsWhole : Option Request → Type 0
 IsWhole None = Unit {0}
 IsWhole (Some requests.Nothing) = Unit {0}
@@ -47,6 +47,9 @@ IsWhole (Some (requests.Import pool)) = Unit {0}
 IsWhole (Some (requests.Write pool a block)) = length block ≡ 4096
 IsWhole (Some (requests.Read pool a)) = Unit {0}
 IsWhole (Some (requests.Sync pool)) = Unit {0}
+IsWhole (Some (requests.Offline pool device temporary)) = IsTrue (is_name device)
+IsWhole (Some (requests.Online pool device)) = IsTrue (is_name device)
+IsWhole (Some (requests.Logs pool)) = Unit {0}
 
 abbrev pub AreWhole : List Entry → Type 0
 AreWhole [] = Unit {0}

@@ -211,6 +211,9 @@ line_wants h (Some (requests.Import pool)) = Known []
 line_wants h (Some (requests.Write pool a block)) = Known []
 line_wants h (Some (requests.Read pool a)) = wanted_of (named_pool pool h.pool) a
 line_wants h (Some (requests.Sync pool)) = Known []
+line_wants h (Some (requests.Offline pool device temporary)) = Known []
+line_wants h (Some (requests.Online pool device)) = Known []
+line_wants h (Some (requests.Logs pool)) = Known []
 
 -- An entry of a history: what a line asked, the second at which it was asked, the trouble that each of its
 -- device calls met and what the last of them gave, and the reply.
@@ -222,7 +225,7 @@ pub record Entry : Type 0 where
   pub reply : Reply
 
 -- The line made just the device calls that it has to make, and was answered as it has to be. A line that
--- asks nothing that is built is refused as such.
+-- asks nothing that is built is refused as such; `offline`, `online` and `logs` aren't built yet.
 abbrev pub IsAnswered : HostState → Option Request → Entry → List Noted → HostState → Type 0
 IsAnswered h None entry made next = Quietly made (refused h refusals.NotBuilt) next entry.reply
 IsAnswered h (Some requests.Nothing) entry made next = Quietly made (h, replies.Done) next entry.reply
@@ -235,6 +238,9 @@ IsAnswered h (Some (requests.Read pool a)) entry made next =
     (asks_of made ≡ read_line_asks (named_pool pool h.pool) a entry.outside)
     × ((next, entry.reply) ≡ read_line_answer h (named_pool pool h.pool) a entry.outside entry.given)
 IsAnswered h (Some (requests.Sync pool)) entry made next = IsSync h (named_pool pool h.pool) made next entry.reply
+IsAnswered h (Some (requests.Offline pool device temporary)) entry made next = Quietly made (refused h refusals.NotBuilt) next entry.reply
+IsAnswered h (Some (requests.Online pool device)) entry made next = Quietly made (refused h refusals.NotBuilt) next entry.reply
+IsAnswered h (Some (requests.Logs pool)) entry made next = Quietly made (refused h refusals.NotBuilt) next entry.reply
 
 -- There was no memory: nothing changed, and no device was written.
 pub record WantsMemory (old : HostState) (entry : Entry) (made : List Noted) (new : HostState) : Type 0 where

@@ -112,6 +112,9 @@ Takes own h (Some (requests.Import pool)) made cost = ImportTakes own h pool mad
 Takes own h (Some (requests.Write pool a block)) made cost = ⊥
 Takes own h (Some (requests.Read pool a)) made cost = ⊥
 Takes own h (Some (requests.Sync pool)) made cost = ⊥
+Takes own h (Some (requests.Offline pool device temporary)) made cost = ⊥
+Takes own h (Some (requests.Online pool device)) made cost = ⊥
+Takes own h (Some (requests.Logs pool)) made cost = ⊥
 
 -- These calls end in a look at the labels of all devices that are handed, and this is what was found.
 pub record IsLooked (h : HostState) (calls : List Noted) (known : ℕ → ℕ → Option (List ℕ)) : Type 0 where
