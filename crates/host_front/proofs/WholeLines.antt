@@ -1,5 +1,5 @@
 -- What a line asks to write is a whole block.
-use Rattle.std.proofs.Common.{◌≡◌, ℕ, ◌-◌, ◌+◌, ◌≤◌, List, Option, Some, None, length, replicate, refl, arith, inl, inr, ◌∙◌, ap, length-append, [], ◌∷◌, map, subst}
+use Rattle.std.proofs.Common.{◌≡◌, ℕ, ◌-◌, ◌+◌, ◌≤◌, true, false, List, Option, Some, None, length, replicate, refl, arith, inl, inr, ◌∙◌, ap, length-append, [], ◌∷◌, map, subst}
 use Rattle.std.proofs.lemmas.List.{length-replicate}
 use Rattle.mp_base.specs.Block.{padded, zeros, zero_block, block_bytes}
 use Rattle.pool_wire.specs.declared.request.Request.{Request}
