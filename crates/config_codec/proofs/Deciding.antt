@@ -6,14 +6,16 @@ use Rattle.mp_base.specs.Block.{zeros}
 use Rattle.std.specs.Str.{bytes_eq}
 use Rattle.std.proofs.lemmas.Bool.{and_parts, and_from, and_left, cond-true, cond-false}
 use Rattle.std.proofs.lemmas.Slice.Eq.{bytes_eq-Decides}
+use Rattle.mp_base.specs.declared.range.GroupRange.{GroupRange}
 use Rattle.config_codec.specs.declared.config.LeafConfig.{LeafConfig}
 use Rattle.config_codec.specs.Fields.{Fields}
 use Rattle.config_codec.specs.Validity.{IsValid, is_valid}
-use Rattle.config_codec.specs.Spelling.{be32, be64, text_bytes, pointer_bytes, leaf_bytes, head_bytes, tops_bytes, config_bytes}
+use Rattle.config_codec.specs.Flags.{flags_of}
+use Rattle.config_codec.specs.Spelling.{be32, be64, text_bytes, pointer_bytes, range_bytes, log_bytes, leaf_bytes, head_bytes, tops_bytes, config_bytes}
 use Rattle.config_codec.specs.Reading.{fields_of, config_in}
 use Rattle.config_codec.proofs.Placing.{length-be32, length-be64, length-text_bytes, name_short}
 use Rattle.config_codec.proofs.Returning.{all_kept, fields_are}
-use Rattle.config_codec.proofs.Suffixes.{length-pointers}
+use Rattle.config_codec.proofs.Suffixes.{length-pointers, length-ranges}
 use Rattle.config_codec.proofs.Testing.{valid_from, valid_test}
 
 chosen : {A : Type 0} (b : Bool) (x y : A) → cond b (Some x) None ≡ Some y → (b ≡ true) × (x ≡ y)
@@ -72,10 +74,20 @@ length_four a b c d = simp length-append
 length_three : (a b c : List ℕ) → length (a ++ b ++ c) ≡ length a + length b + length c
 length_three a b c = simp length-append
 
-length-leaf_bytes : (leaf : LeafConfig) → length (leaf_bytes leaf) ≡ 15 + length leaf.name
+length-log_bytes : (log : List GroupRange) → length (log_bytes log) ≡ 4 + 16 * length log
+unfolding log_bytes
+length-log_bytes log = omega (arith, length-append (be32 (length log)) (flat_map range_bytes log), length-be32 (length log), length-ranges log)
+
+length-leaf_bytes : (leaf : LeafConfig) → length (leaf_bytes leaf) ≡ 15 + length leaf.name + 16 * length leaf.log
 unfolding leaf_bytes
 length-leaf_bytes leaf =
-    omega (arith, length_three (0 ∷ be64 leaf.member.0) (text_bytes leaf.name) (0 ∷ be32 0), length-be64 leaf.member.0, length-text_bytes leaf.name, length-be32 0)
+    omega (
+      arith,
+      length_three (0 ∷ be64 leaf.member.0) (text_bytes leaf.name) (flags_of leaf.kept leaf.marked ∷ log_bytes leaf.log),
+      length-be64 leaf.member.0,
+      length-text_bytes leaf.name,
+      length-log_bytes leaf.log,
+    )
 
 length-head_bytes : (c : Fields) → length (head_bytes c) ≡ 37 + length c.name
 unfolding head_bytes
@@ -91,7 +103,7 @@ length-head_bytes c =
       length-be64 c.next_member,
     )
 
-length-tops_bytes : (c : Fields) → length (tops_bytes c) ≡ 52 + length c.first.name + length c.second.name
+length-tops_bytes : (c : Fields) → length (tops_bytes c) ≡ 52 + length c.first.name + length c.second.name + 16 * (length c.first.log + length c.second.log)
 unfolding tops_bytes
 length-tops_bytes c =
     omega (
@@ -105,7 +117,8 @@ length-tops_bytes c =
     )
 
 -- how many bytes a configuration has
-pub length-config_bytes : (c : Fields) → IsValid c → length (config_bytes c) ≡ 93 + 52 * c.blocks + length c.name + length c.first.name + length c.second.name
+pub length-config_bytes : (c : Fields) → IsValid c
+    → length (config_bytes c) ≡ 93 + 52 * c.blocks + length c.name + length c.first.name + length c.second.name + 16 * (length c.first.log + length c.second.log)
 unfolding config_bytes
 length-config_bytes c v =
     omega (
@@ -118,27 +131,30 @@ length-config_bytes c v =
       v.counted,
     )
 
-pub fits : (c : Fields) → IsValid c → length (config_bytes c) ≤ 4096
+pub fits : (c : Fields) → IsValid c → length (config_bytes c) ≤ 1949 + 16 * (length c.first.log + length c.second.log)
 fits c v =
     omega (arith, length-config_bytes c v, v.blocks.1, name_short c.name v.name, name_short c.first.name v.first_name, name_short c.second.name v.second_name)
+
+pub fits_part : (c : Fields) → IsValid c → length (config_bytes c) ≤ 114688
+fits_part c v = omega (arith, fits c v, v.few_ranges)
 
 pub some : (c : Fields) → IsValid c → 0 < length (config_bytes c)
 some c v = omega (arith, length-config_bytes c v)
 
--- A sector has a configuration at its front: it is read back, and zeros are behind it.
+-- A part has a configuration at its front: it is read back, and zeros are behind it.
 pub record Written (out : List ℕ) (stop : ℕ) (c : Fields) : Type 0 where
   pub some : 0 < stop
-  pub within : stop ≤ 4096
+  pub within : stop ≤ 114688
   pub back : config_in (take stop out) ≡ Some c
-  pub rest : drop stop out ≡ zeros (4096 - stop)
+  pub rest : drop stop out ≡ zeros (114688 - stop)
 
-pub written : (out : List ℕ) (stop : ℕ) (c : Fields) → IsValid c → out ≡ config_bytes c ++ zeros (4096 - length (config_bytes c)) → stop ≡ length (config_bytes c)
+pub written : (out : List ℕ) (stop : ℕ) (c : Fields) → IsValid c → out ≡ config_bytes c ++ zeros (114688 - length (config_bytes c)) → stop ≡ length (config_bytes c)
     → Written out stop c
 written out stop c v is end =
     let bytes = config_bytes c in
     record {
       some = omega (arith, end, some c v);
-      within = omega (arith, end, fits c v);
-      back = ap (λ s. config_in (take stop s)) is ∙ ap config_in (take_at bytes (zeros (4096 - length bytes)) stop (sym end)) ∙ back c v;
-      rest = ap (drop stop) is ∙ drop_at bytes (zeros (4096 - length bytes)) stop (sym end) ∙ ap (λ n. zeros (4096 - n)) (sym end);
+      within = omega (arith, end, fits_part c v);
+      back = ap (λ s. config_in (take stop s)) is ∙ ap config_in (take_at bytes (zeros (114688 - length bytes)) stop (sym end)) ∙ back c v;
+      rest = ap (drop stop) is ∙ drop_at bytes (zeros (114688 - length bytes)) stop (sym end) ∙ ap (λ n. zeros (114688 - n)) (sym end);
     }

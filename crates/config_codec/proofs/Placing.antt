@@ -27,6 +27,9 @@ pub length-zeros : (n : ℕ) → length (zeros n) ≡ n
 unfolding zeros
 length-zeros n = length-replicate n 0
 
+pub puts_same : {old new a b : List ℕ} {at e : ℕ} → a ≡ b → Puts old at a new e → Puts old at b new e
+puts_same {old} {new} {a} {b} {at} {e} same p = subst (λ t. Puts old at t new e) same p
+
 -- one more piece
 pub puts_next : {old mid new a b : List ℕ} {at m e : ℕ} → Puts old at a mid m → Puts mid m b new e → Puts old at (a ++ b) new e
 puts_next {old} {mid} {new} {a} {b} {at} {m} {e} p q = record {
@@ -56,11 +59,11 @@ pub puts_hole : {old new : List ℕ} {at e : ℕ} (slot : Option Pointer) → sl
 unfolding pointer_bytes
 puts_hole {old} {new} {at} {e} slot is p = subst (λ s. Puts old at (pointer_bytes s) new e) (sym is) p
 
--- bytes at the front, and zeros to the end of the sector
-pub fills_sector : {old mid new bytes : List ℕ} {n e e' : ℕ} → Puts old 0 bytes mid e → Puts mid e (zeros n) new e' → e ≤ 4096 → n ≡ 4096 - e → length new ≡ 4096
-    → new ≡ bytes ++ zeros (4096 - length bytes)
-fills_sector {old} {mid} {new} {bytes} {n} {e} {e'} p q inside is long =
-    let end : e' ≡ 4096 = omega (arith, q.stop, length-zeros n) in
-    let count : n ≡ 4096 - length bytes = omega (arith, p.stop) in
-    let all : take e' new ≡ new = take_all e' new (omega arith) in
-    sym all ∙ q.front ∙ ap (λ s. s ++ zeros n) p.front ∙ ap (λ k. bytes ++ zeros k) count
+-- bytes at the front, and zeros to the end
+pub fills : {old mid new bytes : List ℕ} {n e e' : ℕ} (all : ℕ) → Puts old 0 bytes mid e → Puts mid e (zeros n) new e' → e ≤ all → n ≡ all - e → length new ≡ all
+    → new ≡ bytes ++ zeros (all - length bytes)
+fills {old} {mid} {new} {bytes} {n} {e} {e'} all p q inside is long =
+    let end : e' ≡ all = omega (arith, q.stop, length-zeros n) in
+    let count : n ≡ all - length bytes = omega (arith, p.stop) in
+    let whole : take e' new ≡ new = take_all e' new (omega arith) in
+    sym whole ∙ q.front ∙ ap (λ s. s ++ zeros n) p.front ∙ ap (λ k. bytes ++ zeros k) count

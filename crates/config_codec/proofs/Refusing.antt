@@ -1,12 +1,13 @@
 -- The fields that were read, and bytes that are no configuration.
-use Rattle.std.proofs.Common.{◌≡◌, ℕ, ◌*◌, ◌<◌, false, ◌&&◌, List, drop, sym, ap, ◌∙◌, arith, Option, Result, Ok, Err}
+use Rattle.std.proofs.Common.{◌≡◌, ℕ, ◌*◌, ◌<◌, true, false, ◌&&◌, List, length, drop, sym, ap, ◌∙◌, arith, Option, Result, Ok, Err}
 use Rattle.std.specs.Prelude.{IsErrAnd, IsErrOf}
-use Rattle.std.proofs.lemmas.Bool.{and_left, and_right, false_from_ne_true}
+use Rattle.std.proofs.lemmas.Bool.{and_left, and_from, le-leb, true≢false, false_from_ne_true}
 use Rattle.mp_base.specs.Name.{is_name}
 use Rattle.config_codec.specs.declared.config.LeafConfig.{LeafConfig}
 use Rattle.config_codec.specs.declared.config.Pointer.{Pointer}
 use Rattle.config_codec.specs.declared.unread.Unread.{Unread}
-use Rattle.config_codec.specs.Validity.{is_valid, are_names}
+use Rattle.config_codec.specs.Fields.{Fields}
+use Rattle.config_codec.specs.Validity.{is_valid, are_names, may_stand}
 use Rattle.config_codec.specs.Reading.{number_in, text_in, pointers_in, leaf_in, from_pool, from_name, from_blocks, from_number, from_next_member, from_pointers, from_tops, from_sectors, from_mirror, from_first, from_second, fields_of}
 use Rattle.config_codec.proofs.Returning.{fields_with, same_fields}
 use Rattle.config_codec.proofs.Testing.{valid_from}
@@ -37,13 +38,21 @@ pool_unnamed bytes name e bad =
     let no : is_name (fields_of bytes).name ≡ false = ap is_name (sym e) ∙ bad in
     and_left (are_names (fields_of bytes)) _ (and_left (is_name (fields_of bytes).name) _ no)
 
-pub leaf_unnamed : (bytes tops : List ℕ) → tops ≡ from_tops bytes → (is_name (leaf_in (from_first tops)).name && is_name (leaf_in (from_second tops)).name) ≡ false
+-- the leaves of what is valid
+leaves_stand : (c : Fields) → is_valid c ≡ true → (may_stand c.first && may_stand c.second) ≡ true
+leaves_stand c t =
+    let v = valid_from c t in
+    and_from (may_stand c.first) _
+    (and_from (is_name c.first.name) _ v.first_name (le-leb (length c.first.log) 4096 (omega (arith, v.few_ranges))))
+    (and_from (is_name c.second.name) _ v.second_name (le-leb (length c.second.log) 4096 (omega (arith, v.few_ranges))))
+
+pub no_leaves : (bytes tops : List ℕ) → tops ≡ from_tops bytes → (may_stand (leaf_in (from_first tops)) && may_stand (leaf_in (from_second tops))) ≡ false
     → is_valid (fields_of bytes) ≡ false
-unfolding is_valid fields_of
-leaf_unnamed bytes tops e bad =
-    let no : (is_name (leaf_in (from_first (from_tops bytes))).name && is_name (leaf_in (from_second (from_tops bytes))).name) ≡ false =
-    ap (λ s. is_name (leaf_in (from_first s)).name && is_name (leaf_in (from_second s)).name) (sym e) ∙ bad in
-    and_left (are_names (fields_of bytes)) _ (and_right (is_name (fields_of bytes).name) _ no)
+unfolding fields_of
+no_leaves bytes tops e bad =
+    let no : (may_stand (leaf_in (from_first (from_tops bytes))) && may_stand (leaf_in (from_second (from_tops bytes)))) ≡ false =
+    ap (λ s. may_stand (leaf_in (from_first s)) && may_stand (leaf_in (from_second s))) (sym e) ∙ bad in
+    false_from_ne_true (is_valid (fields_of bytes)) (λ t. true≢false (sym (leaves_stand (fields_of bytes) t) ∙ no))
 
 -- what an error says, it says of the error that it became
 pub handed_on : {Y : Type 0} (fault e : Unread) (r : Result Y Unread) → IsErrAnd r (λ f. f ≡ fault) → IsErrOf r e → fault ≡ e

@@ -10,7 +10,7 @@ use Rattle.config_codec.specs.Fields.{Fields}
 use Rattle.config_codec.specs.Validity.{IsValid}
 use Rattle.config_codec.specs.Spelling.{be32, be64, text_bytes, pointer_bytes, leaf_bytes, head_bytes, tops_bytes, config_bytes}
 use Rattle.config_codec.specs.Reading.{number_in, text_in, behind_text, pointers_in, leaf_in, behind_leaf, from_pool, from_name, from_blocks, from_number, from_next_member, from_pointers, from_tops, from_sectors, from_mirror, from_first, from_second, fields_of}
-use Rattle.config_codec.proofs.Suffixes.{number_is, behind_number, behind_count, text_is, behind_text_is, leaf_is, behind_leaf_is, IsKept, AreKept, length-pointers, pointers_are}
+use Rattle.config_codec.proofs.Suffixes.{number_is, behind_number, behind_count, text_is, behind_text_is, IsKeptLeaf, leaf_is, behind_leaf_is, IsKept, AreKept, length-pointers, pointers_are}
 
 -- the bytes from each field on
 abbrev rest_second : Fields → List ℕ
@@ -122,8 +122,24 @@ at_mirror c v = ap (λ s. drop 1 (drop 8 s)) (at_sectors c v) ∙ ap (drop 1) (b
 at_first : (c : Fields) → IsValid c → from_first (from_tops (config_bytes c)) ≡ rest_first c
 at_first c v = ap (λ s. drop 1 (drop 8 s)) (at_mirror c v) ∙ ap (drop 1) (behind_number c.mirror.0 (2 ∷ rest_first c))
 
+first_kept : (c : Fields) → IsValid c → IsKeptLeaf c.number.0 c.first
+first_kept c v = record {
+  member = omega (arith, v.first.1, v.next_member);
+  few = omega (arith, v.few_ranges);
+  rise = v.first_log;
+  last = omega (arith, v.number.1);
+}
+
+second_kept : (c : Fields) → IsValid c → IsKeptLeaf c.number.0 c.second
+second_kept c v = record {
+  member = omega (arith, v.second.1, v.next_member);
+  few = omega (arith, v.few_ranges);
+  rise = v.second_log;
+  last = omega (arith, v.number.1);
+}
+
 at_second : (c : Fields) → IsValid c → from_second (from_tops (config_bytes c)) ≡ rest_second c
-at_second c v = ap behind_leaf (at_first c v) ∙ behind_leaf_is c.first (rest_second c)
+at_second c v = ap behind_leaf (at_first c v) ∙ behind_leaf_is c.first (rest_second c) (first_kept c v).few
 
 pointers_back : (c : Fields) → IsValid c → pointers_in (number_in (from_blocks (config_bytes c))) (from_pointers (config_bytes c)) ≡ c.pointers
 pointers_back c v =
@@ -160,5 +176,5 @@ fields_are c v = same_fields _ _ _ _ _ _ _ _ _ _ _ _ _ _ _ _ _ _ _ _
     (pointers_back c v)
     (ap number_in (at_sectors c v) ∙ number_is c.sectors (1 ∷ rest_mirror c) (omega (arith, v.sectors.1)))
     (ap number_in (at_mirror c v) ∙ number_is c.mirror.0 (2 ∷ rest_first c) (omega (arith, v.mirror.1, v.next_member)))
-    (ap leaf_in (at_first c v) ∙ leaf_is c.first (rest_second c) (omega (arith, v.first.1, v.next_member)))
-    (ap leaf_in (at_second c v) ∙ leaf_is c.second (be32 0) (omega (arith, v.second.1, v.next_member)))
+    (ap leaf_in (at_first c v) ∙ leaf_is c.number.0 c.first (rest_second c) (first_kept c v))
+    (ap leaf_in (at_second c v) ∙ leaf_is c.number.0 c.second (be32 0) (second_kept c v))

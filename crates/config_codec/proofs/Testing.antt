@@ -7,9 +7,11 @@ use Rattle.std.proofs.lemmas.Bool.{leb-true, ltb-true, eqb-true, le-leb, lt-ltb,
 use Rattle.std.proofs.lemmas.Slice.Eq.{bytes_eq-Decides}
 use Rattle.mp_base.specs.Name.{is_name}
 use Rattle.mp_base.specs.declared.number.Group.{Group}
+use Rattle.mp_base.specs.declared.range.GroupRange.{GroupRange}
 use Rattle.config_codec.specs.declared.config.Pointer.{Pointer}
 use Rattle.config_codec.specs.Fields.{Fields}
-use Rattle.config_codec.specs.Validity.{IsIn, IsPointer, IsDrawn, IsValid, is_in, is_pointer, is_slot, are_slots, is_drawn, are_in_range, are_drawn, are_distinct, are_names, are_two_devices, are_pointers, is_valid}
+use Rattle.config_codec.specs.Ranges.{Rises, rises}
+use Rattle.config_codec.specs.Validity.{IsIn, IsPointer, IsDrawn, IsValid, is_in, is_pointer, is_slot, are_slots, is_drawn, are_in_range, are_drawn, are_distinct, are_names, are_two_devices, are_pointers, are_logs, is_valid}
 
 in_from : (least most n : ℕ) → is_in least most n ≡ true → IsIn least most n
 in_from least most n t =
@@ -104,6 +106,21 @@ others_from a b t e = true≢false (sym ((bytes_eq-Decides a b).1 e) ∙ not-tru
 others_test : (a b : List ℕ) → a ≢ b → not (bytes_eq a b) ≡ true
 others_test a b ne = not_from_false (bytes_eq a b) (false_from_ne_true (bytes_eq a b) (λ t. ne ((bytes_eq-Decides a b).0 t)))
 
+pub rises_from : (least most : ℕ) (ranges : List GroupRange) → rises least most ranges ≡ true → Rises least most ranges
+rises_from least most [] t = tt
+rises_from least most (r ∷ ranges) t =
+    let low = and_parts (nat_le least r.low.0) _ t in
+    let some = and_parts (nat_le r.low.0 r.high.0) _ low.1 in
+    let high = and_parts (nat_le r.high.0 most) _ some.1 in
+    (leb-true _ _ low.0, leb-true _ _ some.0, leb-true _ _ high.0, rises_from (r.high.0 + 2) most ranges high.1)
+
+pub rises_test : (least most : ℕ) (ranges : List GroupRange) → Rises least most ranges → rises least most ranges ≡ true
+rises_test least most [] rise = refl
+rises_test least most (r ∷ ranges) rise =
+    and_from (nat_le least r.low.0) _ (le-leb _ _ rise.0)
+    (and_from (nat_le r.low.0 r.high.0) _ (le-leb _ _ rise.1)
+    (and_from (nat_le r.high.0 most) _ (le-leb _ _ rise.2) (rises_test (r.high.0 + 2) most ranges rise.3)))
+
 pub valid_from : (c : Fields) → is_valid c ≡ true → IsValid c
 unfolding is_valid
 valid_from c t =
@@ -122,7 +139,10 @@ valid_from c t =
     let not_first = and_parts (not (c.mirror.0 == c.first.member.0)) _ distinct.0 in
     let not_second = and_parts (not (c.mirror.0 == c.second.member.0)) _ not_first.1 in
     let devices = and_parts (are_two_devices c) _ distinct.1 in
-    let pointers = and_parts (length c.pointers == c.blocks) _ devices.1 in
+    let slots = and_parts (are_pointers c) _ devices.1 in
+    let pointers = and_parts (length c.pointers == c.blocks) _ slots.0 in
+    let few = and_parts (nat_le (length c.first.log + length c.second.log) 4096) _ slots.1 in
+    let logs = and_parts (rises 1 c.number.0 c.first.log) _ few.1 in
     record {
       pool = in_from 1 (2 ^ 64 - 1) c.pool.0 pool.0;
       name = name.0;
@@ -141,6 +161,9 @@ valid_from c t =
       first_name = leaves.0;
       second_name = leaves.1;
       two_devices = others_from _ _ devices.0;
+      first_log = rises_from 1 c.number.0 c.first.log logs.0;
+      second_log = rises_from 1 c.number.0 c.second.log logs.1;
+      few_ranges = leb-true _ _ few.0;
     }
 
 pub valid_test : (c : Fields) → IsValid c → is_valid c ≡ true
@@ -161,5 +184,8 @@ valid_test c v =
     (and_from (not (c.mirror.0 == c.second.member.0)) _ (differ_test _ _ v.not_second) (differ_test _ _ v.two_members)) in
     let devices : are_two_devices c ≡ true = others_test _ _ v.two_devices in
     let pointers : are_pointers c ≡ true = and_from (length c.pointers == c.blocks) _ (eq-eqb _ _ v.counted) (slots_test c.number c.pointers v.pointers) in
+    let logs : are_logs c ≡ true =
+    and_from (nat_le (length c.first.log + length c.second.log) 4096) _ (le-leb _ _ v.few_ranges)
+    (and_from (rises 1 c.number.0 c.first.log) _ (rises_test 1 c.number.0 c.first.log v.first_log) (rises_test 1 c.number.0 c.second.log v.second_log)) in
     and_from (are_names c) _ names (and_from (are_in_range c) _ ranges (and_from (are_drawn c) _ drawn
-    (and_from (are_distinct c) _ distinct (and_from (are_two_devices c) _ devices pointers))))
+    (and_from (are_distinct c) _ distinct (and_from (are_two_devices c) _ devices (and_from (are_pointers c) _ pointers logs)))))

@@ -36,7 +36,13 @@ config_fields c = record {
 }
 
 abbrev pub parts_leaf : LeafParts → LeafConfig
-parts_leaf leaf = record { member = leaf.member; name = leaf.name.now }
+parts_leaf leaf = record {
+  member = leaf.member;
+  name = leaf.name.now;
+  kept = leaf.kept;
+  marked = leaf.marked;
+  log = leaf.log.now;
+}
 
 -- what borrowed parts say
 abbrev pub parts_fields : Parts → Fields

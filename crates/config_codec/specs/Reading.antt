@@ -1,11 +1,13 @@
 -- The configuration that bytes are, where they are one.
 use Rattle.std.specs.Prelude.{ℕ, zero, suc, ◌-◌, ◌*◌, ◌==◌, ◌&&◌, if◌then◌else◌, List, [], ◌∷◌, ◌++◌, length, take, drop, Option, Some, None, slice_index}
-use Rattle.std.specs.Int.{from_be_bytes, w64}
+use Rattle.std.specs.Int.{from_be_bytes, w32, w64}
 use Rattle.std.specs.Str.{bytes_eq}
 use Rattle.mp_base.specs.Block.{zeros}
+use Rattle.mp_base.specs.declared.range.GroupRange.{GroupRange}
 use Rattle.config_codec.specs.declared.config.Pointer.{Pointer}
 use Rattle.config_codec.specs.declared.config.LeafConfig.{LeafConfig}
 use Rattle.config_codec.specs.Fields.{Fields}
+use Rattle.config_codec.specs.Flags.{kept_in, marked_in}
 use Rattle.config_codec.specs.Spelling.{config_bytes}
 use Rattle.config_codec.specs.Validity.{is_valid}
 
@@ -15,15 +17,23 @@ use Rattle.config_codec.specs.Validity.{is_valid}
 unfoldable pub front : ℕ → List ℕ → List ℕ
 front n bytes = take n bytes ++ zeros (n - length bytes)
 
+-- the number of one byte
+abbrev pub byte_in : List ℕ → ℕ
+byte_in bytes = slice_index bytes 0
+
+-- the number of four bytes
+unfoldable pub count_in : List ℕ → ℕ
+count_in bytes = from_be_bytes w32 (front 4 bytes)
+
 -- the number of eight bytes
 unfoldable pub number_in : List ℕ → ℕ
 number_in bytes = from_be_bytes w64 (front 8 bytes)
 
 unfoldable pub text_in : List ℕ → List ℕ
-text_in bytes = take (slice_index bytes 0) (drop 1 bytes)
+text_in bytes = take (byte_in bytes) (drop 1 bytes)
 
 unfoldable pub behind_text : List ℕ → List ℕ
-behind_text bytes = drop (slice_index bytes 0) (drop 1 bytes)
+behind_text bytes = drop (byte_in bytes) (drop 1 bytes)
 
 -- Birth 0 tells a hole.
 unfoldable pub pointer_in : List ℕ → Option Pointer
@@ -38,11 +48,43 @@ unfoldable pub pointers_in : ℕ → List ℕ → List (Option Pointer)
 pointers_in zero bytes = []
 pointers_in (suc n) bytes = pointer_in bytes ∷ pointers_in n (drop 52 bytes)
 
+unfoldable pub range_in : List ℕ → GroupRange
+range_in bytes = record { low = record { 0 = number_in bytes }; high = record { 0 = number_in (drop 8 bytes) } }
+
+unfoldable pub ranges_in : ℕ → List ℕ → List GroupRange
+ranges_in zero bytes = []
+ranges_in (suc n) bytes = range_in bytes ∷ ranges_in n (drop 16 bytes)
+
+-- the ranges behind their number
+unfoldable pub log_in : List ℕ → List GroupRange
+log_in bytes = ranges_in (count_in bytes) (drop 4 bytes)
+
+unfoldable pub behind_log : List ℕ → List ℕ
+behind_log bytes = drop (16 * count_in bytes) (drop 4 bytes)
+
+-- The bytes of a leaf from a field on.
+
+-- behind its kind and its member number
+abbrev pub from_device : List ℕ → List ℕ
+from_device leaf = drop 8 (drop 1 leaf)
+
+abbrev pub from_flags : List ℕ → List ℕ
+from_flags leaf = behind_text (from_device leaf)
+
+abbrev pub from_log : List ℕ → List ℕ
+from_log leaf = drop 1 (from_flags leaf)
+
 unfoldable pub leaf_in : List ℕ → LeafConfig
-leaf_in bytes = record { member = record { 0 = number_in (drop 1 bytes) }; name = text_in (drop 9 bytes) }
+leaf_in bytes = record {
+  member = record { 0 = number_in (drop 1 bytes) };
+  name = text_in (from_device bytes);
+  kept = kept_in (byte_in (from_flags bytes));
+  marked = marked_in (byte_in (from_flags bytes));
+  log = log_in (from_log bytes);
+}
 
 unfoldable pub behind_leaf : List ℕ → List ℕ
-behind_leaf bytes = drop 5 (behind_text (drop 9 bytes))
+behind_leaf bytes = behind_log (from_log bytes)
 
 -- The bytes from a field on, which is behind the field before it.
 

@@ -3,9 +3,11 @@ use Rattle.std.specs.Prelude.{ℕ, List, ◌∷◌, ◌++◌, length, Option, So
 use Rattle.std.specs.List.{flat_map}
 use Rattle.std.specs.Int.{to_be_bytes, w32, w64}
 use Rattle.mp_base.specs.Block.{zeros}
+use Rattle.mp_base.specs.declared.range.GroupRange.{GroupRange}
 use Rattle.config_codec.specs.declared.config.Pointer.{Pointer}
 use Rattle.config_codec.specs.declared.config.LeafConfig.{LeafConfig}
 use Rattle.config_codec.specs.Fields.{Fields}
+use Rattle.config_codec.specs.Flags.{flags_of}
 
 -- a number as four bytes and as eight, the high one first
 unfoldable pub be32 : ℕ → List ℕ
@@ -23,9 +25,18 @@ unfoldable pub pointer_bytes : Option Pointer → List ℕ
 pointer_bytes None = zeros 52
 pointer_bytes (Some p) = be64 p.birth.0 ++ be32 0 ++ be64 p.sector ++ p.sum
 
--- a vdev of kind 0, without flags and runs
+-- low and high
+unfoldable pub range_bytes : GroupRange → List ℕ
+range_bytes range = be64 range.low.0 ++ be64 range.high.0
+
+-- the number of the ranges, and the ranges
+unfoldable pub log_bytes : List GroupRange → List ℕ
+log_bytes log = be32 (length log) ++ flat_map range_bytes log
+
+-- a vdev of kind 0
 unfoldable pub leaf_bytes : LeafConfig → List ℕ
-leaf_bytes leaf = 0 ∷ be64 leaf.member.0 ++ text_bytes leaf.name ++ 0 ∷ be32 0
+leaf_bytes leaf =
+    0 ∷ be64 leaf.member.0 ++ text_bytes leaf.name ++ flags_of leaf.kept leaf.marked ∷ log_bytes leaf.log
 
 -- version 1, and what there is of the volume
 unfoldable pub head_bytes : Fields → List ℕ

@@ -1,11 +1,13 @@
 -- Which configurations are valid, as facts and as a test.
-use Rattle.std.specs.Prelude.{◌≡◌, ◌≢◌, ℕ, ◌-◌, ◌/◌, ◌^◌, ◌<◌, ◌≤◌, ◌==◌, ◌&&◌, Bool, true, not, IsTrue, nat_le, nat_lt, List, length, Option, Some, None, slice_get}
+use Rattle.std.specs.Prelude.{◌≡◌, ◌≢◌, ℕ, ◌+◌, ◌-◌, ◌/◌, ◌^◌, ◌<◌, ◌≤◌, ◌==◌, ◌&&◌, Bool, true, not, IsTrue, nat_le, nat_lt, List, length, Option, Some, None, slice_get}
 use Rattle.std.specs.List.{list_all, enumerate_from}
 use Rattle.std.specs.Str.{bytes_eq}
 use Rattle.mp_base.specs.Name.{is_name}
 use Rattle.mp_base.specs.declared.number.Group.{Group}
 use Rattle.config_codec.specs.declared.config.Pointer.{Pointer}
+use Rattle.config_codec.specs.declared.config.LeafConfig.{LeafConfig}
 use Rattle.config_codec.specs.Fields.{Fields}
+use Rattle.config_codec.specs.Ranges.{Rises, rises}
 
 -- n lies from the least to the most
 abbrev pub IsIn : (least most n : ℕ) → Type 0
@@ -40,6 +42,9 @@ pub record IsValid (c : Fields) : Type 0 where
   pub first_name : IsTrue (is_name c.first.name)
   pub second_name : IsTrue (is_name c.second.name)
   pub two_devices : c.first.name ≢ c.second.name
+  pub first_log : Rises 1 c.number.0 c.first.log
+  pub second_log : Rises 1 c.number.0 c.second.log
+  pub few_ranges : length c.first.log + length c.second.log ≤ 4096
 
 -- The same as a test.
 
@@ -84,6 +89,16 @@ are_two_devices c = not (bytes_eq c.first.name c.second.name)
 abbrev pub are_pointers : Fields → Bool
 are_pointers c = length c.pointers == c.blocks && are_slots c.number c.pointers
 
+-- the groups that the leaves lack
+abbrev pub are_logs : Fields → Bool
+are_logs c =
+    nat_le (length c.first.log + length c.second.log) 4096
+    && (rises 1 c.number.0 c.first.log && rises 1 c.number.0 c.second.log)
+
 unfoldable pub is_valid : Fields → Bool
 is_valid c =
-    are_names c && (are_in_range c && (are_drawn c && (are_distinct c && (are_two_devices c && are_pointers c))))
+    are_names c && (are_in_range c && (are_drawn c && (are_distinct c && (are_two_devices c && (are_pointers c && are_logs c)))))
+
+-- A leaf that may stand in a valid configuration, as far as its name and the length of its log tell.
+abbrev pub may_stand : LeafConfig → Bool
+may_stand leaf = is_name leaf.name && nat_le (length leaf.log) 4096

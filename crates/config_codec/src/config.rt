@@ -1,5 +1,5 @@
 //! A configuration as it is kept.
-use mp_base::{Group, Guid, Name};
+use mp_base::{Group, Guid, Name, Ranges};
 
 /// Where a committed block stands. Each address has two data sectors on each member of the top, 2a and
 /// 2a + 1, counted from where the top's data begin; the block is in one of them.
@@ -12,11 +12,26 @@ pub struct Pointer {
     pub sum: [u8; 32],
 }
 
-/// A leaf of the mirror: its member number, and the name of its device.
+/// The state that a record keeps of a leaf; one that is away for another reason is recorded as `Online`.
+#[derive(Clone, Copy, Debug, PartialEq, Eq)]
+pub enum KeptState {
+    Online,
+    Offline,
+    Faulted,
+    Degraded,
+}
+
+/// A leaf of the mirror.
 #[derive(Drop)]
 pub struct LeafConfig {
     pub member: Guid,
+    /// The name of its device.
     pub name: Name,
+    pub kept: KeptState,
+    /// Whether it is marked to come back.
+    pub marked: bool,
+    /// The groups of which it lacks a valid copy.
+    pub log: Ranges,
 }
 
 /// The configuration of a pool whose one top is a mirror of two leaves. Which are valid is

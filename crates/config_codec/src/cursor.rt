@@ -1,7 +1,7 @@
 //! Reading from the front of bytes. It never fails: behind the end zeros are read. Whether the bytes end
 //! too early is told by writing again what was read.
 ghost use Rattle.std.specs.Prelude.{◌≡◌, length, drop};
-ghost use Rattle.config_codec.specs.Reading.{front, number_in, text_in, behind_text};
+ghost use Rattle.config_codec.specs.Reading.{front, byte_in, count_in, number_in, text_in, behind_text};
 
 use std::marker::Model;
 
@@ -33,6 +33,25 @@ impl<'a> Cursor<'a> {
         self.rest = &self.rest[count.min(self.rest.len())..];
     }
 
+    /// The next byte.
+    pub(crate) fn byte(&mut self) -> u8
+        ensures value { result ≡ byte_in self.old }
+        ensures rest { self.new ≡ drop 1 self.old }
+    {
+        let byte = self.rest.first().copied().unwrap_or(0);
+        self.skip(1);
+        byte
+    }
+
+    /// The next four bytes as a number, the high one first.
+    #[tactic(auto, unfolding(crate::specs::Reading::count_in))]
+    pub(crate) fn count(&mut self) -> u32
+        ensures value { result ≡ count_in self.old }
+        ensures rest { self.new ≡ drop 4 self.old }
+    {
+        u32::from_be_bytes(self.bytes())
+    }
+
     /// The next eight bytes as a number, the high one first.
     #[tactic(auto, unfolding(crate::specs::Reading::number_in))]
     pub(crate) fn number(&mut self) -> u64
@@ -60,8 +79,7 @@ impl<'a> Cursor<'a> {
         ensures value { result.now ≡ text_in self.old }
         ensures rest { self.new ≡ behind_text self.old }
     {
-        let length = self.rest.first().copied().unwrap_or(0) as usize;
-        self.skip(1);
+        let length = usize::from(self.byte());
         let text = &self.rest[..length.min(self.rest.len())];
         self.skip(length);
         text

@@ -15,10 +15,14 @@
 //! | 1 | its kind, 1 (mirror) |
 //! | 8 | its member number |
 //! | 1 | its children, 2 |
-//! | 16 to 79 for each leaf | kind 0 (1), member number (8), device name (a text), flags 0 (1) and runs 0 (4) |
+//! | 16 to 79 for each leaf, and its log | kind 0 (1), member number (8), device name (a text), flags (1), number of ranges (4), and the ranges |
 //! | 4 | spares, 0 |
 //!
-//! Bytes are a configuration exactly where they are those of fields in these ranges, and nothing follows
+//! A leaf's flags are 0 online, 1 offline, 2 faulted or 4 degraded, and 8 more where it is marked to come
+//! back. Its log is the ranges of groups of which it lacks a valid copy: 16 bytes for each, low (8) and
+//! high (8). The two logs together have at most 4,096.
+//!
+//! Bytes are a configuration exactly where they are those of valid fields, and nothing follows
 //! (`specs/Validity.antt` has all that is asked of them).
 ghost use Rattle.std.specs.Prelude.{◌≡◌, ◌+◌, ◌-◌, ◌*◌, ◌≤◌, ◌++◌, length, take, Some};
 ghost use Rattle.std.specs.List.{flat_map};
@@ -26,12 +30,14 @@ ghost use Rattle.mp_base.specs.Block.{zeros};
 ghost use Rattle.config_codec.specs.Fields.{parts_fields, parts_leaf};
 ghost use Rattle.config_codec.specs.Pieces.{Puts};
 ghost use Rattle.config_codec.specs.Reading.{config_in};
-ghost use Rattle.config_codec.specs.Spelling.{pointer_bytes, leaf_bytes, head_bytes, tops_bytes, config_bytes};
+ghost use Rattle.config_codec.specs.Spelling.{pointer_bytes, range_bytes, log_bytes, leaf_bytes, head_bytes, tops_bytes, config_bytes};
 ghost use Rattle.config_codec.specs.Validity.{IsValid};
 
 use crate::config::Pointer;
+use crate::flags::flags_of;
 use crate::parts::{LeafParts, Parts};
 use crate::pieces::{put, put_name, put_u8, put_u32, put_u64, put_zeros};
+use mp_base::GroupRange;
 
 const VERSION: u32 = 1;
 
@@ -46,12 +52,6 @@ const MIRROR: u8 = 1;
 /// The number of a mirror's leaves.
 const CHILDREN: u8 = 2;
 
-/// No leaf is offline, faulted, degraded or marked to come back.
-const NO_FLAGS: u8 = 0;
-
-/// No leaf misses a group.
-const NO_RUNS: u32 = 0;
-
 const NO_SPARES: u32 = 0;
 
 /// The place of the one top among the tops.
@@ -60,13 +60,16 @@ const FIRST_TOP: u32 = 0;
 /// The bytes of a pointer, and of a hole.
 pub(crate) const POINTER_BYTES: usize = 52;
 
-/// Writes a valid configuration to the front of a sector, and zeros behind it. Answers the configuration's
-/// length in bytes, at most 1,949: so many bytes of the sector are read back as this configuration. Takes
-/// no memory.
+/// The bytes of a configuration part, 28 sectors.
+pub const PART_BYTES: usize = 114_688;
+
+/// Writes a valid configuration to the front of a configuration part, and zeros behind it. Answers the
+/// configuration's length in bytes, at most 1,949 and 16 for each range: so many bytes of the part are read
+/// back as this configuration. Takes no memory.
 pub fn encode_into(c: &Parts, out: &mut [u8]) -> usize
     requires valid { IsValid (parts_fields c.now) }
-    requires sector { length out.old ≡ 4096 }
-    ensures bytes { out.new ≡ config_bytes (parts_fields c.now) ++ zeros (4096 - length (config_bytes (parts_fields c.now))) }
+    requires part { length out.old ≡ 114688 }
+    ensures bytes { out.new ≡ config_bytes (parts_fields c.now) ++ zeros (114688 - length (config_bytes (parts_fields c.now))) }
     ensures stop { result ≡ length (config_bytes (parts_fields c.now)) }
     ensures back { config_in (take result out.new) ≡ Some (parts_fields c.now) }
 {
@@ -128,11 +131,12 @@ fn put_place(p: Pointer, out: &mut [u8], at: usize) -> usize
 }
 
 fn put_tops(c: &Parts, out: &mut [u8], at: usize) -> usize
-    requires room { at + 180 ≤ length out.old }
+    requires room { at + (180 + 16 * (length c.now.first.log.now + length c.now.second.log.now)) ≤ length out.old }
     requires first { length c.now.first.name.now ≤ 64 }
     requires second { length c.now.second.name.now ≤ 64 }
+    requires few { length c.now.first.log.now + length c.now.second.log.now ≤ 4096 }
     ensures piece { Puts out.old at (tops_bytes (parts_fields c.now)) out.new result }
-    ensures stop { result ≤ at + 180 }
+    ensures stop { result ≤ at + (180 + 16 * (length c.now.first.log.now + length c.now.second.log.now)) }
 {
     let at = put_u32(out, at, TOPS);
     let at = put_u64(out, at, c.sectors);
@@ -144,14 +148,46 @@ fn put_tops(c: &Parts, out: &mut [u8], at: usize) -> usize
 }
 
 fn put_leaf(leaf: &LeafParts, out: &mut [u8], at: usize) -> usize
-    requires room { at + 79 ≤ length out.old }
-    requires few { length leaf.now.name.now ≤ 64 }
+    requires room { at + (79 + 16 * length leaf.now.log.now) ≤ length out.old }
+    requires short { length leaf.now.name.now ≤ 64 }
+    requires few { length leaf.now.log.now ≤ 4096 }
     ensures piece { Puts out.old at (leaf_bytes (parts_leaf leaf.now)) out.new result }
-    ensures stop { result ≤ at + 79 }
+    ensures stop { result ≤ at + (79 + 16 * length leaf.now.log.now) }
 {
     let at = put_u8(out, at, LEAF);
     let at = put_u64(out, at, leaf.member.0);
     let at = put_name(out, at, leaf.name);
-    let at = put_u8(out, at, NO_FLAGS);
-    put_u32(out, at, NO_RUNS)
+    let at = put_u8(out, at, flags_of(leaf.kept, leaf.marked));
+    put_log(leaf.log, out, at)
+}
+
+fn put_log(log: &[GroupRange], out: &mut [u8], at: usize) -> usize
+    requires room { at + (4 + 16 * length log.now) ≤ length out.old }
+    requires few { length log.now ≤ 4096 }
+    ensures piece { Puts out.old at (log_bytes log.now) out.new result }
+    ensures stop { result ≡ at + (4 + 16 * length log.now) }
+{
+    let at = put_u32(out, at, log.len() as u32);
+    put_ranges(log, out, at)
+}
+
+fn put_ranges(ranges: &[GroupRange], out: &mut [u8], at: usize) -> usize
+    requires { at + 16 * length ranges.now ≤ length out.old }
+    ensures piece { Puts out.old at (flat_map range_bytes ranges.now) out.new result }
+    ensures stop { result ≡ at + 16 * length ranges.now }
+{
+    let mut stop = at;
+    for range in ranges {
+        stop = put_range(*range, out, stop);
+    }
+    stop
+}
+
+fn put_range(range: GroupRange, out: &mut [u8], at: usize) -> usize
+    requires { at + 16 ≤ length out.old }
+    ensures piece { Puts out.old at (range_bytes range) out.new result }
+    ensures stop { result ≡ at + 16 }
+{
+    let at = put_u64(out, at, range.low.0);
+    put_u64(out, at, range.high.0)
 }

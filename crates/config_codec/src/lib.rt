@@ -5,6 +5,7 @@ mod config;
 mod cursor;
 mod decoding;
 mod encoding;
+mod flags;
 mod laws;
 mod parts;
 mod pieces;
@@ -13,8 +14,8 @@ mod tests;
 mod unread;
 mod validity;
 
-pub use config::{Config, LeafConfig, Pointer};
+pub use config::{Config, KeptState, LeafConfig, Pointer};
 pub use decoding::decode;
-pub use encoding::encode_into;
+pub use encoding::{PART_BYTES, encode_into};
 pub use laws::{each_has_one_spelling, validity_is_tested};
 pub use parts::{LeafParts, Parts};

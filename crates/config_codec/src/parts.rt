@@ -1,15 +1,18 @@
 //! A configuration in borrowed parts, so that writing one takes no memory.
 ghost use Rattle.std.specs.Prelude.{◌≡◌};
-ghost use Rattle.config_codec.specs.Fields.{config_fields, parts_fields};
+ghost use Rattle.config_codec.specs.Fields.{config_fields, parts_fields, parts_leaf};
 
-use crate::config::{Config, LeafConfig, Pointer};
-use mp_base::{Group, Guid, Name};
+use crate::config::{Config, KeptState, LeafConfig, Pointer};
+use mp_base::{Group, GroupRange, Guid, Name};
 
 /// What a `LeafConfig` says, borrowed.
 #[derive(Clone, Copy)]
 pub struct LeafParts<'a> {
     pub member: Guid,
     pub name: &'a Name,
+    pub kept: KeptState,
+    pub marked: bool,
+    pub log: &'a [GroupRange],
 }
 
 /// What a `Config` says, borrowed.
@@ -29,12 +32,14 @@ pub struct Parts<'a> {
 
 impl LeafConfig {
     fn parts(&self) -> LeafParts<'_>
-        ensures member { result.member ≡ self.now.member }
-        ensures name { result.name.now ≡ self.now.name }
+        ensures { parts_leaf result ≡ self.now }
     {
         LeafParts {
             member: self.member,
             name: &self.name,
+            kept: self.kept,
+            marked: self.marked,
+            log: self.log.as_slice(),
         }
     }
 }

@@ -1,11 +1,12 @@
 //! Which configurations are valid.
-ghost use Rattle.std.specs.Prelude.{◌≡◌, IsTrue};
+ghost use Rattle.std.specs.Prelude.{◌≡◌, ◌^◌, ◌≤◌, IsTrue};
 ghost use Rattle.config_codec.specs.Fields.{parts_fields};
-ghost use Rattle.config_codec.specs.Validity.{is_valid, is_in, is_drawn, is_pointer, is_slot, are_slots, are_in_range, are_drawn, are_distinct, are_names, are_two_devices, are_pointers};
+ghost use Rattle.config_codec.specs.Validity.{is_valid, is_in, is_drawn, is_pointer, is_slot, are_slots, are_in_range, are_drawn, are_distinct, are_names, are_two_devices, are_pointers, are_logs};
+ghost use Rattle.config_codec.specs.Ranges.{rises};
 
 use crate::config::Pointer;
 use crate::parts::Parts;
-use mp_base::{Group, Guid};
+use mp_base::{Group, GroupRange, Guid};
 
 /// The most blocks of a volume, as long as a configuration has all of its pointers.
 pub(crate) const MOST_BLOCKS: u64 = 32;
@@ -18,6 +19,9 @@ const LEAST_SECTORS: u64 = 64;
 
 /// The most data sectors of a top.
 const MOST_SECTORS: u64 = 1_048_320;
+
+/// The most ranges of all logs.
+pub(crate) const MOST_RANGES: usize = 4096;
 
 /// Whether a configuration, whose names are known to be names, is valid.
 #[tactic(auto, unfolding(crate::specs::Validity::is_valid))]
@@ -37,7 +41,10 @@ pub(crate) fn is_valid(c: &Parts) -> bool
     if !are_two_devices(c) {
         return false;
     }
-    are_pointers(c)
+    if !are_pointers(c) {
+        return false;
+    }
+    are_logs(c)
 }
 
 fn are_in_range(c: &Parts) -> bool
@@ -132,4 +139,33 @@ fn is_pointer(number: Group, address: u64, p: Pointer) -> bool
     ensures { result ≡ is_pointer number address p }
 {
     is_in(1, number.0, p.birth.0) && p.sector / 2 == address
+}
+
+fn are_logs(c: &Parts) -> bool
+    requires { c.now.number.0 ≤ 2 ^ 62 }
+    ensures { result ≡ are_logs (parts_fields c.now) }
+{
+    if c.first.log.len() + c.second.log.len() > MOST_RANGES {
+        return false;
+    }
+    if !rises(c.number, c.first.log) {
+        return false;
+    }
+    rises(c.number, c.second.log)
+}
+
+// Whether each range begins behind a group that neither it nor the one before it has, and none ends
+// above this group.
+fn rises(most: Group, log: &[GroupRange]) -> bool
+    requires { most.0 ≤ 2 ^ 62 }
+    ensures { result ≡ rises 1 most.0 log.now }
+{
+    let mut least = 1;
+    for range in log {
+        if range.low.0 < least || range.high < range.low || most < range.high {
+            return false;
+        }
+        least = range.high.0 + 2;
+    }
+    true
 }

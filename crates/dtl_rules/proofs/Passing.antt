@@ -24,11 +24,11 @@ joined-others : (at : ℕ) (vdevs : List Vdev) → joined (map (others at) vdevs
 joined-others at [] = refl
 joined-others at (v ∷ vdevs) = ap (λ rest. others at v ++ rest) (joined-others at vdevs)
 
-others_leaf : (at : ℕ) (leaf : LeafVdev) → others at (Leaf leaf) ≡ cond (leaf.guid.0 == at) [] (leaf ∷ [])
+pub others_leaf : (at : ℕ) (leaf : LeafVdev) → others at (Leaf leaf) ≡ cond (leaf.guid.0 == at) [] (leaf ∷ [])
 unfolding others
 others_leaf at leaf = fold_leaf (List LeafVdev) (others_of_vdev at) (others_of_inner at) leaf
 
-others_inner : (at : ℕ) (inner : InnerVdev) → others at (Inner inner) ≡ cond (inner.guid.0 == at) [] (flat_map (others at) inner.children.items)
+pub others_inner : (at : ℕ) (inner : InnerVdev) → others at (Inner inner) ≡ cond (inner.guid.0 == at) [] (flat_map (others at) inner.children.items)
 unfolding others
 others_inner at inner =
     fold_inner (List LeafVdev) (others_of_vdev at) (others_of_inner at) inner

@@ -1,7 +1,7 @@
 -- How the logs of a pool stay small.
 use Rattle.std.specs.Prelude.{◌≡◌, ℕ, ◌+◌, ◌<◌, ◌≤◌, min, max, Bool, true, not, ◌==◌, List, [], ◌∷◌, ◌++◌, map}
 use Rattle.std.specs.List.{list_all, flat_map}
-use Rattle.group_set.specs.Groups.{Groups, run_count, IsWidened}
+use Rattle.group_set.specs.Groups.{Groups, run_count, CountsRuns, IsWidened}
 use Rattle.vdev_tree.specs.Tree.{leaves, marks, Mark}
 use Rattle.vdev_tree.specs.declared.top.Top.{Top}
 use Rattle.vdev_tree.specs.declared.vdev.LeafVdev.{LeafVdev}
@@ -20,6 +20,10 @@ sectors_of tops = map (λ top. top.sectors) tops
 -- how many ranges the log of a leaf has
 abbrev pub ranges_of : LeafVdev → ℕ
 ranges_of leaf = run_count leaf.log
+
+-- they are the maximal runs of its groups
+abbrev pub IsCounted : LeafVdev → Type 0
+IsCounted leaf = CountsRuns leaf.log (ranges_of leaf)
 
 -- how many all logs have together
 abbrev pub total_ranges : List LeafVdev → ℕ

@@ -10,4 +10,4 @@ mod widening;
 
 pub use logs::{Extent, LogKind, logs_of};
 pub use rule::{ROOT, required};
-pub use widening::{RANGES, fit};
+pub use widening::{RANGES, fit, fit_one};

@@ -1,10 +1,10 @@
 //! How the logs of a pool stay small: the largest ones become single runs.
-ghost use Rattle.std.specs.Prelude.{◌≡◌, ◌==◌, ◌+◌, ◌-◌, ◌^◌, ◌<◌, ◌≤◌, max, min, length, true};
+ghost use Rattle.std.specs.Prelude.{◌≡◌, ◌==◌, ◌+◌, ◌-◌, ◌^◌, ◌<◌, ◌≤◌, max, min, length, All, true};
 ghost use Rattle.std.specs.Bool.{OnTrue, OnFalse};
 ghost use Rattle.std.specs.List.{flat_map};
 ghost use Rattle.vdev_tree.specs.Tree.{leaves, marks, form_of};
 ghost use Rattle.vdev_tree.specs.Changes.{form_alone};
-ghost use Rattle.dtl_rules.specs.Widening.{leaves_of, ranges_of, total_ranges, most_ranges, none_has, WidensFirst, WidensLeaf, Widenings, marks_of, sectors_of};
+ghost use Rattle.dtl_rules.specs.Widening.{leaves_of, ranges_of, total_ranges, most_ranges, none_has, IsCounted, WidensFirst, WidensLeaf, Widenings, marks_of, sectors_of};
 
 use vdev_tree::{InnerVdev, LeafVdev, Top, Vdev};
 
@@ -25,6 +25,7 @@ pub fn fit(tops: &mut [Top])
 
     // A pool has at most 8 tops, so its logs always fit in the end.
     ensures small { length tops.old ≤ 128 → total_ranges (leaves_of tops.new) ≤ 4096 }
+    ensures counted { All IsCounted (leaves_of tops.old) }
     ensures built { marks_of tops.new ≡ marks_of tops.old }
     ensures sectors { sectors_of tops.new ≡ sectors_of tops.old }
 {
@@ -38,6 +39,17 @@ pub fn fit(tops: &mut [Top])
         }
         widen_largest(tops, tally.most);
     }
+}
+
+/// The same for the logs of one top.
+pub fn fit_one(top: &mut Top)
+    ensures widened { Widenings (leaves top.old.mirror) (leaves top.new.mirror) }
+    ensures small { total_ranges (leaves top.new.mirror) ≤ 4096 }
+    ensures counted { All IsCounted (leaves top.old.mirror) }
+    ensures built { marks top.new.mirror ≡ marks top.old.mirror }
+    ensures sectors { top.new.sectors ≡ top.old.sectors }
+{
+    fit(std::slice::from_mut(top));
 }
 
 /// Widens the first of the logs that have the most ranges.
@@ -54,6 +66,7 @@ fn widen_largest(tops: &mut [Top], most: usize)
 fn tally_of_all(tops: &[Top]) -> Tally
     ensures total { result.total ≡ min (2 ^ 64 - 1) (total_ranges (leaves_of tops.now)) }
     ensures most { result.most ≡ most_ranges (leaves_of tops.now) }
+    ensures counted { All IsCounted (leaves_of tops.now) }
 {
     let mut tally = Tally { total: 0, most: 0 };
     for top in tops {
@@ -66,6 +79,7 @@ fn tally_of_all(tops: &[Top]) -> Tally
 fn tally_with(vdev: &Vdev, before: Tally) -> Tally
     ensures total { result.total ≡ min (2 ^ 64 - 1) (before.total + total_ranges (leaves vdev.now)) }
     ensures most { result.most ≡ max before.most (most_ranges (leaves vdev.now)) }
+    ensures counted { All IsCounted (leaves vdev.now) }
 {
     match vdev {
         Vdev::Leaf(leaf) => tally_more(before, leaf.log.ranges()),

@@ -5,3 +5,4 @@ pub mod Sets
 pub mod Maximal
 pub mod Parts
 pub mod Upto
+pub mod Counted

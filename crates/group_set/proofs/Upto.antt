@@ -12,7 +12,7 @@ in_range_within : (r : GroupRange) (g : ℕ) → in_range r g ≡ true → (r.lo
 in_range_within r g h = (grind (arith, nat_tests), grind (arith, nat_tests))
 
 -- a group of rising ranges is none before the first
-pub in_ranges_least : (least most : ℕ) (ranges : List GroupRange) (g : ℕ) → Rises least most ranges → in_ranges ranges g ≡ true → least ≤ g
+in_ranges_least : (least most : ℕ) (ranges : List GroupRange) (g : ℕ) → Rises least most ranges → in_ranges ranges g ≡ true → least ≤ g
 in_ranges_least least most [] g rises h = absurd (false≢true h)
 in_ranges_least least most (r ∷ ranges) g rises h = elim (or_cases (in_range r g) (in_ranges ranges g) h) [
   | inl a ↦ omega (arith, (in_range_within r g a).0, rises.0)
@@ -23,7 +23,7 @@ pub in_ranges_below : (least most : ℕ) (ranges : List GroupRange) (g : ℕ) �
 in_ranges_below least most ranges g rises below = false_from_ne_true (in_ranges ranges g) (λ h. omega (arith, in_ranges_least least most ranges g rises h))
 
 -- the ranges as far as a group
-abbrev pub cut : ℕ → List GroupRange → List GroupRange
+abbrev cut : ℕ → List GroupRange → List GroupRange
 cut n [] = []
 cut n (r ∷ ranges) = cond (nat_le r.low.0 n) (range_up_to r (min r.high.0 n) ∷ cut n ranges) []
 
@@ -59,7 +59,7 @@ one_behind-step true g r is apart = absurd (apart (grind (arith, nat_tests)))
 one_behind-step false g r is apart = refl
 
 -- a range that doesn't end just before the group stays as it is
-pub extended_behind : (g : ℕ) (r : GroupRange) (ranges : List GroupRange) → r.high.0 + 1 ≢ g → extended g (r ∷ ranges) ≡ r ∷ extended g ranges
+extended_behind : (g : ℕ) (r : GroupRange) (ranges : List GroupRange) → r.high.0 + 1 ≢ g → extended g (r ∷ ranges) ≡ r ∷ extended g ranges
 extended_behind g r [] apart = one_behind-step (r.high.0 + 1 == g) g r refl apart
 extended_behind g r (s ∷ ranges) apart = refl
 
@@ -68,7 +68,7 @@ joined-step : (b : Bool) (g : ℕ) (r : GroupRange) → (r.high.0 + 1 == g) ≡ 
 joined-step true g r is near = refl
 joined-step false g r is near = absurd (false≢true (grind (arith, nat_tests)))
 
-pub extended_joined : (g : ℕ) (r : GroupRange) → r.high.0 + 1 ≡ g → extended g (r ∷ []) ≡ range_up_to r g ∷ []
+extended_joined : (g : ℕ) (r : GroupRange) → r.high.0 + 1 ≡ g → extended g (r ∷ []) ≡ range_up_to r g ∷ []
 extended_joined g r near = joined-step (r.high.0 + 1 == g) g r refl near
 
 abbrev more_if : Bool → ℕ → List GroupRange → List GroupRange
@@ -78,16 +78,13 @@ behind-step : (b : Bool) (g : ℕ) (r : GroupRange) (ranges : List GroupRange) �
 behind-step true g r ranges apart = sym (extended_behind g r ranges (apart refl))
 behind-step false g r ranges apart = refl
 
-none_more : (least most g : ℕ) (ranges : List GroupRange) → Rises least most ranges → g < least → (x : Bool) → (x || in_ranges ranges g) ≡ (x || false)
-none_more least most g ranges rises below x = ap (λ b. x || b) (in_ranges_below least most ranges g rises below)
-
-not_in : (r : GroupRange) (g : ℕ) → r.high.0 < g → in_range r g ≡ false
+pub not_in : (r : GroupRange) (g : ℕ) → r.high.0 < g → in_range r g ≡ false
 not_in r g above = grind (arith, nat_tests)
 
 before_all : (r : GroupRange) (g : ℕ) → g < r.low.0 → in_range r g ≡ false
 before_all r g below = grind (arith, nat_tests)
 
-inside : (r : GroupRange) (g : ℕ) → r.low.0 ≤ g → g ≤ r.high.0 → in_range r g ≡ true
+pub inside : (r : GroupRange) (g : ℕ) → r.low.0 ≤ g → g ≤ r.high.0 → in_range r g ≡ true
 inside r g low high = grind (arith, nat_tests)
 
 or_rest : (a b : Bool) → a ≡ false → (a || b) ≡ b

@@ -101,13 +101,13 @@ opened_by h s = record h { records = with_record s h.records; pool = Some s }
 abbrev failed_by : HostState → PoolState → HostState
 failed_by h s = record h { records = with_record s h.records }
 
-module _ (old new : Option Story) (f g : ℕ → ℕ) (size size' : ℕ → ℕ) (still : (d : ℕ) → size' d ≡ size d) (h : HostState) (s : PoolState) where
-  made_on : (host : Host) → Keeps size host h → (failed : Option LeafState) (c : Creates size s old new f g failed) → AreMade h.size s c.made failed
-  made_on host keeps failed c = subst (λ at. AreMade at s c.made failed) (sym (same_sizes h.size size keeps.sizes)) c.are_made
+module _ (old new : Option Story) (f g : ℕ → ℕ) (size size' : ℕ → ℕ) (still : (d : ℕ) → size' d ≡ size d) (h : HostState) (s : PoolState) (seats : ℕ × ℕ) where
+  made_on : (host : Host) → Keeps size host h → (failed : Option LeafState) (c : Creates size s seats old new f g failed) → AreMade h.size s seats c.made failed
+  made_on host keeps failed c = subst (λ at. AreMade at s seats c.made failed) (sym (same_sizes h.size size keeps.sizes)) c.are_made
 
   -- it was made
   pub pool_made : (host host' : Host) (pool : Pool) → Keeps size host h → host'.table.items ≡ host.table.items → host'.pool ≡ Some pool
-      → Creates size s old new f g None → Represents pool s → MakesPool h s old new f g size' host' (replies.Committed (record { 0 = 1 }))
+      → Creates size s seats old new f g None → Represents pool s → MakesPool h s seats old new f g size' host' (replies.Committed (record { 0 = 1 }))
   pool_made host host' pool keeps table is c represents = record {
     made = c.made;
     next = opened_by h s;
@@ -121,8 +121,8 @@ module _ (old new : Option Story) (f g : ℕ → ℕ) (size size' : ℕ → ℕ)
   }
 
   -- a device failed
-  pub pool_failed : (host : Host) (name : List ℕ) → Keeps size host h → (leaf : LeafState) × (leaf.name ≡ name) × Creates size s old new f g (Some leaf)
-      → MakesPool h s old new f g size' host (replies.DeviceFault name)
+  pub pool_failed : (host : Host) (name : List ℕ) → Keeps size host h → (leaf : LeafState) × (leaf.name ≡ name) × Creates size s seats old new f g (Some leaf)
+      → MakesPool h s seats old new f g size' host (replies.DeviceFault name)
   pool_failed host name keeps c = record {
     made = c.2.made;
     next = failed_by h s;
@@ -134,7 +134,7 @@ module _ (old new : Option Story) (f g : ℕ → ℕ) (size size' : ℕ → ℕ)
 -- the line, by the making of its pool
 pub answers_create : {host host' : Host} {old new : Option Story} {f g size' : ℕ → ℕ} {reply : Reply} (size : ℕ → ℕ) (h : HostState) (name : List ℕ) (blocks : ℕ) (first second : List ℕ) (dev other time : ℕ)
     → Keeps size host h → is_bad_size blocks ≡ false → Some (dev, other) ≡ new_seats h blocks first second
-    → MakesPool h (made_state size name (pool_number name time) blocks (first, dev) (second, other)) old new f g size' host' reply
+    → MakesPool h (made_state size name (pool_number name time) blocks (first, dev) (second, other)) (dev, other) old new f g size' host' reply
     → Answers h (Some (requests.Create name blocks first second)) time old new f g size' host' reply
 answers_create {host} {host'} {old} {new} {f} {g} {size'} {reply} size h name blocks first second dev other time keeps good seats m =
     answers_by h m.next (Some (requests.Create name blocks first second)) time m.made m.calls m.keeps (steps m.step)
@@ -145,14 +145,14 @@ answers_create {host} {host'} {old} {new} {f} {g} {size'} {reply} size h name bl
     same : s ≡ new_state h time name blocks first second (dev, other)
     same = ap (λ at. made_state at name (pool_number name time) blocks (first, dev) (second, other)) (sym (same_sizes h.size size keeps.sizes))
 
-    steps : ((failed : Option LeafState) × AreMade h.size s m.made failed × ((m.next, reply) ≡ create_outcome h s failed))
+    steps : ((failed : Option LeafState) × AreMade h.size s (dev, other) m.made failed × ((m.next, reply) ≡ create_outcome h s failed))
         ⊎ ((reply ≡ replies.Refused refusals.Memory) × (m.next ≡ h) × (m.made ≡ []))
         → IsAnswered h (Some (requests.Create name blocks first second)) (entry_of h (Some (requests.Create name blocks first second)) time m.made reply) m.made m.next
         ⊎ (WantsMemory h (entry_of h (Some (requests.Create name blocks first second)) time m.made reply) m.made m.next
         ⊎ Clashes h (entry_of h (Some (requests.Create name blocks first second)) time m.made reply) m.made m.next)
     steps (inl done) = inl (rw (good, ← seats) (
       done.0,
-      subst (λ state. AreMade h.size state m.made done.0) same done.1,
+      subst (λ state. AreMade h.size state (dev, other) m.made done.0) same done.1,
       done.2 ∙ ap (λ state. create_outcome h state done.0) same,
     ))
     steps (inr memory) = inr (inl (record { reply = memory.0; same = memory.1; reads = subst AreReads (sym memory.2) tt }))
@@ -164,9 +164,8 @@ module _ (copy name : List ℕ) (a b : NewLeaf) (first second : List ℕ) (dev o
   parts_seated size seats = subst (λ (p : List ℕ × NewLeaf × NewLeaf). AreTwoSeats size p.1.name p.2.name p.1.dev p.2.dev) (sym parts) seats
 
   pub parts_made : {host : Host} {old new : Option Story} {f g size' : ℕ → ℕ} {reply : Reply} (size : ℕ → ℕ) (h : HostState) (blocks time : ℕ) (number : Guid) → number ≡ pool_number name time
-      → MakesPool h (made_state size copy number blocks (a.name, a.dev) (b.name, b.dev)) old new f g size' host reply
-      → MakesPool h (made_state size name (pool_number name time) blocks (first, dev) (second, other)) old new f g size' host reply
+      → MakesPool h (made_state size copy number blocks (a.name, a.dev) (b.name, b.dev)) (a.dev, b.dev) old new f g size' host reply
+      → MakesPool h (made_state size name (pool_number name time) blocks (first, dev) (second, other)) (dev, other) old new f g size' host reply
   parts_made {host} {old} {new} {f} {g} {size'} {reply} size h blocks time number is m =
-      subst (λ s. MakesPool h s old new f g size' host reply)
-      (ap (λ (p : List ℕ × NewLeaf × NewLeaf). made_state size p.0 number blocks (p.1.name, p.1.dev) (p.2.name, p.2.dev)) parts
-      ∙ ap (λ n. made_state size name n blocks (first, dev) (second, other)) is) m
+      subst (λ n. MakesPool h (made_state size name n blocks (first, dev) (second, other)) (dev, other) old new f g size' host reply) is
+      (subst (λ (p : List ℕ × NewLeaf × NewLeaf). MakesPool h (made_state size p.0 number blocks (p.1.name, p.1.dev) (p.2.name, p.2.dev)) (p.1.dev, p.2.dev) old new f g size' host reply) parts m)

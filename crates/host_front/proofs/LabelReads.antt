@@ -1,5 +1,5 @@
 -- The calls of looks and of searches for identities are reads.
-use Rattle.std.proofs.Common.{ℕ, Bool, true, false, List, [], ◌∷◌, ◌++◌, take, Result, Ok, Err, sym, subst}
+use Rattle.std.proofs.Common.{ℕ, Bool, true, false, List, [], ◌∷◌, ◌++◌, take, Option, Some, None, Result, Ok, Err, sym, subst}
 use Rattle.std.specs.List.{flat_map}
 use Rattle.mp_base.specs.declared.number.Guid.{Guid}
 use Rattle.bank_core.specs.declared.bank.Fault.{Fault}
@@ -10,7 +10,7 @@ use Rattle.label_store.specs.Layout.{labels_of}
 use Rattle.label_store.specs.Newest.{Parts, label_asks, IsLook, IsRead, AreReads}
 use Rattle.config_codec.specs.declared.config.LeafConfig.{LeafConfig}
 use Rattle.config_codec.specs.Fields.{Fields}
-use Rattle.pool_core.specs.Opening.{IsIdentified, IsLooked, IsLookedBehind}
+use Rattle.pool_core.specs.Opening.{IsIdentified, IsLooked}
 
 -- reads, and more reads
 pub reads_on : (first second : List Noted) → AreReads first → AreReads second → AreReads (first ++ second)
@@ -61,14 +61,11 @@ search_reads pool member dev size made (Ok true) hit = subst AreReads (sym hit.a
 search_reads pool member dev size made (Ok false) s = misses_read pool member dev (rings_of size) made s.0
 search_reads pool member dev size made (Err fault) s = misses_read pool member dev (rings_of size) made s.0
 
-looked_reads : (c : Fields) (leaf : LeafConfig) (dev size : ℕ) (made : List Noted) (found : Bool) → IsLooked c leaf dev size made found → AreReads made
-looked_reads c leaf dev size made true l = search_reads c.pool leaf.member dev size made (Ok true) l
-looked_reads c leaf dev size made false l = search_reads c.pool leaf.member dev size made l.0 l.2
+looked_reads : (c : Fields) (leaf : LeafConfig) (seat : Option ℕ) (size : ℕ → ℕ) (made : List Noted) (found : Option ℕ) → IsLooked c leaf seat size made found → AreReads made
+looked_reads c leaf None size made found l = subst AreReads (sym l.0) tt
+looked_reads c leaf (Some dev) size made (Some found) l = search_reads c.pool leaf.member dev (size dev) made (Ok true) l.1
+looked_reads c leaf (Some dev) size made None l = search_reads c.pool leaf.member dev (size dev) made l.0 l.2
 
-behind_reads : (c : Fields) (dev size : ℕ) (has : Bool) (made : List Noted) (found : Bool) → IsLookedBehind c dev size has made found → AreReads made
-behind_reads c dev size true made found l = looked_reads c c.second dev size made found l
-behind_reads c dev size false made found l = subst AreReads (sym l.0) tt
-
-pub identified_reads : (size : ℕ → ℕ) (c : Fields) (first second : ℕ) (made : List Noted) (found : Bool) → IsIdentified size c first second made found → AreReads made
-identified_reads size c first second made found i = subst AreReads (sym i.3)
-    (reads_on i.0 i.1 (looked_reads c c.first first (size first) i.0 i.2 i.4) (behind_reads c second (size second) i.2 i.1 found i.5))
+pub identified_reads : (size : ℕ → ℕ) (c : Fields) (seats found : Option ℕ × Option ℕ) (made : List Noted) → IsIdentified size c seats found made → AreReads made
+identified_reads size c seats found made i = subst AreReads (sym i.2)
+    (reads_on i.0 i.1 (looked_reads c c.first seats.0 size i.0 found.0 i.3) (looked_reads c c.second seats.1 size i.1 found.1 i.4))

@@ -1,4 +1,5 @@
 mod Answering
+mod AwayLines
 mod Creating
 mod Ending
 mod Feedings
@@ -13,6 +14,7 @@ mod Opened
 mod ReadReplies
 mod RunLaws
 mod Scripts
+mod Seating
 mod Taking
 mod WholeLines
 pub mod PoolsKept

@@ -1,6 +1,6 @@
 -- Openings, against the abstract machine.
 use Rattle.std.proofs.lemmas.Bool.{le-leb, lt-leb}
-use Rattle.std.proofs.Common.{◌≡◌, ℕ, zero, suc, ◌+◌, ◌*◌, Bool, true, false, List, [], ◌++◌, length, ◌<◌, ◌≤◌, arith, Option, Some, None, Result, Ok, Err, refl, sym, ap, subst, inl, inr, ◌⊎◌, append-nil}
+use Rattle.std.proofs.Common.{◌≡◌, ℕ, zero, suc, ◌+◌, ◌*◌, Bool, true, false, List, [], ◌++◌, length, ◌<◌, ◌≤◌, arith, Option, Some, None, is_some, Result, Ok, Err, refl, sym, ◌∙◌, ap, subst, inl, inr, ◌⊎◌, append-nil}
 use Rattle.mp_base.specs.declared.number.Group.{Group}
 use Rattle.mp_base.specs.declared.refusal.Refusal.{Refusal}
 use Rattle.mp_base.specs.declared.refusal.Refusal.TheVariants as refusals
@@ -20,16 +20,18 @@ use Rattle.pool_core.specs.Commits.{IsCommit}
 use Rattle.pool_core.specs.Done.{Seeks, Identifies, Opens, OpensIf, IsOpened, IsConfigOf}
 use Rattle.pool_core.specs.Heads.{head_of}
 use Rattle.pool_core.specs.Keeping.{Represents}
-use Rattle.pool_core.specs.Opening.{IsIdentified, found_state, recommitted}
-use Rattle.pool_core.specs.State.{PoolState, is_spent, last_number}
+use Rattle.pool_core.specs.Logs.{drawn}
+use Rattle.pool_core.specs.Opening.{IsIdentified, found_state}
+use Rattle.pool_core.specs.State.{PoolState, has_nobody, is_spent, last_number}
 use Rattle.pool_core.specs.Syncing.{flush_plan}
+use Rattle.pool_core.proofs.Drawing.{drawn_number}
 use Rattle.host_machine.specs.Devices.{all_handed}
-use Rattle.host_machine.specs.Machine.{HostState, OpensIf as MachineOpens, OpensUnless, OpensBest, commit_outcome, open_seats, open_state, IsAnswered, WantsMemory, Clashes}
+use Rattle.host_machine.specs.Machine.{HostState, OpensIf as MachineOpens, OpensOn, OpensUnless, OpensBest, commit_outcome, open_seats, open_state, IsAnswered, WantsMemory, Clashes}
 use Rattle.host_machine.specs.Records.{committed_in}
 use Rattle.host_front.specs.declared.host.Host.{Host}
-use Rattle.host_front.specs.Importing.{AreTwoRooms, OpensFound, OpensThere}
+use Rattle.host_front.specs.Importing.{AreRooms, OpensFound, OpensThere}
 use Rattle.host_front.specs.Session.{Answers}
-use Rattle.host_front.specs.Standing.{Keeps, Stands}
+use Rattle.host_front.specs.Standing.{Keeps, PoolStands}
 use Rattle.host_front.proofs.Answering.{answers_by, answers_without, entry_of, same_sizes, sizes_on, keeps_on}
 use Rattle.host_front.proofs.LabelReads.{reads_on, look_reads, identified_reads}
 use Rattle.host_front.proofs.Ending.{committed_by, closed_by, keeps_committed, keeps_closed}
@@ -41,15 +43,18 @@ spent_is n le = le-leb last_number n le
 pub fresh_is : (n : ℕ) → n < last_number → is_spent n ≡ false
 fresh_is n lt = lt-leb last_number n lt
 
--- two devices with room for data sectors have it for the labels, and keep it
+-- devices with room for data sectors have it for the labels, and keep it
 pub label_room : (sectors size : ℕ) → 64 ≤ sectors → sectors + 256 ≤ size → 320 ≤ size
 label_room sectors size some room = omega arith
 
-pub rooms_on : (size size' : ℕ → ℕ) (sectors dev other : ℕ) → ((d : ℕ) → size' d ≡ size d) → AreTwoRooms size sectors dev other → AreTwoRooms size' sectors dev other
-rooms_on size size' sectors dev other still rooms = subst (λ at. AreTwoRooms at sectors dev other) (sym (same_sizes size' size still)) rooms
-
-pub stands_on_still : {host : Host} {h : HostState} (size size' : ℕ → ℕ) → ((d : ℕ) → size' d ≡ size d) → Stands size host h → Stands size' host h
-stands_on_still size size' still stands = record { keeps = keeps_on size size' still stands.keeps; fit = stands.fit }
+-- devices that were found are some of those that were looked at
+pub rooms_found : (size size' : ℕ → ℕ) (sectors : ℕ) (seats found : Option ℕ × Option ℕ) → ((d : ℕ) → size' d ≡ size d) → ((d : ℕ) → found.0 ≡ Some d → seats.0 ≡ Some d)
+    → ((d : ℕ) → found.1 ≡ Some d → seats.1 ≡ Some d) → AreRooms size sectors seats → AreRooms size' sectors found
+rooms_found size size' sectors seats found still first second rooms = record {
+  apart = λ d one two. rooms.apart d (first d one) (second d two);
+  first_room = λ d one. rw (still d) (rooms.first_room d (first d one));
+  second_room = λ d two. rw (still d) (rooms.second_room d (second d two));
+}
 
 -- an opening on two devices
 
@@ -71,49 +76,67 @@ refused_outcome : (h : HostState) (s : PoolState) (failed : ℕ) (refusal : Refu
 refused_outcome h s zero refusal is = absurd is
 refused_outcome h s (suc n) refusal is = ap (λ r. (closed_by h s, replies.Refused r)) is
 
-not_memory : (pool : Pool) (refusal : Refusal) → ◌≡◌ {A = Result Pool Refusal} (Ok pool) (Err refusal) → ⊥
-not_memory pool refusal e = cc
+not_refused : (pool : Pool) (refusal : Refusal) → ◌≡◌ {A = Result Pool Refusal} (Ok pool) (Err refusal) → ⊥
+not_refused pool refusal e = cc
 
 same_refusal : (one other : Refusal) → ◌≡◌ {A = Result Pool Refusal} (Err one) (Err other) → one ≡ other
 same_refusal one other e = cc
 
-module _ (old new : Option Story) (f g : ℕ → ℕ) (size size' : ℕ → ℕ) (still : (d : ℕ) → size' d ≡ size d) (h : HostState) (bytes : List ℕ) (c : Fields) (first second : ℕ) where
+module _ (old new : Option Story) (f g : ℕ → ℕ) (size size' : ℕ → ℕ) (still : (d : ℕ) → size' d ≡ size d) (h : HostState) (bytes : List ℕ) (c : Fields) (found : Option ℕ × Option ℕ) where
   abbrev state : PoolState
-  state = found_state c (committed_in h.records bytes c) first second
+  state = found_state c (committed_in h.records bytes c) found.0 found.1
 
   commit_there : (host : Host) → Keeps size host h → (result : Result Pool Refusal) (o : Opens size state old new f g result)
-      → IsCommit h.size (flush_plan state) (recommitted state) o.made o.failed
-  commit_there host keeps result o = subst (λ at. IsCommit at (flush_plan state) (recommitted state) o.made o.failed) (sym (same_sizes h.size size keeps.sizes)) o.commit
+      → IsCommit h.size (flush_plan state) (drawn state) o.made o.failed
+  commit_there host keeps result o = subst (λ at. IsCommit at (flush_plan state) (drawn state) o.made o.failed) (sym (same_sizes h.size size keeps.sizes)) o.commit
+
+  opened_if : (nobody : Bool) → has_nobody state ≡ nobody → (host host' : Host) (pool : Pool) (group : Group) → Keeps size host h → h.table ≡ host'.table.items → host'.pool ≡ Some pool
+      → group ≡ record { 0 = c.number.0 + 1 } → OpensIf nobody size state old new f g (Ok pool)
+      → OpensThere h bytes c found old new f g size' host' (replies.Committed group)
+  opened_if true e host host' pool group keeps table is same o = absurd (not_refused pool _ o.0)
+  opened_if false e host host' pool group keeps table is same (inr o) = absurd (not_refused pool _ o.0)
+  opened_if false e host host' pool group keeps table is same (inl o) = record {
+    made = o.made;
+    next = committed_by h (drawn state);
+    calls = o.calls;
+    keeps = keeps_committed size' h (drawn state) pool table (sizes_on h.size size size' keeps.sizes still) is (opened_is (drawn state) o.failed pool o.is_opened);
+    step = inl (rw e (o.failed, commit_there host keeps (Ok pool) o, opened_outcome h (drawn state) o.failed pool group o.is_opened (same ∙ ap (λ n. record { 0 = n }) (sym (drawn_number state)))));
+  }
 
   pub opened_there : (host host' : Host) (pool : Pool) (group : Group) → Keeps size host h → h.table ≡ host'.table.items → host'.pool ≡ Some pool
-      → group ≡ record { 0 = c.number.0 + 1 } → OpensIf size (found_state c (committed_in h.records bytes c) first second) old new f g (Ok pool)
-      → OpensThere h bytes c first second old new f g size' host' (replies.Committed group)
-  opened_there host host' pool group keeps table is same (inr memory) = absurd (not_memory pool _ memory.0)
-  opened_there host host' pool group keeps table is same (inl o) = record {
+      → group ≡ record { 0 = c.number.0 + 1 }
+      → OpensIf (has_nobody (found_state c (committed_in h.records bytes c) found.0 found.1)) size (found_state c (committed_in h.records bytes c) found.0 found.1) old new f g (Ok pool)
+      → OpensThere h bytes c found old new f g size' host' (replies.Committed group)
+  opened_there host host' pool group keeps table is same o = opened_if (has_nobody state) refl host host' pool group keeps table is same o
+
+  refused_if : (nobody : Bool) → has_nobody state ≡ nobody → (host : Host) (refusal : Refusal) → Keeps size host h → host.pool ≡ None
+      → OpensIf nobody size state old new f g (Err refusal) → OpensThere h bytes c found old new f g size' host (replies.Refused refusal)
+  refused_if true e host refusal keeps is o = record {
+    made = [];
+    next = h;
+    calls = o.1;
+    keeps = keeps_on size size' still keeps;
+    step = inl (rw e (refl, ap (λ r. (h, replies.Refused r)) (same_refusal refusal _ o.0)));
+  }
+  refused_if false e host refusal keeps is (inr o) = record {
+    made = [];
+    next = h;
+    calls = o.1;
+    keeps = keeps_on size size' still keeps;
+    step = inr (ap replies.Refused (same_refusal refusal _ o.0), refl, refl);
+  }
+  refused_if false e host refusal keeps is (inl o) = record {
     made = o.made;
-    next = committed_by h (recommitted state);
+    next = closed_by h (drawn state);
     calls = o.calls;
-    keeps = keeps_committed size' h (recommitted state) pool table (sizes_on h.size size size' keeps.sizes still) is (opened_is (recommitted state) o.failed pool o.is_opened);
-    step = inl (o.failed, commit_there host keeps (Ok pool) o, opened_outcome h (recommitted state) o.failed pool group o.is_opened same);
+    keeps = keeps_closed size' h (drawn state) keeps.table (sizes_on h.size size size' keeps.sizes still) is;
+    step = inl (rw e (o.failed, commit_there host keeps (Err refusal) o, refused_outcome h (drawn state) o.failed refusal o.is_opened));
   }
 
   pub refused_there : (host : Host) (refusal : Refusal) → Keeps size host h → host.pool ≡ None
-      → OpensIf size (found_state c (committed_in h.records bytes c) first second) old new f g (Err refusal)
-      → OpensThere h bytes c first second old new f g size' host (replies.Refused refusal)
-  refused_there host refusal keeps is (inr memory) = record {
-    made = [];
-    next = h;
-    calls = memory.1;
-    keeps = keeps_on size size' still keeps;
-    step = inr (ap replies.Refused (same_refusal refusal _ memory.0), refl, refl);
-  }
-  refused_there host refusal keeps is (inl o) = record {
-    made = o.made;
-    next = closed_by h (recommitted state);
-    calls = o.calls;
-    keeps = keeps_closed size' h (recommitted state) keeps.table (sizes_on h.size size size' keeps.sizes still) is;
-    step = inl (o.failed, commit_there host keeps (Err refusal) o, refused_outcome h (recommitted state) o.failed refusal o.is_opened);
-  }
+      → OpensIf (has_nobody (found_state c (committed_in h.records bytes c) found.0 found.1)) size (found_state c (committed_in h.records bytes c) found.0 found.1) old new f g (Err refusal)
+      → OpensThere h bytes c found old new f g size' host (replies.Refused refusal)
+  refused_there host refusal keeps is o = refused_if (has_nobody state) refl host refusal keeps is o
 
 -- an opening by a configuration
 
@@ -121,38 +144,52 @@ pub found_quiet : {host : Host} {told : Option Story} {faults size : ℕ → ℕ
     → OpensUnless (is_spent c.number.0) h bytes c [] h reply → OpensFound h bytes c told told faults faults size host reply
 found_quiet {told = told} {faults = faults} h bytes c keeps step = record { made = []; next = h; calls = made_none told faults; keeps = keeps; step = inl step }
 
-module _ (size : ℕ → ℕ) (h : HostState) (bytes : List ℕ) (c : Fields) (first second : ℕ) (fresh : is_spent c.number.0 ≡ false)
-    (seats : Some (first, second) ≡ open_seats h c) where
-  identified_on : (host : Host) → Keeps size host h → (ids : List Noted) (found : Bool) → IsIdentified size c first second ids found → IsIdentified h.size c first second ids found
-  identified_on host keeps ids found i = subst (λ at. IsIdentified at c first second ids found) (sym (same_sizes h.size size keeps.sizes)) i
+pub none_is : (pool : Option Pool) → is_some pool ≡ false → pool ≡ None
+none_is None e = refl
+none_is (Some pool) e = absurd (cc)
 
-  -- the identities weren't found
-  pub found_elsewhere : {host : Host} {old new : Option Story} {f g size' : ℕ → ℕ} → Keeps size host h → ((d : ℕ) → size' d ≡ size d)
-      → Identifies size c first second old new f g false → OpensFound h bytes c old new f g size' host (replies.Refused refusals.NotBuilt)
-  found_elsewhere {host} {size' = size'} keeps still i = record {
-    made = i.made;
-    next = h;
-    calls = i.calls;
-    keeps = keeps_on size size' still keeps;
-    step = inl (rw (fresh, ← seats) (i.made, [], false, sym (append-nil i.made), identified_on host keeps i.made false i.identified, (refl, refl)));
-  }
+pub some_is : (pool : Option Pool) → is_some pool ≡ true → (p : Pool) × (pool ≡ Some p)
+some_is None e = absurd (cc)
+some_is (Some pool) e = (pool, refl)
 
-  -- and where they were
-  pub found_there : {host host' : Host} {old mid new : Option Story} {f g k size'' : ℕ → ℕ} {reply : Reply} → Keeps size host h → Identifies size c first second old mid f g true
-      → OpensThere h bytes c first second mid new g k size'' host' reply → OpensFound h bytes c old new f k size'' host' reply
-  found_there {host} {host'} {old} {mid} {new} {f} {g} {k} {size''} {reply} keeps i o = record {
-    made = i.made ++ o.made;
-    next = o.next;
-    calls = made_more old mid new f g k i.made o.made i.calls o.calls;
-    keeps = o.keeps;
-    step = go o.step;
-  }
-    where
-      go : MachineOpens h (open_state h bytes c (first, second)) true o.made o.next reply ⊎ ((reply ≡ replies.Refused refusals.Memory) × (o.next ≡ h) × (o.made ≡ []))
-          → OpensUnless (is_spent c.number.0) h bytes c (i.made ++ o.made) o.next reply
-          ⊎ ((reply ≡ replies.Refused refusals.Memory) × (o.next ≡ h) × AreReads (i.made ++ o.made))
-      go (inl done) = inl (rw (fresh, ← seats) (i.made, o.made, true, refl, identified_on host keeps i.made true i.identified, done))
-      go (inr memory) = inr (memory.0, memory.1, reads_on i.made o.made (identified_reads size c first second i.made true i.identified) (subst AreReads (sym memory.2) tt))
+-- another pool is open
+pub found_beside : {host : Host} {told : Option Story} {faults size : ℕ → ℕ} (h : HostState) (bytes : List ℕ) (c : Fields) (pool : Pool) → is_spent c.number.0 ≡ false
+    → host.pool ≡ Some pool → Keeps size host h → OpensFound h bytes c told told faults faults size host (replies.Refused refusals.NotBuilt)
+found_beside h bytes c pool fresh is keeps = found_quiet h bytes c keeps (rw fresh (beside h.pool (subst (λ p. PoolStands p h.pool) is keeps.pool)))
+  where
+    beside : (state : Option PoolState) → PoolStands (Some pool) state → OpensOn h bytes c state [] h (replies.Refused refusals.NotBuilt)
+    beside None stands = absurd stands
+    beside (Some s) stands = (refl, refl)
+
+closed_state : (state : Option PoolState) → PoolStands None state → state ≡ None
+closed_state None stands = refl
+closed_state (Some s) stands = absurd stands
+
+-- the leaves were looked for
+pub found_there : {host host' : Host} {old mid new : Option Story} {f g k size'' : ℕ → ℕ} {reply : Reply} (size : ℕ → ℕ) (h : HostState) (bytes : List ℕ) (c : Fields)
+    (seats found : Option ℕ × Option ℕ) → is_spent c.number.0 ≡ false → host.pool ≡ None → seats ≡ open_seats h c → Keeps size host h
+    → Identifies size c seats old mid f g found → OpensThere h bytes c found mid new g k size'' host' reply → OpensFound h bytes c old new f k size'' host' reply
+found_there {host} {host'} {old} {mid} {new} {f} {g} {k} {size''} {reply} size h bytes c seats found fresh is seats_are keeps i o = record {
+  made = i.made ++ o.made;
+  next = o.next;
+  calls = made_more old mid new f g k i.made o.made i.calls o.calls;
+  keeps = o.keeps;
+  step = go o.step;
+}
+  where
+    none : h.pool ≡ None
+    none = closed_state h.pool (subst (λ p. PoolStands p h.pool) is keeps.pool)
+
+    identified : IsIdentified h.size c (open_seats h c) found i.made
+    identified = subst (λ at. IsIdentified at c (open_seats h c) found i.made) (sym (same_sizes h.size size keeps.sizes))
+        (subst (λ at. IsIdentified size c at found i.made) seats_are i.identified)
+
+    go : MachineOpens (has_nobody (open_state h bytes c found)) h (open_state h bytes c found) o.made o.next reply
+        ⊎ ((reply ≡ replies.Refused refusals.Memory) × (o.next ≡ h) × (o.made ≡ []))
+        → OpensUnless (is_spent c.number.0) h bytes c (i.made ++ o.made) o.next reply
+        ⊎ ((reply ≡ replies.Refused refusals.Memory) × (o.next ≡ h) × AreReads (i.made ++ o.made))
+    go (inl done) = inl (rw fresh (subst (λ p. OpensOn h bytes c p (i.made ++ o.made) o.next reply) (sym none) (i.made, o.made, found, refl, identified, done)))
+    go (inr memory) = inr (memory.0, memory.1, reads_on i.made o.made (identified_reads size c seats found i.made i.identified) (subst AreReads (sym memory.2) tt))
 
 -- the line, by the newest record of the name
 

@@ -37,5 +37,5 @@ pub pools_kept : KeepsRuns → (table : List HostDevice) (size : ℕ → ℕ) (r
     → KeepsPools (started table size records) (now story) ran.entries ran.handles.calls ran.state ran.handles.replay
 pools_kept law table size records {old = old} apart sized drawn ran story story' began ended =
     law (started table size records) (now story) ran.entries ran.handles.calls ran.state (lines_whole ran.entries ran.lines ran.handles.asked)
-    (record { apart = apart; sized = sized; drawn = drawn; pool = tt })
+    (record { apart = apart; sized = sized; drawn = drawn; pool = tt; named = tt })
     (answers_now old ran.handles.calls story story' began (ran.handles.made.told story' ended)) ran.handles.replay

@@ -1,15 +1,14 @@
 -- Reads, as replies.
-use Rattle.std.proofs.Common.{◌≡◌, ℕ, List, Option, Ok, Err, Result, inl, inr, ◌⊎◌, refl, sym, subst}
+use Rattle.std.proofs.Common.{◌≡◌, ℕ, List, [], Option, Ok, Err, Result, inl, inr, ◌⊎◌, refl}
 use Rattle.mp_base.specs.declared.refusal.Refusal.{Refusal}
 use Rattle.mp_base.specs.declared.refusal.Refusal.TheVariants as refusals
 use Rattle.bank_core.specs.Disk.{Noted}
 use Rattle.bank_core.specs.Story.{Story}
+use Rattle.bank_core.proofs.Composing.{made_none}
 use Rattle.pool_wire.specs.declared.reply.Reply.{Reply}
 use Rattle.pool_wire.specs.declared.reply.Reply.TheVariants as replies
-use Rattle.pool_core.specs.declared.pool.Pool.{Pool}
 use Rattle.pool_core.specs.Clash.{ClashesWith}
 use Rattle.pool_core.specs.Done.{IsRead, Reads}
-use Rattle.pool_core.specs.Keeping.{Represents, leaves_of}
 use Rattle.pool_core.specs.Reading.{wanted}
 use Rattle.pool_core.specs.State.{PoolState, leaves}
 use Rattle.host_machine.specs.Machine.{read_reply}
@@ -34,15 +33,15 @@ refused_steps s a made refusal reply (inl e) (inl is) = inl (Err refusal, is, e)
 refused_steps s a made refusal reply (inr e) (inl is) = inr (inl e)
 refused_steps s a made refusal reply refused (inr clash) = inr (inr clash)
 
--- the leaves of the state are the pool's
-pub leaves_are : (pool : Pool) (s : PoolState) → Represents pool s → leaves s ≡ leaves_of pool
-leaves_are pool s r = rw (r.first, r.second) refl
-
-pub replies_refused : {s : PoolState} {a : ℕ} {old new : Option Story} {f g : ℕ → ℕ} {reply : Reply} (pool : Pool) (refusal : Refusal) → Represents pool s
-    → IsReadRefused (leaves_of pool) refusal reply → Reads s a old new f g (Err refusal) → Replies s a old new f g reply
-replies_refused {s} {a} {old} {new} {f} {g} {reply} pool refusal represents refused r = record {
+pub replies_refused : {s : PoolState} {a : ℕ} {old new : Option Story} {f g : ℕ → ℕ} {reply : Reply} (refusal : Refusal)
+    → IsReadRefused (leaves s) refusal reply → Reads s a old new f g (Err refusal) → Replies s a old new f g reply
+replies_refused {s} {a} {reply = reply} refusal refused r = record {
   made = r.made;
   calls = r.calls;
   reads = r.reads;
-  step = refused_steps s a r.made refusal reply (subst (λ l. IsReadRefused l refusal reply) (sym (leaves_are pool s represents)) refused) r.step;
+  step = refused_steps s a r.made refusal reply refused r.step;
 }
+
+-- there was no memory
+pub replies_memory : {s : PoolState} {a : ℕ} {told : Option Story} {faults : ℕ → ℕ} → Replies s a told told faults faults (replies.Refused refusals.Memory)
+replies_memory {told = told} {faults = faults} = record { made = []; calls = made_none told faults; reads = tt; step = inr (inl refl) }

@@ -1,5 +1,5 @@
 -- What a line asks to write is a whole block.
-use Rattle.std.proofs.Common.{◌≡◌, ℕ, ◌-◌, ◌+◌, ◌≤◌, true, false, List, Option, Some, None, length, replicate, refl, arith, inl, inr, ◌∙◌, ap, length-append, [], ◌∷◌, map, subst}
+use Rattle.std.proofs.Common.{◌≡◌, ℕ, ◌-◌, ◌+◌, ◌≤◌, List, Option, Some, None, length, replicate, refl, arith, inl, inr, ◌∙◌, ap, length-append, [], ◌∷◌, map, subst}
 use Rattle.std.proofs.lemmas.List.{length-replicate}
 use Rattle.mp_base.specs.Block.{padded, zeros, zero_block, block_bytes}
 use Rattle.pool_wire.specs.declared.request.Request.{Request}
@@ -33,9 +33,8 @@ asks_whole line (requests.Import pool) asks = tt
 asks_whole line (requests.Write pool a block) asks = data_whole asks.1 block asks.4
 asks_whole line (requests.Read pool a) asks = tt
 asks_whole line (requests.Sync pool) asks = tt
-asks_whole line (requests.Offline pool device false) asks = asks.1
-asks_whole line (requests.Offline pool device true) asks = asks.1
-asks_whole line (requests.Online pool device) asks = asks.1
+asks_whole line (requests.Offline pool device temporary) asks = tt
+asks_whole line (requests.Online pool device) asks = tt
 asks_whole line (requests.Logs pool) asks = tt
 
 line_whole_by : (line : List ℕ) (asked : Option Request) → request_of line ≡ asked → IsWhole asked

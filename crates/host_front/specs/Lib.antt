@@ -1,3 +1,4 @@
+pub mod Bringing
 pub mod Closing
 pub mod Codes
 pub mod Feeding

@@ -20,10 +20,10 @@ pub record AreTwoSeats (size : ℕ → ℕ) (first second : List ℕ) (dev other
   pub second_room : 320 ≤ size other
 
 -- The pool of this state was made, or not, as the machine says; or there was no memory for it, and no device was asked.
-pub record MakesPool (h : HostState) (s : PoolState) (old new : Option Story) (before after : ℕ → ℕ) (size : ℕ → ℕ) (host : Host) (reply : Reply) : Type 0 where
+pub record MakesPool (h : HostState) (s : PoolState) (seats : ℕ × ℕ) (old new : Option Story) (before after : ℕ → ℕ) (size : ℕ → ℕ) (host : Host) (reply : Reply) : Type 0 where
   pub made : List Noted
   pub next : HostState
   pub calls : Made old new before after made
   pub keeps : Keeps size host next
-  pub step : ((failed : Option LeafState) × AreMade h.size s made failed × ((next, reply) ≡ create_outcome h s failed))
+  pub step : ((failed : Option LeafState) × AreMade h.size s seats made failed × ((next, reply) ≡ create_outcome h s failed))
       ⊎ ((reply ≡ replies.Refused refusals.Memory) × (next ≡ h) × (made ≡ []))

@@ -3,11 +3,10 @@ use Rattle.std.specs.Prelude.{◌≡◌, ◌⊎◌, ℕ, ◌<◌, ◌≤◌, Lis
 use Rattle.mp_base.specs.Outside.{Rose}
 use Rattle.bank_core.specs.Absent.{IsAbsent}
 use Rattle.pool_core.specs.declared.pool.Pool.{Pool}
-use Rattle.pool_core.specs.Keeping.{Represents, IsSeated}
+use Rattle.pool_core.specs.Keeping.{Represents}
 use Rattle.pool_core.specs.State.{PoolState}
 use Rattle.host_machine.specs.declared.device.HostDevice.{HostDevice}
-use Rattle.host_machine.specs.Devices.{AreApart}
-use Rattle.host_machine.specs.Fitness.{AreSized, IsFit}
+use Rattle.host_machine.specs.Fitness.{IsFit}
 use Rattle.host_machine.specs.Machine.{HostState}
 use Rattle.host_front.specs.declared.host.Host.{Host}
 use Rattle.host_front.specs.FixedHost.{host_devices}
@@ -30,15 +29,10 @@ pub record Stands (size : ℕ → ℕ) (host : Host) (h : HostState) : Type 0 wh
   pub keeps : Keeps size host h
   pub fit : IsFit h
 
-abbrev pub PoolIsSeated : (ℕ → ℕ) → Option Pool → Type 0
-PoolIsSeated size None = Unit {0}
-PoolIsSeated size (Some pool) = IsSeated size pool
-
--- The host's devices are a bank's of these sizes, and no two of them are one.
+-- The host has a state that a run may reach.
 pub record HostIsSeated (size : ℕ → ℕ) (host : Host) : Type 0 where
-  pub table : AreSized size host.table.items
-  pub apart : AreApart host.table.items
-  pub pool : PoolIsSeated size host.pool
+  pub state : HostState
+  pub stands : Stands size host state
 
 -- A device of the table was looked up: it has this number and size, or its look-up found nothing, or failed.
 pub record IsLookedUp (number_of : List ℕ → Option ℕ) (size : ℕ → ℕ) (names : Option (List (List ℕ))) (before after : ℕ)

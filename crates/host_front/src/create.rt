@@ -37,7 +37,6 @@ impl Host {
         ensures size { (d : ℕ) → B.size bank.new d ≡ B.size bank.old d }
         ensures numbers { (name : List ℕ) → B.number_of bank.new name ≡ B.number_of bank.old name }
         ensures lookups { B.lookup_faults bank.new ≡ B.lookup_faults bank.old }
-        ensures seated { HostIsSeated (B.size bank.new) self.new }
         ensures answers { (h : HostState) → Stands (B.size bank.old) self.old h → Answers h (Some (Create name.now blocks first.now second.now)) time
             (B.told bank.old) (B.told bank.new) (B.faults bank.old) (B.faults bank.new) (B.size bank.new) self.new result }
     {
@@ -120,10 +119,9 @@ impl Host {
         ensures size { (d : ℕ) → B.size bank.new d ≡ B.size bank.old d }
         ensures numbers { (name : List ℕ) → B.number_of bank.new name ≡ B.number_of bank.old name }
         ensures lookups { B.lookup_faults bank.new ≡ B.lookup_faults bank.old }
-        ensures seated { HostIsSeated (B.size bank.new) self.new }
         ensures makes { (h : HostState) → Keeps (B.size bank.old) self.old h
             → MakesPool h (made_state (B.size bank.old) name number blocks (first.name, first.dev) (second.name, second.dev))
-            (B.told bank.old) (B.told bank.new) (B.faults bank.old) (B.faults bank.new) (B.size bank.new) self.new result }
+            (first.dev, second.dev) (B.told bank.old) (B.told bank.new) (B.faults bank.old) (B.faults bank.new) (B.size bank.new) self.new result }
     {
         match Pool::create(self.alloc, bank, name, number, blocks, first, second) {
             Ok(pool) => {

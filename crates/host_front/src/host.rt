@@ -1,8 +1,10 @@
 //! A host: its devices, and the pool that is open. It answers lines.
-ghost use Rattle.std.specs.Prelude.{◌≡◌, ℕ, List, Option};
+ghost use Rattle.std.specs.Prelude.{◌≡◌, ℕ, List, Option, Some};
+ghost use Rattle.host_machine.specs.Fitness.{IsWhole};
 
 use crate::HostDevice;
 use bank_core::Bank;
+use host_machine::hosts_stay_fit;
 use mp_base::Refusal;
 use pool_core::Pool;
 use pool_wire::{LineFault, Reply, Request, read_line};
@@ -17,7 +19,6 @@ pub struct Host {
 }
 
 impl Host {
-    ghost use Rattle.std.specs.Prelude.{Some};
     ghost use Rattle.pool_wire.specs.Reading.{request_of};
     ghost use Rattle.pool_history.specs.Records.{Rec};
     ghost use Rattle.host_machine.specs.Devices.{AreApart};
@@ -67,6 +68,19 @@ impl Host {
         ensures answers { (h : HostState) → Stands (B.size bank.old) self.old h → Answers h (Some request.now) time
             (B.told bank.old) (B.told bank.new) (B.faults bank.old) (B.faults bank.new) (B.size bank.new) self.new result }
     {
+        hosts_stay_fit();
+        asks_whole(request);
+        self.reply_to(bank, request, time)
+    }
+
+    fn reply_to<B: Bank>(&mut self, bank: &mut B, request: &Request, time: u64) -> Reply
+        requires seated { HostIsSeated (B.size bank.old) self.old }
+        ensures size { (d : ℕ) → B.size bank.new d ≡ B.size bank.old d }
+        ensures numbers { (name : List ℕ) → B.number_of bank.new name ≡ B.number_of bank.old name }
+        ensures lookups { B.lookup_faults bank.new ≡ B.lookup_faults bank.old }
+        ensures answers { (h : HostState) → Stands (B.size bank.old) self.old h → Answers h (Some request.now) time
+            (B.told bank.old) (B.told bank.new) (B.faults bank.old) (B.faults bank.new) (B.size bank.new) self.new result }
+    {
         match request {
             Request::Nothing => Reply::Done,
             Request::Create {
@@ -83,9 +97,41 @@ impl Host {
             } => self.write(pool, *address, block),
             Request::Read { pool, address } => self.read(bank, pool, *address),
             Request::Sync { pool } => self.sync(bank, pool),
-            Request::Offline { .. } => Reply::Refused(Refusal::NotBuilt),
-            Request::Online { .. } => Reply::Refused(Refusal::NotBuilt),
-            Request::Logs { .. } => Reply::Refused(Refusal::NotBuilt),
+            Request::Offline {
+                pool,
+                device,
+                temporary,
+            } => self.offline(pool, device, *temporary),
+            Request::Online { pool, device } => self.online(bank, pool, device),
+            Request::Logs { pool } => self.logs(pool),
         }
+    }
+}
+
+// What a request names is spelled as a name, and what it writes is a whole block, as a fact for the proof.
+fn asks_whole(request: &Request)
+    ensures { IsWhole (Some request.now) }
+{
+    match request {
+        Request::Create {
+            pool,
+            first,
+            second,
+            ..
+        } => {
+            pool.spells_a_name();
+            first.spells_a_name();
+            second.spells_a_name();
+        }
+        Request::Write { block, .. } => {
+            let _bytes = block.as_bytes();
+        }
+        Request::Nothing
+        | Request::Import { .. }
+        | Request::Read { .. }
+        | Request::Sync { .. }
+        | Request::Offline { .. }
+        | Request::Online { .. }
+        | Request::Logs { .. } => {}
     }
 }

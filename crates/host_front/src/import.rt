@@ -6,7 +6,7 @@ use crate::{Host, HostDevice};
 use bank_core::Bank;
 use config_codec::Config;
 use mp_base::{Group, MemFault, Name, Refusal};
-use pool_core::{Pool, has_members, seek};
+use pool_core::{Pool, find_members, seek};
 use pool_wire::Reply;
 
 /// No number from here on is drawn.
@@ -26,7 +26,7 @@ impl Host {
     ghost use Rattle.pool_core.specs.State.{last_number};
     ghost use Rattle.host_machine.specs.Devices.{all_handed};
     ghost use Rattle.host_machine.specs.Machine.{HostState, open_seats};
-    ghost use Rattle.host_front.specs.Importing.{AreTwoRooms, OpensFound, OpensThere};
+    ghost use Rattle.host_front.specs.Importing.{AreRooms, OpensFound, OpensThere};
     ghost use Rattle.host_front.specs.Standing.{Keeps, Stands, HostIsSeated};
     ghost use Rattle.host_front.specs.Session.{Answers};
 
@@ -35,7 +35,6 @@ impl Host {
         ensures size { (d : ℕ) → B.size bank.new d ≡ B.size bank.old d }
         ensures numbers { (name : List ℕ) → B.number_of bank.new name ≡ B.number_of bank.old name }
         ensures lookups { B.lookup_faults bank.new ≡ B.lookup_faults bank.old }
-        ensures seated { HostIsSeated (B.size bank.new) self.new }
         ensures answers { (h : HostState) (second : ℕ) → Stands (B.size bank.old) self.old h → Answers h (Some (Import name.now)) second
             (B.told bank.old) (B.told bank.new) (B.faults bank.old) (B.faults bank.new) (B.size bank.new) self.new result }
     {
@@ -81,7 +80,6 @@ impl Host {
         ensures size { (d : ℕ) → B.size bank.new d ≡ B.size bank.old d }
         ensures numbers { (name : List ℕ) → B.number_of bank.new name ≡ B.number_of bank.old name }
         ensures lookups { B.lookup_faults bank.new ≡ B.lookup_faults bank.old }
-        ensures seated { HostIsSeated (B.size bank.new) self.new }
         ensures opens { (h : HostState) (bytes : List ℕ) → Stands (B.size bank.old) self.old h → config_in bytes ≡ Some (config_fields config)
             → OpensFound h bytes (config_fields config) (B.told bank.old) (B.told bank.new) (B.faults bank.old) (B.faults bank.new) (B.size bank.new) self.new result }
     {
@@ -92,48 +90,46 @@ impl Host {
                 count: number + 1,
             });
         }
-        let (first, second) = match self.open_seats(&config) {
-            Some(seats) => seats,
-            None => return Reply::Refused(Refusal::NotBuilt),
-        };
-        if !has_members(bank, &config, first, second) {
+        if self.pool.is_some() {
             return Reply::Refused(Refusal::NotBuilt);
         }
-        self.open_on(bank, config, first, second)
+        let seats = self.open_seats(&config);
+        let found = find_members(bank, &config, seats);
+        self.open_on(bank, config, found)
     }
 
-    // The devices of the pool's leaves, by their names. Beside an open pool no other is opened yet.
-    fn open_seats(&self, config: &Config) -> Option<(u32, u32)>
+    // The devices of the pool's leaves, by their names, where they were found and have room.
+    fn open_seats(&self, config: &Config) -> (Option<u32>, Option<u32>)
         requires { IsValid (config_fields config.now) }
         ensures is { (h : HostState) (size : ℕ → ℕ) → Keeps size self.now h → result ≡ open_seats h (config_fields config.now) }
-        ensures closed { IfSome result (λ seats. self.now.pool ≡ None) }
-        ensures two { (size : ℕ → ℕ) → HostIsSeated size self.now
-            → IfSome result (λ seats. AreTwoRooms size config.now.sectors seats.0 seats.1) }
+        ensures two { (size : ℕ → ℕ) → HostIsSeated size self.now → AreRooms size config.now.sectors result }
     {
-        if self.pool.is_some() {
-            return None;
-        }
-        let first = seat_of(&self.table, &config.first.name, config.sectors)?;
-        let second = seat_of(&self.table, &config.second.name, config.sectors)?;
-        Some((first, second))
+        let first = seat_of(&self.table, &config.first.name, config.sectors);
+        let second = seat_of(&self.table, &config.second.name, config.sectors);
+        (first, second)
     }
 
-    // Opens the pool on these two devices: where a device call fails, no pool is open.
-    fn open_on<B: Bank>(&mut self, bank: &mut B, config: Config, first: u32, second: u32) -> Reply
+    // Opens the pool on the devices whose identities were found: where a device call fails, or there is none, no pool is
+    // open.
+    fn open_on<B: Bank>(
+        &mut self,
+        bank: &mut B,
+        config: Config,
+        found: (Option<u32>, Option<u32>),
+    ) -> Reply
         requires seated { HostIsSeated (B.size bank.old) self.old }
         requires closed { self.old.pool ≡ None }
         requires valid { IsValid (config_fields config) }
         requires number { config.number.0 < last_number }
-        requires two { AreTwoRooms (B.size bank.old) config.sectors first second }
+        requires two { AreRooms (B.size bank.old) config.sectors found }
         ensures size { (d : ℕ) → B.size bank.new d ≡ B.size bank.old d }
         ensures numbers { (name : List ℕ) → B.number_of bank.new name ≡ B.number_of bank.old name }
         ensures lookups { B.lookup_faults bank.new ≡ B.lookup_faults bank.old }
-        ensures seated { HostIsSeated (B.size bank.new) self.new }
         ensures opens { (h : HostState) (bytes : List ℕ) → Stands (B.size bank.old) self.old h → config_in bytes ≡ Some (config_fields config)
-            → OpensThere h bytes (config_fields config) first second (B.told bank.old) (B.told bank.new) (B.faults bank.old) (B.faults bank.new) (B.size bank.new) self.new result }
+            → OpensThere h bytes (config_fields config) found (B.told bank.old) (B.told bank.new) (B.faults bank.old) (B.faults bank.new) (B.size bank.new) self.new result }
     {
         let number = config.number.0 + 1;
-        match Pool::open(self.alloc, bank, config, first, second) {
+        match Pool::open(self.alloc, bank, config, found) {
             Ok(pool) => {
                 self.pool = Some(pool);
                 Reply::Committed(Group(number))

@@ -1,6 +1,7 @@
 //! The front: a script's bytes in, its replies' bytes out (docs/MODEL.md, "A run").
 #![tactic(auto)]
 
+mod away;
 mod create;
 mod entry;
 mod found;

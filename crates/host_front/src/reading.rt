@@ -1,7 +1,7 @@
 //! A read of a pool, as a reply.
 ghost use Rattle.std.specs.Prelude.{◌≡◌, ℕ, List, length, IfOk};
-ghost use Rattle.pool_core.specs.Keeping.{Represents, IsSeated, leaves_of};
-ghost use Rattle.pool_core.specs.State.{PoolState};
+ghost use Rattle.pool_core.specs.Keeping.{Represents, IsSeated};
+ghost use Rattle.pool_core.specs.State.{PoolState, leaves};
 ghost use Rattle.host_machine.specs.Machine.{named};
 ghost use Rattle.host_front.specs.Replying.{IsReadRefused, Replies};
 
@@ -38,7 +38,7 @@ fn zeros(alloc: Global) -> Result<Vec<u8>, MemFault>
 
 // The reply to a refused read, which names the leaves.
 fn read_refused(alloc: Global, pool: &Pool, refusal: Refusal) -> Reply
-    ensures { IsReadRefused (leaves_of pool.now) refusal result }
+    ensures { (s : PoolState) → Represents pool.now s → IsReadRefused (leaves s) refusal result }
 {
     match refusal {
         Refusal::Exhausted {
@@ -58,7 +58,7 @@ fn read_refused(alloc: Global, pool: &Pool, refusal: Refusal) -> Reply
 }
 
 fn name_leaves(alloc: Global, pool: &Pool, seen: &SeenLeaves) -> Result<NamedLeaves, MemFault>
-    ensures { IfOk result (λ leaves. leaves ≡ named (leaves_of pool.now) seen.now) }
+    ensures { (s : PoolState) → Represents pool.now s → IfOk result (λ found. found ≡ named (leaves s) seen.now) }
 {
     let mut named = NamedLeaves::new(alloc);
     for shown in seen.as_slice() {

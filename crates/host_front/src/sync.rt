@@ -20,7 +20,6 @@ impl Host {
         ensures size { (d : ℕ) → B.size bank.new d ≡ B.size bank.old d }
         ensures numbers { (name : List ℕ) → B.number_of bank.new name ≡ B.number_of bank.old name }
         ensures lookups { B.lookup_faults bank.new ≡ B.lookup_faults bank.old }
-        ensures seated { HostIsSeated (B.size bank.new) self.new }
         ensures answers { (h : HostState) (second : ℕ) → Stands (B.size bank.old) self.old h → Answers h (Some (Sync name.now)) second
             (B.told bank.old) (B.told bank.new) (B.faults bank.old) (B.faults bank.new) (B.size bank.new) self.new result }
     {
@@ -38,13 +37,15 @@ impl Host {
         }
     }
 
-    // A refused sync. A suspended one closes the pool: only another opening finds which record its members have.
+    // A refused sync. One in which a call failed closes the pool: only another opening finds which record its members have.
     fn refuse_sync(&mut self, refusal: Refusal) -> Reply
         ensures is { result ≡ Refused refusal }
         ensures left { self.new ≡ record self.old { pool = left_by refusal self.old.pool } }
     {
-        if let Refusal::Suspended { .. } = refusal {
-            self.pool = None;
+        if let Refusal::Suspended { faults, .. } = refusal {
+            if faults > 0 {
+                self.pool = None;
+            }
         }
         Reply::Refused(refusal)
     }

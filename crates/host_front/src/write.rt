@@ -10,12 +10,11 @@ impl Host {
     ghost use Rattle.bank_core.specs.Story.{Story};
     ghost use Rattle.pool_wire.specs.declared.request.Request.TheVariants.{Write};
     ghost use Rattle.host_machine.specs.Machine.{HostState};
-    ghost use Rattle.host_front.specs.Standing.{Stands, HostIsSeated};
+    ghost use Rattle.host_front.specs.Standing.{Stands};
     ghost use Rattle.host_front.specs.Session.{Answers};
 
     pub(crate) fn write(&mut self, name: &Name, address: u64, block: &Block) -> Reply
-        ensures seated { (size : ℕ → ℕ) → HostIsSeated size self.old → HostIsSeated size self.new }
-        ensures answers { (h : HostState) (second : ℕ) (told : Option Story) (faults size : ℕ → ℕ) → Stands size self.old h
+        ensures { (h : HostState) (second : ℕ) (told : Option Story) (faults size : ℕ → ℕ) → Stands size self.old h
             → Answers h (Some (Write name.now address block.now)) second told told faults faults size self.new result }
     {
         match &mut self.pool {

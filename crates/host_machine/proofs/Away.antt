@@ -1,5 +1,5 @@
 -- Calls that put nothing on a pool's members: reads, and all calls of a pool that is on other devices.
-use Rattle.std.proofs.Common.{◌≡◌, ◌≢◌, ℕ, ◌+◌, ◌==◌, Bool, true, false, List, [], ◌∷◌, ◌++◌, Option, Result, Ok, Err, refl, sym, ap, ◌∙◌, subst, inl, inr}
+use Rattle.std.proofs.Common.{◌≡◌, ◌≢◌, ℕ, ◌+◌, ◌==◌, Bool, true, false, List, [], ◌∷◌, ◌++◌, Option, Some, None, Result, Ok, Err, refl, sym, ap, ◌∙◌, subst, inl, inr}
 use Rattle.std.specs.Prelude.{take}
 use Rattle.std.proofs.lemmas.Bool.{and_left, ne_eqb}
 use Rattle.mp_base.specs.declared.number.Guid.{Guid}
@@ -23,7 +23,7 @@ use Rattle.pool_history.specs.Moves.{IsPlain, Mays}
 use Rattle.pool_history.specs.Pools.{Pool, after}
 use Rattle.config_codec.specs.Fields.{Fields}
 use Rattle.config_codec.specs.declared.config.LeafConfig.{LeafConfig}
-use Rattle.pool_core.specs.Opening.{IsLooked, IsLookedBehind, IsIdentified}
+use Rattle.pool_core.specs.Opening.{IsLooked, IsIdentified}
 
 -- The call is one on a device that stays, and puts nothing on a member.
 pub record IsAway (member : ℕ → Bool) (call : Call) : Type 0 where
@@ -72,24 +72,21 @@ misses_read pool member dev [] made m = subst AreReads (sym m) tt
 misses_read pool member dev (at ∷ rings) [] m = absurd m
 misses_read pool member dev (at ∷ rings) (noted ∷ made) m = (ask_read noted.call dev at _ m.0, misses_read pool member dev rings made m.2)
 
-search_reads : (pool member : Guid) (dev size : ℕ) (made : List Noted) (result : Result Bool Fault) → IsSearch pool member dev size made result → AreReads made
+pub search_reads : (pool member : Guid) (dev size : ℕ) (made : List Noted) (result : Result Bool Fault) → IsSearch pool member dev size made result → AreReads made
 search_reads pool member dev size made (Ok true) s =
     subst AreReads (sym s.all) (are_reads_more s.misses (s.hit ∷ []) (misses_read pool member dev (take s.before (rings_of size)) s.misses s.are_misses) (ask_read s.hit.call dev _ _ s.ask, tt))
 search_reads pool member dev size made (Ok false) s = misses_read pool member dev (rings_of size) made s.0
 search_reads pool member dev size made (Err fault) s = misses_read pool member dev (rings_of size) made s.0
 
-looked_reads : (c : Fields) (leaf : LeafConfig) (dev size : ℕ) (made : List Noted) (found : Bool) → IsLooked c leaf dev size made found → AreReads made
-looked_reads c leaf dev size made true l = search_reads c.pool leaf.member dev size made (Ok true) l
-looked_reads c leaf dev size made false l = search_reads c.pool leaf.member dev size made l.0 l.2
-
-behind_reads : (c : Fields) (dev size : ℕ) (has : Bool) (made : List Noted) (found : Bool) → IsLookedBehind c dev size has made found → AreReads made
-behind_reads c dev size true made found l = looked_reads c c.second dev size made found l
-behind_reads c dev size false made found l = subst AreReads (sym l.0) tt
+looked_reads : (c : Fields) (leaf : LeafConfig) (seat : Option ℕ) (size : ℕ → ℕ) (made : List Noted) (found : Option ℕ) → IsLooked c leaf seat size made found → AreReads made
+looked_reads c leaf None size made found l = subst AreReads (sym l.0) tt
+looked_reads c leaf (Some dev) size made (Some at) l = search_reads c.pool leaf.member dev (size dev) made (Ok true) l.1
+looked_reads c leaf (Some dev) size made None l = search_reads c.pool leaf.member dev (size dev) made l.0 l.2
 
 -- and so does the search for the leaves' identities
-pub identified_reads : (size : ℕ → ℕ) (c : Fields) (first second : ℕ) (made : List Noted) (found : Bool) → IsIdentified size c first second made found → AreReads made
-identified_reads size c first second made found i =
-    subst AreReads (sym i.3) (are_reads_more i.0 i.1 (looked_reads c c.first first (size first) i.0 i.2 i.4) (behind_reads c second (size second) i.2 i.1 found i.5))
+pub identified_reads : (size : ℕ → ℕ) (c : Fields) (seats found : Option ℕ × Option ℕ) (made : List Noted) → IsIdentified size c seats found made → AreReads made
+identified_reads size c seats found made i =
+    subst AreReads (sym i.2) (are_reads_more i.0 i.1 (looked_reads c c.first seats.0 size i.0 found.0 i.3) (looked_reads c c.second seats.1 size i.1 found.1 i.4))
 
 -- such a call is asked
 abbrev pub IsAskAway : (ℕ → Bool) → Ask → Type 0

@@ -1,8 +1,9 @@
 -- A stop within a line: the pool stands in a closed host that knows the records of the line.
-use Rattle.std.proofs.Common.{◌≡◌, ⊎_elim, ℕ, zero, suc, ◌≤◌, true, Some, List, [], ◌∷◌, ◌++◌, take, sym, ap, ◌∙◌, subst, inr}
+use Rattle.std.proofs.Common.{◌≡◌, ℕ, zero, suc, ◌≤◌, true, Some, List, [], ◌∷◌, ◌++◌, take, sym, ap, ◌∙◌, subst, inl, inr}
 use Rattle.bank_core.specs.Disk.{Noted}
+use Rattle.config_codec.specs.declared.config.LeafConfig.{LeafConfig}
 use Rattle.config_codec.specs.Fields.{Fields}
-use Rattle.pool_history.specs.Events.{Event, Calls, Accepts, Looks, Opens, Begins, Third, Ends, Acks, Loses, Stops}
+use Rattle.pool_history.specs.Events.{Event, Calls, Accepts, Looks, Opens, Begins, Third, Ends, Acks, Loses, Stops, IsOneRun}
 use Rattle.pool_history.specs.Moves.{May, Mays}
 use Rattle.pool_history.specs.Pools.{Pool, after, pool_after, drawn}
 use Rattle.pool_history.specs.Premises.{AreGood}
@@ -14,7 +15,8 @@ use Rattle.host_machine.specs.Devices.{number_in}
 use Rattle.host_machine.specs.Fitness.{IsFit}
 use Rattle.host_machine.specs.Machine.{HostState, started}
 use Rattle.host_machine.specs.Records.{IsDrawn}
-use Rattle.host_machine.specs.Tracking.{Cost, Tracks, Follows, HasNoTwins}
+use Rattle.host_machine.proofs.Running.{front_one}
+use Rattle.host_machine.specs.Tracking.{Cost, Place, IsPlaceOf, IsKept, Tracks, Follows, HasNoTwins}
 
 acked_drawn : (live rest given : List Rec) (q r : Rec) → live ≡ q ∷ rest → IsIn r (live ++ given) → IsIn r (q ∷ (rest_of live ++ given))
 acked_drawn live rest given q r e is = subst (λ l. IsIn r (q ∷ (rest_of l ++ given))) (sym e) (subst (λ l. IsIn r (l ++ given)) e is)
@@ -30,7 +32,7 @@ drawn_after (Third q d) p r may is = is
 drawn_after (Ends q d) p r may is = is
 drawn_after (Acks q) p r may is = acked_drawn p.live may.rest p.given q r may.newest is
 drawn_after (Loses d) p r may is = is
-drawn_after (Stops images) p r may is = is
+drawn_after (Stops sectors size) p r may is = is
 
 drawn_through : (vs : List Event) (p : Pool) (r : Rec) → Mays head_of p vs → IsIn r (drawn p) → IsIn r (drawn (pool_after vs p))
 drawn_through [] p r mays is = is
@@ -44,13 +46,14 @@ drawn_cut (v ∷ vs) zero p r mays is = drawn_through (v ∷ vs) p r mays is
 drawn_cut (v ∷ vs) (suc j) p r mays is = drawn_cut vs j (after v p) r mays.1 is
 
 -- where the pool keeps its devices
-whole_cut : (p : Pool) (vs : List Event) (next : HostState) (j : ℕ) → Mays head_of p vs → ((d : ℕ) → p.member d ≡ true → (pool_after vs p).member d ≡ true)
+whole_cut : (p : Pool) (vs : List Event) (next : HostState) (j : ℕ) → IsOneRun vs → Mays head_of p vs → ((d : ℕ) → p.member d ≡ true → (pool_after vs p).member d ≡ true)
     → Tracks (pool_after vs p) next → Tracks (pool_after (take j vs) p) (started next.table next.size next.records)
-whole_cut p vs next j mays whole t = record {
-  sizes = λ d. ap (λ f. f d) (size_kept (take j vs) p ∙ sym (size_kept vs p)) ∙ t.sizes d;
+whole_cut p vs next j one mays whole t = record {
+  sizes = λ d has. ap (λ f. f d) (size_kept (take j vs) p (front_one vs j one) ∙ sym (size_kept vs p one)) ∙ t.sizes d has;
   first = t.first;
   second = t.second;
   apart = t.apart;
+  numbers = t.numbers;
   members = λ d is. t.members d (whole d (member_ever (take j vs) p d is));
   first_guid = ap (λ f. f t.first.dev) (guid_kept (take j vs) p ∙ sym (guid_kept vs p)) ∙ t.first_guid;
   second_guid = ap (λ f. f t.second.dev) (guid_kept (take j vs) p ∙ sym (guid_kept vs p)) ∙ t.second_guid;
@@ -62,14 +65,19 @@ whole_cut p vs next j mays whole t = record {
   stands = tt;
 }
 
+-- a leaf at its later place, which a record has at its early place too, is at the early one
+early_place : (leaf known : LeafConfig) (early late : Place) → IsPlaceOf late leaf → IsPlaceOf late known → IsPlaceOf early known → IsPlaceOf early leaf
+early_place leaf known early late is now was = (is.0 ∙ sym now.0 ∙ was.0, is.1 ∙ sym now.1 ∙ was.1)
+
 -- where a record of it was drawn before, which tells its leaves
-known_cut : (p : Pool) (h : HostState) (vs : List Event) (next : HostState) (j : ℕ) (q : Rec) (b : Fields) → Mays head_of p vs → next.table ≡ h.table → next.size ≡ h.size
+known_cut : (p : Pool) (h : HostState) (vs : List Event) (next : HostState) (j : ℕ) (q : Rec) (b : Fields) → IsOneRun vs → Mays head_of p vs → next.table ≡ h.table → next.size ≡ h.size
     → Tracks p h → Tracks (pool_after vs p) next → IsIn q (drawn p) → IsDrawn q b → Tracks (pool_after (take j vs) p) (started next.table next.size next.records)
-known_cut p h vs next j q b mays table size s t is_q draws_q = record {
-  sizes = λ d. ap (λ f. f d) (size_kept (take j vs) p) ∙ s.sizes d ∙ ap (λ f. f d) (sym size);
+known_cut p h vs next j q b one mays table size s t is_q draws_q = record {
+  sizes = λ d has. ap (λ f. f d) (size_kept (take j vs) p (front_one vs j one)) ∙ s.sizes d (subst (λ (f : ℕ → ℕ). 1 ≤ f d) size has) ∙ ap (λ f. f d) (sym size);
   first = s.first;
   second = s.second;
   apart = s.apart;
+  numbers = s.numbers;
   members = λ d is. s.members d (member_ever (take j vs) p d is);
   first_guid = ap (λ f. f s.first.dev) (guid_kept (take j vs) p) ∙ s.first_guid;
   second_guid = ap (λ f. f s.second.dev) (guid_kept (take j vs) p) ∙ s.second_guid;
@@ -79,8 +87,11 @@ known_cut p h vs next j q b mays table size s t is_q draws_q = record {
   own = λ r c is draws.
       let o = t.own r c (drawn_cut vs j p r mays is) draws in
       let early = s.own q b is_q draws_q in
-      let late = t.own q b (drawn_through vs p q mays is_q) draws_q in
-      (o.0 ∙ name_kept vs p ∙ sym (name_kept (take j vs) p), o.1 ∙ sym late.1 ∙ early.1, o.2 ∙ sym late.2 ∙ early.2);
+      let late = t.own q b (drawn_through vs p q mays is_q) draws_q in (
+        o.0 ∙ name_kept vs p ∙ sym (name_kept (take j vs) p),
+        early_place c.first b.first s.first t.first o.1 late.1 early.1,
+        early_place c.second b.second s.second t.second o.2 late.2 early.2,
+      );
   stands = tt;
 }
 
@@ -91,10 +102,15 @@ pub line_cut : (T : Cost → Type 0) (p : Pool) (h : HostState) (made : List Not
 line_cut T p h made next f fit tracks twins sv good q is some j =
     let moved = f.safe tracks twins sv good in
     let known = fit.drawn q (tracks.known q is some) in
-    known_cut p h f.vs next j q known.0 moved.0 f.devices.0 f.devices.1 tracks moved.1 is known.1
+    known_cut p h f.vs next j q known.0 f.one_run moved.0 f.devices.0 f.devices.1 tracks moved.1 is known.1
 
-pub born_cut : (p : Pool) (h : HostState) (made : List Noted) (next : HostState) (f : Follows p h (λ d. ⊥) made next) → Tracks p h → HasNoTwins next.records
+still : {p : Pool} {h : HostState} {made : List Noted} {next : HostState} (f : Follows p h (λ cost. ⊥) made next) (d : ℕ) → IsKept (pool_after f.vs p) (λ cost. ⊥) d → (pool_after f.vs p).member d ≡ true
+still f d (inl is) = is
+still f d (inr (inl none)) = absurd none
+still f d (inr (inr none)) = absurd none
+
+pub born_cut : (p : Pool) (h : HostState) (made : List Noted) (next : HostState) (f : Follows p h (λ cost. ⊥) made next) → Tracks p h → HasNoTwins next.records
     → Survives head_of p → AreGood head_of p f.vs → (j : ℕ) → Tracks (pool_after (take j f.vs) p) (started next.table next.size next.records)
 born_cut p h made next f tracks twins sv good j =
     let moved = f.safe tracks twins sv good in
-    whole_cut p f.vs next j moved.0 (λ d is. ⊎_elim {A = (pool_after f.vs p).member d ≡ true} {B = ⊥} (λ still. still) (λ none. absurd none) (f.keeps d is)) moved.1
+    whole_cut p f.vs next j f.one_run moved.0 (λ d is. still f d (f.keeps d is)) moved.1

@@ -8,7 +8,8 @@ use Rattle.mp_base.specs.declared.refusal.Refusal.TheVariants as refusals
 use Rattle.pool_history.specs.Pools.{Pool}
 use Rattle.host_machine.specs.Fitness.{IsFit}
 use Rattle.host_machine.specs.Machine.{HostState, Entry, IsAnswered, WantsMemory, Clashes, named_pool}
-use Rattle.host_machine.specs.Tracking.{Cost, Device, Opening, Takes, Follows}
+use Rattle.host_machine.specs.Tracking.{Cost, Device, Opening, Brought, Takes, Follows}
+use Rattle.host_machine.proofs.AwayLines.{offline_follows, online_follows, logs_follows}
 use Rattle.host_machine.proofs.Creating.{quiet_follows, create_follows}
 use Rattle.host_machine.proofs.Following.{reads_follow}
 use Rattle.host_machine.proofs.Importing.{import_follows}
@@ -24,9 +25,10 @@ answered_follows T p h next entry (Some (requests.Write pool a block)) made take
 answered_follows T p h next entry (Some (requests.Read pool a)) made takes fit all is =
     read_follows T p h next (named_pool pool h.pool) a entry.outside entry.given made entry.reply is.0 is.1
 answered_follows T p h next entry (Some (requests.Sync pool)) made takes fit all is = sync_follows T p h next pool made entry.reply fit is
-answered_follows T p h next entry (Some (requests.Offline pool device temporary)) made takes fit all is = quiet_follows T p h made next entry.reply (replies.Refused refusals.NotBuilt) is
-answered_follows T p h next entry (Some (requests.Online pool device)) made takes fit all is = quiet_follows T p h made next entry.reply (replies.Refused refusals.NotBuilt) is
-answered_follows T p h next entry (Some (requests.Logs pool)) made takes fit all is = quiet_follows T p h made next entry.reply (replies.Refused refusals.NotBuilt) is
+answered_follows T p h next entry (Some (requests.Offline pool device temporary)) made takes fit all is = offline_follows T p h next pool device temporary made entry.reply fit is
+answered_follows T p h next entry (Some (requests.Online pool device)) made takes fit all is =
+    online_follows T p h next pool device made entry.reply fit (λ d. takes (Device d)) (λ d. takes (Brought d)) is
+answered_follows T p h next entry (Some (requests.Logs pool)) made takes fit all is = logs_follows T p h next (named_pool pool h.pool) made entry.reply is
 
 pub line_follows : (T : Cost → Type 0) (p : Pool) (h next : HostState) (entry : Entry) (made : List Noted) → ((cost : Cost) → Takes p.name h entry.asked made cost → T cost) → IsFit h → AllAnswer p.sectors made
     → IsAnswered h entry.asked entry made next ⊎ (WantsMemory h entry made next ⊎ Clashes h entry made next) → Follows p h T made next

@@ -1,5 +1,5 @@
 -- An import of a pool finds it.
-use Rattle.std.proofs.Common.{◌≡◌, ◌⊎◌, ℕ, ◌+◌, zero, suc, List, None, refl, sym, ap, ◌∙◌, subst, inl, inr}
+use Rattle.std.proofs.Common.{◌≡◌, ◌⊎◌, ℕ, ◌+◌, zero, suc, List, sym, ap, ◌∙◌, subst, inl, inr}
 use Rattle.mp_base.specs.declared.number.Group.{Group}
 use Rattle.mp_base.specs.declared.number.Guid.{Guid}
 use Rattle.mp_base.specs.declared.refusal.Refusal.{Refusal}
@@ -18,13 +18,14 @@ use Rattle.pool_history.proofs.Folding.{calls_after, with_calls}
 use Rattle.pool_history.proofs.LookedParts.{answer_first}
 use Rattle.pool_history.proofs.Moving.{in_first}
 use Rattle.pool_core.specs.Heads.{head_of}
-use Rattle.pool_core.specs.Opening.{recommitted}
+use Rattle.pool_core.specs.Logs.{drawn}
 use Rattle.pool_core.specs.Reading.{wanted}
 use Rattle.pool_core.specs.State.{Known, PoolState}
+use Rattle.pool_core.proofs.Drawing.{drawn_relogs, drawn_number}
 use Rattle.host_machine.specs.Devices.{all_handed}
 use Rattle.host_machine.specs.Fitness.{IsFit}
 use Rattle.host_machine.specs.Machine.{HostState, commit_outcome, open_state, IsImport}
-use Rattle.host_machine.specs.Records.{is_known_version, cell_of}
+use Rattle.host_machine.specs.Records.{versions_of, is_known_version, cell_of}
 use Rattle.host_machine.specs.Tracking.{Tracks, HasNoTwins, FindsPool}
 use Rattle.host_machine.proofs.Committing.{known_wanted}
 use Rattle.host_machine.proofs.Importing.{outcome_kept}
@@ -56,7 +57,7 @@ module _ (p : Pool) (h : HostState) (reads : List Noted) (looks : List Parts) (m
 
   module _ (o : IsOpening h p.name looks made next reply) where
     abbrev again : PoolState
-    again = recommitted (open_state h o.found.blob.items o.c o.seats)
+    again = drawn (open_state h o.found.blob.items o.c o.devs)
 
     later : IsLater p o.found.blob.items
     later = looked_live p h reads looks fit tracks.sizes look answers o.found sv premises o.newest
@@ -72,10 +73,14 @@ module _ (p : Pool) (h : HostState) (reads : List Noted) (looks : List Parts) (m
         (twins_before h.records next.records (λ q i. subst (λ n. IsIn q n.records) (sym next_is) (outcome_kept h again o.failed q i)) twins)
         o.config later.live.config_is (tracks.known r (in_first r p.live p.given later.live.is_live) later.live.some)
 
+    version_at : (a : ℕ) → again.committed a ≡ versions_of r a
+    version_at a = ap (λ (t : PoolState). t.committed a) (drawn_relogs (open_state h o.found.blob.items o.c o.devs)).is ∙ known.committed a
+
     reads_block : (a : ℕ) → wanted again a ≡ Known (block_at r a)
     reads_block a =
-        known_wanted None (again.committed a) refl (ap is_known_version (known.committed a) ∙ known_back (r.cells a))
-        ∙ ap (λ c. Known (block_of c)) (ap cell_of (known.committed a) ∙ cells_back (r.cells a))
+        known_wanted (again.writes a) (again.committed a) (ap (λ (t : PoolState). t.writes a) (drawn_relogs (open_state h o.found.blob.items o.c o.devs)).is)
+        (ap is_known_version (version_at a) ∙ known_back (r.cells a))
+        ∙ ap (λ c. Known (block_of c)) (ap cell_of (version_at a) ∙ cells_back (r.cells a))
 
     by_failed : (failed : ℕ) → (next, reply) ≡ commit_outcome h again failed → FindsPool p reply next
     by_failed zero e = record {
@@ -85,7 +90,7 @@ module _ (p : Pool) (h : HostState) (reads : List Noted) (looks : List Parts) (m
             r,
             again,
             later.live.is_live,
-            ap (λ (g : Group). g.0) same ∙ ap (λ (g : Group). g.0 + 1) (sym known.drawn.number),
+            ap (λ (g : Group). g.0) same ∙ drawn_number (open_state h o.found.blob.items o.c o.devs) ∙ ap (λ (g : Group). g.0 + 1) (sym known.drawn.number),
             later.not_below,
             ap (λ x. x.0.pool) e,
             reads_block,

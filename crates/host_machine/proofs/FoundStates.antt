@@ -4,9 +4,11 @@ use Rattle.std.specs.Prelude.{slice_get, IsTrue}
 use Rattle.std.specs.Option.{option_map}
 use Rattle.std.specs.Str.{bytes_eq}
 use Rattle.std.proofs.lemmas.Slice.Eq.{bytes_eq-Decides}
-use Rattle.std.proofs.lemmas.Option.{slice_get_past}
+use Rattle.std.proofs.lemmas.Option.{slice_get_past, slice_get_within}
 use Rattle.mp_base.specs.Name.{is_name}
 use Rattle.label_store.specs.Rounds.{config_of}
+use Rattle.group_set.specs.Ranges.{in_ranges, ranges_upto}
+use Rattle.config_codec.specs.declared.config.LeafConfig.{LeafConfig}
 use Rattle.config_codec.specs.declared.config.Pointer.{Pointer}
 use Rattle.config_codec.specs.Fields.{Fields}
 use Rattle.config_codec.specs.Reading.{config_in}
@@ -14,16 +16,18 @@ use Rattle.config_codec.specs.Validity.{IsValid}
 use Rattle.config_codec.proofs.Deciding.{is_config}
 use Rattle.pool_history.specs.Records.{Rec, Cell}
 use Rattle.pool_core.specs.Making.{top_sectors}
-use Rattle.pool_core.specs.Opening.{recommitted}
-use Rattle.pool_core.specs.Recorded.{pointer_of}
-use Rattle.pool_core.specs.State.{Known, Summed, Version, is_spent}
-use Rattle.host_machine.specs.Fitness.{IsFitPool, IsFit}
-use Rattle.host_machine.specs.Machine.{HostState, open_seats, open_state, new_seats, new_state, is_bad_size}
+use Rattle.pool_core.specs.Logs.{drawn}
+use Rattle.pool_core.specs.Opening.{leaf_on, found_state}
+use Rattle.pool_core.specs.Recorded.{pointer_of, pointers_of, fields_in}
+use Rattle.pool_core.specs.State.{Known, Summed, Version, new_leaf, is_spent}
+use Rattle.host_machine.specs.Fitness.{IsFitLeaf, IsFitPool, PoolIsNamed, IsFit}
+use Rattle.host_machine.specs.Machine.{HostState, open_state, new_seats, new_state, is_bad_size}
 use Rattle.host_machine.specs.Records.{version_of, versions_of, slot_at, summed, committed_in, IsDrawn, AreDrawn}
-use Rattle.host_machine.proofs.HostSeats.{HasSeats, seats_found, seat_number, seat_room, member_room}
+use Rattle.host_machine.proofs.DrawnStates.{drawn_fit, drawn_named}
+use Rattle.host_machine.proofs.HostSeats.{AreSeated, member_number, member_room}
+use Rattle.host_machine.proofs.Logs.{IsWithin, log_rises, listed_back, listed_within}
 use Rattle.host_machine.proofs.NewStates.{HasNewSeats, new_seats_found, seats_apart, some_blocks, top_room, made_valid}
-use Rattle.host_machine.proofs.Rereading.{valid_next}
-use Rattle.host_machine.proofs.Settling.{same_some, none_some, map_twice}
+use Rattle.host_machine.proofs.Settling.{same_some, none_some, pointers_long, pointers_at, map_twice}
 
 -- These versions are what a configuration commits.
 pub record AreCommitted (c : Fields) (committed : ℕ → Option Version) : Type 0 where
@@ -92,14 +96,50 @@ found_committed (r ∷ records) config c drawn is =
 
 -- Behind an opening.
 
-pub opened_fit : (h : HostState) (config : List ℕ) (c : Fields) (seats : ℕ × ℕ) → IsFit h → config_in config ≡ Some c → is_spent c.number.0 ≡ false → open_seats h c ≡ Some seats
-    → IsFitPool h.size (recommitted (open_state h config c seats))
-opened_fit h config c seats fit is open_numbers seated = record {
-  valid = valid_next c (committed_in h.records config c) seats.0 seats.1 valid open_numbers are.pointers;
-  apart = λ same. valid.two_devices (fit.apart.by c.first.name c.second.name seats.0 (seat_number c.first.name c.sectors h.table seats.0 has.first)
-      (seat_number c.second.name c.sectors h.table seats.1 has.second ∙ ap Some (sym same)));
-  first_room = seat_room h.size c.first.name c.sectors h.table seats.0 fit.sized has.first;
-  second_room = seat_room h.size c.second.name c.sectors h.table seats.1 fit.sized has.second;
+-- The configuration of the state that is opened is valid.
+pub found_valid : (c : Fields) (committed : ℕ → Option Version) (found : Option ℕ × Option ℕ) → IsValid c
+    → ((a : ℕ) → a < c.blocks → slice_get c.pointers a ≡ Some (option_map pointer_of (committed a))) → IsValid (fields_in (found_state c committed found.0 found.1))
+found_valid c committed found v are = record {
+  pool = v.pool;
+  name = v.name;
+  blocks = v.blocks;
+  number = v.number;
+  next_member = v.next_member;
+  counted = pointers_long committed c.blocks;
+  pointers = λ a p is.
+      let within : a < length (pointers_of committed c.blocks) = slice_get_within (pointers_of committed c.blocks) a (Some p) is in
+      let below : a < c.blocks = subst (λ n. a < n) (pointers_long committed c.blocks) within in
+      v.pointers a p (are a below ∙ sym (pointers_at committed c.blocks a below) ∙ is);
+  sectors = v.sectors;
+  mirror = v.mirror;
+  first = v.first;
+  second = v.second;
+  not_first = v.not_first;
+  not_second = v.not_second;
+  two_members = v.two_members;
+  first_name = v.first_name;
+  second_name = v.second_name;
+  two_devices = v.two_devices;
+  first_log = log_rises (in_ranges c.first.log) c.number.0;
+  second_log = log_rises (in_ranges c.second.log) c.number.0;
+  few_ranges =
+      subst (λ x. length x + length (ranges_upto (in_ranges c.second.log) c.number.0) ≤ 4096) (sym (listed_back c.number.0 c.first.log v.first_log))
+      (subst (λ x. length c.first.log + length x ≤ 4096) (sym (listed_back c.number.0 c.second.log v.second_log)) v.few_ranges);
+}
+
+leaf_fit : (size : ℕ → ℕ) (sectors number : ℕ) (leaf : LeafConfig) (found : Option ℕ) → ((d : ℕ) → found ≡ Some d → sectors + 256 ≤ size d)
+    → IsWithin number (in_ranges leaf.log) → IsFitLeaf size sectors number (leaf_on leaf found)
+leaf_fit size sectors number leaf None room within = record { seated = λ up. absurd (cc); room = room; logged = within }
+leaf_fit size sectors number leaf (Some d) room within = record { seated = λ up. refl; room = room; logged = within }
+
+-- The state that is opened is fit, on devices where its leaves were found.
+pub found_fit : (h : HostState) (config : List ℕ) (c : Fields) (found : Option ℕ × Option ℕ) → IsFit h → config_in config ≡ Some c → AreSeated h c found
+    → IsFitPool h.size (open_state h config c found)
+found_fit h config c found fit is seated = record {
+  valid = found_valid c (committed_in h.records config c) found valid are.pointers;
+  first = leaf_fit h.size c.sectors c.number.0 c.first found.0 seated.first_room (listed_within c.number.0 c.first.log valid.first_log);
+  second = leaf_fit h.size c.sectors c.number.0 c.second found.1 seated.second_room (listed_within c.number.0 c.second.log valid.second_log);
+  apart = λ d one two. valid.two_devices (fit.apart.by c.first.name c.second.name d (seated.first_number d one) (seated.second_number d two));
   inside = λ a block e. absurd (none_some block e);
   whole = λ a block e. absurd (none_some block e);
   beyond = are.beyond;
@@ -112,8 +152,13 @@ opened_fit h config c seats fit is open_numbers seated = record {
     are : AreCommitted c (committed_in h.records config c)
     are = found_committed h.records config c fit.drawn is
 
-    has : HasSeats h c seats
-    has = seats_found h c seats seated
+-- and so it is behind the draw of the next number
+pub opened_fit : (h : HostState) (config : List ℕ) (c : Fields) (found : Option ℕ × Option ℕ) → IsFit h → config_in config ≡ Some c → is_spent c.number.0 ≡ false → AreSeated h c found
+    → IsFitPool h.size (drawn (open_state h config c found))
+opened_fit h config c found fit is open_numbers seated = drawn_fit h.size (open_state h config c found) (found_fit h config c found fit is seated) open_numbers
+
+pub opened_named : (h : HostState) (config : List ℕ) (c : Fields) (found : Option ℕ × Option ℕ) → AreSeated h c found → PoolIsNamed h.table (Some (drawn (open_state h config c found)))
+opened_named h config c found seated = drawn_named h.table (open_state h config c found) (seated.first_number, seated.second_number)
 
 -- Behind a create.
 
@@ -123,13 +168,20 @@ pub record AreNames (name first other : List ℕ) : Type 0 where
   pub first_is : IsTrue (is_name first)
   pub other_is : IsTrue (is_name other)
 
+new_leaf_fit : (size : ℕ → ℕ) (sectors number member : ℕ) (name : List ℕ) (dev : ℕ) → sectors + 256 ≤ size dev → IsFitLeaf size sectors number (new_leaf member (name, dev))
+new_leaf_fit size sectors number member name dev room = record {
+  seated = λ up. refl;
+  room = λ d e. subst (λ x. sectors + 256 ≤ size x) (same_some dev d e) room;
+  logged = λ g e. absurd (cc);
+}
+
 pub created_fit : (h : HostState) (second : ℕ) (name : List ℕ) (blocks : ℕ) (first other : List ℕ) (seats : ℕ × ℕ) → IsFit h → AreNames name first other → is_bad_size blocks ≡ false
     → new_seats h blocks first other ≡ Some seats → IsFitPool h.size (new_state h second name blocks first other seats)
 created_fit h second name blocks first other seats fit names good seated = record {
   valid = made_valid h.size name second blocks first other seats names.name_is names.first_is names.other_is (some_blocks blocks good) has.few has.differ one two;
-  apart = seats_apart h blocks first other seats fit.apart has;
-  first_room = room.1.1.0;
-  second_room = room.1.1.1;
+  first = new_leaf_fit h.size _ 1 2 first seats.0 room.1.1.0;
+  second = new_leaf_fit h.size _ 1 3 other seats.1 room.1.1.1;
+  apart = λ d one two. seats_apart h blocks first other seats fit.apart has (same_some seats.0 d one ∙ sym (same_some seats.1 d two));
   inside = λ a block e. absurd (none_some block e);
   whole = λ a block e. absurd (none_some block e);
   beyond = λ a above. refl;
@@ -148,3 +200,11 @@ created_fit h second name blocks first other seats fit names good seated = recor
     room : (64 ≤ top_sectors (h.size seats.0) (h.size seats.1)) × ((top_sectors (h.size seats.0) (h.size seats.1) ≤ 1048320)
         × ((top_sectors (h.size seats.0) (h.size seats.1) + 256 ≤ h.size seats.0) × (top_sectors (h.size seats.0) (h.size seats.1) + 256 ≤ h.size seats.1)))
     room = top_room (h.size seats.0) (h.size seats.1) one two
+
+pub created_named : (h : HostState) (second : ℕ) (name : List ℕ) (blocks : ℕ) (first other : List ℕ) (seats : ℕ × ℕ) → new_seats h blocks first other ≡ Some seats
+    → PoolIsNamed h.table (Some (new_state h second name blocks first other seats))
+created_named h second name blocks first other seats seated =
+    (λ d e. member_number first h.table seats.0 has.one ∙ e, λ d e. member_number other h.table seats.1 has.two ∙ e)
+  where
+    has : HasNewSeats h blocks first other seats
+    has = new_seats_found h blocks first other seats seated

@@ -3,10 +3,11 @@ use Rattle.std.proofs.Common.{◌≡◌, ℕ, ◌+◌, ◌≤◌, zero, suc, Boo
 use Rattle.std.specs.Prelude.{slice_get, nat_le, if◌then◌else◌}
 use Rattle.std.specs.Str.{bytes_eq}
 use Rattle.std.proofs.lemmas.Bool.{leb-true}
+use Rattle.bank_core.specs.Disk.{Noted}
+use Rattle.config_codec.specs.declared.config.LeafConfig.{LeafConfig}
 use Rattle.config_codec.specs.Fields.{Fields}
 use Rattle.pool_history.specs.Looks.{HaveRoom}
-use Rattle.pool_history.specs.Records.{Rec}
-use Rattle.pool_core.specs.State.{PoolState}
+use Rattle.pool_core.specs.Opening.{IsLooked, IsIdentified}
 use Rattle.host_machine.specs.declared.device.HostDevice.{HostDevice}
 use Rattle.host_machine.specs.Devices.{handed, usable, front, all_handed, member_of, seat_of, number_in}
 use Rattle.host_machine.specs.Fitness.{AreSized}
@@ -89,19 +90,35 @@ both_are None y seats e = absurd (none_some seats e)
 both_are (Some d) None seats e = absurd (none_some seats e)
 both_are (Some d) (Some e) seats is = let same = same_some (d, e) seats is in (ap (λ s. Some s.0) same, ap (λ s. Some s.1) same)
 
--- What is so where an opening has seats: no pool is open, and each leaf has its own.
-pub record HasSeats (h : HostState) (c : Fields) (seats : ℕ × ℕ) : Type 0 where
-  pub closed : h.pool ≡ None
-  pub first : seat_of c.first.name c.sectors h.table ≡ Some seats.0
-  pub second : seat_of c.second.name c.sectors h.table ≡ Some seats.1
+-- Of the seats of an opening's leaves some were found.
+pub record AreFound (seats found : Option ℕ × Option ℕ) : Type 0 where
+  pub first : (d : ℕ) → found.0 ≡ Some d → seats.0 ≡ Some d
+  pub second : (d : ℕ) → found.1 ≡ Some d → seats.1 ≡ Some d
 
-seats_by : (table : List HostDevice) (size : ℕ → ℕ) (records : List Rec) (pool : Option PoolState) (c : Fields) (seats : ℕ × ℕ)
-    → open_seats (record { table = table; size = size; records = records; pool = pool }) c ≡ Some seats
-    → HasSeats (record { table = table; size = size; records = records; pool = pool }) c seats
-seats_by table size records None c seats e =
-    let two = both_are (seat_of c.first.name c.sectors table) (seat_of c.second.name c.sectors table) seats e in
-    record { closed = refl; first = two.0; second = two.1 }
-seats_by table size records (Some s) c seats e = absurd (none_some seats e)
+-- the device that has a leaf's identity is the one that was looked at
+looked_found : (c : Fields) (leaf : LeafConfig) (seat : Option ℕ) (size : ℕ → ℕ) (made : List Noted) (found : Option ℕ) → IsLooked c leaf seat size made found
+    → (d : ℕ) → found ≡ Some d → seat ≡ Some d
+looked_found c leaf None size made found looked d e = absurd (none_some d (sym looked.1 ∙ e))
+looked_found c leaf (Some dev) size made (Some found) looked d e = ap Some (sym looked.0) ∙ e
+looked_found c leaf (Some dev) size made None looked d e = absurd (none_some d e)
 
-pub seats_found : (h : HostState) (c : Fields) (seats : ℕ × ℕ) → open_seats h c ≡ Some seats → HasSeats h c seats
-seats_found h c seats e = seats_by h.table h.size h.records h.pool c seats e
+pub identified_found : (size : ℕ → ℕ) (c : Fields) (seats found : Option ℕ × Option ℕ) (made : List Noted) → IsIdentified size c seats found made → AreFound seats found
+identified_found size c seats found made (one, more, all, first, second) = record {
+  first = looked_found c c.first seats.0 size one found.0 first;
+  second = looked_found c c.second seats.1 size more found.1 second;
+}
+
+-- The devices on which a pool of a record is opened: each is the one of its leaf's name, and has room.
+pub record AreSeated (h : HostState) (c : Fields) (found : Option ℕ × Option ℕ) : Type 0 where
+  pub first_number : (d : ℕ) → found.0 ≡ Some d → number_in c.first.name h.table ≡ Some d
+  pub second_number : (d : ℕ) → found.1 ≡ Some d → number_in c.second.name h.table ≡ Some d
+  pub first_room : (d : ℕ) → found.0 ≡ Some d → c.sectors + 256 ≤ h.size d
+  pub second_room : (d : ℕ) → found.1 ≡ Some d → c.sectors + 256 ≤ h.size d
+
+pub found_seated : (h : HostState) (c : Fields) (found : Option ℕ × Option ℕ) → AreSized h.size h.table → AreFound (open_seats h c) found → AreSeated h c found
+found_seated h c found sized are = record {
+  first_number = λ d e. seat_number c.first.name c.sectors h.table d (are.first d e);
+  second_number = λ d e. seat_number c.second.name c.sectors h.table d (are.second d e);
+  first_room = λ d e. seat_room h.size c.first.name c.sectors h.table d sized (are.first d e);
+  second_room = λ d e. seat_room h.size c.second.name c.sectors h.table d sized (are.second d e);
+}

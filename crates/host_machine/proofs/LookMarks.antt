@@ -30,7 +30,7 @@ looked_behind h more calls (Third q d ∷ vs) l = looked_behind h more calls vs 
 looked_behind h more calls (Ends q d ∷ vs) l = looked_behind h more calls vs l
 looked_behind h more calls (Acks q ∷ vs) l = looked_behind h more calls vs l
 looked_behind h more calls (Loses d ∷ vs) l = looked_behind h more calls vs l
-looked_behind h more calls (Stops images ∷ vs) l = looked_behind h more calls vs l
+looked_behind h more calls (Stops sectors size ∷ vs) l = looked_behind h more calls vs l
 
 -- some events, and more
 pub looked_more : (h : HostState) (calls : List Noted) (vs more : List Event) → AreLooked h calls vs → AreLooked h (calls ++ calls_of vs) more → AreLooked h calls (vs ++ more)
@@ -45,7 +45,7 @@ looked_more h calls (Third q d ∷ vs) more a b = looked_more h calls vs more a 
 looked_more h calls (Ends q d ∷ vs) more a b = looked_more h calls vs more a b
 looked_more h calls (Acks q ∷ vs) more a b = looked_more h calls vs more a b
 looked_more h calls (Loses d ∷ vs) more a b = looked_more h calls vs more a b
-looked_more h calls (Stops images ∷ vs) more a b = looked_more h calls vs more a b
+looked_more h calls (Stops sectors size ∷ vs) more a b = looked_more h calls vs more a b
 
 mark_on : (h g : HostState) (calls : List Noted) (known : ℕ → ℕ → Option (List ℕ)) → g.size ≡ h.size → g.table ≡ h.table → IsLooked g calls known → IsLooked h calls known
 mark_on h g calls known size table l = record {
@@ -69,7 +69,7 @@ looked_on h g calls (Third q d ∷ vs) size table l = looked_on h g calls vs siz
 looked_on h g calls (Ends q d ∷ vs) size table l = looked_on h g calls vs size table l
 looked_on h g calls (Acks q ∷ vs) size table l = looked_on h g calls vs size table l
 looked_on h g calls (Loses d ∷ vs) size table l = looked_on h g calls vs size table l
-looked_on h g calls (Stops images ∷ vs) size table l = looked_on h g calls vs size table l
+looked_on h g calls (Stops sectors room ∷ vs) size table l = looked_on h g calls vs size table l
 
 -- One line's events, and those of the lines behind it.
 pub looked_then : (h between : HostState) (vs more : List Event) → between.size ≡ h.size → between.table ≡ h.table → AreLooked h [] vs → AreLooked between [] more → AreLooked h [] (vs ++ more)

@@ -1,17 +1,21 @@
 -- A read that no leaf served: what each leaf's copy met.
-use Rattle.std.proofs.Common.{◌≡◌, ℕ, ◌+◌, ◌<◌, Bool, true, false, cond, List, [], ◌∷◌, length, Option, Some, None, Err, refl, arith, inl, inr, ◌⊎◌, sym, ◌∙◌, ap, subst, lt-ltb}
-use Rattle.std.specs.Prelude.{nat_lt, ◌||◌}
+use Rattle.std.proofs.Common.{◌≡◌, ℕ, zero, suc, ◌+◌, ◌<◌, Bool, true, false, cond, List, [], ◌∷◌, ◌++◌, length, Option, Some, None, Err, refl, arith, inl, inr, ◌⊎◌, sym, ◌∙◌, ap, subst, lt-ltb, eq-eqb}
+use Rattle.std.specs.Prelude.{nat_lt, not, slice_get, ◌||◌, ◌==◌, ◌≢◌}
+use Rattle.std.specs.List.{filter_map}
 use Rattle.std.specs.Option.{option_map}
 use Rattle.std.specs.Str.{bytes_eq}
+use Rattle.std.proofs.lemmas.Bool.{ne_eqb}
 use Rattle.std.proofs.lemmas.List.{take_all}
 use Rattle.std.proofs.lemmas.Slice.Eq.{bytes_eq-Decides}
 use Rattle.mp_base.specs.Block.{zero_block}
+use Rattle.mp_base.specs.declared.number.Guid.{Guid}
 use Rattle.mp_base.specs.declared.refusal.Refusal.TheVariants as refusals
 use Rattle.bank_core.specs.declared.bank.Fault.{Fault}
 use Rattle.bank_core.specs.Asks.{Reads, ask_of, asks_of}
 use Rattle.bank_core.specs.Calls.{device_of, fault_of}
 use Rattle.bank_core.specs.Disk.{Sector, Sectors, Call, Read, Write, Flush, Admit, Eject, Noted, IsClean, Answers, AllAnswer, as_found, hurt, sector_size, sectors_in, sector_of, after_call}
 use Rattle.bank_core.proofs.Blocks.{sector_block}
+use Rattle.label_store.specs.declared.member.Member.{Member}
 use Rattle.pool_wire.specs.declared.reply.NamedLeaf.{NamedLeaf}
 use Rattle.pool_wire.specs.declared.reply.Reply.{Reply}
 use Rattle.pool_wire.specs.declared.reply.Reply.TheVariants as replies
@@ -23,27 +27,29 @@ use Rattle.pool_history.specs.Pools.{Pool, after}
 use Rattle.pool_history.specs.Records.{Cell, data_start}
 use Rattle.pool_history.specs.Survival.{Survives}
 use Rattle.pool_history.proofs.Holding.{hurt_held}
+use Rattle.pool_history.proofs.LookedParts.{same_some}
 use Rattle.pool_core.specs.Heads.{head_of}
 use Rattle.pool_core.specs.Outside.{Trouble, Wrong, trouble_of, troubles}
-use Rattle.pool_core.specs.Reading.{Copies, source_of, source_at, block_from, wanted, asks_from, asks_to, answer_from, read_answer, read_asks, is_served, served, shown, copies_give}
-use Rattle.pool_core.specs.State.{LeafState, Known, PoolState, Version, leaves}
-use Rattle.host_machine.specs.Answering.{IsOpenIn, HasClash, IsExcused, HasCause, Misses, AllMiss, IsLost, FindUnhurt, IsGoodMember}
+use Rattle.pool_core.specs.Reading.{Copies, source_of, source_at, block_from, wanted, asks_from, asks_to, answer_from, read_answer, read_asks, is_served, served, shown, tries, copies_give}
+use Rattle.pool_core.specs.State.{LeafState, Known, PoolState, Version, leaves, having, owing, seat_of}
+use Rattle.host_machine.specs.Answering.{IsOpenIn, HasClash, IsExcused, HasCause, Misses, AllMiss, IsLost, FindUnhurt, HasGroup, IsGoodMember}
 use Rattle.host_machine.specs.Machine.{HostState, Entry, Step, IsAnswered, WantsMemory, Clashes, named_pool, read_reply, read_line_asks, read_line_answer, wanted_of, line_wants}
-use Rattle.host_machine.specs.Records.{version_of, versions_of}
-use Rattle.host_machine.specs.Tracking.{IsOpenAs, is_ours, StandsIn, Tracks}
+use Rattle.host_machine.specs.Records.{version_of, versions_of, owed_by}
+use Rattle.host_machine.specs.Tracking.{Place, IsAt, IsOpenAs, is_member, is_ours, StandsIn, Tracks}
 use Rattle.host_machine.proofs.Away.{not_both}
+use Rattle.host_machine.proofs.Members.{AllOf, all_to, all_at, all_filtered, all_mapped, seat_is, tries_all}
 use Rattle.host_machine.proofs.QuietLines.{named_is}
 
 -- The pool that is open is this one, where one of its devices is a member.
 pub ours_is_open : (p : Pool) (h : HostState) (name : List ℕ) (s : PoolState) → Tracks p h → named_pool name h.pool ≡ Some s → is_ours p s ≡ true → IsOpenIn p h name s
-ours_is_open p h name s tracks named ours = by (subst (StandsIn p tracks.first tracks.second) (named_is name h.pool s named) tracks.stands)
+ours_is_open p h name s tracks named ours = by (subst (StandsIn p tracks.first tracks.second h.table) (named_is name h.pool s named) tracks.stands)
   where
     elsewhere : (one other : Bool) → one ≡ false → other ≡ false → (one || other) ≡ true → ⊥
     elsewhere one other e f both = cc
 
-    by : StandsIn p tracks.first tracks.second (Some s) → IsOpenIn p h name s
+    by : StandsIn p tracks.first tracks.second h.table (Some s) → IsOpenIn p h name s
     by (inl (first, second, is_open)) = record { tracks = tracks; named = named; first = first; second = second; is_open = is_open }
-    by (inr away) = absurd (elsewhere (p.member s.first.dev) (p.member s.second.dev) away.first away.second ours)
+    by (inr away) = absurd (elsewhere (is_member p s.first.dev) (is_member p s.second.dev) away.first away.second ours)
 
 first_sector : (bytes : List ℕ) → length bytes ≡ 4096 → sector_of 0 bytes ≡ bytes
 unfolding sector_size
@@ -92,15 +98,22 @@ held_cause found d at block (Flush dev fault) trouble h asked answers met = absu
 held_cause found d at block (Admit dev holds) trouble h asked answers met = absurd (cc)
 held_cause found d at block (Eject dev) trouble h asked answers met = absurd (cc)
 
--- the same for a leaf, whose device the pool may have lost
-leaf_cause : (p : Pool) (at : ℕ) (block : List ℕ) (leaf : LeafState) (noted : Noted) (trouble : Trouble) (member : Bool) → p.member leaf.dev ≡ member
-    → (p.member leaf.dev ≡ true → Held (p.sectors leaf.dev at) block) → ask_of noted.call ≡ Reads leaf.dev at 1
-    → Answers (as_found noted p.sectors) noted.call → trouble_of (Known block) noted.call ≡ Some trouble → HasCause p at leaf noted
-leaf_cause p at block leaf noted trouble false lost held asked answers met = inr (inr lost)
-leaf_cause p at block leaf noted trouble true is held asked answers met =
-    of (held_cause (as_found noted p.sectors) leaf.dev at block noted.call trouble (hurt_held (noted.damage leaf.dev at) (p.sectors leaf.dev at) block (held is)) asked answers met)
+-- What a copy is known to hold: the block, where the pool has the device and the leaf's log lacks the birth.
+abbrev Holds : Pool → PoolState → (birth at : ℕ) → (block : List ℕ) → Member → Type 0
+Holds p s birth at block m = p.member m.dev ≡ true → owed_by s m.guid birth ≡ false → Held (p.sectors m.dev at) block
+
+-- why such a copy gave nothing
+copy_cause : (p : Pool) (s : PoolState) (cell : Cell) (block : List ℕ) (m : Member) (noted : Noted) (trouble : Trouble) (member owes : Bool)
+    → p.member m.dev ≡ member → owed_by s m.guid cell.birth ≡ owes → Holds p s cell.birth (data_start + cell.sector) block m
+    → ask_of noted.call ≡ Reads m.dev (data_start + cell.sector) 1 → Answers (as_found noted p.sectors) noted.call → trouble_of (Known block) noted.call ≡ Some trouble
+    → HasCause p s cell m noted
+copy_cause p s cell block m noted trouble false owes lost log held asked answers met = inr (inr (inl lost))
+copy_cause p s cell block m noted trouble true true is log held asked answers met = inr (inr (inr log))
+copy_cause p s cell block m noted trouble true false is log held asked answers met =
+    let at = data_start + cell.sector in
+    of (held_cause (as_found noted p.sectors) m.dev at block noted.call trouble (hurt_held (noted.damage m.dev at) (p.sectors m.dev at) block (held is log)) asked answers met)
   where
-    of : ((fault : Fault) × (fault_of noted.call ≡ Some fault)) ⊎ ((as_found noted p.sectors leaf.dev at).damaged ≡ true) → HasCause p at leaf noted
+    of : ((fault : Fault) × (fault_of noted.call ≡ Some fault)) ⊎ ((as_found noted p.sectors m.dev (data_start + cell.sector)).damaged ≡ true) → HasCause p s cell m noted
     of (inl failed) = inl failed
     of (inr hurt_there) = inr (inl hurt_there)
 
@@ -115,55 +128,89 @@ read_held noted dev from n d at x block asked h = by noted.call asked (hurt_held
     by (Admit e holds) is held = absurd (cc)
     by (Eject e) is held = absurd (cc)
 
--- the block is held on each member at this sector
-abbrev IsHeldAt : Pool → ℕ → List ℕ → Type 0
-IsHeldAt p at block = (d : ℕ) → p.member d ≡ true → Held (p.sectors d at) block
-
--- one more leaf
-miss_next : (p : Pool) (at : ℕ) (block : List ℕ) (leaf : LeafState) (rest : List LeafState) (noted : Noted) (made : List Noted) (met : Option Trouble)
-    → IsHeldAt p at block → Answers (as_found noted p.sectors) noted.call → trouble_of (Known block) noted.call ≡ met
-    → (ask_of noted.call ≡ Reads leaf.dev at 1 → asks_of made ≡ asks_to at rest (troubles (Known block) made) → is_served rest (troubles (Known block) made) ≡ false
-    → AllMiss (after (Calls noted) p) at rest made)
-    → ask_of noted.call ∷ asks_of made ≡ asks_to at (leaf ∷ rest) (met ∷ troubles (Known block) made) → is_served (leaf ∷ rest) (met ∷ troubles (Known block) made) ≡ false
-    → AllMiss p at (leaf ∷ rest) (noted ∷ made)
-miss_next p at block leaf rest noted made None held answers e more asks none = absurd (cc)
-miss_next p at block leaf rest noted made (Some trouble) held answers e more asks none =
-    let first : ask_of noted.call ≡ Reads leaf.dev at 1 = cc in
+-- one more copy
+miss_next : (p : Pool) (s : PoolState) (cell : Cell) (block : List ℕ) (m : Member) (rest : List Member) (noted : Noted) (made : List Noted) (met : Option Trouble)
+    → Holds p s cell.birth (data_start + cell.sector) block m → Answers (as_found noted p.sectors) noted.call → trouble_of (Known block) noted.call ≡ met
+    → (ask_of noted.call ≡ Reads m.dev (data_start + cell.sector) 1 → asks_of made ≡ asks_to (data_start + cell.sector) rest (troubles (Known block) made)
+    → is_served rest (troubles (Known block) made) ≡ false → AllMiss (after (Calls noted) p) s cell rest made)
+    → ask_of noted.call ∷ asks_of made ≡ asks_to (data_start + cell.sector) (m ∷ rest) (met ∷ troubles (Known block) made)
+    → is_served (m ∷ rest) (met ∷ troubles (Known block) made) ≡ false → AllMiss p s cell (m ∷ rest) (noted ∷ made)
+miss_next p s cell block m rest noted made None held answers e more asks none = absurd (cc)
+miss_next p s cell block m rest noted made (Some trouble) held answers e more asks none =
+    let at = data_start + cell.sector in
+    let first : ask_of noted.call ≡ Reads m.dev at 1 = cc in
     let others : asks_of made ≡ asks_to at rest (troubles (Known block) made) = cc in
-    (record { asked = first; cause = leaf_cause p at block leaf noted trouble (p.member leaf.dev) refl (held leaf.dev) first answers e }, more first others none)
+    (record { asked = first; cause = copy_cause p s cell block m noted trouble (p.member m.dev) (owed_by s m.guid cell.birth) refl refl held first answers e }, more first others none)
 
--- no leaf served, so each missed it
-all_miss : (p : Pool) (at : ℕ) (block : List ℕ) (rest : List LeafState) (made : List Noted) → IsHeldAt p at block
-    → AllAnswer p.sectors made → asks_of made ≡ asks_to at rest (troubles (Known block) made) → is_served rest (troubles (Known block) made) ≡ false
-    → AllMiss p at rest made
-all_miss p at block [] [] held answers asks none = refl
-all_miss p at block [] (noted ∷ made) held answers asks none = absurd (cc)
-all_miss p at block (leaf ∷ rest) [] held answers asks none = absurd (cc)
-all_miss p at block (leaf ∷ rest) (noted ∷ made) held answers asks none =
-    miss_next p at block leaf rest noted made (trouble_of (Known block) noted.call) held answers.0 refl
-    (λ first. all_miss (after (Calls noted) p) at block rest made (λ d member. read_held noted leaf.dev at 1 d at (p.sectors d at) block first (held d member)) answers.1)
+-- no copy served, so each gave nothing
+all_miss : (p : Pool) (s : PoolState) (cell : Cell) (block : List ℕ) (rest : List Member) (made : List Noted) → AllOf (Holds p s cell.birth (data_start + cell.sector) block) rest
+    → AllAnswer p.sectors made → asks_of made ≡ asks_to (data_start + cell.sector) rest (troubles (Known block) made) → is_served rest (troubles (Known block) made) ≡ false
+    → AllMiss p s cell rest made
+all_miss p s cell block [] [] held answers asks none = refl
+all_miss p s cell block [] (noted ∷ made) held answers asks none = absurd (cc)
+all_miss p s cell block (m ∷ rest) [] held answers asks none = absurd (cc)
+all_miss p s cell block (m ∷ rest) (noted ∷ made) held answers asks none =
+    let at = data_start + cell.sector in
+    miss_next p s cell block m rest noted made (trouble_of (Known block) noted.call) held.0 answers.0 refl
+    (λ first. all_miss (after (Calls noted) p) s cell block rest made
+    (all_to (Holds p s cell.birth at block) (Holds (after (Calls noted) p) s cell.birth at block) rest
+    (λ n holds member log. read_held noted m.dev at 1 n.dev at (p.sectors n.dev at) block first (holds member log)) held.1) answers.1)
     asks none
 
--- each block of the record that the pool reads is held
-abbrev HoldsRead : Pool → (a : ℕ) → Type 0
-HoldsRead p a = (cell : Cell) → p.reads.cells a ≡ Some cell → IsHeldAt p (data_start + cell.sector) cell.block
+-- The leaves of an open pool are its members, with their numbers.
+record AreMembers (p : Pool) (s : PoolState) : Type 0 where
+  first : (d : ℕ) → s.first.dev ≡ Some d → p.guid d ≡ s.first.member
+  second : (d : ℕ) → s.second.dev ≡ Some d → p.guid d ≡ s.second.member
+  apart : s.first.member.0 ≢ s.second.member.0
 
-cell_held : (p : Pool) (a : ℕ) → Survives head_of p → ((d g : ℕ) → p.reads.owes d g ≡ false) → HoldsRead p a
-cell_held p a left current cell is d member =
-    left.held d (data_start + cell.sector) cell.block
-    (member, inr (record { r = p.reads; is_live = left.reads_live; a = a; cell = cell; cell_is = is; has = current d cell.birth; sector_is = refl; bytes_are = refl }))
+place_guid : (p : Pool) (leaf : LeafState) (place : Place) (d : ℕ) → IsAt leaf place → p.guid place.dev ≡ place.member → leaf.dev ≡ Some d → p.guid d ≡ leaf.member
+place_guid p leaf place d at guid e = ap p.guid (at.2 d e) ∙ guid ∙ sym at.0
 
--- by whether a leaf served
-copies_end : (p : Pool) (s : PoolState) (a : ℕ) (cell : Cell) (block : List ℕ) (made : List Noted) (reply : Reply) (is : Bool) → HoldsRead p a → p.reads.cells a ≡ Some cell
+are_members : (p : Pool) (h : HostState) (name : List ℕ) (s : PoolState) → IsOpenIn p h name s → AreMembers p s
+are_members p h name s o = record {
+  first = λ d e. place_guid p s.first o.tracks.first d o.first o.tracks.first_guid e;
+  second = λ d e. place_guid p s.second o.tracks.second d o.second o.tracks.second_guid e;
+  apart = λ e. o.tracks.numbers (sym (ap (λ (g : Guid). g.0) o.first.0) ∙ e ∙ ap (λ (g : Guid). g.0) o.second.0);
+}
+
+-- each copy of a block of the record that the pool reads
+abbrev HoldsRead : Pool → PoolState → (a : ℕ) → Type 0
+HoldsRead p s a = (cell : Cell) → p.reads.cells a ≡ Some cell → AllOf (Holds p s cell.birth (data_start + cell.sector) cell.block) (tries cell.birth (leaves s))
+
+cell_held : (p : Pool) (s : PoolState) (a : ℕ) → Survives head_of p → AreMembers p s → IsOpenAs p s → HoldsRead p s a
+cell_held p s a left seated is_open cell is =
+    tries_all (Holds p s cell.birth (data_start + cell.sector) cell.block) cell.birth s
+    (λ m e. let seat = seat_is s.first m e in held m (seated.first m.dev seat.0 ∙ seat.1))
+    (λ m e. let seat = seat_is s.second m e in held m (seated.second m.dev seat.0 ∙ seat.1))
+  where
+    held : (m : Member) → p.guid m.dev ≡ m.guid → Holds p s cell.birth (data_start + cell.sector) cell.block m
+    held m guid member log =
+        left.held m.dev (data_start + cell.sector) cell.block (
+          member,
+          inr (record {
+            r = p.reads;
+            is_live = left.reads_live;
+            a = a;
+            cell = cell;
+            cell_is = is;
+            has = is_open.grown m.dev cell.birth member (ap (λ g. owed_by s g cell.birth) guid ∙ log);
+            sector_is = refl;
+            bytes_are = refl;
+          }),
+        )
+
+-- by whether a copy served
+copies_end : (p : Pool) (s : PoolState) (a : ℕ) (cell : Cell) (block : List ℕ) (made : List Noted) (reply : Reply) (is : Bool) → HoldsRead p s a → p.reads.cells a ≡ Some cell
     → block ≡ p.written a → cell.block ≡ p.written a → AllAnswer p.sectors made
-    → asks_of made ≡ asks_to (data_start + cell.sector) (leaves s) (troubles (Known block) made) → is_served (leaves s) (troubles (Known block) made) ≡ is
-    → reply ≡ read_reply (leaves s) (copies_give is a block (shown (leaves s) (troubles (Known block) made))) → (reply ≡ replies.Data (p.written a)) ⊎ IsLost p s a made
+    → asks_of made ≡ asks_to (data_start + cell.sector) (tries cell.birth (leaves s)) (troubles (Known block) made) → is_served (tries cell.birth (leaves s)) (troubles (Known block) made) ≡ is
+    → reply ≡ read_reply (leaves s) (copies_give is a block (shown cell.birth (leaves s) (troubles (Known block) made))) → (reply ≡ replies.Data (p.written a)) ⊎ IsLost p s a made
 copies_end p s a cell block made reply true holds is same last answers asks met e = inl (e ∙ ap replies.Data same)
 copies_end p s a cell block made reply false holds is same last answers asks met e = inr (record {
   cell = cell;
   committed = is;
   last = sym last;
-  missed = all_miss p (data_start + cell.sector) block (leaves s) made (subst (IsHeldAt p (data_start + cell.sector)) (last ∙ sym same) (holds cell is)) answers asks met;
+  missed = all_miss p s cell block (tries cell.birth (leaves s)) made
+      (subst (λ b. AllOf (Holds p s cell.birth (data_start + cell.sector) b) (tries cell.birth (leaves s))) (last ∙ sym same) (holds cell is)) answers asks met;
 })
 
 some_known : (one other : List ℕ) → Known one ≡ Known other → one ≡ other
@@ -179,20 +226,24 @@ copy_of : (p : Pool) (a : ℕ) (version : Version) (cell : Option Cell) → p.re
 copy_of p a version None is e = absurd (cc)
 copy_of p a version (Some cell) is e = record { cell = cell; is = is; version_is = cc }
 
-copies_by : (p : Pool) (s : PoolState) (a : ℕ) (version : Version) (made : List Noted) (reply : Reply) (given : List ℕ) → HoldsRead p a → IsCopyOf p a version
+copies_by : (p : Pool) (s : PoolState) (a : ℕ) (version : Version) (made : List Noted) (reply : Reply) (given : List ℕ) → HoldsRead p s a → IsCopyOf p a version
     → version.content ≡ Known (p.written a) → AllAnswer p.sectors made → asks_of made ≡ asks_from (Copies version) (leaves s) (troubles version.content made)
     → reply ≡ read_reply (leaves s) (answer_from (Copies version) a (leaves s) (troubles version.content made) given)
     → (reply ≡ replies.Data (p.written a)) ⊎ IsLost p s a made
 copies_by p s a version made reply given holds copy known answers asks e =
     let w = p.written a in
+    let birth : version.birth ≡ copy.cell.birth = ap (λ (v : Version). v.birth) copy.version_is in
     let sector : version.sector ≡ copy.cell.sector = ap (λ (v : Version). v.sector) copy.version_is in
     let content : Known copy.cell.block ≡ Known w = sym (ap (λ (v : Version). v.content) copy.version_is) ∙ known in
-    copies_end p s a copy.cell w made reply (is_served (leaves s) (troubles (Known w) made)) holds copy.is refl (some_known copy.cell.block w content) answers
-    (asks ∙ ap (λ c. asks_to (data_start + version.sector) (leaves s) (troubles c made)) known ∙ ap (λ n. asks_to (data_start + n) (leaves s) (troubles (Known w) made)) sector) refl
-    (e ∙ ap (λ c. read_reply (leaves s) (copies_give (is_served (leaves s) (troubles c made)) a (served c given) (shown (leaves s) (troubles c made)))) known)
+    copies_end p s a copy.cell w made reply (is_served (tries copy.cell.birth (leaves s)) (troubles (Known w) made)) holds copy.is refl (some_known copy.cell.block w content) answers
+    (asks ∙ ap (λ c. asks_to (data_start + version.sector) (tries version.birth (leaves s)) (troubles c made)) known
+    ∙ ap (λ n. asks_to (data_start + n) (tries version.birth (leaves s)) (troubles (Known w) made)) sector
+    ∙ ap (λ g. asks_to (data_start + copy.cell.sector) (tries g (leaves s)) (troubles (Known w) made)) birth) refl
+    (e ∙ ap (λ c. read_reply (leaves s) (copies_give (is_served (tries version.birth (leaves s)) (troubles c made)) a (served c given) (shown version.birth (leaves s) (troubles c made)))) known
+    ∙ ap (λ g. read_reply (leaves s) (copies_give (is_served (tries g (leaves s)) (troubles (Known w) made)) a w (shown g (leaves s) (troubles (Known w) made)))) birth)
 
 -- by where the block is found
-source_ends : (p : Pool) (s : PoolState) (a : ℕ) (writes : Option (List ℕ)) (committed : Option Version) (made : List Noted) (reply : Reply) (given : List ℕ) → HoldsRead p a
+source_ends : (p : Pool) (s : PoolState) (a : ℕ) (writes : Option (List ℕ)) (committed : Option Version) (made : List Noted) (reply : Reply) (given : List ℕ) → HoldsRead p s a
     → committed ≡ versions_of p.reads a → block_from (source_of writes committed) ≡ Known (p.written a) → AllAnswer p.sectors made
     → asks_of made ≡ asks_from (source_of writes committed) (leaves s) (troubles (block_from (source_of writes committed)) made)
     → reply ≡ read_reply (leaves s) (answer_from (source_of writes committed) a (leaves s) (troubles (block_from (source_of writes committed)) made) given)
@@ -207,10 +258,10 @@ record IsReadLine (s : PoolState) (a : ℕ) (made : List Noted) (reply : Reply) 
   asks : asks_of made ≡ read_asks s a (troubles (wanted s a) made)
   reply_is : reply ≡ read_reply (leaves s) (read_answer s a (troubles (wanted s a) made) given)
 
-line_ends : (p : Pool) (s : PoolState) (a : ℕ) (made : List Noted) (reply : Reply) (given : List ℕ) → IsOpenAs p s → Survives head_of p → AllAnswer p.sectors made
+line_ends : (p : Pool) (s : PoolState) (a : ℕ) (made : List Noted) (reply : Reply) (given : List ℕ) → AreMembers p s → IsOpenAs p s → Survives head_of p → AllAnswer p.sectors made
     → nat_lt a s.blocks ≡ true → IsReadLine s a made reply given → (reply ≡ replies.Data (p.written a)) ⊎ IsLost p s a made
-line_ends p s a made reply given is_open left answers inside line =
-    source_ends p s a (s.writes a) (s.committed a) made reply given (cell_held p a left is_open.current) (is_open.committed a) (is_open.written a) answers
+line_ends p s a made reply given seated is_open left answers inside line =
+    source_ends p s a (s.writes a) (s.committed a) made reply given (cell_held p s a left seated is_open) (is_open.committed a) (is_open.written a) answers
     (line.asks ∙ ap (λ t. cond t (asks_from (source_at s a) (leaves s) (troubles (wanted s a) made)) []) inside)
     (line.reply_is ∙ ap (λ t. read_reply (leaves s) (cond t (answer_from (source_at s a) a (leaves s) (troubles (wanted s a) made) given) (Err (refusals.BadAddress s.blocks)))) inside)
 
@@ -246,13 +297,13 @@ read_ends p h entry made next name s a o left answers step asked below = by (rea
     of (inr lost) = inr (inl lost)
 
     by : IsReadLine s a made entry.reply entry.given ⊎ IsExcused h entry made → (entry.reply ≡ replies.Data (p.written a)) ⊎ (IsLost p s a made ⊎ IsExcused h entry made)
-    by (inl line) = of (line_ends p s a made entry.reply entry.given o.is_open left answers (lt-ltb a s.blocks below) line)
+    by (inl line) = of (line_ends p s a made entry.reply entry.given (are_members p h name s o) o.is_open left answers (lt-ltb a s.blocks below) line)
     by (inr excused) = inr (inr excused)
 
 data_exhausted : (block : List ℕ) (level index : ℕ) (named : List NamedLeaf) (reply : Reply) → reply ≡ replies.Data block → reply ≡ replies.Exhausted level index named → ⊥
 data_exhausted block level index named reply e f = cc
 
-memory_exhausted : (level index : ℕ) (named : List NamedLeaf) (reply : Reply) → reply ≡ replies.Refused refusals.Memory → reply ≡ replies.Exhausted level index named → ⊥
+pub memory_exhausted : (level index : ℕ) (named : List NamedLeaf) (reply : Reply) → reply ≡ replies.Refused refusals.Memory → reply ≡ replies.Exhausted level index named → ⊥
 memory_exhausted level index named reply e f = cc
 
 outside_exhausted : (s : PoolState) (a : ℕ) (made : List Noted) (reply : Reply) (given : List ℕ) (level index : ℕ) (named : List NamedLeaf) → nat_lt a s.blocks ≡ false
@@ -275,18 +326,13 @@ read_refused p h entry made next name s a level index named o left answers step 
     of (inr lost) = inl lost
 
     inside : (t : Bool) → nat_lt a s.blocks ≡ t → IsReadLine s a made entry.reply entry.given → IsLost p s a made ⊎ HasClash h entry made
-    inside true is line = of (line_ends p s a made entry.reply entry.given o.is_open left answers is line)
+    inside true is line = of (line_ends p s a made entry.reply entry.given (are_members p h name s o) o.is_open left answers is line)
     inside false is line = absurd (outside_exhausted s a made entry.reply entry.given level index named is line reply)
 
     by : IsReadLine s a made entry.reply entry.given ⊎ IsExcused h entry made → IsLost p s a made ⊎ HasClash h entry made
     by (inl line) = inside (nat_lt a s.blocks) refl line
     by (inr (inl memory)) = absurd (memory_exhausted level index named entry.reply memory reply)
     by (inr (inr clash)) = inr clash
-
--- one of these leaves is on the device
-abbrev IsOn : ℕ → List LeafState → Type 0
-IsOn d [] = ⊥
-IsOn d (leaf ∷ rest) = (d ≡ leaf.dev) ⊎ IsOn d rest
 
 read_device : (call : Call) (d at n : ℕ) → ask_of call ≡ Reads d at n → device_of call ≡ d
 read_device (Read dev from bytes fault) d at n e = cc
@@ -295,44 +341,80 @@ read_device (Flush dev fault) d at n e = absurd (cc)
 read_device (Admit dev holds) d at n e = absurd (cc)
 read_device (Eject dev) d at n e = absurd (cc)
 
+lacks : (t : Bool) → not t ≡ true → t ≡ false
+lacks true e = absurd (cc)
+lacks false e = refl
+
 none_some : (fault : Fault) (met : Option Fault) → met ≡ None → met ≡ Some fault → ⊥
 none_some fault met e f = cc
 
 -- a good member doesn't miss
-good_misses : (p : Pool) (at d : ℕ) (leaf : LeafState) (noted : Noted) → d ≡ leaf.dev → p.member d ≡ true → (device_of noted.call ≡ d → fault_of noted.call ≡ None)
-    → (device_of noted.call ≡ d → (as_found noted p.sectors d at).damaged ≡ false) → Misses p at leaf noted → ⊥
-good_misses p at d leaf noted same member fine unhurt misses = by misses.cause
+good_misses : (p : Pool) (s : PoolState) (cell : Cell) (d : ℕ) (m : Member) (noted : Noted) → m.dev ≡ d → owed_by s m.guid cell.birth ≡ false → p.member d ≡ true
+    → (device_of noted.call ≡ d → fault_of noted.call ≡ None) → (device_of noted.call ≡ d → (as_found noted p.sectors d (data_start + cell.sector)).damaged ≡ false)
+    → Misses p s cell m noted → ⊥
+good_misses p s cell d m noted same log member fine unhurt misses = by misses.cause
   where
+    at : ℕ
+    at = data_start + cell.sector
+
     here : device_of noted.call ≡ d
-    here = read_device noted.call leaf.dev at 1 misses.asked ∙ sym same
+    here = read_device noted.call m.dev at 1 misses.asked ∙ same
 
-    by : HasCause p at leaf noted → ⊥
+    by : HasCause p s cell m noted → ⊥
     by (inl failed) = none_some failed.0 (fault_of noted.call) (fine here) failed.1
-    by (inr (inl damaged)) = not_both (as_found noted p.sectors leaf.dev at).damaged (subst (λ e. (as_found noted p.sectors e at).damaged ≡ false) same (unhurt here)) damaged
-    by (inr (inr lost)) = not_both (p.member d) (ap p.member same ∙ lost) member
+    by (inr (inl damaged)) = not_both (as_found noted p.sectors m.dev at).damaged (subst (λ e. (as_found noted p.sectors e at).damaged ≡ false) (sym same) (unhurt here)) damaged
+    by (inr (inr (inl lost))) = not_both (p.member d) (ap p.member (sym same) ∙ lost) member
+    by (inr (inr (inr owes))) = not_both (owed_by s m.guid cell.birth) log owes
 
-not_all_miss : (p : Pool) (at d : ℕ) (rest : List LeafState) (made : List Noted) → IsOn d rest → p.member d ≡ true → NoneFailed d made → FindUnhurt p d at made → AllMiss p at rest made → ⊥
-not_all_miss p at d [] made on member fine unhurt miss = absurd on
-not_all_miss p at d (leaf ∷ rest) [] on member fine unhurt miss = absurd miss
-not_all_miss p at d (leaf ∷ rest) (noted ∷ made) (inl same) member fine unhurt miss = good_misses p at d leaf noted same member fine.0 unhurt.0 miss.0
-not_all_miss p at d (leaf ∷ rest) (noted ∷ made) (inr on) member fine unhurt miss =
-    not_all_miss (after (Calls noted) p) at d rest made on member fine.1 unhurt.1 miss.1
+not_all_miss : (p : Pool) (s : PoolState) (cell : Cell) (d : ℕ) (ms : List Member) (made : List Noted) (i : ℕ) (m : Member) → slice_get ms i ≡ Some m → m.dev ≡ d
+    → owed_by s m.guid cell.birth ≡ false → p.member d ≡ true → NoneFailed d made → FindUnhurt p d (data_start + cell.sector) made → AllMiss p s cell ms made → ⊥
+not_all_miss p s cell d [] made i m at same log member fine unhurt miss = absurd (cc)
+not_all_miss p s cell d (n ∷ ms) [] i m at same log member fine unhurt miss = absurd miss
+not_all_miss p s cell d (n ∷ ms) (noted ∷ made) zero m at same log member fine unhurt miss =
+    let is : n ≡ m = same_some n m at in
+    good_misses p s cell d n noted (ap (λ (x : Member). x.dev) is ∙ same) (ap (λ (x : Member). owed_by s x.guid cell.birth) is ∙ log) member fine.0 unhurt.0 miss.0
+not_all_miss p s cell d (n ∷ ms) (noted ∷ made) (suc i) m at same log member fine unhurt miss =
+    not_all_miss (after (Calls noted) p) s cell d ms made i m at same log member fine.1 unhurt.1 miss.1
 
--- a member is on one of the open pool's leaves
-member_on : (p : Pool) (h : HostState) (name : List ℕ) (s : PoolState) (d : ℕ) → IsOpenIn p h name s → p.member d ≡ true → IsOn d (leaves s)
-member_on p h name s d o member = of (o.tracks.members d member)
+get_first : (xs ys : List Member) (i : ℕ) (m : Member) → slice_get xs i ≡ Some m → slice_get (xs ++ ys) i ≡ Some m
+get_first [] ys i m e = absurd (cc)
+get_first (x ∷ xs) ys zero m e = e
+get_first (x ∷ xs) ys (suc i) m e = get_first xs ys i m e
+
+-- a leaf whose log lacks the birth owes nothing of it by its member number
+having_owes : (p : Pool) (s : PoolState) (birth : ℕ) → AreMembers p s → AllOf (λ (m : Member). owed_by s m.guid birth ≡ false) (filter_map seat_of (having birth (leaves s)))
+having_owes p s birth seated =
+    all_mapped (λ (m : Member). owed_by s m.guid birth ≡ false) seat_of (having birth (leaves s))
+    (all_filtered (λ leaf. (m : Member) → seat_of leaf ≡ Some m → owed_by s m.guid birth ≡ false) (λ leaf. not (leaf.owes birth)) (leaves s)
+    (λ t m e. first t m (seat_is s.first m e).1, (λ t m e. second t m (seat_is s.second m e).1, tt)))
   where
-    of : (d ≡ o.tracks.first.dev) ⊎ (d ≡ o.tracks.second.dev) → IsOn d (leaves s)
-    of (inl e) = inl (e ∙ ap (λ (leaf : LeafState). leaf.dev) (sym o.first))
-    of (inr e) = inr (inl (e ∙ ap (λ (leaf : LeafState). leaf.dev) (sym o.second)))
+    first : not (s.first.owes birth) ≡ true → (m : Member) → s.first.member ≡ m.guid → owed_by s m.guid birth ≡ false
+    first t m guid =
+        let own : (s.first.member.0 == m.guid.0) ≡ true = eq-eqb s.first.member.0 m.guid.0 (ap (λ (g : Guid). g.0) guid) in
+        ap (λ b. cond b (s.first.owes birth) (cond (s.second.member.0 == m.guid.0) (s.second.owes birth) false)) own ∙ lacks (s.first.owes birth) t
+
+    second : not (s.second.owes birth) ≡ true → (m : Member) → s.second.member ≡ m.guid → owed_by s m.guid birth ≡ false
+    second t m guid =
+        let other : (s.first.member.0 == m.guid.0) ≡ false = ne_eqb s.first.member.0 m.guid.0 (λ e. seated.apart (e ∙ sym (ap (λ (g : Guid). g.0) guid))) in
+        let own : (s.second.member.0 == m.guid.0) ≡ true = eq-eqb s.second.member.0 m.guid.0 (ap (λ (g : Guid). g.0) guid) in
+        ap (λ b. cond b (s.first.owes birth) (cond (s.second.member.0 == m.guid.0) (s.second.owes birth) false)) other
+        ∙ ap (λ b. cond b (s.second.owes birth) false) own ∙ lacks (s.second.owes birth) t
 
 pub good_answers : (p : Pool) (h : HostState) (entry : Entry) (made : List Noted) (next : HostState) (name : List ℕ) (s : PoolState) (a d : ℕ)
     → IsOpenIn p h name s → Survives head_of p → AllAnswer p.sectors made → Step h entry made next → entry.asked ≡ Some (requests.Read name a)
-    → a < s.blocks → IsGoodMember p a made d → (entry.reply ≡ replies.Data (p.written a)) ⊎ IsExcused h entry made
+    → a < s.blocks → IsGoodMember p s a made d → (entry.reply ≡ replies.Data (p.written a)) ⊎ IsExcused h entry made
 good_answers p h entry made next name s a d o left answers step asked below good = by (read_ends p h entry made next name s a o left answers step asked below)
   where
+    not_lost : IsLost p s a made → ⊥
+    not_lost lost =
+        let birth = lost.cell.birth in
+        let copy : HasGroup s birth d = good.has lost.cell lost.committed in
+        let ms = filter_map seat_of (having birth (leaves s)) in
+        let log = all_at (λ (m : Member). owed_by s m.guid birth ≡ false) ms copy.0 copy.1 (having_owes p s birth (are_members p h name s o)) copy.2 in
+        not_all_miss p s lost.cell d (tries birth (leaves s)) made copy.0 copy.1 (get_first ms (filter_map seat_of (owing birth (leaves s))) copy.0 copy.1 copy.2) copy.3 log
+        good.is_member good.fine (good.unhurt lost.cell lost.committed) lost.missed
+
     by : (entry.reply ≡ replies.Data (p.written a)) ⊎ (IsLost p s a made ⊎ IsExcused h entry made) → (entry.reply ≡ replies.Data (p.written a)) ⊎ IsExcused h entry made
     by (inl e) = inl e
-    by (inr (inl lost)) = absurd (not_all_miss p (data_start + lost.cell.sector) d (leaves s) made (member_on p h name s d o good.is_member) good.is_member good.fine
-        (good.unhurt lost.cell lost.committed) lost.missed)
+    by (inr (inl lost)) = absurd (not_lost lost)
     by (inr (inr excused)) = inr excused

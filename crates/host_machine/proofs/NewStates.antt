@@ -10,6 +10,7 @@ use Rattle.std.proofs.lemmas.Slice.Eq.{bytes_eq-Decides}
 use Rattle.sha2.specs.Sha256.{sha256, digest_bytes}
 use Rattle.sha2.proofs.Facts256.{length-sha256}
 use Rattle.mp_base.specs.Name.{is_name}
+use Rattle.group_set.specs.Ranges.{ranges_upto}
 use Rattle.config_codec.specs.declared.config.Pointer.{Pointer}
 use Rattle.config_codec.specs.Validity.{IsValid}
 use Rattle.pool_history.specs.Records.{Rec}
@@ -20,6 +21,7 @@ use Rattle.host_machine.specs.declared.device.HostDevice.{HostDevice}
 use Rattle.host_machine.specs.Devices.{AreApart, member_of}
 use Rattle.host_machine.specs.Machine.{HostState, is_bad_size, both, new_seats}
 use Rattle.host_machine.proofs.HostSeats.{both_are, member_number}
+use Rattle.host_machine.proofs.Logs.{log_rises}
 use Rattle.host_machine.proofs.Settling.{same_some, none_some, pointers_long, pointers_at}
 
 -- each of these is a byte
@@ -129,6 +131,11 @@ top_room a b one two = (omega arith, (omega arith, (omega arith, omega arith)))
 abbrev nothing_committed : ℕ → Option Version
 nothing_committed a = None
 
+-- empty logs have no ranges
+no_ranges : length (ranges_upto (λ g. false) 1) + length (ranges_upto (λ g. false) 1) ≤ 4096
+unfolding ranges_upto
+no_ranges = omega arith
+
 -- The configuration of a pool that is made is valid.
 pub made_valid : (size : ℕ → ℕ) (name : List ℕ) (second : ℕ) (blocks : ℕ) (first other : List ℕ) (seats : ℕ × ℕ) → IsTrue (is_name name) → IsTrue (is_name first) → IsTrue (is_name other)
     → 1 ≤ blocks → blocks ≤ 32 → first ≢ other → 320 ≤ size seats.0 → 320 ≤ size seats.1
@@ -151,6 +158,9 @@ made_valid size name second blocks first other seats named first_named other_nam
   first_name = first_named;
   second_name = other_named;
   two_devices = differ;
+  first_log = log_rises (λ g. false) 1;
+  second_log = log_rises (λ g. false) 1;
+  few_ranges = no_ranges;
 }
   where
     no_pointer : (a : ℕ) (p : Pointer) → slice_get (pointers_of nothing_committed blocks) a ≡ Some (Some p) → ⊥

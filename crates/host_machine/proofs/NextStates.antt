@@ -10,7 +10,7 @@ use Rattle.config_codec.specs.declared.config.Pointer.{Pointer}
 use Rattle.config_codec.specs.Validity.{IsPointer, IsValid}
 use Rattle.pool_core.specs.Recorded.{pointer_of, pointers_of, fields_in}
 use Rattle.pool_core.specs.State.{Known, Version, PoolState, other_sector, written, is_spent, last_number}
-use Rattle.pool_core.specs.Syncing.{next_version, synced}
+use Rattle.pool_core.specs.Syncing.{next_version}
 use Rattle.host_machine.specs.Fitness.{IsFitPool}
 use Rattle.host_machine.specs.Records.{version_of}
 use Rattle.host_machine.proofs.Settling.{IsSettled, same_some, none_some, cell_is, pointers_long, pointers_at}
@@ -66,6 +66,8 @@ version_half size s a version fit is = (version_pointer s a version fit.valid (v
 pub fit_settled : (size : ℕ → ℕ) (s : PoolState) → IsFitPool size s → IsSettled s
 fit_settled size s fit = record {
   valid = fit.valid;
+  first_logged = fit.first.logged;
+  second_logged = fit.second.logged;
   beyond = fit.beyond;
   whole = λ a cell e. fit.known_whole a (version_of cell) cell.block (cell_is (s.committed a) cell e) refl;
 }
@@ -79,9 +81,9 @@ written_some false block was some e = inr e
 pub written_fit : (size : ℕ → ℕ) (s : PoolState) (a : ℕ) (block : List ℕ) → IsFitPool size s → a < s.blocks → length block ≡ 4096 → IsFitPool size (written s a block)
 written_fit size s a block fit below long = record {
   valid = fit.valid;
+  first = fit.first;
+  second = fit.second;
   apart = fit.apart;
-  first_room = fit.first_room;
-  second_room = fit.second_room;
   inside = λ x some e. ⊎_elim (λ here. subst (λ y. y < s.blocks) (same_address a x here.0) below) (λ was. fit.inside x some was) (written_some (a == x) block (s.writes x) some e);
   whole = λ x some e. ⊎_elim (λ here. ap length (sym here.1) ∙ long) (λ was. fit.whole x some was) (written_some (a == x) block (s.writes x) some e);
   beyond = fit.beyond;
@@ -101,7 +103,7 @@ next_some : (n a : ℕ) (committed : Option Version) (writes : Option (List ℕ)
 next_some n a committed None version e = inl (refl, e)
 next_some n a committed (Some block) version e = inr (block, refl, same_some _ version e)
 
-next_pointer : (size : ℕ → ℕ) (s : PoolState) (a : ℕ) (version : Version) → IsFitPool size s → next_version (s.number + 1) a (s.committed a) (s.writes a) ≡ Some version
+pub next_pointer : (size : ℕ → ℕ) (s : PoolState) (a : ℕ) (version : Version) → IsFitPool size s → next_version (s.number + 1) a (s.committed a) (s.writes a) ≡ Some version
     → IsPointer (record { 0 = s.number + 1 }) a (pointer_of version)
 next_pointer size s a version fit e =
     ⊎_elim
@@ -110,35 +112,14 @@ next_pointer size s a version fit e =
     (record { birth = (omega arith, omega arith); sector = other_half a (s.committed a); sum = length-sha256 new.0 }))
     (next_some (s.number + 1) a (s.committed a) (s.writes a) version e)
 
-pub synced_valid : (size : ℕ → ℕ) (s : PoolState) → IsFitPool size s → is_spent s.number ≡ false → IsValid (fields_in (synced s))
-synced_valid size s fit open_numbers = record {
-  pool = fit.valid.pool;
-  name = fit.valid.name;
-  blocks = fit.valid.blocks;
-  number = (omega arith, let below = below_spent s.number open_numbers in omega (arith, below));
-  next_member = fit.valid.next_member;
-  counted = pointers_long (synced s).committed s.blocks;
-  pointers = pointers_by (synced s).committed s.blocks (record { 0 = s.number + 1 }) (λ a version e. next_pointer size s a version fit e);
-  sectors = fit.valid.sectors;
-  mirror = fit.valid.mirror;
-  first = fit.valid.first;
-  second = fit.valid.second;
-  not_first = fit.valid.not_first;
-  not_second = fit.valid.not_second;
-  two_members = fit.valid.two_members;
-  first_name = fit.valid.first_name;
-  second_name = fit.valid.second_name;
-  two_devices = fit.valid.two_devices;
-}
-
-synced_beyond : (size : ℕ → ℕ) (s : PoolState) (a : ℕ) → IsFitPool size s → s.blocks ≤ a → next_version (s.number + 1) a (s.committed a) (s.writes a) ≡ None
+pub synced_beyond : (size : ℕ → ℕ) (s : PoolState) (a : ℕ) → IsFitPool size s → s.blocks ≤ a → next_version (s.number + 1) a (s.committed a) (s.writes a) ≡ None
 synced_beyond size s a fit above = by (s.writes a) refl
   where
     by : (writes : Option (List ℕ)) → s.writes a ≡ writes → next_version (s.number + 1) a (s.committed a) writes ≡ None
     by None is = fit.beyond a above
     by (Some block) is = absurd (let below = fit.inside a block is in omega (arith, below, above))
 
-synced_whole : (size : ℕ → ℕ) (s : PoolState) (a : ℕ) (version : Version) (block : List ℕ) → IsFitPool size s → next_version (s.number + 1) a (s.committed a) (s.writes a) ≡ Some version
+pub synced_whole : (size : ℕ → ℕ) (s : PoolState) (a : ℕ) (version : Version) (block : List ℕ) → IsFitPool size s → next_version (s.number + 1) a (s.committed a) (s.writes a) ≡ Some version
     → version.content ≡ Known block → length block ≡ 4096
 synced_whole size s a version block fit e known =
     ⊎_elim
@@ -148,18 +129,6 @@ synced_whole size s a version block fit e known =
   where
     same_known : (x y : List ℕ) → Known x ≡ Known y → x ≡ y
     same_known x y e = cc
-
-pub synced_fit : (size : ℕ → ℕ) (s : PoolState) → IsFitPool size s → is_spent s.number ≡ false → IsFitPool size (synced s)
-synced_fit size s fit open_numbers = record {
-  valid = synced_valid size s fit open_numbers;
-  apart = fit.apart;
-  first_room = fit.first_room;
-  second_room = fit.second_room;
-  inside = λ a block e. absurd (none_some block e);
-  whole = λ a block e. absurd (none_some block e);
-  beyond = λ a above. synced_beyond size s a fit above;
-  known_whole = λ a version block e known. synced_whole size s a version block fit e known;
-}
 
 -- An address' free sector is no committed block's.
 

@@ -1,37 +1,39 @@
 -- Lines that write to no device: reads, quiet lines and accepted writes follow each pool.
-use Rattle.std.proofs.Common.{◌≡◌, ℕ, ◌+◌, ◌==◌, ◌||◌, Bool, true, false, cond, List, [], ◌∷◌, ◌++◌, Option, Some, None, Result, Ok, Err, refl, sym, ap, ◌∙◌, subst, inl, inr}
+use Rattle.std.proofs.Common.{◌≡◌, ℕ, ◌+◌, ◌==◌, Bool, true, false, cond, List, [], ◌∷◌, ◌++◌, Option, Some, None, Result, Ok, Err, refl, sym, ap, ◌∙◌, subst, inl, inr}
 use Rattle.std.specs.Prelude.{if◌then◌else◌, nat_lt}
 use Rattle.std.specs.Str.{bytes_eq}
 use Rattle.mp_base.specs.declared.refusal.Refusal.{Refusal}
 use Rattle.mp_base.specs.declared.refusal.Refusal.TheVariants as refusals
 use Rattle.bank_core.specs.Asks.{Ask, asks_of}
 use Rattle.bank_core.specs.Disk.{Noted}
+use Rattle.label_store.specs.declared.member.Member.{Member}
 use Rattle.label_store.proofs.Reading.{AreReadAsks, are_reads}
 use Rattle.pool_wire.specs.declared.reply.Reply.{Reply}
 use Rattle.pool_history.specs.Events.{Accepts}
 use Rattle.pool_history.specs.Pools.{Pool, after, drawn}
 use Rattle.pool_history.specs.Records.{IsIn}
 use Rattle.pool_core.specs.Outside.{Trouble}
-use Rattle.pool_core.specs.Reading.{Source, Memory, Hole, Copies, source_of, source_at, block_from, asks_to, asks_from}
+use Rattle.pool_core.specs.Reading.{Source, Memory, Hole, Copies, source_of, source_at, block_from, asks_to, asks_from, tries}
 use Rattle.pool_core.specs.State.{LeafState, Known, PoolState, leaves, written, data_start}
 use Rattle.host_machine.specs.Machine.{HostState, named_pool, with_pool, refused, Quietly, write_answer, read_line_asks, read_line_answer}
-use Rattle.host_machine.specs.Tracking.{Cost, IsOpenAs, IsElsewhere, is_ours, StandsIn, Tracks, Follows}
+use Rattle.host_machine.specs.Tracking.{Cost, IsOpenAs, StandsIn, Tracks, Follows}
 use Rattle.host_machine.proofs.Creating.{quiet_follows}
-use Rattle.host_machine.proofs.Following.{reads_follow}
+use Rattle.host_machine.proofs.Following.{kept_last, reads_follow}
 use Rattle.host_machine.proofs.Standings.{tracks_move}
+use Rattle.host_machine.proofs.Whose.{is_this, this_open, not_this}
 
 -- The calls of a read line.
 
-copies_read : (at : ℕ) (leaves : List LeafState) (outside : List (Option Trouble)) → AreReadAsks (asks_to at leaves outside)
+copies_read : (at : ℕ) (ms : List Member) (outside : List (Option Trouble)) → AreReadAsks (asks_to at ms outside)
 copies_read at [] outside = tt
-copies_read at (leaf ∷ leaves) [] = (tt, tt)
-copies_read at (leaf ∷ leaves) (None ∷ outside) = (tt, tt)
-copies_read at (leaf ∷ leaves) (Some trouble ∷ outside) = (tt, copies_read at leaves outside)
+copies_read at (m ∷ ms) [] = (tt, tt)
+copies_read at (m ∷ ms) (None ∷ outside) = (tt, tt)
+copies_read at (m ∷ ms) (Some trouble ∷ outside) = (tt, copies_read at ms outside)
 
 source_reads : (source : Source) (leaves : List LeafState) (outside : List (Option Trouble)) → AreReadAsks (asks_from source leaves outside)
 source_reads (Memory block) leaves outside = tt
 source_reads Hole leaves outside = tt
-source_reads (Copies version) leaves outside = copies_read (data_start + version.sector) leaves outside
+source_reads (Copies version) leaves outside = copies_read (data_start + version.sector) (tries version.birth leaves) outside
 
 reads_if : (b : Bool) (asks : List Ask) → AreReadAsks asks → AreReadAsks (if b then asks else [])
 reads_if true asks are = are
@@ -62,7 +64,7 @@ named_is name (Some t) s e = by (bytes_eq t.name name) e
 
 -- the host with a pool in its place
 pub tracks_with : (p behind : Pool) (h : HostState) (t : PoolState) (tr : Tracks p h) → behind.name ≡ p.name → behind.member ≡ p.member → behind.guid ≡ p.guid → behind.size ≡ p.size
-    → behind.live ≡ p.live → behind.given ≡ p.given → StandsIn behind tr.first tr.second (Some t) → Tracks behind (with_pool h t)
+    → behind.live ≡ p.live → behind.given ≡ p.given → StandsIn behind tr.first tr.second h.table (Some t) → Tracks behind (with_pool h t)
 tracks_with p behind h t tr name member guid size live given stands =
     tracks_move p behind h (with_pool h t) tr name member guid size refl refl
     (λ r is some. tr.known r (subst (IsIn r) same is) some) (λ r c is drawn_of. tr.own r c (subst (IsIn r) same is) drawn_of) stands
@@ -85,33 +87,12 @@ accepts_open p s a block is = record {
   number = is.number;
   acked = is.acked;
   committed = is.committed;
-  current = is.current;
   written = λ x. written_wanted (a == x) s x block (p.written x) (is.written x);
+  grown = is.grown;
 }
 
--- What the machine's open pool is to the pool of the history: where one of its devices is a member it is
--- this pool, and else it is another one.
-
-pub ours_open : (p : Pool) (first second : LeafState) (s : PoolState) → is_ours p s ≡ true → StandsIn p first second (Some s) → (s.first ≡ first) × (s.second ≡ second) × IsOpenAs p s
-ours_open p first second s ours (inl is) = is
-ours_open p first second s ours (inr is) = absurd (no (sym (ap (λ b. b || p.member s.second.dev) is.first ∙ is.second) ∙ ours))
-  where
-    no : false ≡ true → ⊥
-    no e = cc
-
-pub not_ours : (p : Pool) (s : PoolState) → is_ours p s ≡ false → IsElsewhere p s
-not_ours p s off = record { first = first_off (p.member s.first.dev) (p.member s.second.dev) off; second = second_off (p.member s.first.dev) (p.member s.second.dev) off }
-  where
-    first_off : (a b : Bool) → (a || b) ≡ false → a ≡ false
-    first_off true b e = e
-    first_off false b e = refl
-
-    second_off : (a b : Bool) → (a || b) ≡ false → b ≡ false
-    second_off true b e = absurd (let no : true ≡ false = e in cc)
-    second_off false b e = e
-
-accept_follows : (T : Cost → Type 0) (p : Pool) (h : HostState) (s : PoolState) (a : ℕ) (block : List ℕ) (ours : Bool) → is_ours p s ≡ ours → h.pool ≡ Some s → Follows p h T [] (with_pool h (written s a block))
-accept_follows T p h s a block true ours is = record {
+accept_follows : (T : Cost → Type 0) (p : Pool) (h : HostState) (s : PoolState) (a : ℕ) (block : List ℕ) (this : Bool) → is_this p s ≡ this → h.pool ≡ Some s → Follows p h T [] (with_pool h (written s a block))
+accept_follows T p h s a block true this is = record {
   vs = Accepts a block ∷ [];
   calls = refl;
   one_run = tt;
@@ -120,8 +101,9 @@ accept_follows T p h s a block true ours is = record {
   asked = inl tt;
   keeps = λ d is. inl is;
   safe = λ tr twins sv good.
-      let opened = ours_open p tr.first tr.second s ours (subst (StandsIn p tr.first tr.second) is tr.stands) in
+      let opened = this_open p tr.first tr.second h.table s this (subst (StandsIn p tr.first tr.second h.table) is tr.stands) in
       ((tt, tt), tracks_with p (after (Accepts a block) p) h (written s a block) tr refl refl refl refl refl refl (inl (opened.0, opened.1, accepts_open p s a block opened.2)));
+  last = λ tr twins sv good. kept_last T p (after (Accepts a block) p) refl;
 }
 accept_follows T p h s a block false off is = record {
   vs = [];
@@ -132,20 +114,24 @@ accept_follows T p h s a block false off is = record {
   asked = inl tt;
   keeps = λ d is. inl is;
   safe = λ tr twins sv good.
-      let elsewhere = not_ours p s off in
-      (tt, tracks_with p p h (written s a block) tr refl refl refl refl refl refl (inr (record { first = elsewhere.first; second = elsewhere.second })));
+      let other = not_this p h s tr off (subst (StandsIn p tr.first tr.second h.table) is tr.stands) in (
+        tt,
+        tracks_with p p h (written s a block) tr refl refl refl refl refl refl
+            (inr (record { seated = other.seated; first = other.first; second = other.second; alone_first = other.alone_first; alone_second = other.alone_second })),
+      );
+  last = λ tr twins sv good. kept_last T p p refl;
 }
 
-same_pool : (h : HostState) (s : PoolState) → h.pool ≡ Some s → with_pool h s ≡ h
-same_pool h s is = ap (λ pool. record h { pool = pool }) (sym is)
+same_host : (h : HostState) (s : PoolState) → h.pool ≡ Some s → with_pool h s ≡ h
+same_host h s is = ap (λ pool. record h { pool = pool }) (sym is)
 
 -- the answer of a write, by whether its address is within the volume
 abbrev pub put_if : Bool → PoolState → ℕ → List ℕ → Refusal → PoolState × Result (Unit {0}) Refusal
 put_if b s a block fault = if b then (written s a block, Ok tt) else (s, Err fault)
 
 put_follows : (T : Cost → Type 0) (p : Pool) (h : HostState) (s : PoolState) (a : ℕ) (block : List ℕ) (b : Bool) (fault : Refusal) → h.pool ≡ Some s → Follows p h T [] (with_pool h (put_if b s a block fault).0)
-put_follows T p h s a block true fault is = accept_follows T p h s a block (is_ours p s) refl is
-put_follows T p h s a block false fault is = reads_follow T p h [] (with_pool h s) tt (same_pool h s is)
+put_follows T p h s a block true fault is = accept_follows T p h s a block (is_this p s) refl is
+put_follows T p h s a block false fault is = reads_follow T p h [] (with_pool h s) tt (same_host h s is)
 
 write_by : (T : Cost → Type 0) (p : Pool) (h next : HostState) (pool : Option PoolState) (a : ℕ) (block : List ℕ) (made : List Noted) (reply : Reply)
     → ((s : PoolState) → pool ≡ Some s → h.pool ≡ Some s) → Quietly made (write_answer h pool a block) next reply → Follows p h T made next

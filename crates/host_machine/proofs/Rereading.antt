@@ -1,74 +1,41 @@
 -- A live record that an opening found may be committed again, under the next number.
-use Rattle.std.proofs.Common.{◌≡◌, ℕ, ◌+◌, ◌^◌, ◌<◌, ◌≤◌, false, List, [], ◌∷◌, length, Option, Some, None, refl, sym, ap, ◌∙◌, subst, inr, arith}
-use Rattle.std.specs.Prelude.{slice_get}
+use Rattle.std.proofs.Common.{◌≡◌, ⊎_elim, ℕ, ◌+◌, true, false, List, Option, Some, None, refl, sym, ap, ◌∙◌, subst, inr}
 use Rattle.std.specs.Option.{option_map}
-use Rattle.std.proofs.lemmas.Bool.{leb-false}
-use Rattle.std.proofs.lemmas.Option.{slice_get_within}
 use Rattle.bank_core.specs.Asks.{Flushes}
 use Rattle.bank_core.specs.Disk.{Noted}
+use Rattle.label_store.specs.declared.member.Member.{Member}
 use Rattle.label_store.specs.Rounds.{config_of}
 use Rattle.config_codec.specs.declared.config.LeafConfig.{LeafConfig}
 use Rattle.config_codec.specs.Fields.{Fields}
 use Rattle.config_codec.specs.Reading.{config_in}
-use Rattle.config_codec.specs.Validity.{IsValid}
 use Rattle.pool_history.specs.Events.{Opens}
 use Rattle.pool_history.specs.Pools.{Pool, after}
 use Rattle.pool_history.specs.Records.{Rec, IsIn, block_of, data_start}
 use Rattle.pool_history.specs.Survival.{Survives}
-use Rattle.pool_history.proofs.DataSparing.{flush_sparing, sparing_more}
+use Rattle.pool_history.proofs.DataSparing.{flush_sparing, each_sparing}
 use Rattle.pool_history.proofs.Folding.{with_calls}
 use Rattle.pool_history.proofs.Moving.{in_first}
 use Rattle.pool_core.specs.Heads.{head_of}
-use Rattle.pool_core.specs.Opening.{leaf_on, found_state, recommitted}
-use Rattle.pool_core.specs.Recorded.{pointer_of, pointers_of, leaf_config, fields_in}
-use Rattle.pool_core.specs.State.{LeafState, Version, PoolState, is_spent, last_number}
+use Rattle.pool_core.specs.Logs.{drawn}
+use Rattle.pool_core.specs.Opening.{leaf_on}
+use Rattle.pool_core.specs.State.{PoolState, board, is_spent}
 use Rattle.pool_core.specs.Syncing.{flush_plan}
+use Rattle.pool_core.proofs.Drawing.{drawn_relogs, drawn_number}
+use Rattle.host_machine.specs.declared.device.HostDevice.{HostDevice}
 use Rattle.host_machine.specs.Devices.{number_in}
-use Rattle.host_machine.specs.Fitness.{IsFit}
+use Rattle.host_machine.specs.Fitness.{IsFitPool, IsFit}
 use Rattle.host_machine.specs.Machine.{HostState, open_state}
-use Rattle.host_machine.specs.Records.{version_of, versions_of, cell_of, is_known_version, committed_in, IsDrawn, AreDrawn}
-use Rattle.host_machine.specs.Tracking.{Tracks, HasNoTwins}
+use Rattle.host_machine.specs.Records.{version_of, versions_of, cell_of, is_known_version, owed_by, committed_in, IsDrawn, AreDrawn}
+use Rattle.host_machine.specs.Tracking.{Place, IsAt, IsPlaceOf, Tracks, HasNoTwins}
 use Rattle.host_machine.proofs.Away.{part_away}
 use Rattle.host_machine.proofs.Committing.{IsReady}
 use Rattle.host_machine.proofs.CommitsAway.{flushes_away}
+use Rattle.host_machine.proofs.DrawnLogs.{first_current, second_current, first_had, second_had, owed_had}
+use Rattle.host_machine.proofs.FoundStates.{found_fit, opened_fit}
+use Rattle.host_machine.proofs.HostSeats.{AreSeated}
 use Rattle.host_machine.proofs.Knowing.{taken_of, cells_same, cells_back, known_back}
 use Rattle.host_machine.proofs.Looking.{away_survives}
-use Rattle.host_machine.proofs.HostSeats.{HasSeats, seat_number, seat_room}
-use Rattle.host_machine.proofs.NextStates.{later_pointer}
-use Rattle.host_machine.proofs.Settling.{IsSettled, same_some, pointers_long, pointers_at, map_twice}
-
--- the pointers of a configuration are those of what it commits
-abbrev ArePointers : Fields → (ℕ → Option Version) → Type 0
-ArePointers c committed = (a : ℕ) → a < c.blocks → slice_get c.pointers a ≡ Some (option_map pointer_of (committed a))
-
-next_number : (n : ℕ) → is_spent n ≡ false → n + 1 ≤ 2 ^ 62
-next_number n e = let below = leb-false last_number n e in omega arith
-
--- The configuration is valid under the next number too.
-pub valid_next : (c : Fields) (committed : ℕ → Option Version) (d e : ℕ) → IsValid c → is_spent c.number.0 ≡ false → ArePointers c committed
-    → IsValid (fields_in (recommitted (found_state c committed d e)))
-valid_next c committed d e v unspent are = record {
-  pool = v.pool;
-  name = v.name;
-  blocks = v.blocks;
-  number = (omega arith, next_number c.number.0 unspent);
-  next_member = v.next_member;
-  counted = pointers_long committed c.blocks;
-  pointers = λ a p is.
-      let within : a < length (pointers_of committed c.blocks) = slice_get_within (pointers_of committed c.blocks) a (Some p) is in
-      let below : a < c.blocks = subst (λ n. a < n) (pointers_long committed c.blocks) within in
-      later_pointer c.number.0 a p (v.pointers a p (are a below ∙ sym (pointers_at committed c.blocks a below) ∙ is));
-  sectors = v.sectors;
-  mirror = v.mirror;
-  first = v.first;
-  second = v.second;
-  not_first = v.not_first;
-  not_second = v.not_second;
-  two_members = v.two_members;
-  first_name = v.first_name;
-  second_name = v.second_name;
-  two_devices = v.two_devices;
-}
+use Rattle.host_machine.proofs.Settling.{same_some, first_owed, second_owed}
 
 -- The record is one that the machine knows, and takes for this configuration.
 pub record IsKnownAs (records : List Rec) (config : List ℕ) (c : Fields) (r : Rec) : Type 0 where
@@ -90,50 +57,67 @@ known_as records config c r all twins e same i =
     (λ a cell other x y sums. twins.by taken.taken r a a cell other taken.is_in i x y sums) in
     record { drawn = one; committed = λ a. taken.committed a ∙ ap (option_map version_of) (cells a) }
 
-leaf_is : (c : LeafConfig) (d : ℕ) (leaf : LeafState) → c ≡ leaf_config leaf → d ≡ leaf.dev → leaf_on c d ≡ leaf
-leaf_is c d leaf e same = ap (λ l. leaf_on l d) e ∙ ap (leaf_on (leaf_config leaf)) same
+-- A leaf of the record, on a device that has its identity, is at its place.
+found_at : (table : List HostDevice) (leaf : LeafConfig) (dev : Option ℕ) (place : Place) → IsPlaceOf place leaf → ((d : ℕ) → number_in place.name table ≡ Some d → d ≡ place.dev)
+    → ((d : ℕ) → dev ≡ Some d → number_in leaf.name table ≡ Some d) → IsAt (leaf_on leaf dev) place
+found_at table leaf dev place own number numbered = (own.0, own.1, λ d e. number d (subst (λ n. number_is n d) own.1 (numbered d e)))
+  where
+    number_is : List ℕ → ℕ → Type 0
+    number_is name d = number_in name table ≡ Some d
 
-module _ (p : Pool) (h : HostState) (fit : IsFit h) (tracks : Tracks p h) (reads ids : List Noted) (config : List ℕ) (c : Fields) (seats : ℕ × ℕ) (r : Rec)
-    (is_config : config_in config ≡ Some c) (unspent : is_spent c.number.0 ≡ false) (seated : HasSeats h c seats) (live : IsIn r p.live)
-    (known : IsKnownAs h.records config c r) (valid : IsValid c) where
-  -- the state that is committed again
+module _ (p : Pool) (h : HostState) (fit : IsFit h) (tracks : Tracks p h) (reads ids : List Noted) (config : List ℕ) (c : Fields) (found : Option ℕ × Option ℕ) (r : Rec)
+    (is_config : config_in config ≡ Some c) (unspent : is_spent c.number.0 ≡ false) (seated : AreSeated h c found) (live : IsIn r p.live)
+    (known : IsKnownAs h.records config c r) where
+  -- the state that is opened, and the one that is committed
+  abbrev opening : PoolState
+  opening = open_state h config c found
+
   abbrev again : PoolState
-  again = recommitted (open_state h config c seats)
+  again = drawn opening
 
   -- the pool behind the reads of the labels, the opening, and the search for the leaves
   abbrev behind : Pool
   behind = with_calls ids (after (Opens r) (with_calls reads p))
 
+  fit_opening : IsFitPool h.size opening
+  fit_opening = found_fit h config c found fit is_config seated
+
+  same_version : (a : ℕ) → again.committed a ≡ versions_of r a
+  same_version a = ap (λ (t : PoolState). t.committed a) (drawn_relogs opening).is ∙ known.committed a
+
   same_cells : (a : ℕ) → cell_of (again.committed a) ≡ r.cells a
-  same_cells a = ap cell_of (known.committed a) ∙ cells_back (r.cells a)
+  same_cells a = ap cell_of (same_version a) ∙ cells_back (r.cells a)
 
-  pointed : ArePointers c again.committed
-  pointed a below = known.drawn.pointers a below ∙ ap Some (sym (map_twice (r.cells a))) ∙ ap (λ v. Some (option_map pointer_of v)) (sym (known.committed a))
-
-  settled : IsSettled again
-  settled = record {
-    valid = valid_next c again.committed seats.0 seats.1 valid unspent pointed;
-    beyond = λ a above. known.committed a ∙ ap (option_map version_of) (known.drawn.beyond a above);
-    whole = λ a cell e. known.drawn.whole a cell (sym (same_cells a) ∙ e);
-  }
-
-  own : (c.name ≡ p.name) × (c.first ≡ leaf_config tracks.first) × (c.second ≡ leaf_config tracks.second)
+  own : (c.name ≡ p.name) × IsPlaceOf tracks.first c.first × IsPlaceOf tracks.second c.second
   own = tracks.own r c (in_first r p.live p.given live) known.drawn
 
-  first_seat : seats.0 ≡ tracks.first.dev
-  first_seat = tracks.first_number seats.0 (ap (λ (l : LeafConfig). number_in l.name h.table) (sym own.1) ∙ seat_number c.first.name c.sectors h.table seats.0 seated.first)
+  -- What a member has behind the draw, it has in the record.
 
-  second_seat : seats.1 ≡ tracks.second.dev
-  second_seat = tracks.second_number seats.1 (ap (λ (l : LeafConfig). number_in l.name h.table) (sym own.2) ∙ seat_number c.second.name c.sectors h.table seats.1 seated.second)
+  first_has : (d g : ℕ) → d ≡ tracks.first.dev → owed_by opening (p.guid d) g ≡ false → r.owes (p.guid d) g ≡ false
+  first_has d g same none =
+      let guid : p.guid d ≡ c.first.member = ap p.guid same ∙ tracks.first_guid ∙ sym own.1.0 in
+      ap (λ m. r.owes m g) guid ∙ known.drawn.first_log g ∙ sym (first_owed opening g) ∙ ap (λ m. owed_by opening m g) (sym guid) ∙ none
+
+  second_has : (d g : ℕ) → d ≡ tracks.second.dev → owed_by opening (p.guid d) g ≡ false → r.owes (p.guid d) g ≡ false
+  second_has d g same none =
+      let guid : p.guid d ≡ c.second.member = ap p.guid same ∙ tracks.second_guid ∙ sym own.2.0 in
+      ap (λ m. r.owes m g) guid ∙ known.drawn.second_log g ∙ sym (second_owed opening g fit_opening.valid.two_members) ∙ ap (λ m. owed_by opening m g) (sym guid) ∙ none
+
+  had_before : (d g : ℕ) → p.member d ≡ true → owed_by again (p.guid d) g ≡ false → r.owes (p.guid d) g ≡ false
+  had_before d g member none =
+      let had = owed_had opening again (p.guid d) g (ap (λ (t : PoolState). t.first.member) (drawn_relogs opening).is) (ap (λ (t : PoolState). t.second.member) (drawn_relogs opening).is)
+      (first_had opening g fit_opening.first.logged) (second_had opening g fit_opening.second.logged) none in
+      ⊎_elim (λ same. first_has d g same had) (λ same. second_has d g same had) (tracks.members d member)
 
   -- It may be committed, where the pool keeps the invariant.
-  pub ready_again : c.pool ≡ p.pool → Survives head_of behind → IsReady behind h (flush_plan (open_state h config c seats)) again
+  pub ready_again : c.pool ≡ p.pool → Survives head_of behind → IsReady behind h (flush_plan (open_state h config c found)) (drawn (open_state h config c found))
   ready_again pool sv = record {
     tracks = record {
       sizes = tracks.sizes;
       first = tracks.first;
       second = tracks.second;
       apart = tracks.apart;
+      numbers = tracks.numbers;
       members = tracks.members;
       first_guid = tracks.first_guid;
       second_guid = tracks.second_guid;
@@ -143,20 +127,20 @@ module _ (p : Pool) (h : HostState) (fit : IsFit h) (tracks : Tracks p h) (reads
       own = tracks.own;
       stands = tt;
     };
-    first = leaf_is c.first seats.0 tracks.first own.1 first_seat;
-    second = leaf_is c.second seats.1 tracks.second own.2 second_seat;
-    name = own.0;
-    pool = pool;
-    number = ap (λ n. n.0 + 1) (sym known.drawn.number);
-    settled = settled;
-    known = λ a. ap is_known_version (known.committed a) ∙ known_back (r.cells a);
-    no_writes = λ a. refl;
+    first = subst (λ (t : PoolState). IsAt t.first tracks.first) (sym (drawn_relogs opening).is) (found_at h.table c.first found.0 tracks.first own.1 tracks.first_number seated.first_number);
+    second = subst (λ (t : PoolState). IsAt t.second tracks.second) (sym (drawn_relogs opening).is) (found_at h.table c.second found.1 tracks.second own.2 tracks.second_number seated.second_number);
+    name = ap (λ (t : PoolState). t.name) (drawn_relogs opening).is ∙ own.0;
+    pool = ap (λ (t : PoolState). t.pool) (drawn_relogs opening).is ∙ pool;
+    number = drawn_number opening ∙ ap (λ n. n.0 + 1) (sym known.drawn.number);
+    fit = opened_fit h config c found fit is_config unspent seated;
+    known = λ a. ap is_known_version (same_version a) ∙ known_back (r.cells a);
+    no_writes = λ a. ap (λ (t : PoolState). t.writes a) (drawn_relogs opening).is;
     blocks = λ a. ap block_of (same_cells a);
-    first_room = seat_room h.size c.first.name c.sectors h.table seats.0 fit.sized seated.first;
-    second_room = seat_room h.size c.second.name c.sectors h.table seats.1 fit.sized seated.second;
-    sparing = sparing_more behind (Flushes seats.0 ∷ []) (Flushes seats.1 ∷ []) (flush_sparing behind seats.0) (flush_sparing behind seats.1);
-    held = λ before part d a cell is e.
-        (away_survives behind before (part_away behind.member (flush_plan (open_state h config c seats)) before None (flushes_away behind.member (open_state h config c seats)) part) sv).held
+    first_owes = first_current opening fit_opening.first.logged;
+    second_owes = second_current opening fit_opening.second.logged;
+    sparing = each_sparing behind (λ (m : Member). Flushes m.dev) (board opening) (λ j m e. flush_sparing behind m.dev);
+    held = λ before part d a cell is e none.
+        (away_survives behind before (part_away behind.member (flush_plan opening) before None (flushes_away behind.member opening) part) sv).held
         d (data_start + cell.sector) cell.block
-        (is, inr (record { r = r; is_live = live; a = a; cell = cell; cell_is = sym (same_cells a) ∙ e; has = known.drawn.current d cell.birth; sector_is = refl; bytes_are = refl }));
+        (is, inr (record { r = r; is_live = live; a = a; cell = cell; cell_is = sym (same_cells a) ∙ e; has = had_before d cell.birth is none; sector_is = refl; bytes_are = refl }));
   }

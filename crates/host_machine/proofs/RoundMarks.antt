@@ -21,7 +21,7 @@ AreRoundMarks (Third q d ∷ vs) = AreRoundMarks vs
 AreRoundMarks (Ends q d ∷ vs) = AreRoundMarks vs
 AreRoundMarks (Acks q ∷ vs) = AreRoundMarks vs
 AreRoundMarks (Loses d ∷ vs) = ⊥
-AreRoundMarks (Stops images ∷ vs) = ⊥
+AreRoundMarks (Stops sectors size ∷ vs) = ⊥
 
 pub marks_looked : (h : HostState) (calls : List Noted) (vs : List Event) → AreRoundMarks vs → AreLooked h calls vs
 marks_looked h calls [] m = tt
@@ -34,7 +34,7 @@ marks_looked h calls (Third q d ∷ vs) m = marks_looked h calls vs m
 marks_looked h calls (Ends q d ∷ vs) m = marks_looked h calls vs m
 marks_looked h calls (Acks q ∷ vs) m = marks_looked h calls vs m
 marks_looked h calls (Loses d ∷ vs) m = absurd m
-marks_looked h calls (Stops images ∷ vs) m = absurd m
+marks_looked h calls (Stops sectors size ∷ vs) m = absurd m
 
 pub marks_more : (first second : List Event) → AreRoundMarks first → AreRoundMarks second → AreRoundMarks (first ++ second)
 marks_more [] second a b = b
@@ -47,7 +47,7 @@ marks_more (Third q d ∷ first) second a b = marks_more first second a b
 marks_more (Ends q d ∷ first) second a b = marks_more first second a b
 marks_more (Acks q ∷ first) second a b = marks_more first second a b
 marks_more (Loses d ∷ first) second a b = absurd a
-marks_more (Stops images ∷ first) second a b = absurd a
+marks_more (Stops sectors size ∷ first) second a b = absurd a
 
 pub calls_marked : (made : List Noted) → AreRoundMarks (as_events made)
 calls_marked [] = tt
@@ -64,7 +64,7 @@ turns_marked (Third q d ∷ vs) t = turns_marked vs t
 turns_marked (Ends q d ∷ vs) t = turns_marked vs t
 turns_marked (Acks q ∷ vs) t = absurd t
 turns_marked (Loses d ∷ vs) t = absurd t
-turns_marked (Stops images ∷ vs) t = absurd t
+turns_marked (Stops sectors size ∷ vs) t = absurd t
 
 acks_marked : (c : Bool) (q : Rec) → AreRoundMarks (acks_if c q)
 acks_marked true q = tt
@@ -90,7 +90,7 @@ marks_open_none (Third q d ∷ vs) m = marks_open_none vs m
 marks_open_none (Ends q d ∷ vs) m = marks_open_none vs m
 marks_open_none (Acks q ∷ vs) m = marks_open_none vs m
 marks_open_none (Loses d ∷ vs) m = absurd m
-marks_open_none (Stops images ∷ vs) m = absurd m
+marks_open_none (Stops sectors size ∷ vs) m = absurd m
 
 pub calls_open_none : (made : List Noted) → OpensNone (as_events made)
 calls_open_none [] = tt
@@ -107,4 +107,4 @@ none_more (Third q d ∷ first) second a b = none_more first second a b
 none_more (Ends q d ∷ first) second a b = none_more first second a b
 none_more (Acks q ∷ first) second a b = none_more first second a b
 none_more (Loses d ∷ first) second a b = none_more first second a b
-none_more (Stops images ∷ first) second a b = none_more first second a b
+none_more (Stops sectors size ∷ first) second a b = none_more first second a b

@@ -19,7 +19,7 @@ turns_one_run (Third q d ∷ vs) t = turns_one_run vs t
 turns_one_run (Ends q d ∷ vs) t = turns_one_run vs t
 turns_one_run (Acks q ∷ vs) t = absurd t
 turns_one_run (Loses d ∷ vs) t = absurd t
-turns_one_run (Stops images ∷ vs) t = absurd t
+turns_one_run (Stops sectors size ∷ vs) t = absurd t
 
 acks_one_run : (c : Bool) (q : Rec) → IsOneRun (acks_if c q)
 acks_one_run true q = tt

@@ -1,5 +1,5 @@
 -- How the entries of a run end by the counts of their own calls.
-use Rattle.std.proofs.Common.{◌≡◌, ℕ, false, List, ◌∷◌, ◌++◌, Some, subst}
+use Rattle.std.proofs.Common.{◌≡◌, ◌⊎◌, ℕ, false, List, ◌∷◌, ◌++◌, Some, subst}
 use Rattle.mp_base.specs.declared.number.Group.{Group}
 use Rattle.mp_base.specs.declared.number.Guid.{Guid}
 use Rattle.mp_base.specs.declared.refusal.Refusal.TheVariants as refusals
@@ -25,7 +25,7 @@ pub record CountLaws : Type 0 where
       → AllCaused made before after → CreatesByCounts first second seats before after entry.reply
   pub imports : (h : HostState) (entry : Entry) (made : List Noted) (next : HostState) (name : List ℕ) (before after : ℕ → ℕ) (group : Group) (top : Guid) (faults : ℕ)
       → Step h entry made next → entry.asked ≡ Some (requests.Import name) → entry.reply ≡ replies.Refused (refusals.Suspended group top faults)
-      → AllCaused made before after → SomeRose before after
+      → AllCaused made before after → (faults ≡ 0) ⊎ SomeRose before after
 
 entry_ends : CountLaws → (h : HostState) (entries : List Entry) (calls : List Noted) (next : HostState) (start end : ℕ → ℕ) → Replay h entries calls next → AllCaused calls start end
     → (before : List Entry) (entry : Entry) (after : List Entry) → entries ≡ before ++ entry ∷ after → EndsByCounts h before entry after calls next start end

@@ -1,32 +1,37 @@
 -- The record of a state: when its configuration and its blocks may be committed.
-use Rattle.std.proofs.Common.{◌≡◌, ◌⊎◌, ℕ, ◌+◌, ◌-◌, ◌/◌, ◌^◌, ◌<◌, ◌≤◌, ◌&&◌, zero, suc, Bool, true, false, List, [], ◌∷◌, ◌++◌, length, Option, Some, None, refl, sym, ap, ◌∙◌, subst, arith, inl, inr, ⊎_elim}
+use Rattle.std.proofs.Common.{◌≡◌, ◌≢◌, ◌⊎◌, ℕ, ◌+◌, ◌/◌, ◌%◌, ◌^◌, ◌<◌, ◌≤◌, ◌==◌, ◌&&◌, zero, suc, cond, Bool, true, false, List, [], ◌∷◌, ◌++◌, length, Option, Some, None, refl, sym, ap, ◌∙◌, subst, arith, inl, inr, ⊎_elim}
 use Rattle.std.specs.Prelude.{slice_get}
 use Rattle.std.specs.Option.{option_map}
 use Rattle.std.specs.List.{list_all}
-use Rattle.std.proofs.lemmas.Bool.{cases_lt, and_parts, and_from}
+use Rattle.std.proofs.lemmas.Bool.{cases_lt, and_parts, and_from, ne_eqb}
 use Rattle.std.proofs.lemmas.List.{length-map, length-append}
 use Rattle.std.proofs.lemmas.List.Folds.{list_all-append}
 use Rattle.std.proofs.lemmas.Option.{slice_get-map}
 use Rattle.std.proofs.Math.Seq.{take-append_seam}
 use Rattle.sha2.proofs.Facts256.{length-sha256}
 use Rattle.mp_base.specs.declared.number.Guid.{Guid}
-use Rattle.bank_core.proofs.Blocks.{block_whole, block_sectors}
+use Rattle.bank_core.specs.Disk.{sector_size, sectors_in}
 use Rattle.label_store.specs.Records.{IsRecord}
 use Rattle.label_store.specs.Rounds.{config_of, uberblock_of}
 use Rattle.config_codec.specs.Reading.{config_in}
 use Rattle.config_codec.specs.Spelling.{config_bytes}
 use Rattle.config_codec.specs.Validity.{IsValid}
-use Rattle.config_codec.proofs.Deciding.{back, fits}
+use Rattle.config_codec.proofs.Deciding.{back, fits_part}
 use Rattle.config_codec.proofs.Placing.{length-zeros}
 use Rattle.pool_history.specs.Records.{Cell}
+use Rattle.pool_history.proofs.LooksFound.{alike}
 use Rattle.pool_core.specs.Heads.{head_from, head_of}
-use Rattle.pool_core.specs.Recorded.{addresses, pointer_of, pointers_of, fields_in, sealed, commit_of}
+use Rattle.pool_core.specs.Recorded.{addresses, pointer_of, pointers_of, fields_in, padding, sealed, commit_of}
 use Rattle.pool_core.specs.State.{Content, Known, Summed, Version, PoolState}
-use Rattle.host_machine.specs.Records.{version_of, cell_with, cell_of, is_known_content, is_known_version, is_known, record_of, IsDrawn}
+use Rattle.host_machine.specs.Records.{version_of, cell_with, cell_of, is_known_content, is_known_version, is_known, owed_by, record_of, IsDrawn}
+use Rattle.host_machine.proofs.Logs.{IsWithin, log_ranges}
 
--- The state's configuration is valid, and its blocks are whole and within the volume.
+-- The state's configuration is valid, its logs have groups up to its number, and its blocks are whole and within the
+-- volume.
 pub record IsSettled (t : PoolState) : Type 0 where
   pub valid : IsValid (fields_in t)
+  pub first_logged : IsWithin t.number t.first.owes
+  pub second_logged : IsWithin t.number t.second.owes
   pub beyond : (a : ℕ) → t.blocks ≤ a → t.committed a ≡ None
   pub whole : (a : ℕ) (cell : Cell) → cell_of (t.committed a) ≡ Some cell → length cell.block ≡ 4096
 
@@ -122,16 +127,40 @@ known_each t settled all a = by (cases_lt a t.blocks)
     by (inl below) = each_passes (λ b. is_known_version (t.committed b)) t.blocks all a below
     by (inr above) = ap is_known_version (settled.beyond a above)
 
--- the configuration in the sector that a round writes
-pub sealed_long : (config : List ℕ) → length config ≤ 4096 → length (sealed config) ≡ 4096
-sealed_long config few =
-    length-append config _ ∙ ap (λ n. length config + n) (length-zeros (4096 - length config)) ∙ (let whole : length config + (4096 - length config) ≡ 4096 = omega arith in whole)
+-- the configuration in the sectors that a round writes
+
+padded_whole : (n : ℕ) → (n + padding n) % 4096 ≡ 0
+padded_whole n = omega arith
+
+padded_few : (n : ℕ) → n ≤ 114688 → (n + padding n) / 4096 ≤ 28
+padded_few n few = omega arith
+
+pub sealed_long : (config : List ℕ) → length (sealed config) ≡ length config + padding (length config)
+sealed_long config = length-append config _ ∙ ap (λ n. length config + n) (length-zeros (padding (length config)))
+
+sealed_whole : (config : List ℕ) → length (sealed config) % sector_size ≡ 0
+unfolding sector_size
+sealed_whole config = ap (λ n. n % 4096) (sealed_long config) ∙ padded_whole (length config)
+
+sealed_few : (config : List ℕ) → length config ≤ 114688 → sectors_in (sealed config) ≤ 28
+unfolding sector_size
+sealed_few config few = subst (λ n. n / 4096 ≤ 28) (sym (sealed_long config)) (padded_few (length config) few)
 
 pub config_is : (t : PoolState) → config_of (commit_of t) ≡ config_bytes (fields_in t)
 config_is t = take-append_seam (config_bytes (fields_in t)) _
 
 pub config_reads : (t : PoolState) → IsValid (fields_in t) → config_in (config_of (commit_of t)) ≡ Some (fields_in t)
 config_reads t valid = ap config_in (config_is t) ∙ back (fields_in t) valid
+
+-- The logs of a record.
+
+pub first_owed : (t : PoolState) (g : ℕ) → owed_by t t.first.member g ≡ t.first.owes g
+first_owed t g = ap (λ b. cond b (t.first.owes g) (cond (t.second.member.0 == t.first.member.0) (t.second.owes g) false)) (alike t.first.member.0)
+
+pub second_owed : (t : PoolState) (g : ℕ) → t.first.member.0 ≢ t.second.member.0 → owed_by t t.second.member g ≡ t.second.owes g
+second_owed t g differ =
+    ap (λ b. cond b (t.first.owes g) (cond (t.second.member.0 == t.second.member.0) (t.second.owes g) false)) (ne_eqb t.first.member.0 t.second.member.0 differ)
+    ∙ ap (λ b. cond b (t.second.owes g) false) (alike t.second.member.0)
 
 -- A settled state whose blocks are known has a record that may be drawn up.
 pub settled_drawn : (t : PoolState) → IsSettled t → AllKnown t → IsDrawn (record_of t) (fields_in t)
@@ -144,8 +173,9 @@ settled_drawn t settled known = record {
   pointers = λ a below. pointers_at t.committed t.blocks a below
       ∙ ap (λ v. Some (option_map pointer_of v)) (known_is (t.committed a) (known a)) ∙ ap Some (map_twice (cell_of (t.committed a)));
   beyond = λ a above. ap cell_of (settled.beyond a above);
+  first_log = λ g. first_owed t g ∙ log_ranges t.first.owes t.number settled.first_logged g;
+  second_log = λ g. second_owed t g settled.valid.two_members ∙ log_ranges t.second.owes t.number settled.second_logged g;
   whole = settled.whole;
-  current = λ d g. refl;
 }
 
 -- its configuration with a member's uberblock
@@ -156,22 +186,19 @@ settled_record t dev guid settled small = record {
     pool = let most = settled.valid.pool.1 in omega arith;
     member = small;
     number = settled.valid.number.1;
-    config = let few = fits (fields_in t) settled.valid in omega arith;
+    config = let few = fits_part (fields_in t) settled.valid in omega arith;
     sum = length-sha256 (config_of (commit_of t));
     no_config = λ none. absurd (let some = settled.valid.number.0 in omega (arith, none));
     no_sum = λ none. absurd (let some = settled.valid.number.0 in omega (arith, none));
   };
   some = settled.valid.number.0;
-  whole = block_whole (commit_of t).blob long;
-  most = rw (block_sectors (commit_of t).blob long) (omega arith);
-  within = let few = fits (fields_in t) settled.valid in rw long few;
+  whole = sealed_whole (config_bytes (fields_in t));
+  most = sealed_few (config_bytes (fields_in t)) (fits_part (fields_in t) settled.valid);
+  within = let long = sealed_long (config_bytes (fields_in t)) in omega (arith, long);
   config_is = refl;
   sum = refl;
   headed = record { head = head_from (fields_in t); reads = ap (option_map head_from) (config_reads t settled.valid); pool_is = refl; number_is = refl };
 }
-  where
-    long : length (commit_of t).blob ≡ 4096
-    long = sealed_long (config_bytes (fields_in t)) (fits (fields_in t) settled.valid)
 
 -- a committed block is within the volume, and its sector is one of its address
 pub cell_pointer : (t : PoolState) (a : ℕ) (cell : Cell) → IsSettled t → cell_of (t.committed a) ≡ Some cell

@@ -1,5 +1,5 @@
--- The plan of a sync spares what is needed, and brings each block to both leaves.
-use Rattle.std.proofs.Common.{◌≡◌, ◌≢◌, ◌⊎◌, ℕ, ◌+◌, ◌<◌, ◌≤◌, ◌==◌, zero, suc, true, false, List, [], ◌∷◌, length, Option, Some, None, refl, sym, ap, ◌∙◌, subst, arith, inl, inr, ⊎_elim}
+-- The plan of a sync spares what is needed, and brings each block to each leaf of the board.
+use Rattle.std.proofs.Common.{◌≡◌, ◌≢◌, ◌⊎◌, ℕ, ◌+◌, ◌<◌, ◌≤◌, ◌==◌, ◌*◌, Bool, true, false, cond, List, [], ◌∷◌, length, Option, Some, None, refl, sym, ap, ◌∙◌, subst, arith, inl, inr, ⊎_elim}
 use Rattle.std.specs.Prelude.{slice_get}
 use Rattle.std.specs.List.{flat_map}
 use Rattle.std.specs.Option.{option_map}
@@ -10,6 +10,8 @@ use Rattle.bank_core.specs.Disk.{Sector, Sectors, Noted, covers, sectors_in, hur
 use Rattle.bank_core.specs.Standing.{Stands, Untouched, Spares}
 use Rattle.bank_core.proofs.Blocks.{block_sectors}
 use Rattle.bank_core.proofs.Standing.{part_spares}
+use Rattle.label_store.specs.declared.member.Member.{Member}
+use Rattle.label_store.specs.Seats.{AreApart}
 use Rattle.pool_history.specs.Commits.{WritesLast, Brings}
 use Rattle.pool_history.specs.Moves.{AreSparing}
 use Rattle.pool_history.specs.Needs.{Held, Needs}
@@ -22,11 +24,12 @@ use Rattle.pool_history.proofs.Landing.{landed, writes_then_flushes, each_write_
 use Rattle.pool_history.proofs.RoundPlaces.{outside_one}
 use Rattle.pool_core.specs.Heads.{head_of}
 use Rattle.pool_core.specs.Recorded.{addresses}
-use Rattle.pool_core.specs.State.{LeafState, PoolState, leaves, other_sector}
+use Rattle.pool_core.specs.State.{Version, PoolState, board, other_sector}
 use Rattle.pool_core.specs.Syncing.{writes_to, writes_at, flush_plan, sync_plan}
 use Rattle.host_machine.specs.Fitness.{IsFitPool}
 use Rattle.host_machine.specs.Records.{version_of, versions_of}
-use Rattle.host_machine.proofs.NextStates.{free_apart, free_differs, free_below}
+use Rattle.host_machine.proofs.Boards.{board_apart}
+use Rattle.host_machine.proofs.NextStates.{free_apart, free_differs}
 use Rattle.host_machine.proofs.Settling.{same_some, none_some, addresses_long, addresses_at}
 
 -- where a sync writes an address
@@ -50,24 +53,28 @@ address_below n j a e =
 
 -- What is spared.
 
-leaf_in : (s : PoolState) (P : LeafState → Type 0) → P s.first → P s.second → (j : ℕ) (leaf : LeafState) → slice_get (leaves s) j ≡ Some leaf → P leaf
-leaf_in s P one two zero leaf e = subst P (same_some s.first leaf e) one
-leaf_in s P one two (suc zero) leaf e = subst P (same_some s.second leaf e) two
-leaf_in s P one two (suc (suc j)) leaf e = absurd (none_some leaf e)
-
-writes_sparing : (p : Pool) (s : PoolState) (at : ℕ) (block : Option (List ℕ)) → ((leaf : LeafState) (some : List ℕ) → block ≡ Some some → AreSparing p (Writes leaf.dev at some ∷ []))
-    → AreSparing p (writes_to (leaves s) at block)
+writes_sparing : (p : Pool) (s : PoolState) (at : ℕ) (block : Option (List ℕ)) → ((m : Member) (some : List ℕ) → block ≡ Some some → AreSparing p (Writes m.dev at some ∷ []))
+    → AreSparing p (writes_to (board s) at block)
 writes_sparing p s at None each = no_asks_spare p
-writes_sparing p s at (Some block) each = each_sparing p (λ (leaf : LeafState). Writes leaf.dev at block) (leaves s) (λ j leaf e. each leaf block refl)
+writes_sparing p s at (Some block) each = each_sparing p (λ (m : Member). Writes m.dev at block) (board s) (λ j m e. each m block refl)
 
--- The plan of a sync of an open pool: it reads the record that is live, and each member has the room of its sectors.
+-- an address' free sector is one of its two
+other_near : (a : ℕ) (committed : Option Version) → other_sector a committed ≤ 2 * a + 1
+other_near a None = omega arith
+other_near a (Some version) = by (version.sector == 2 * a)
+  where
+    by : (b : Bool) → cond b (2 * a + 1) (2 * a) ≤ 2 * a + 1
+    by true = omega arith
+    by false = omega arith
+
+-- The plan of a sync of an open pool: it reads the record that is live.
 pub sync_sparing : (size : ℕ → ℕ) (p : Pool) (s : PoolState) → IsFitPool size s → Survives head_of p → p.idle ≡ true → ((a : ℕ) → s.committed a ≡ versions_of p.reads a)
-    → ((d : ℕ) → p.member d ≡ true → s.sectors + 256 ≤ p.size d) → AreSparing p (sync_plan s)
-sync_sparing size p s fit sv idle committed room =
+    → AreSparing p (sync_plan s)
+sync_sparing size p s fit sv idle committed =
     sparing_more p (flat_map (writes_at s) (addresses s.blocks)) (flush_plan s)
-    (all_sparing p (writes_at s) (addresses s.blocks) (λ j a e. writes_sparing p s (free_at s a) (s.writes a) (λ leaf block is.
-    write_sparing head_of p leaf.dev (free_at s a) block sv (fit.whole a block is) (free leaf.dev a (fit.inside a block is)))))
-    (each_sparing p (λ (leaf : LeafState). Flushes leaf.dev) (leaves s) (λ j leaf e. flush_sparing p leaf.dev))
+    (all_sparing p (writes_at s) (addresses s.blocks) (λ j a e. writes_sparing p s (free_at s a) (s.writes a) (λ m block is.
+    write_sparing head_of p m.dev (free_at s a) block sv (fit.whole a block is) (free m.dev a (fit.inside a block is)))))
+    (each_sparing p (λ (m : Member). Flushes m.dev) (board s) (λ j m e. flush_sparing p m.dev))
   where
     live_version : (r : Rec) (b : ℕ) (cell : Cell) → IsIn r p.live → r.cells b ≡ Some cell → s.committed b ≡ Some (version_of cell)
     live_version r b cell live e = committed b ∙ ap (λ (q : Rec). versions_of q b) (sym (sv.idle_alone idle r live)) ∙ ap (option_map version_of) e
@@ -75,7 +82,7 @@ sync_sparing size p s fit sv idle committed room =
     free : (dev a : ℕ) → a < s.blocks → IsFreeAt p dev (free_at s a)
     free dev a below = record {
       low = λ is. omega arith;
-      high = λ is. let wide = room dev is in let inside = free_below size s a fit below in omega (arith, wide, inside);
+      high = λ is. let wide = sv.sizes dev is in let near = other_near a (s.committed a) in let few = fit.valid.blocks.1 in omega (arith, wide, near, few, below);
       unused = λ r b cell is live e has same. free_differs size s a b (version_of cell) fit (live_version r b cell live e) (same_start (other_sector a (s.committed a)) cell.sector same);
     }
 
@@ -85,40 +92,30 @@ write_spares : (dev at d t : ℕ) (block : List ℕ) → length block ≡ 4096 �
 write_spares dev at d t block long (inl other) = (and_left (dev == d) (covers at (sectors_in block) t) (ne_eqb dev d other), tt)
 write_spares dev at d t block long (inr other) = (outside_one dev at d t block (block_sectors block long) (off_at at t other), tt)
 
-writes_spare : (s : PoolState) (at d t : ℕ) (block : Option (List ℕ)) → ((some : List ℕ) → block ≡ Some some → length some ≡ 4096) → at ≢ t → Spares (writes_to (leaves s) at block) d t
+writes_spare : (s : PoolState) (at d t : ℕ) (block : Option (List ℕ)) → ((some : List ℕ) → block ≡ Some some → length some ≡ 4096) → at ≢ t → Spares (writes_to (board s) at block) d t
 writes_spare s at d t None long other = tt
 writes_spare s at d t (Some block) long other =
-    each_spares (λ (leaf : LeafState). Writes leaf.dev at block) (leaves s) d t (λ j leaf e. write_spares leaf.dev at d t block (long block refl) (inr other))
+    each_spares (λ (m : Member). Writes m.dev at block) (board s) d t (λ j m e. write_spares m.dev at d t block (long block refl) (inr other))
 
--- no later leaf has the device
-later_apart : (s : PoolState) (i j : ℕ) (leaf other : LeafState) → s.first.dev ≢ s.second.dev → slice_get (leaves s) i ≡ Some leaf → i < j → slice_get (leaves s) j ≡ Some other → other.dev ≢ leaf.dev
-later_apart s zero zero leaf other apart e below f = absurd (omega arith)
-later_apart s zero (suc zero) leaf other apart e below f = λ same.
-    apart (ap (λ (l : LeafState). l.dev) (same_some s.first leaf e) ∙ sym same ∙ sym (ap (λ (l : LeafState). l.dev) (same_some s.second other f)))
-later_apart s zero (suc (suc j)) leaf other apart e below f = absurd (none_some other f)
-later_apart s (suc i) zero leaf other apart e below f = absurd (omega arith)
-later_apart s (suc i) (suc zero) leaf other apart e below f = absurd (omega arith)
-later_apart s (suc i) (suc (suc j)) leaf other apart e below f = absurd (none_some other f)
-
-block_last : (s : PoolState) (i at : ℕ) (leaf : LeafState) (block : List ℕ) (writes : Option (List ℕ)) → s.first.dev ≢ s.second.dev → length block ≡ 4096 → writes ≡ Some block
-    → slice_get (leaves s) i ≡ Some leaf → WritesLast (writes_to (leaves s) at writes) leaf.dev at block
-block_last s i at leaf block None apart long is e = absurd (none_some block is)
-block_last s i at leaf block (Some some) apart long is e =
-    each_write_last (λ (l : LeafState). Writes l.dev at some) (leaves s) i leaf leaf.dev at block e (ap (Writes leaf.dev at) same)
-    (λ j other below f. write_spares other.dev at leaf.dev at some (ap length same ∙ long) (inl (later_apart s i j leaf other apart e below f)))
+block_last : (s : PoolState) (i at : ℕ) (m : Member) (block : List ℕ) (writes : Option (List ℕ)) → AreApart (board s) → length block ≡ 4096 → writes ≡ Some block
+    → slice_get (board s) i ≡ Some m → WritesLast (writes_to (board s) at writes) m.dev at block
+block_last s i at m block None apart long is e = absurd (none_some block is)
+block_last s i at m block (Some some) apart long is e =
+    each_write_last (λ (n : Member). Writes n.dev at some) (board s) i m m.dev at block e (ap (Writes m.dev at) same)
+    (λ j other below f. write_spares other.dev at m.dev at some (ap length same ∙ long) (inl (λ (is : other.dev ≡ m.dev). apart i j m other e f below (sym is))))
   where
     same : some ≡ block
     same = same_some some block is
 
-pub sync_brings : (size : ℕ → ℕ) (s : PoolState) (i a : ℕ) (leaf : LeafState) (block : List ℕ) → IsFitPool size s → s.writes a ≡ Some block → slice_get (leaves s) i ≡ Some leaf
-    → Brings (sync_plan s) leaf.dev (free_at s a) block
-sync_brings size s i a leaf block fit is e =
-    writes_then_flushes (flat_map (writes_at s) (addresses s.blocks)) (flush_plan s) leaf.dev (free_at s a) block
-    (all_write_last (writes_at s) (addresses s.blocks) a a leaf.dev (free_at s a) block (addresses_at s.blocks a (fit.inside a block is))
-    (block_last s i (free_at s a) leaf block (s.writes a) fit.apart (fit.whole a block is) is e)
-    (λ j b below f. writes_spare s (free_at s b) leaf.dev (free_at s a) (s.writes b) (λ some e. fit.whole b some e) (elsewhere j b below f)))
-    (each_flushed (λ (l : LeafState). l.dev) (leaves s) i leaf e)
-    (flushes_spare (λ (l : LeafState). l.dev) (leaves s) leaf.dev (free_at s a))
+pub sync_brings : (size : ℕ → ℕ) (s : PoolState) (i a : ℕ) (m : Member) (block : List ℕ) → IsFitPool size s → s.writes a ≡ Some block → slice_get (board s) i ≡ Some m
+    → Brings (sync_plan s) m.dev (free_at s a) block
+sync_brings size s i a m block fit is e =
+    writes_then_flushes (flat_map (writes_at s) (addresses s.blocks)) (flush_plan s) m.dev (free_at s a) block
+    (all_write_last (writes_at s) (addresses s.blocks) a a m.dev (free_at s a) block (addresses_at s.blocks a (fit.inside a block is))
+    (block_last s i (free_at s a) m block (s.writes a) (board_apart s fit.apart) (fit.whole a block is) is e)
+    (λ j b below f. writes_spare s (free_at s b) m.dev (free_at s a) (s.writes b) (λ some e. fit.whole b some e) (elsewhere j b below f)))
+    (each_flushed (λ (n : Member). n.dev) (board s) i m e)
+    (flushes_spare (λ (n : Member). n.dev) (board s) m.dev (free_at s a))
   where
     elsewhere : (j b : ℕ) → a < j → slice_get (addresses s.blocks) j ≡ Some b → free_at s b ≢ free_at s a
     elsewhere j b below f same =
@@ -136,20 +133,21 @@ untouched_held (noted ∷ made) d t x block u h =
 pub stands_held : (x : Sector) (block : List ℕ) → Stands x block → Held x block
 stands_held x block st = record { still = st.still; stands = inl st.stable }
 
--- A cell of the record that the pool reads is held on each member behind a plan that spares what is needed.
+-- A cell of the record that the pool reads is held on each member that has to have it, behind a plan that spares
+-- what is needed.
 pub reads_held : (p : Pool) (plan : List Ask) (before : List Noted) (d a : ℕ) (cell : Cell) → Survives head_of p → AreSparing p plan → IsPart plan before None
-    → ((e g : ℕ) → p.reads.owes e g ≡ false) → p.member d ≡ true → p.reads.cells a ≡ Some cell → Held (run before p.sectors d (data_start + cell.sector)) cell.block
-reads_held p plan before d a cell sv sparing part current is e =
+    → p.member d ≡ true → p.reads.cells a ≡ Some cell → p.reads.owes (p.guid d) cell.birth ≡ false → Held (run before p.sectors d (data_start + cell.sector)) cell.block
+reads_held p plan before d a cell sv sparing part is e has =
     untouched_held before d (data_start + cell.sector) (p.sectors d (data_start + cell.sector)) cell.block
     (part_spares plan before None d (data_start + cell.sector) part (sparing.off d (data_start + cell.sector) cell.block needs))
     (sv.held d (data_start + cell.sector) cell.block needs)
   where
     needs : Needs p d (data_start + cell.sector) cell.block
-    needs = (is, inr (record { r = p.reads; is_live = sv.reads_live; a = a; cell = cell; cell_is = e; has = current d cell.birth; sector_is = refl; bytes_are = refl }))
+    needs = (is, inr (record { r = p.reads; is_live = sv.reads_live; a = a; cell = cell; cell_is = e; has = has; sector_is = refl; bytes_are = refl }))
 
--- And a block that a sync wrote stands on each leaf behind its plan.
-pub sync_held : (size : ℕ → ℕ) (s : PoolState) (sectors : Sectors) (before : List Noted) (i a : ℕ) (leaf : LeafState) (block : List ℕ) → IsFitPool size s → IsPart (sync_plan s) before None
-    → s.writes a ≡ Some block → slice_get (leaves s) i ≡ Some leaf → Held (run before sectors leaf.dev (free_at s a)) block
-sync_held size s sectors before i a leaf block fit part is e =
-    stands_held (run before sectors leaf.dev (free_at s a)) block
-    (landed (sync_plan s) leaf.dev (free_at s a) block before sectors (sync_brings size s i a leaf block fit is e) (fit.whole a block is) part)
+-- And a block that a sync wrote stands on each leaf of the board behind its plan.
+pub sync_held : (size : ℕ → ℕ) (s : PoolState) (sectors : Sectors) (before : List Noted) (i a : ℕ) (m : Member) (block : List ℕ) → IsFitPool size s → IsPart (sync_plan s) before None
+    → s.writes a ≡ Some block → slice_get (board s) i ≡ Some m → Held (run before sectors m.dev (free_at s a)) block
+sync_held size s sectors before i a m block fit part is e =
+    stands_held (run before sectors m.dev (free_at s a)) block
+    (landed (sync_plan s) m.dev (free_at s a) block before sectors (sync_brings size s i a m block fit is e) (fit.whole a block is) part)

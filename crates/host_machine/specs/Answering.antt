@@ -1,5 +1,6 @@
 -- A good member answers: what it takes to lose a block, and how lines end by the counts of failed calls.
 use Rattle.std.specs.Prelude.{◌≡◌, ◌⊎◌, ℕ, ◌+◌, ◌<◌, ◌≤◌, true, false, List, [], ◌∷◌, Some, slice_get, slice_index}
+use Rattle.std.specs.List.{filter_map}
 use Rattle.mp_base.specs.Outside.{Rose}
 use Rattle.mp_base.specs.declared.number.Group.{Group}
 use Rattle.mp_base.specs.declared.number.Guid.{Guid}
@@ -8,6 +9,7 @@ use Rattle.bank_core.specs.declared.bank.Fault.{Fault}
 use Rattle.bank_core.specs.Asks.{Reads, ask_of}
 use Rattle.bank_core.specs.Calls.{device_of, fault_of}
 use Rattle.bank_core.specs.Disk.{Noted, Sectors, IsClean, as_found, run}
+use Rattle.label_store.specs.declared.member.Member.{Member}
 use Rattle.label_store.specs.Layout.{labels_of}
 use Rattle.label_store.specs.Newest.{Parts, IsLook}
 use Rattle.label_store.specs.declared.uberblock.Uberblock.{Uberblock}
@@ -20,17 +22,20 @@ use Rattle.pool_history.specs.Pools.{Pool, after}
 use Rattle.pool_history.specs.Records.{Cell, data_start}
 use Rattle.pool_core.specs.Clash.{ClashesWith}
 use Rattle.pool_core.specs.Heads.{head_of}
-use Rattle.pool_core.specs.State.{LeafState, PoolState, leaves}
+use Rattle.pool_core.specs.Done.{no_leaf}
+use Rattle.pool_core.specs.Reading.{tries}
+use Rattle.pool_core.specs.State.{PoolState, leaves, board, having, has_nobody, seat_of}
 use Rattle.host_machine.specs.Devices.{all_handed}
 use Rattle.host_machine.specs.Machine.{HostState, Entry, named_pool, line_wants}
-use Rattle.host_machine.specs.Tracking.{Tracks, IsOpenAs}
+use Rattle.host_machine.specs.Records.{owed_by}
+use Rattle.host_machine.specs.Tracking.{Tracks, IsAt, IsOpenAs}
 
 -- The pool is open in the host, under this name and as this state.
 pub record IsOpenIn (p : Pool) (h : HostState) (name : List ℕ) (s : PoolState) : Type 0 where
   pub tracks : Tracks p h
   pub named : named_pool name h.pool ≡ Some s
-  pub first : s.first ≡ tracks.first
-  pub second : s.second ≡ tracks.second
+  pub first : IsAt s.first tracks.first
+  pub second : IsAt s.second tracks.second
   pub is_open : IsOpenAs p s
 
 -- Wrong bytes passed: a read of the line took them for the block that it wanted, since both have one sum.
@@ -45,28 +50,30 @@ HasNoMemory reply = reply ≡ replies.Refused refusals.Memory
 abbrev pub IsExcused : HostState → Entry → List Noted → Type 0
 IsExcused h entry made = HasNoMemory entry.reply ⊎ HasClash h entry made
 
--- Why a leaf's copy gave nothing: its read failed, or found the sector damaged; or the pool has lost the leaf's device.
-abbrev pub HasCause : Pool → (at : ℕ) → LeafState → Noted → Type 0
-HasCause p at leaf noted = ((fault : Fault) × (fault_of noted.call ≡ Some fault))
-    ⊎ (((as_found noted p.sectors leaf.dev at).damaged ≡ true) ⊎ (p.member leaf.dev ≡ false))
+-- Why a copy gave nothing: its read failed, or found the sector damaged; or the pool has lost the device; or the
+-- leaf's log has the group that the block was born in.
+abbrev pub HasCause : Pool → PoolState → Cell → Member → Noted → Type 0
+HasCause p s cell m noted = ((fault : Fault) × (fault_of noted.call ≡ Some fault))
+    ⊎ (((as_found noted p.sectors m.dev (data_start + cell.sector)).damaged ≡ true)
+    ⊎ ((p.member m.dev ≡ false) ⊎ (owed_by s m.guid cell.birth ≡ true)))
 
--- A leaf's copy was asked for and gave nothing.
-pub record Misses (p : Pool) (at : ℕ) (leaf : LeafState) (noted : Noted) : Type 0 where
-  pub asked : ask_of noted.call ≡ Reads leaf.dev at 1
-  pub cause : HasCause p at leaf noted
+-- The copy of a leaf was asked for and gave nothing.
+pub record Misses (p : Pool) (s : PoolState) (cell : Cell) (m : Member) (noted : Noted) : Type 0 where
+  pub asked : ask_of noted.call ≡ Reads m.dev (data_start + cell.sector) 1
+  pub cause : HasCause p s cell m noted
 
--- so each of these leaves, one after another
-abbrev pub AllMiss : Pool → (at : ℕ) → List LeafState → List Noted → Type 0
-AllMiss p at [] calls = calls ≡ []
-AllMiss p at (leaf ∷ rest) [] = ⊥
-AllMiss p at (leaf ∷ rest) (noted ∷ more) = Misses p at leaf noted × AllMiss (after (Calls noted) p) at rest more
+-- so each of these copies, one after another
+abbrev pub AllMiss : Pool → PoolState → Cell → List Member → List Noted → Type 0
+AllMiss p s cell [] calls = calls ≡ []
+AllMiss p s cell (m ∷ ms) [] = ⊥
+AllMiss p s cell (m ∷ ms) (noted ∷ more) = Misses p s cell m noted × AllMiss (after (Calls noted) p) s cell ms more
 
--- The block of this address is a committed one. It was asked of every leaf, and each missed it.
+-- The block of this address is a committed one. It was asked of every readable leaf, and each missed it.
 pub record IsLost (p : Pool) (s : PoolState) (a : ℕ) (made : List Noted) : Type 0 where
   pub cell : Cell
   pub committed : p.reads.cells a ≡ Some cell
   pub last : p.written a ≡ cell.block
-  pub missed : AllMiss p (data_start + cell.sector) (leaves s) made
+  pub missed : AllMiss p s cell (tries cell.birth (leaves s)) made
 
 -- each of these calls on the device finds its sector `at` undamaged
 abbrev pub FindUnhurt : Pool → (d at : ℕ) → List Noted → Type 0
@@ -74,10 +81,15 @@ FindUnhurt p d at [] = Unit {0}
 FindUnhurt p d at (noted ∷ more) =
     (device_of noted.call ≡ d → (as_found noted p.sectors d at).damaged ≡ false) × FindUnhurt (after (Calls noted) p) d at more
 
--- A good member, for these calls and the block of this address: none of them failed on it, and each of them
--- found the sector of the committed block undamaged.
-pub record IsGoodMember (p : Pool) (a : ℕ) (made : List Noted) (d : ℕ) : Type 0 where
+-- the leaf on this device is readable, and its log lacks the group
+abbrev pub HasGroup : PoolState → (birth d : ℕ) → Type 0
+HasGroup s birth d = (i : ℕ) × (m : Member) × (slice_get (filter_map seat_of (having birth (leaves s))) i ≡ Some m) × (m.dev ≡ d)
+
+-- A good member, for these calls and the block of this address: it is readable, and its log lacks the group that the
+-- committed block was born in; none of the calls failed on it, and each of them found the block's sector undamaged.
+pub record IsGoodMember (p : Pool) (s : PoolState) (a : ℕ) (made : List Noted) (d : ℕ) : Type 0 where
   pub is_member : p.member d ≡ true
+  pub has : (cell : Cell) → p.reads.cells a ≡ Some cell → HasGroup s cell.birth d
   pub fine : NoneFailed d made
   pub unhurt : (cell : Cell) → p.reads.cells a ≡ Some cell → FindUnhurt p d (data_start + cell.sector) made
 
@@ -93,23 +105,26 @@ NoneRose before after = (d : ℕ) → ¬ (Rose (before d) (after d))
 abbrev pub SomeRose : (before after : ℕ → ℕ) → Type 0
 SomeRose before after = (d : ℕ) × Rose (before d) (after d)
 
--- a leaf's device's did
+-- the count of a device of the board did
 abbrev pub LeafRose : PoolState → (before after : ℕ → ℕ) → Type 0
-LeafRose s before after = Rose (before s.first.dev) (after s.first.dev) ⊎ Rose (before s.second.dev) (after s.second.dev)
+LeafRose s before after = (i : ℕ) × (m : Member) × (slice_get (board s) i ≡ Some m) × Rose (before m.dev) (after m.dev)
 
 -- the group of a sync is refused as suspended, after some failed calls
 abbrev pub IsSuspended : PoolState → Reply → Type 0
 IsSuspended s reply = (faults : ℕ) × (1 ≤ faults) × (reply ≡ replies.Refused (refusals.Suspended (record { 0 = s.number + 1 }) s.mirror faults))
 
--- A sync is suspended where a device's count rises in it, and only where a leaf's does.
+-- A sync is suspended where a device's count rises in it, and only where a leaf's does, or without a fault where no leaf
+-- is readable.
 pub record SuspendsByCounts (s : PoolState) (before after : ℕ → ℕ) (reply : Reply) : Type 0 where
-  pub cause : (group : Group) (top : Guid) (faults : ℕ) → reply ≡ replies.Refused (refusals.Suspended group top faults) → LeafRose s before after
+  pub cause : (group : Group) (top : Guid) (faults : ℕ) → reply ≡ replies.Refused (refusals.Suspended group top faults)
+      → ((has_nobody s ≡ true) × (faults ≡ 0)) ⊎ LeafRose s before after
   pub suspended : (d : ℕ) → before d < after d → IsSuspended s reply ⊎ HasNoMemory reply
+  pub nobody : has_nobody s ≡ true → (reply ≡ replies.Refused (no_leaf s)) ⊎ HasNoMemory reply
 
--- It commits the next group where no count rises in it, and only where none moves.
+-- It commits the next group where no count rises in it and a leaf is readable, and only where none moves.
 pub record CommitsByCounts (s : PoolState) (before after : ℕ → ℕ) (reply : Reply) : Type 0 where
   pub calm : (group : Group) → reply ≡ replies.Committed group → NoneMoved before after
-  pub committed : NoneRose before after → (reply ≡ replies.Committed (record { 0 = s.number + 1 })) ⊎ HasNoMemory reply
+  pub committed : has_nobody s ≡ false → NoneRose before after → (reply ≡ replies.Committed (record { 0 = s.number + 1 })) ⊎ HasNoMemory reply
 
 -- the reply names this device, and its count rose
 abbrev pub IsBlamed : (name : List ℕ) → (d : ℕ) → (before after : ℕ → ℕ) → Reply → Type 0

@@ -1,6 +1,6 @@
 -- The abstract machine: the state of a host, what a line answers in it and which device calls it makes,
 -- and the entries of a history.
-use Rattle.std.specs.Prelude.{◌≡◌, ℕ, ◌+◌, ◌*◌, ◌⊎◌, Bool, true, false, zero, suc, ◌==◌, ◌&&◌, ◌||◌, not, nat_le, nat_lt, List, [], ◌∷◌, ◌++◌, length, Option, Some, None, Result, Ok, Err, if◌then◌else◌}
+use Rattle.std.specs.Prelude.{◌≡◌, ℕ, ◌+◌, ◌*◌, ◌⊎◌, Bool, true, false, zero, suc, ◌==◌, ◌&&◌, ◌||◌, not, nat_le, nat_lt, List, [], ◌∷◌, ◌++◌, length, map, Option, Some, None, Result, Ok, Err, if◌then◌else◌}
 use Rattle.std.specs.List.{flat_map}
 use Rattle.std.specs.Str.{bytes_eq}
 use Rattle.mp_base.specs.declared.refusal.LeafSeen.{LeafSeen}
@@ -9,29 +9,35 @@ use Rattle.mp_base.specs.declared.refusal.Refusal.TheVariants as refusals
 use Rattle.bank_core.specs.Asks.{Ask, asks_of}
 use Rattle.bank_core.specs.Disk.{Noted}
 use Rattle.pool_wire.specs.Text.{text_of}
+use Rattle.group_set.specs.Ranges.{ranges_upto}
+use Rattle.pool_wire.specs.declared.reply.LeafLog.{LeafLog}
 use Rattle.pool_wire.specs.declared.reply.NamedLeaf.{NamedLeaf}
 use Rattle.pool_wire.specs.declared.reply.Reply.{Reply}
 use Rattle.pool_wire.specs.declared.reply.Reply.TheVariants as replies
 use Rattle.pool_wire.specs.declared.request.Request.{Request}
 use Rattle.pool_wire.specs.declared.request.Request.TheVariants as requests
+use Rattle.vdev_tree.specs.declared.vdev.State.{State}
 use Rattle.label_store.specs.declared.found.Found.{Found}
 use Rattle.label_store.specs.Newest.{Parts, IsLook, IsBest, AreReads}
 use Rattle.config_codec.specs.Fields.{Fields}
 use Rattle.config_codec.specs.Reading.{config_in}
 use Rattle.pool_history.specs.Records.{Rec}
 use Rattle.pool_core.specs.Clash.{ClashesWith}
+use Rattle.pool_core.specs.Away.{leaf_named, IsOffline, OnlinesLeaf}
 use Rattle.pool_core.specs.Commits.{IsCommit, AreMade}
+use Rattle.pool_core.specs.Done.{no_leaf}
 use Rattle.pool_core.specs.Heads.{head_of}
 use Rattle.pool_core.specs.Making.{made_state, pool_number}
 use Rattle.pool_core.specs.Naming.{leaf_of}
-use Rattle.pool_core.specs.Opening.{IsIdentified, found_state, recommitted}
+use Rattle.pool_core.specs.Logs.{drawn}
+use Rattle.pool_core.specs.Opening.{IsIdentified, found_state}
 use Rattle.pool_core.specs.Outside.{Trouble, troubles, last_given}
 use Rattle.pool_core.specs.Reading.{wanted, read_asks, read_answer}
-use Rattle.pool_core.specs.State.{LeafState, Content, Known, PoolState, leaves, is_spent, last_number}
+use Rattle.pool_core.specs.State.{LeafState, Content, Known, PoolState, leaves, has_nobody, is_spent, last_number}
 use Rattle.pool_core.specs.Syncing.{sync_plan, flush_plan, synced}
 use Rattle.pool_core.specs.Writing.{put_answer}
 use Rattle.host_machine.specs.declared.device.HostDevice.{HostDevice}
-use Rattle.host_machine.specs.Devices.{all_handed, member_of, seat_of}
+use Rattle.host_machine.specs.Devices.{all_handed, member_of, number_in, seat_of}
 use Rattle.host_machine.specs.Records.{with_record, committed_in}
 
 -- A host: its devices, how many sectors each device of its bank has, the records that its history drew up,
@@ -103,7 +109,7 @@ new_state h second name blocks first other seats =
 abbrev pub CreatesOn : HostState → (second : ℕ) → (name : List ℕ) → (blocks : ℕ) → (first other : List ℕ) → Option (ℕ × ℕ) → List Noted → HostState → Reply → Type 0
 CreatesOn h second name blocks first other None made next reply = Quietly made (refused h refusals.NotBuilt) next reply
 CreatesOn h second name blocks first other (Some seats) made next reply = (failed : Option LeafState)
-    × AreMade h.size (new_state h second name blocks first other seats) made failed
+    × AreMade h.size (new_state h second name blocks first other seats) seats made failed
     × ((next, reply) ≡ create_outcome h (new_state h second name blocks first other seats) failed)
 
 -- where the number of blocks isn't bad
@@ -116,33 +122,31 @@ abbrev pub IsCreate : HostState → (second : ℕ) → (name : List ℕ) → (bl
 IsCreate h second name blocks first other made next reply = CreatesUnless (is_bad_size blocks) h second name blocks first other made next reply
 
 -- `import`. The labels of all devices that are handed are read first. Not built yet: an opening beside an
--- open pool, and one of a pool a leaf of which has no device with its identity.
+-- open pool.
 
-abbrev pub open_seats : HostState → Fields → Option (ℕ × ℕ)
-open_seats h c = seats h.pool
-  where
-    seats : Option PoolState → Option (ℕ × ℕ)
-    seats (Some s) = None
-    seats None = both (seat_of c.first.name c.sectors h.table) (seat_of c.second.name c.sectors h.table)
+-- the devices of the leaves of a record, where they were found and have the room of the top
+abbrev pub open_seats : HostState → Fields → Option ℕ × Option ℕ
+open_seats h c = (seat_of c.first.name c.sectors h.table, seat_of c.second.name c.sectors h.table)
 
-abbrev pub open_state : HostState → (config : List ℕ) → Fields → (seats : ℕ × ℕ) → PoolState
-open_state h config c seats = found_state c (committed_in h.records config c) seats.0 seats.1
+abbrev pub open_state : HostState → (config : List ℕ) → Fields → (found : Option ℕ × Option ℕ) → PoolState
+open_state h config c found = found_state c (committed_in h.records config c) found.0 found.1
 
--- the leaves' identities were found, and the record is committed again
-abbrev pub OpensIf : HostState → PoolState → (found : Bool) → List Noted → HostState → Reply → Type 0
-OpensIf h s false made next reply = Quietly made (refused h refusals.NotBuilt) next reply
-OpensIf h s true made next reply = (failed : ℕ) × IsCommit h.size (flush_plan s) (recommitted s) made failed
-    × ((next, reply) ≡ commit_outcome h (recommitted s) failed)
+-- The record is committed again over the leaves that are readable, where there is one.
+abbrev pub OpensIf : (nobody : Bool) → HostState → PoolState → List Noted → HostState → Reply → Type 0
+OpensIf true h s made next reply = Quietly made (refused h (no_leaf s)) next reply
+OpensIf false h s made next reply = (failed : ℕ) × IsCommit h.size (flush_plan s) (drawn s) made failed
+    × ((next, reply) ≡ commit_outcome h (drawn s) failed)
 
-abbrev pub OpensOn : HostState → (config : List ℕ) → Fields → Option (ℕ × ℕ) → List Noted → HostState → Reply → Type 0
-OpensOn h config c None made next reply = Quietly made (refused h refusals.NotBuilt) next reply
-OpensOn h config c (Some seats) made next reply = (ids : List Noted) × (more : List Noted) × (found : Bool) × (made ≡ ids ++ more)
-    × IsIdentified h.size c seats.0 seats.1 ids found × OpensIf h (open_state h config c seats) found more next reply
+-- the identities of the leaves that have a device are looked for, and the others are away
+abbrev pub OpensOn : HostState → (config : List ℕ) → Fields → Option PoolState → List Noted → HostState → Reply → Type 0
+OpensOn h config c (Some other) made next reply = Quietly made (refused h refusals.NotBuilt) next reply
+OpensOn h config c None made next reply = (ids : List Noted) × (more : List Noted) × (found : Option ℕ × Option ℕ) × (made ≡ ids ++ more)
+    × IsIdentified h.size c (open_seats h c) found ids × OpensIf (has_nobody (open_state h config c found)) h (open_state h config c found) more next reply
 
 -- the number of the record is one of the last
 abbrev pub OpensUnless : (spent : Bool) → HostState → (config : List ℕ) → Fields → List Noted → HostState → Reply → Type 0
 OpensUnless true h config c made next reply = Quietly made (refused h (refusals.TreeFull last_number (c.number.0 + 1))) next reply
-OpensUnless false h config c made next reply = OpensOn h config c (open_seats h c) made next reply
+OpensUnless false h config c made next reply = OpensOn h config c h.pool made next reply
 
 -- by the newest record of the name, where there is one
 abbrev pub OpensBest : HostState → Option Found → List Noted → HostState → Reply → Type 0
@@ -189,14 +193,50 @@ read_line_asks None a outside = []
 read_line_asks (Some s) a outside = read_asks s a outside
 
 -- `sync`
-abbrev pub SyncsUnless : (spent : Bool) → HostState → PoolState → List Noted → HostState → Reply → Type 0
-SyncsUnless true h s made next reply = Quietly made (refused h (refusals.TreeFull last_number (s.number + 1))) next reply
-SyncsUnless false h s made next reply = (failed : ℕ) × IsCommit h.size (sync_plan s) (synced s) made failed
+abbrev pub SyncsUnless : (spent nobody : Bool) → HostState → PoolState → List Noted → HostState → Reply → Type 0
+SyncsUnless true nobody h s made next reply = Quietly made (refused h (refusals.TreeFull last_number (s.number + 1))) next reply
+SyncsUnless false true h s made next reply = Quietly made (refused h (no_leaf s)) next reply
+SyncsUnless false false h s made next reply = (failed : ℕ) × IsCommit h.size (sync_plan s) (synced s) made failed
     × ((next, reply) ≡ commit_outcome h (synced s) failed)
 
 abbrev pub IsSync : HostState → Option PoolState → List Noted → HostState → Reply → Type 0
 IsSync h None made next reply = Quietly made (refused h refusals.NoPool) next reply
-IsSync h (Some s) made next reply = SyncsUnless (is_spent s.number) h s made next reply
+IsSync h (Some s) made next reply = SyncsUnless (is_spent s.number) (has_nobody s) h s made next reply
+
+-- `offline`
+abbrev pub OfflinesIn : HostState → Option PoolState → (name : List ℕ) → (temporary : Bool) → List Noted → HostState → Reply → Type 0
+OfflinesIn h None name temporary made next reply = Quietly made (refused h refusals.NoPool) next reply
+OfflinesIn h (Some s) name temporary made next reply = (left : PoolState) × (result : Result (Unit {0}) Refusal)
+    × IsOffline s name temporary left result × Quietly made (with_pool h left, reply_of (λ done. replies.Done) result) next reply
+
+-- `online`. A refusal that is the leaf's or its device's names the device.
+abbrev pub online_reply : LeafState → Result State Refusal → Reply
+online_reply leaf (Ok state) = replies.State state
+online_reply leaf (Err (refusals.DeviceFault member)) = replies.DeviceFault leaf.name
+online_reply leaf (Err (refusals.WrongLabel member)) = replies.WrongLabel leaf.name
+online_reply leaf (Err refusal) = replies.Refused refusal
+
+-- of a leaf whose device was found under this number, or wasn't
+abbrev pub OnlinesOn : HostState → PoolState → LeafState → Option ℕ → List Noted → HostState → Reply → Type 0
+OnlinesOn h s leaf None made next reply = Quietly made (h, replies.NoDevice leaf.name) next reply
+OnlinesOn h s leaf (Some dev) made next reply = (left : PoolState) × (result : Result State Refusal)
+    × OnlinesLeaf h.size s leaf dev made left result × (next ≡ with_pool h left) × (reply ≡ online_reply leaf result)
+
+abbrev pub OnlinesNamed : HostState → PoolState → Option LeafState → List Noted → HostState → Reply → Type 0
+OnlinesNamed h s None made next reply = Quietly made (refused h refusals.NoVdev) next reply
+OnlinesNamed h s (Some leaf) made next reply = OnlinesOn h s leaf (number_in leaf.name h.table) made next reply
+
+abbrev pub OnlinesIn : HostState → Option PoolState → (name : List ℕ) → List Noted → HostState → Reply → Type 0
+OnlinesIn h None name made next reply = Quietly made (refused h refusals.NoPool) next reply
+OnlinesIn h (Some s) name made next reply = OnlinesNamed h s (leaf_named name (leaves s)) made next reply
+
+-- `logs`: the groups that each leaf owes, in rising ranges
+abbrev pub shown_log : (number : ℕ) → LeafState → LeafLog
+shown_log number leaf = record { name = leaf.name; log = ranges_upto leaf.owes number }
+
+abbrev pub logs_answer : HostState → Option PoolState → HostState × Reply
+logs_answer h None = refused h refusals.NoPool
+logs_answer h (Some s) = (h, replies.Logs (map (shown_log s.number) (leaves s)))
 
 -- the block that the reads of a line should give, so far as it is known
 abbrev pub wanted_of : Option PoolState → ℕ → Content
@@ -225,7 +265,7 @@ pub record Entry : Type 0 where
   pub reply : Reply
 
 -- The line made just the device calls that it has to make, and was answered as it has to be. A line that
--- asks nothing that is built is refused as such; `offline`, `online` and `logs` aren't built yet.
+-- asks nothing that is built is refused as such.
 abbrev pub IsAnswered : HostState → Option Request → Entry → List Noted → HostState → Type 0
 IsAnswered h None entry made next = Quietly made (refused h refusals.NotBuilt) next entry.reply
 IsAnswered h (Some requests.Nothing) entry made next = Quietly made (h, replies.Done) next entry.reply
@@ -238,9 +278,9 @@ IsAnswered h (Some (requests.Read pool a)) entry made next =
     (asks_of made ≡ read_line_asks (named_pool pool h.pool) a entry.outside)
     × ((next, entry.reply) ≡ read_line_answer h (named_pool pool h.pool) a entry.outside entry.given)
 IsAnswered h (Some (requests.Sync pool)) entry made next = IsSync h (named_pool pool h.pool) made next entry.reply
-IsAnswered h (Some (requests.Offline pool device temporary)) entry made next = Quietly made (refused h refusals.NotBuilt) next entry.reply
-IsAnswered h (Some (requests.Online pool device)) entry made next = Quietly made (refused h refusals.NotBuilt) next entry.reply
-IsAnswered h (Some (requests.Logs pool)) entry made next = Quietly made (refused h refusals.NotBuilt) next entry.reply
+IsAnswered h (Some (requests.Offline pool device temporary)) entry made next = OfflinesIn h (named_pool pool h.pool) device temporary made next entry.reply
+IsAnswered h (Some (requests.Online pool device)) entry made next = OnlinesIn h (named_pool pool h.pool) device made next entry.reply
+IsAnswered h (Some (requests.Logs pool)) entry made next = Quietly made (logs_answer h (named_pool pool h.pool)) next entry.reply
 
 -- There was no memory: nothing changed, and no device was written.
 pub record WantsMemory (old : HostState) (entry : Entry) (made : List Noted) (new : HostState) : Type 0 where

@@ -1,8 +1,10 @@
 -- The records that a history drew up, and what the machine knows of a record that an opening found.
-use Rattle.std.specs.Prelude.{◌≡◌, ℕ, ◌<◌, ◌≤◌, Bool, true, false, cond, List, [], ◌∷◌, length, Option, Some, None, slice_get}
+use Rattle.std.specs.Prelude.{◌≡◌, ℕ, ◌<◌, ◌≤◌, ◌==◌, Bool, true, false, cond, List, [], ◌∷◌, length, Option, Some, None, slice_get}
 use Rattle.std.specs.List.{list_all}
 use Rattle.std.specs.Option.{option_map}
 use Rattle.std.specs.Str.{bytes_eq}
+use Rattle.mp_base.specs.declared.number.Guid.{Guid}
+use Rattle.group_set.specs.Ranges.{in_ranges}
 use Rattle.label_store.specs.Rounds.{config_of}
 use Rattle.config_codec.specs.declared.config.Pointer.{Pointer}
 use Rattle.config_codec.specs.Fields.{Fields}
@@ -38,9 +40,13 @@ is_known_version (Some version) = is_known_content version.content
 abbrev pub is_known : PoolState → Bool
 is_known s = list_all (λ a. is_known_version (s.committed a)) (addresses s.blocks)
 
--- The record of a pool as it stands. Its logs are empty: so far no member is ever away.
+-- which groups the leaf of a member number owes
+abbrev pub owed_by : PoolState → Guid → ℕ → Bool
+owed_by s member g = cond (s.first.member.0 == member.0) (s.first.owes g) (cond (s.second.member.0 == member.0) (s.second.owes g) false)
+
+-- the record of a pool as it stands
 abbrev pub record_of : PoolState → Rec
-record_of s = record { commit = commit_of s; cells = λ a. cell_of (s.committed a); owes = λ d g. false }
+record_of s = record { commit = commit_of s; cells = λ a. cell_of (s.committed a); owes = owed_by s }
 
 -- the records drawn up so far, with this one where its blocks are known
 abbrev pub with_record : PoolState → List Rec → List Rec
@@ -60,8 +66,8 @@ abbrev pub committed_in : List Rec → List ℕ → Fields → ℕ → Option Ve
 committed_in [] config c = λ a. slot_at (slice_get c.pointers a)
 committed_in (r ∷ records) config c = cond (bytes_eq (config_of r.commit) config) (versions_of r) (committed_in records config c)
 
--- A record as it is drawn up: its configuration, sealed into one sector, has a pointer for each of its blocks,
--- and its logs are empty.
+-- A record as it is drawn up: its configuration, sealed into whole sectors, has a pointer for each of its blocks, and
+-- the log of each member.
 pub record IsDrawn (r : Rec) (c : Fields) : Type 0 where
   pub config : config_in (config_of r.commit) ≡ Some c
   pub length_is : r.commit.length ≡ length (config_of r.commit)
@@ -70,9 +76,9 @@ pub record IsDrawn (r : Rec) (c : Fields) : Type 0 where
   pub number : r.commit.number ≡ c.number
   pub pointers : (a : ℕ) → a < c.blocks → slice_get c.pointers a ≡ Some (option_map (λ cell. pointer_of (version_of cell)) (r.cells a))
   pub beyond : (a : ℕ) → c.blocks ≤ a → r.cells a ≡ None
+  pub first_log : (g : ℕ) → r.owes c.first.member g ≡ in_ranges c.first.log g
+  pub second_log : (g : ℕ) → r.owes c.second.member g ≡ in_ranges c.second.log g
   pub whole : (a : ℕ) (cell : Cell) → r.cells a ≡ Some cell → length cell.block ≡ 4096
-  -- so far no member is ever away
-  pub current : (d g : ℕ) → r.owes d g ≡ false
 
 -- so each of these
 abbrev pub AreDrawn : List Rec → Type 0

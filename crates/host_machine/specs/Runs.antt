@@ -32,7 +32,7 @@ TakesIn own h (entry ∷ entries) calls next replay cost = Takes own h entry.ask
 -- the premises hold at each opening.
 pub record KeepsPool (first : Pool) (past : List Event) (h : HostState) (sectors : Sectors) (IsTaken : Cost → Type 0) (calls : List Noted) (next : HostState) : Type 0 where
   pub follows : Follows (pool_after past first) h IsTaken calls next
-  pub leaves : HasNoTwins next.records → AreGood head_of (pool_after past first) follows.vs → LeavesThroughout first past sectors follows.vs calls
+  pub leaves : HasNoTwins next.records → AreGood head_of (pool_after past first) follows.vs → LeavesThroughout first past h.size sectors follows.vs calls
   pub tracks : HasNoTwins next.records → AreGood head_of (pool_after past first) follows.vs → Tracks (pool_after follows.vs (pool_after past first)) next
 
 -- An entry among a history's: the host before it, its own calls, and the host behind it.
@@ -70,23 +70,23 @@ pub record MeetsPool (first : Pool) (past : List Event) (h : HostState) (before 
 
 -- A create with its devices found made these calls, and this is the rest of the run. Behind both stamps a pool
 -- began that survives, and the calls from there to the run's end are of its history; or a stamp failed.
-abbrev pub BeginsPool : (h : HostState) → PoolState → Sectors → (made : List Noted) → (new : HostState) → (after : List Entry) → (rest : List Noted) → (next : HostState) → Replay new after rest next → Type 0
-BeginsPool h s sectors made new after rest next later =
-    ((b : IsBorn h.size s sectors made new) × Follows (new_pool h.size s (run b.stamps sectors)) b.between (TakesIn s.name new after rest next later) (b.rest ++ rest) next)
-    ⊎ StampFails h.size s made
+abbrev pub BeginsPool : (h : HostState) → PoolState → (seats : ℕ × ℕ) → Sectors → (made : List Noted) → (new : HostState) → (after : List Entry) → (rest : List Noted) → (next : HostState) → Replay new after rest next → Type 0
+BeginsPool h s seats sectors made new after rest next later =
+    ((b : IsBorn h.size s seats sectors made new) × Follows (new_pool h.size s seats (run b.stamps sectors)) b.between (TakesIn s.name new after rest next later) (b.rest ++ rest) next)
+    ⊎ StampFails h.size s seats made
 
 -- What a run does to each pool that its devices had left, it keeps it, and each of its entries meets it; and to
 -- each pool that it makes.
 pub record KeepsPools (h : HostState) (sectors : Sectors) (entries : List Entry) (calls : List Noted) (next : HostState) (replay : Replay h entries calls next) : Type 0 where
-  pub each : (first : Pool) (past : List Event) → LeavesPool first past sectors → Tracks (pool_after past first) h
+  pub each : (first : Pool) (past : List Event) → LeavesPool first past h.size sectors → Tracks (pool_after past first) h
       → KeepsPool first past h sectors (TakesIn first.name h entries calls next replay) calls next
-  pub meets : (first : Pool) (past : List Event) → LeavesPool first past sectors → Tracks (pool_after past first) h
+  pub meets : (first : Pool) (past : List Event) → LeavesPool first past h.size sectors → Tracks (pool_after past first) h
       → (before : List Entry) (entry : Entry) (after : List Entry) → entries ≡ before ++ entry ∷ after
       → (at : IsEntryOf h before entry after calls next) × MeetsPool first past h before entry after calls next at
   pub births : (before : List Entry) (entry : Entry) (after : List Entry) → entries ≡ before ++ entry ∷ after → (at : IsEntryOf h before entry after calls next)
       → (name : List ℕ) (blocks : ℕ) (one other : List ℕ) (seats : ℕ × ℕ) → entry.asked ≡ Some (requests.Create name blocks one other) → is_bad_size blocks ≡ false
       → new_seats at.old blocks one other ≡ Some seats → IsCreate at.old entry.second name blocks one other at.made at.new entry.reply
-      → BeginsPool at.old (new_state at.old entry.second name blocks one other seats) (run at.first sectors) at.made at.new after at.rest next at.later
+      → BeginsPool at.old (new_state at.old entry.second name blocks one other seats) seats (run at.first sectors) at.made at.new after at.rest next at.later
 
 -- How an entry of a run ended, by the counts of its own calls: a sync of the open pool with numbers left, a create
 -- with its devices found, and an opening that was suspended.
@@ -102,7 +102,7 @@ pub record EndsByCounts (h : HostState) (before : List Entry) (entry : Entry) (a
   pub creates : (name : List ℕ) (blocks : ℕ) (one other : List ℕ) (seats : ℕ × ℕ) → entry.asked ≡ Some (requests.Create name blocks one other) → is_bad_size blocks ≡ false
       → new_seats at.old blocks one other ≡ Some seats → CreatesByCounts one other seats from to entry.reply
   pub imports : (name : List ℕ) (group : Group) (top : Guid) (faults : ℕ) → entry.asked ≡ Some (requests.Import name)
-      → entry.reply ≡ replies.Refused (refusals.Suspended group top faults) → SomeRose from to
+      → entry.reply ≡ replies.Refused (refusals.Suspended group top faults) → (faults ≡ 0) ⊎ SomeRose from to
 
 -- so each of them
 pub record EndByCounts (h : HostState) (entries : List Entry) (calls : List Noted) (next : HostState) (start end : ℕ → ℕ) : Type 0 where

@@ -39,7 +39,7 @@ pub fn good_member_answers()
         → a < s.blocks → (entry.reply ≡ replies.Data (p.written a)) ⊎ (IsLost p s a made ⊎ IsExcused h entry made) }
     ensures good_member { (p : Pool) (h : HostState) (entry : Entry) (made : List Noted) (next : HostState) (name : List ℕ) (s : PoolState) (a d : ℕ)
         → IsOpenIn p h name s → Survives head_of p → AllAnswer p.sectors made → Step h entry made next → entry.asked ≡ Some (requests.Read name a)
-        → a < s.blocks → IsGoodMember p a made d → (entry.reply ≡ replies.Data (p.written a)) ⊎ IsExcused h entry made }
+        → a < s.blocks → IsGoodMember p s a made d → (entry.reply ≡ replies.Data (p.written a)) ⊎ IsExcused h entry made }
     ensures suspends { (h : HostState) (entry : Entry) (made : List Noted) (next : HostState) (name : List ℕ) (s : PoolState) (before after : ℕ → ℕ) → Step h entry made next
         → entry.asked ≡ Some (requests.Sync name) → named_pool name h.pool ≡ Some s → is_spent s.number ≡ false → AllCaused made before after → SuspendsByCounts s before after entry.reply }
     ensures commits { (h : HostState) (entry : Entry) (made : List Noted) (next : HostState) (name : List ℕ) (s : PoolState) (before after : ℕ → ℕ) → Step h entry made next
@@ -49,7 +49,7 @@ pub fn good_member_answers()
         → AllCaused made before after → CreatesByCounts first second seats before after entry.reply }
     ensures imports { (h : HostState) (entry : Entry) (made : List Noted) (next : HostState) (name : List ℕ) (before after : ℕ → ℕ) (group : Group) (top : Guid) (faults : ℕ)
         → Step h entry made next → entry.asked ≡ Some (requests.Import name) → entry.reply ≡ replies.Refused (refusals.Suspended group top faults)
-        → AllCaused made before after → SomeRose before after }
+        → AllCaused made before after → (faults ≡ 0) ⊎ SomeRose before after }
     ensures finds { (sectors : Sectors) (h : HostState) (entry : Entry) (made : List Noted) (next : HostState) (name : List ℕ) → IsFit h → AllAnswer sectors made
         → Step h entry made next → entry.asked ≡ Some (requests.Import name) → entry.reply ≡ replies.Refused refusals.NoRecord → FindsNone h sectors name made }
     ensures causes { (made : List Noted) (d : ℕ) (before after : ℕ → ℕ) → SomeFailed d made → AllCaused made before after → Rose (before d) (after d) }

@@ -46,5 +46,5 @@ pub fn creates_begin_a_pool()
     ensures begins { (h : HostState) (second : ℕ) (name : List ℕ) (blocks : ℕ) (first other : List ℕ) (seats : ℕ × ℕ) (made : List Noted) (next : HostState) (reply : Reply) (sectors : Sectors)
         → IsFit h → IsTrue (is_name name) → IsTrue (is_name first) → IsTrue (is_name other) → is_bad_size blocks ≡ false → new_seats h blocks first other ≡ Some seats
         → IsCreate h second name blocks first other made next reply
-        → IsBorn h.size (new_state h second name blocks first other seats) sectors made next ⊎ StampFails h.size (new_state h second name blocks first other seats) made }
+        → IsBorn h.size (new_state h second name blocks first other seats) seats sectors made next ⊎ StampFails h.size (new_state h second name blocks first other seats) seats made }
 {}

@@ -1,5 +1,5 @@
 //! The laws of whole runs over the histories of pools (docs/MODEL.md, "Stops and openings").
-ghost use Rattle.std.specs.Prelude.{◌≡◌, ◌++◌, ◌∷◌, ℕ, List, Some};
+ghost use Rattle.std.specs.Prelude.{◌≡◌, ◌≤◌, ◌++◌, ◌∷◌, true, ℕ, List, Some};
 ghost use Rattle.bank_core.specs.Calls.{AllCaused};
 ghost use Rattle.bank_core.specs.Disk.{Noted, Sectors, AllAnswer, run};
 ghost use Rattle.pool_history.specs.Events.{Stops};
@@ -37,10 +37,11 @@ pub fn runs_keep_each_pool()
     good_member_answers();
 }
 
-/// The next run may begin with what a stop left of the devices, whatever moment the stop came at.
+/// The next run may begin with what a stop left of the devices, whatever moment the stop came at; some devices may be
+/// missing in it, and others may be new.
 pub fn stops_keep_each_pool()
-    ensures next_run { (p : Pool) (h : HostState) (images : ℕ → ℕ → List ℕ) (table : List HostDevice) (size : ℕ → ℕ) (records : List Rec)
-        → (tracks : Tracks p h) → ((d : ℕ) → size d ≡ h.size d) → ((r : Rec) → IsIn r h.records → IsIn r records)
+    ensures next_run { (p : Pool) (h : HostState) (sectors : Sectors) (table : List HostDevice) (size : ℕ → ℕ) (records : List Rec)
+        → (tracks : Tracks p h) → ((d : ℕ) → p.member d ≡ true → 1 ≤ size d → size d ≡ p.size d) → ((r : Rec) → IsIn r h.records → IsIn r records)
         → ((d : ℕ) → number_in tracks.first.name table ≡ Some d → d ≡ tracks.first.dev) → ((d : ℕ) → number_in tracks.second.name table ≡ Some d → d ≡ tracks.second.dev)
-        → Tracks (after (Stops images) p) (started table size records) }
+        → Tracks (after (Stops sectors size) p) (started table size records) }
 {}

@@ -1,6 +1,8 @@
 //! `mpool script`: answers each line of its input by one line, over pools of mirrored devices.
 #![tactic(auto)]
 
+#[cfg(test)]
+mod away;
 mod clock;
 mod devices;
 mod stdio;

@@ -32,7 +32,7 @@ fn small_bank(alloc: Global) -> Result<MemBank, Fail> {
 }
 
 /// Runs a script, which ends well, and gives its replies.
-fn replies(
+pub(crate) fn replies(
     rt: &impl Abort,
     alloc: Global,
     bank: &mut MemBank,

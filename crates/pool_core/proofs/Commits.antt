@@ -10,13 +10,15 @@ use Rattle.mp_base.specs.declared.number.Group.{Group}
 use Rattle.config_codec.specs.declared.config.Pointer.{Pointer}
 use Rattle.pool_core.specs.declared.pool.Pool.{Pool}
 use Rattle.pool_core.specs.Committing.{IsNext, SameOtherwise, CommitsAt, CommitsBelow, next_pointer, free_sector}
-use Rattle.pool_core.specs.Keeping.{Represents}
-use Rattle.pool_core.specs.Opening.{recommitted}
+use Rattle.pool_core.specs.Keeping.{Represents, Stands}
 use Rattle.pool_core.specs.Recorded.{pointer_of}
-use Rattle.pool_core.specs.State.{LeafState, PoolState, Version, Known, other_sector}
+use Rattle.pool_core.specs.Logs.{drawn}
+use Rattle.pool_core.specs.State.{PoolState, Version, Known, other_sector}
 use Rattle.pool_core.specs.Syncing.{next_version, synced}
 use Rattle.pool_core.proofs.Lists.{same_some, set_get_same, set_get_other, get_set_other}
+use Rattle.pool_core.proofs.Drawing.{drawn_relogs, drawn_number}
 use Rattle.pool_core.proofs.SyncSteps.{pointer_is, free_is}
+use Rattle.pool_core.proofs.Validating.{pool_valid}
 
 abbrev pointer_with : Group → ℕ → List ℕ → Option Pointer
 pointer_with birth sector sum = Some (record { birth = birth; sector = sector; sum = sum })
@@ -38,13 +40,13 @@ no_block : (block : List ℕ) → None ≡ Some block → ⊥
 no_block block e = cc
 
 -- the pointer of an address behind the commit
-committed_at : (old : Pool) (s : PoolState) (a : ℕ) (pointer : Option Pointer) → Represents old (recommitted s) → a < s.blocks → IsNext old a pointer
-    → pointer ≡ option_map pointer_of (next_version (s.number + 1) a (s.committed a) (s.writes a))
+committed_at : (old : Pool) (s : PoolState) (a : ℕ) (pointer : Option Pointer) → Represents old s → a < s.blocks → IsNext old a pointer
+    → pointer ≡ option_map pointer_of (next_version s.number a (s.committed a) (s.writes a))
 committed_at old s a pointer r inside next =
     let written : s.writes a ≡ next.block = r.writes a next.block next.block_is in
-    let points = pointer_is old (recommitted s) a next.pointer r inside next.pointer_is in
-    next.is ∙ next_pointed (s.number + 1) old.config.number a next.pointer (s.committed a) next.block (sym r.number) points
-    ∙ ap (λ w. option_map pointer_of (next_version (s.number + 1) a (s.committed a) w)) (sym written)
+    let points = pointer_is old s a next.pointer r inside next.pointer_is in
+    next.is ∙ next_pointed s.number old.number a next.pointer (s.committed a) next.block (sym r.number) points
+    ∙ ap (λ w. option_map pointer_of (next_version s.number a (s.committed a) w)) (sym written)
 
 same_known : (a b : List ℕ) → Known a ≡ Known b → a ≡ b
 same_known a b e = cc
@@ -66,9 +68,7 @@ same_more old mid new a b = record {
   blocks = b.blocks ∙ a.blocks;
   number = b.number ∙ a.number;
   next_member = b.next_member ∙ a.next_member;
-  sectors = b.sectors ∙ a.sectors;
-  mirror = b.mirror ∙ a.mirror;
-  leaves = b.leaves ∙ a.leaves;
+  pair = b.pair ∙ a.pair;
 }
 
 -- what comes next at an address that wasn't reached before
@@ -87,21 +87,21 @@ commits_more old mid new n below at = record {
   next = λ a p under e. next_at a p under (subst (λ xs. slice_get xs a ≡ Some p) at.pointers e) (cases_lt a n);
   cleared = λ a b under e. cleared_at a b under (subst (λ xs. slice_get xs a ≡ Some b) at.writes e) (cases_lt a n);
   pointers = λ a past. ap (λ xs. slice_get xs a) at.pointers
-      ∙ get_set_other mid.config.pointers.items n a at.next (λ e. omega arith) ∙ below.pointers a (omega arith);
+      ∙ get_set_other mid.pointers.items n a at.next (λ e. omega arith) ∙ below.pointers a (omega arith);
   writes = λ a past. ap (λ xs. slice_get xs a) at.writes ∙ get_set_other mid.writes.items n a None (λ e. omega arith) ∙ below.writes a (omega arith);
-  pointers_length = ap length at.pointers ∙ length-set mid.config.pointers.items n at.next ∙ below.pointers_length;
+  pointers_length = ap length at.pointers ∙ length-set mid.pointers.items n at.next ∙ below.pointers_length;
   writes_length = ap length at.writes ∙ length-set mid.writes.items n None ∙ below.writes_length;
   same = same_more old mid new below.same at.same;
 }
   where
-    next_at : (a : ℕ) (p : Option Pointer) → a < n + 1 → slice_get (set mid.config.pointers.items n at.next) a ≡ Some p → (a < n) ⊎ (n ≤ a) → IsNext old a p
+    next_at : (a : ℕ) (p : Option Pointer) → a < n + 1 → slice_get (set mid.pointers.items n at.next) a ≡ Some p → (a < n) ⊎ (n ≤ a) → IsNext old a p
     next_at a p under e (inl less) =
         let other : a ≢ n = omega arith in
-        below.next a p less (set_get_other mid.config.pointers.items n a at.next p other e)
+        below.next a p less (set_get_other mid.pointers.items n a at.next p other e)
     next_at a p under e (inr more) =
         let same : n ≡ a = omega arith in
-        let here : slice_get (set mid.config.pointers.items n at.next) n ≡ Some p = subst (λ i. slice_get (set mid.config.pointers.items n at.next) i ≡ Some p) (sym same) e in
-        let is : IsNext old n p = subst (IsNext old n) (sym (set_get_same mid.config.pointers.items n at.next p here)) (next_from old mid n at.next below at.is_next) in
+        let here : slice_get (set mid.pointers.items n at.next) n ≡ Some p = subst (λ i. slice_get (set mid.pointers.items n at.next) i ≡ Some p) (sym same) e in
+        let is : IsNext old n p = subst (IsNext old n) (sym (set_get_same mid.pointers.items n at.next p here)) (next_from old mid n at.next below at.is_next) in
         subst (λ i. IsNext old i p) same is
 
     cleared_at : (a : ℕ) (b : Option (List ℕ)) → a < n + 1 → slice_get (set mid.writes.items n None) a ≡ Some b → (a < n) ⊎ (n ≤ a) → b ≡ None
@@ -113,36 +113,60 @@ commits_more old mid new n below at = record {
         let here : slice_get (set mid.writes.items n None) n ≡ Some b = subst (λ i. slice_get (set mid.writes.items n None) i ≡ Some b) (sym same) e in
         set_get_same mid.writes.items n None b here
 
-first_leaf : (a b c d : LeafState) → a ∷ b ∷ [] ≡ c ∷ d ∷ [] → a ≡ c
-first_leaf a b c d e = cc
-
-second_leaf : (a b c d : LeafState) → a ∷ b ∷ [] ≡ c ∷ d ∷ [] → b ≡ d
-second_leaf a b c d e = cc
+-- the state with all that was written committed in the group of its number
+abbrev settled : PoolState → PoolState
+settled s = record s { committed = λ a. next_version s.number a (s.committed a) (s.writes a); writes = λ a. None }
 
 -- all addresses were committed
-pub all_committed : (old new : Pool) (s : PoolState) (n : ℕ) → CommitsBelow old n new → length old.writes.items ≤ n
-    → Represents old (recommitted s) → Represents new (synced s)
-all_committed old new s n below all r = record {
+settled_represents : (old new : Pool) (s : PoolState) (n : ℕ) → CommitsBelow old n new → length old.writes.items ≤ n
+    → Represents old s → Represents new (settled s)
+settled_represents old new s n below all r = record {
   name = r.name ∙ sym below.same.name;
   pool_is = r.pool_is ∙ sym below.same.pool_is;
   blocks = r.blocks ∙ sym below.same.blocks;
   next_member = r.next_member ∙ sym below.same.next_member;
-  sectors = r.sectors ∙ sym below.same.sectors;
-  mirror = r.mirror ∙ sym below.same.mirror;
-  first = r.first ∙ sym (first_leaf _ _ _ _ below.same.leaves);
-  second = r.second ∙ sym (second_leaf _ _ _ _ below.same.leaves);
+  pair = pair_there;
   number = r.number ∙ ap (λ g. g.0) (sym below.same.number);
   committed = λ a inside. pointer_there a inside;
   writes = λ a block e. sym (below.cleared a block (omega (arith, slice_get_within new.writes.items a block e, below.writes_length)) e);
   beyond = λ a past. refl;
   whole = λ a block e. absurd (no_block block e);
-  known_whole = λ a version block e is. next_whole (s.number + 1) a (s.committed a) (s.writes a) version block (λ v. r.known_whole a v block) (r.whole a) e is;
+  known_whole = λ a version block e is. next_whole s.number a (s.committed a) (s.writes a) version block (λ v. r.known_whole a v block) (r.whole a) e is;
 }
   where
+    counted : length old.pointers.items ≡ old.blocks
+    counted = (pool_valid old).counted
+
+    pair_there : Stands new.pair (settled s)
+    pair_there = subst (λ pair. Stands pair (settled s)) (sym below.same.pair) (record {
+      mirror = r.pair.mirror;
+      sectors = r.pair.sectors;
+      first = r.pair.first;
+      second = r.pair.second;
+    })
+
     pointer_there : (a : ℕ) → a < s.blocks
-        → slice_get new.config.pointers.items a ≡ Some (option_map pointer_of (next_version (s.number + 1) a (s.committed a) (s.writes a)))
+        → slice_get new.pointers.items a ≡ Some (option_map pointer_of (next_version s.number a (s.committed a) (s.writes a)))
     pointer_there a inside =
-        let within : a < length new.config.pointers.items = omega (arith, r.blocks, old.valid.counted, below.pointers_length) in
-        let under : a < n = omega (arith, r.blocks, old.valid.counted, old.paired) in
-        let is = slice_get-get_or new.config.pointers.items a None within in
-        is ∙ ap Some (committed_at old s a (get_or new.config.pointers.items a None) r inside (below.next a (get_or new.config.pointers.items a None) under is))
+        let within : a < length new.pointers.items = omega (arith, r.blocks, counted, below.pointers_length) in
+        let under : a < n = omega (arith, r.blocks, counted, old.paired) in
+        let is = slice_get-get_or new.pointers.items a None within in
+        is ∙ ap Some (committed_at old s a (get_or new.pointers.items a None) r inside (below.next a (get_or new.pointers.items a None) under is))
+
+-- the same with the number, the versions and the writes named otherwise
+named_settled : (old new : Pool) (t : PoolState) (n number : ℕ) (committed : ℕ → Option Version) (writes : ℕ → Option (List ℕ))
+    → t.number ≡ number → t.committed ≡ committed → t.writes ≡ writes → CommitsBelow old n new → length old.writes.items ≤ n → Represents old t
+    → Represents new (record t { committed = λ a. next_version number a (committed a) (writes a); writes = λ a. None })
+named_settled old new t n number committed writes number_is committed_is writes_is below all r =
+    let P : (ℕ → Option Version) → (ℕ → Option (List ℕ)) → Type 0 = λ c w. Represents old (record t { committed = c; writes = w }) in
+    let one = subst (λ c. P c t.writes) committed_is r in
+    let both = subst (λ w. P committed w) writes_is one in
+    let done = settled_represents old new (record t { committed = committed; writes = writes }) n below all both in
+    subst (λ k. Represents new (record t { committed = λ a. next_version k a (committed a) (writes a); writes = λ a. None })) number_is done
+
+-- behind the draw of a number the state is the synced one
+pub all_committed : (old new : Pool) (s : PoolState) (n : ℕ) → CommitsBelow old n new → length old.writes.items ≤ n
+    → Represents old (drawn s) → Represents new (synced s)
+all_committed old new s n below all r =
+    let is = (drawn_relogs s).is in
+    named_settled old new (drawn s) n (s.number + 1) s.committed s.writes (drawn_number s) (ap (λ t. t.committed) is) (ap (λ t. t.writes) is) below all r

@@ -1,11 +1,14 @@
 -- Reads, against the abstract state.
-use Rattle.std.proofs.Common.{◌≡◌, ◌≢◌, ℕ, ◌+◌, ◌<◌, ◌≤◌, Bool, true, false, List, [], ◌∷◌, Option, Some, None, Result, Ok, Err, length, refl, inl, inr, ◌⊎◌, replicate, sym, ◌∙◌, ap, ap₂, subst, lt-ltb, le-ltb, nat_lt}
+use mathlib.Core.Path.{fun_ext}
+use Rattle.std.proofs.Common.{◌≡◌, ◌≢◌, ℕ, ◌+◌, ◌<◌, ◌≤◌, Bool, true, false, List, [], ◌∷◌, ◌++◌, map, Option, Some, None, Result, Ok, Err, length, refl, inl, inr, ◌⊎◌, replicate, sym, ◌∙◌, ap, ap₂, subst, lt-ltb, le-ltb, nat_lt, append-nil, arith}
 use Rattle.std.proofs.lemmas.Slice.Eq.{bytes_eq-Decides}
+use Rattle.std.proofs.lemmas.Option.{same_Some}
 use Rattle.std.specs.Prelude.{slice_get}
 use Rattle.std.specs.Option.{option_map}
 use Rattle.std.specs.Str.{bytes_eq}
 use Rattle.sha2.specs.Sha256.{sha256}
 use Rattle.mp_base.specs.Block.{zero_block, zeros, block_bytes}
+use Rattle.mp_base.specs.declared.number.Guid.{Guid}
 use Rattle.mp_base.specs.declared.refusal.LeafSeen.{LeafSeen}
 use Rattle.mp_base.specs.declared.refusal.Refusal.{Refusal}
 use Rattle.mp_base.specs.declared.refusal.Refusal.TheVariants as refusals
@@ -13,26 +16,36 @@ use Rattle.mp_base.specs.declared.refusal.Seen.{Seen}
 use Rattle.mp_base.specs.declared.refusal.Seen.TheVariants as seen
 use Rattle.bank_core.specs.declared.bank.Fault.{Fault}
 use Rattle.bank_core.specs.declared.bank.Fault.TheVariants as faults
-use Rattle.bank_core.specs.Asks.{asks_of}
+use Rattle.bank_core.specs.Asks.{Reads as ReadsOf, ask_of, asks_of}
 use Rattle.bank_core.specs.Disk.{Call, Read, Noted}
 use Rattle.bank_core.specs.Story.{Story}
 use Rattle.bank_core.proofs.Composing.{made_none, made_more}
 use Rattle.bank_core.proofs.Blocks.{block_sectors}
 use Rattle.config_codec.specs.declared.config.Pointer.{Pointer}
+use Rattle.label_store.specs.declared.member.Member.{Member}
+use Rattle.label_store.specs.Newest.{AreReads, IsRead as IsReadCall}
+use Rattle.label_store.proofs.Reading.{are_reads_more}
 use Rattle.pool_core.specs.declared.pool.Pool.{Pool}
 use Rattle.pool_core.specs.Clash.{ClashesWith, IsFound}
-use Rattle.pool_core.specs.Copies.{IsSeen, TriesCopy}
+use Rattle.pool_core.specs.Copies.{IsSeen}
 use Rattle.pool_core.specs.Done.{IsRead, Reads}
-use Rattle.pool_core.specs.Keeping.{Represents, first_of, second_of}
-use Rattle.pool_core.specs.Outside.{Trouble, Wrong, matches, trouble_of, trouble_from, troubles, last_given}
-use Rattle.pool_core.specs.Reading.{Source, Copies, source_of, source_at, wanted, read_asks, read_answer, asks_from, answer_from, seen_as, block_from, served}
+use Rattle.pool_core.specs.Keeping.{Represents}
+use Rattle.pool_core.specs.Outside.{Trouble, Wrong, matches, trouble_of, trouble_from, troubles, given_or_none, last_given}
+use Rattle.pool_core.specs.Reading.{Source, Copies, source_of, source_at, wanted, read_asks, read_answer, asks_to, asks_from, answer_from, is_served, copies_give, seen_as, seen_of, shown, tries, block_from, served}
 use Rattle.pool_core.specs.Recorded.{pointer_of}
-use Rattle.pool_core.specs.Tries.{TriesCopies, TriesBoth, TriesSecond, shown_by}
-use Rattle.pool_core.specs.State.{LeafState, PoolState, Version, Content, Known, Summed, sum_of, data_start}
-use Rattle.pool_core.proofs.SyncSteps.{pointer_is}
+use Rattle.pool_core.specs.Tries.{IsMiss, AreMisses, Misses, Serves, TriesAll, TriesCopies, seen_in, shown_in, shown_by}
+use Rattle.pool_core.specs.State.{LeafState, PoolState, Version, Content, Known, Summed, sum_of, leaves, data_start}
+use Rattle.pool_core.proofs.Validating.{pool_valid}
 
 true_false : true ≡ false → ⊥
 true_false e = cc
+
+-- each address below the volume's end has a place
+pub has_place : (pool : Pool) (a : ℕ) → a < pool.blocks → a < length pool.writes.items
+has_place pool a below = omega (arith, (pool_valid pool).counted, pool.paired)
+
+pub is_inside : (pool : Pool) (a : ℕ) → a < length pool.writes.items → a < pool.blocks
+is_inside pool a within = omega (arith, (pool_valid pool).counted, pool.paired)
 
 -- a read that made no call
 read_without : (s : PoolState) (a : ℕ) (told : Option Story) (faults : ℕ → ℕ) (answer : Result (List ℕ) Refusal)
@@ -66,13 +79,12 @@ read_hole {s} {a} {told} {faults} inside is hole =
     read_without s a told faults _ (rw (on, is, hole) refl) (rw (on, is, hole) refl)
 
 -- a read of a block that comes from this source
-in_source : (s : PoolState) (a : ℕ) (source : Source) (first second : LeafState) (made : List Noted) (answer : Result (List ℕ) Refusal)
-    → a < s.blocks → source_at s a ≡ source → s.first ≡ first → s.second ≡ second
-    → asks_of made ≡ asks_from source (first ∷ second ∷ []) (troubles (block_from source) made)
-    → answer ≡ answer_from source a (first ∷ second ∷ []) (troubles (block_from source) made) (last_given made) → IsRead s a made answer
-in_source s a source first second made answer inside is first_is second_is asks answer_is =
+in_source : (s : PoolState) (a : ℕ) (source : Source) (made : List Noted) (answer : Result (List ℕ) Refusal) → a < s.blocks → source_at s a ≡ source
+    → asks_of made ≡ asks_from source (leaves s) (troubles (block_from source) made)
+    → answer ≡ answer_from source a (leaves s) (troubles (block_from source) made) (last_given made) → IsRead s a made answer
+in_source s a source made answer inside is asks answer_is =
     let on : nat_lt a s.blocks ≡ true = lt-ltb a s.blocks inside in
-    record { asks = rw (on, is, first_is, second_is) asks; answer_is = rw (on, is, first_is, second_is) answer_is }
+    record { asks = rw (on, is) asks; answer_is = rw (on, is) answer_is }
 
 no_match : (bytes block : List ℕ) → (bytes ≡ block → ⊥) → bytes_eq bytes block ≡ false
 no_match bytes block differs = go (bytes_eq bytes block) refl
@@ -106,6 +118,83 @@ bad_copy content bytes sum dev at (Some fault) seen.Failed e is = record { troub
 bad_copy content bytes sum dev at (Some fault) seen.Mismatch e is = absurd is
 bad_copy content bytes sum dev at (Some fault) seen.Unreadable e is = absurd is
 
+-- so, by the call
+record Misread (content : Content) (at : ℕ) (m : Member) (call : Call) (leaf : LeafSeen) : Type 0 where
+  trouble : Trouble
+  met : trouble_of content call ≡ Some trouble
+  shown_as : seen_as trouble ≡ leaf.seen
+  ask : ask_of call ≡ ReadsOf m.dev at 1
+  member_is : leaf.member ≡ m.guid
+  read : IsReadCall call
+
+misread : (content : Content) (at : ℕ) (sum : List ℕ) (m : Member) (noted : Noted) (leaf : LeafSeen) → sum ≡ sum_of content → IsMiss at sum m noted leaf
+    → Misread content at m noted.call leaf
+misread content at sum m noted leaf e miss =
+    let bad = bad_copy content miss.bytes sum m.dev at miss.fault leaf.seen e miss.is_seen in
+    subst (λ call. Misread content at m call leaf) (sym miss.call) (record {
+      trouble = bad.trouble;
+      met = bad.met;
+      shown_as = bad.shown_as;
+      ask = ap (ReadsOf m.dev at) (block_sectors miss.bytes miss.whole);
+      member_is = miss.member_is;
+      read = tt;
+    })
+
+misses_reads : (at : ℕ) (sum : List ℕ) (ms : List Member) (made : List Noted) (seen : List LeafSeen) (content : Content) → sum ≡ sum_of content
+    → AreMisses at sum ms made seen → AreReads made
+misses_reads at sum [] made seen content e are = subst AreReads (sym are.0) tt
+misses_reads at sum (m ∷ ms) [] seen content e are = absurd are
+misses_reads at sum (m ∷ ms) (noted ∷ made) [] content e are = absurd are
+misses_reads at sum (m ∷ ms) (noted ∷ made) (leaf ∷ seen) content e are =
+    ((misread content at sum m noted leaf e are.0).read, misses_reads at sum ms made seen content e are.1)
+
+-- the asks of these tries, with those of the members behind
+asks_behind : (content : Content) (at : ℕ) (sum : List ℕ) (ms rest : List Member) (made tail : List Noted) (seen : List LeafSeen) → sum ≡ sum_of content
+    → AreMisses at sum ms made seen → asks_of tail ≡ asks_to at rest (troubles content tail)
+    → asks_of (made ++ tail) ≡ asks_to at (ms ++ rest) (troubles content (made ++ tail))
+asks_behind content at sum [] rest made tail seen e are is = rw are.0 is
+asks_behind content at sum (m ∷ ms) rest [] tail seen e are is = absurd are
+asks_behind content at sum (m ∷ ms) rest (noted ∷ made) tail [] e are is = absurd are
+asks_behind content at sum (m ∷ ms) rest (noted ∷ made) tail (leaf ∷ seen) e are is =
+    let one = misread content at sum m noted leaf e are.0 in
+    rw (one.ask, one.met) (ap (λ more. ReadsOf m.dev at 1 ∷ more) (asks_behind content at sum ms rest made tail seen e are.1 is))
+
+-- whether some copy served, by the members behind
+served_behind : (content : Content) (at : ℕ) (sum : List ℕ) (ms rest : List Member) (made tail : List Noted) (seen : List LeafSeen) → sum ≡ sum_of content
+    → AreMisses at sum ms made seen → is_served (ms ++ rest) (troubles content (made ++ tail)) ≡ is_served rest (troubles content tail)
+served_behind content at sum [] rest made tail seen e are = rw are.0 refl
+served_behind content at sum (m ∷ ms) rest [] tail seen e are = absurd are
+served_behind content at sum (m ∷ ms) rest (noted ∷ made) tail [] e are = absurd are
+served_behind content at sum (m ∷ ms) rest (noted ∷ made) tail (leaf ∷ seen) e are =
+    let one = misread content at sum m noted leaf e are.0 in
+    rw one.met (served_behind content at sum ms rest made tail seen e are.1)
+
+-- what the tries showed of a leaf
+seen_is : (content : Content) (at : ℕ) (sum : List ℕ) (ms : List Member) (made : List Noted) (seen : List LeafSeen) (who : Guid) → sum ≡ sum_of content
+    → AreMisses at sum ms made seen → seen_of ms (troubles content made) who ≡ seen_in seen who
+seen_is content at sum [] made seen who e are = rw are.1 refl
+seen_is content at sum (m ∷ ms) [] seen who e are = absurd are
+seen_is content at sum (m ∷ ms) (noted ∷ made) [] who e are = absurd are
+seen_is content at sum (m ∷ ms) (noted ∷ made) (leaf ∷ seen) who e are =
+    let one = misread content at sum m noted leaf e are.0 in
+    rw (one.met, one.shown_as, one.member_is, seen_is content at sum ms made seen who e are.1) refl
+
+shown_is : (content : Content) (at : ℕ) (sum : List ℕ) (birth : ℕ) (some : List LeafState) (made : List Noted) (seen : List LeafSeen) → sum ≡ sum_of content
+    → AreMisses at sum (tries birth some) made seen → shown birth some (troubles content made) ≡ shown_in seen some
+shown_is content at sum birth some made seen e are =
+    let look : (Guid → Seen) → List LeafSeen = λ f. map (λ leaf. record { member = leaf.member; seen = f leaf.member }) some in
+    ap look (fun_ext (λ who. seen_is content at sum (tries birth some) made seen who e are))
+
+-- the last of some calls
+last_behind : (made : List Noted) (noted : Noted) → last_given (made ++ noted ∷ []) ≡ given_or_none noted.call
+last_behind [] noted = refl
+last_behind (x ∷ []) noted = refl
+last_behind (x ∷ y ∷ made) noted = last_behind (y ∷ made) noted
+
+found_behind : (made : List Noted) (dev at : ℕ) (bytes : List ℕ) (damage : ℕ → ℕ → Bool) → IsFound (made ++ record { call = Read dev at bytes None; damage = damage } ∷ []) bytes
+found_behind [] dev at bytes damage = inl refl
+found_behind (x ∷ made) dev at bytes damage = inr (found_behind made dev at bytes damage)
+
 -- a copy that served is the block, so far as it is known, or clashes with it
 record IsSame (content : Content) (bytes : List ℕ) (call : Call) (fault : Option Fault) : Type 0 where
   answered : fault ≡ None
@@ -137,28 +226,11 @@ served_copy (Summed sum') bytes sum dev at None e is =
     let eq : bytes_eq (sha256 bytes) sum' ≡ true = (bytes_eq-Decides (sha256 bytes) sum').1 (is ∙ e) in
     inl (record { answered = refl; met = rw eq refl; same = refl })
 
--- A read of copies: its place, where it comes from, and its leaves.
-pub record AtCopies (s : PoolState) (a : ℕ) (version : Version) (first second : LeafState) (at : ℕ) (sum : List ℕ) : Type 0 where
-  pub inside : a < s.blocks
-  pub source : source_at s a ≡ Copies version
-  pub first_is : s.first ≡ first
-  pub second_is : s.second ≡ second
-  pub place : at ≡ data_start + version.sector
-  pub sum_is : sum ≡ sum_of version.content
-
--- the calls of one or two reads, with what they met
-one_ask : (version : Version) (first second : LeafState) (at : ℕ) (bytes : List ℕ) (fault : Option Fault) (damage : ℕ → ℕ → Bool)
-    → length bytes ≡ 4096 → at ≡ data_start + version.sector → trouble_of version.content (Read first.dev at bytes fault) ≡ None
-    → asks_of (record { call = Read first.dev at bytes fault; damage = damage } ∷ [])
-    ≡ asks_from (Copies version) (first ∷ second ∷ []) (troubles version.content (record { call = Read first.dev at bytes fault; damage = damage } ∷ []))
-one_ask version first second at bytes fault damage long place met = rw (met, block_sectors bytes long, place) refl
-
-one_answer : (a : ℕ) (version : Version) (first second : LeafState) (bytes : List ℕ) (dev at : ℕ) (fault : Option Fault) (damage : ℕ → ℕ → Bool)
-    → fault ≡ None → trouble_of version.content (Read dev at bytes fault) ≡ None → bytes ≡ served version.content bytes
-    → Ok bytes ≡ answer_from (Copies version) a (first ∷ second ∷ []) (troubles version.content (record { call = Read dev at bytes fault; damage = damage } ∷ []))
-    (last_given (record { call = Read dev at bytes fault; damage = damage } ∷ []))
-one_answer a version first second bytes dev at (Some fault) damage e met same = absurd cc
-one_answer a version first second bytes dev at None damage e met same = rw met (ap Ok same)
+-- A read of copies: its place, and where it comes from.
+record AtCopies (s : PoolState) (a : ℕ) (version : Version) (sum : List ℕ) : Type 0 where
+  inside : a < s.blocks
+  source : source_at s a ≡ Copies version
+  sum_is : sum ≡ sum_of version.content
 
 clash_at : (s : PoolState) (a : ℕ) (version : Version) (made : List Noted) (bytes block : List ℕ) → source_at s a ≡ Copies version → version.content ≡ Known block
     → IsFound made bytes → bytes ≢ block → sha256 bytes ≡ sha256 block → ClashesWith made (wanted s a)
@@ -166,108 +238,98 @@ clash_at s a version made bytes block is known found other sums =
     subst (λ source. ClashesWith made (block_from source)) (sym is) (subst (ClashesWith made) (sym known)
     (record { found = bytes; read = found; differs = other; same_sum = sums }))
 
--- the first copy served
-pub read_first : {s : PoolState} {a : ℕ} {old new : Option Story} {f g : ℕ → ℕ} (version : Version) (first second : LeafState) (at : ℕ) (sum bytes : List ℕ)
-    → AtCopies s a version first second at sum → TriesCopy first.dev at sum old new f g bytes (Ok tt) → Reads s a old new f g (Ok bytes)
-read_first {s} {a} {old} {new} {f} {g} version first second at sum bytes place tries =
+-- the ask of the copy that served
+asks_hit : (content : Content) (at dev : ℕ) (guid : Guid) (behind : List Member) (bytes : List ℕ) (fault : Option Fault) (damage : ℕ → ℕ → Bool) → length bytes ≡ 4096
+    → trouble_of content (Read dev at bytes fault) ≡ None
+    → asks_of (record { call = Read dev at bytes fault; damage = damage } ∷ [])
+    ≡ asks_to at (record { dev = dev; guid = guid } ∷ behind) (troubles content (record { call = Read dev at bytes fault; damage = damage } ∷ []))
+asks_hit content at dev guid behind bytes fault damage long met = rw (met, block_sectors bytes long) refl
+
+served_hit : (content : Content) (m : Member) (behind : List Member) (noted : Noted) → trouble_of content noted.call ≡ None
+    → is_served (m ∷ behind) (troubles content (noted ∷ [])) ≡ true
+served_hit content m behind noted met = rw met refl
+
+given_hit : (dev at : ℕ) (bytes : List ℕ) (fault : Option Fault) → fault ≡ None → given_or_none (Read dev at bytes fault) ≡ bytes
+given_hit dev at bytes fault e = rw e refl
+
+good_answer : (is : Bool) (a : ℕ) (content : Content) (given bytes : List ℕ) (leaves : List LeafSeen) → is ≡ true → given ≡ bytes → bytes ≡ served content bytes
+    → Ok bytes ≡ copies_give is a (served content given) leaves
+good_answer is a content given bytes leaves serves e same = rw (serves, e) (ap Ok same)
+
+bad_answer : (is : Bool) (a : ℕ) (block : List ℕ) (leaves leaves' : List LeafSeen) → is ≡ false → leaves ≡ leaves'
+    → Err (refusals.Exhausted 0 a leaves') ≡ copies_give is a block leaves
+bad_answer is a block leaves leaves' fails e = rw (fails, e) refl
+
+-- some copy served
+module _ (s : PoolState) (a : ℕ) (version : Version) (sum bytes : List ℕ) (place : AtCopies s a version sum)
+    (first : List Member) (member : Member) (behind : List Member) (order : tries version.birth (leaves s) ≡ first ++ member ∷ behind)
+    (misses : List Noted) (seen : List LeafSeen) (are : AreMisses (data_start + version.sector) sum first misses seen)
+    (fault : Option Fault) (damage : ℕ → ℕ → Bool) (long : length bytes ≡ 4096) where
+  calls_to : List Noted
+  calls_to = misses ++ record { call = Read member.dev (data_start + version.sector) bytes fault; damage = damage } ∷ []
+
+  served_step : IsSame version.content bytes (Read member.dev (data_start + version.sector) bytes fault) fault ⊎ IsOther version.content bytes fault
+      → IsRead s a calls_to (Ok bytes) ⊎ ClashesWith calls_to (wanted s a)
+  unfolding calls_to
+  served_step (inl same) =
+      let at = data_start + version.sector in
+      let hit : Noted = record { call = Read member.dev at bytes fault; damage = damage } in
+      inl (in_source s a (Copies version) calls_to (Ok bytes) place.inside place.source
+      (rw order (asks_behind version.content at sum first (member ∷ behind) misses (hit ∷ []) seen place.sum_is are
+      (asks_hit version.content at member.dev member.guid behind bytes fault damage long same.met)))
+      (good_answer _ a version.content _ bytes _
+      (rw order (served_behind version.content at sum first (member ∷ behind) misses (hit ∷ []) seen place.sum_is are ∙ served_hit version.content member behind hit same.met))
+      (last_behind misses hit ∙ given_hit member.dev at bytes fault same.answered) same.same))
+  served_step (inr other) =
+      let at = data_start + version.sector in
+      inr (clash_at s a version calls_to bytes other.block place.source other.is_known
+      (rw other.answered (found_behind misses member.dev at bytes damage)) other.other other.sums)
+
+read_served : {s : PoolState} {a : ℕ} {old new : Option Story} {f g : ℕ → ℕ} (version : Version) (sum bytes : List ℕ) → AtCopies s a version sum
+    → Serves (data_start + version.sector) sum (tries version.birth (leaves s)) old new f g bytes → Reads s a old new f g (Ok bytes)
+unfolding calls_to
+read_served {s} {a} {old} {new} {f} {g} version sum bytes place t =
+    let at = data_start + version.sector in
+    let hit : Noted = record { call = Read t.member.dev at bytes t.serves.fault; damage = t.serves.damage } in
     record {
-      made = record { call = Read first.dev at bytes tries.fault; damage = tries.damage } ∷ [];
-      calls = tries.calls;
-      reads = (tt, tt);
-      step = go (served_copy version.content bytes sum first.dev at tries.fault place.sum_is tries.is_seen);
+      made = t.misses.made ++ hit ∷ [];
+      calls = made_more old t.told new f t.faults g t.misses.made (hit ∷ []) t.misses.calls t.serves.calls;
+      reads = are_reads_more t.misses.made (hit ∷ []) (misses_reads at sum t.first t.misses.made t.seen version.content place.sum_is t.misses.are_misses) (tt, tt);
+      step = served_step s a version sum bytes place t.first t.member t.behind t.order t.misses.made t.seen t.misses.are_misses t.serves.fault t.serves.damage t.serves.whole
+          (served_copy version.content bytes sum t.member.dev at t.serves.fault place.sum_is t.serves.is_seen);
     }
-  where
-    go : IsSame version.content bytes (Read first.dev at bytes tries.fault) tries.fault ⊎ IsOther version.content bytes tries.fault
-        → IsRead s a (record { call = Read first.dev at bytes tries.fault; damage = tries.damage } ∷ []) (Ok bytes)
-        ⊎ ClashesWith (record { call = Read first.dev at bytes tries.fault; damage = tries.damage } ∷ []) (wanted s a)
-    go (inl same) = inl (in_source s a (Copies version) first second _ _ place.inside place.source place.first_is place.second_is
-        (one_ask version first second at bytes tries.fault tries.damage tries.whole place.place same.met)
-        (one_answer a version first second bytes first.dev at tries.fault tries.damage same.answered same.met same.same))
-    go (inr other) = inr (clash_at s a version _ bytes other.block place.source other.is_known (inl (rw other.answered refl)) other.other other.sums)
 
--- both copies were read, and the first didn't serve
-two_asks : (version : Version) (first second : LeafState) (at : ℕ) (one two : List ℕ) (fault fault' : Option Fault) (damage damage' : ℕ → ℕ → Bool)
-    (trouble : Trouble) (more : Option Trouble) → length one ≡ 4096 → length two ≡ 4096 → at ≡ data_start + version.sector
-    → trouble_of version.content (Read first.dev at one fault) ≡ Some trouble → trouble_of version.content (Read second.dev at two fault') ≡ more
-    → asks_of (record { call = Read first.dev at one fault; damage = damage } ∷ record { call = Read second.dev at two fault'; damage = damage' } ∷ [])
-    ≡ asks_from (Copies version) (first ∷ second ∷ []) (troubles version.content
-    (record { call = Read first.dev at one fault; damage = damage } ∷ record { call = Read second.dev at two fault'; damage = damage' } ∷ []))
-two_asks version first second at one two fault fault' damage damage' trouble None long long' place met met' =
-    rw (met, met', block_sectors one long, block_sectors two long', place) refl
-two_asks version first second at one two fault fault' damage damage' trouble (Some other) long long' place met met' =
-    rw (met, met', block_sectors one long, block_sectors two long', place) refl
-
--- the second served
-second_answer : (a : ℕ) (version : Version) (first second : LeafState) (bytes : List ℕ) (call : Call) (dev at : ℕ) (fault : Option Fault) (damage damage' : ℕ → ℕ → Bool)
-    (trouble : Trouble) → fault ≡ None → trouble_of version.content call ≡ Some trouble → trouble_of version.content (Read dev at bytes fault) ≡ None
-    → bytes ≡ served version.content bytes → Ok bytes ≡ answer_from (Copies version) a (first ∷ second ∷ [])
-    (troubles version.content (record { call = call; damage = damage } ∷ record { call = Read dev at bytes fault; damage = damage' } ∷ []))
-    (last_given (record { call = call; damage = damage } ∷ record { call = Read dev at bytes fault; damage = damage' } ∷ []))
-second_answer a version first second bytes call dev at (Some fault) damage damage' trouble e met met' same = absurd cc
-second_answer a version first second bytes call dev at None damage damage' trouble e met met' same = rw (met, met') (ap Ok same)
-
--- neither did
-neither_answer : (a : ℕ) (version : Version) (first second : LeafState) (call call' : Call) (damage damage' : ℕ → ℕ → Bool) (one two : Trouble) (shows shows' : Seen)
-    → trouble_of version.content call ≡ Some one → trouble_of version.content call' ≡ Some two → seen_as one ≡ shows → seen_as two ≡ shows'
-    → Err (refusals.Exhausted 0 a (record { member = first.member; seen = shows } ∷ record { member = second.member; seen = shows' } ∷ []))
-    ≡ answer_from (Copies version) a (first ∷ second ∷ [])
-    (troubles version.content (record { call = call; damage = damage } ∷ record { call = call'; damage = damage' } ∷ []))
-    (last_given (record { call = call; damage = damage } ∷ record { call = call'; damage = damage' } ∷ []))
-neither_answer a version first second call call' damage damage' one two shows shows' met met' first_as second_as = rw (met, met', ← first_as, ← second_as) refl
+-- none did
+read_missed : {s : PoolState} {a : ℕ} {old new : Option Story} {f g : ℕ → ℕ} (version : Version) (sum : List ℕ) (seen : List LeafSeen) → AtCopies s a version sum
+    → Misses (data_start + version.sector) sum (tries version.birth (leaves s)) old new f g seen
+    → Reads s a old new f g (Err (refusals.Exhausted 0 a (shown_in seen (leaves s))))
+read_missed {s} {a} {old} {new} {f} {g} version sum seen place m =
+    let at = data_start + version.sector in
+    let all = tries version.birth (leaves s) in
+    let asks : asks_of (m.made ++ []) ≡ asks_to at (all ++ []) (troubles version.content (m.made ++ [])) =
+    asks_behind version.content at sum all [] m.made [] seen place.sum_is m.are_misses refl in
+    let serves : is_served (all ++ []) (troubles version.content (m.made ++ [])) ≡ false =
+    served_behind version.content at sum all [] m.made [] seen place.sum_is m.are_misses in
+    record {
+      made = m.made;
+      calls = m.calls;
+      reads = misses_reads at sum all m.made seen version.content place.sum_is m.are_misses;
+      step = inl (in_source s a (Copies version) m.made _ place.inside place.source
+          (rw (append-nil m.made, append-nil all) at asks)
+          (bad_answer _ a _ _ _ (rw (append-nil m.made, append-nil all) at serves)
+          (shown_is version.content at sum version.birth (leaves s) m.made seen place.sum_is m.are_misses)));
+    }
 
 -- the answer of a read whose copies gave this
 abbrev pub with_leaves : ℕ → List ℕ → Result (Unit {0}) (List LeafSeen) → Result (List ℕ) Refusal
 with_leaves a bytes (Ok done) = Ok bytes
 with_leaves a bytes (Err leaves) = Err (refusals.Exhausted 0 a leaves)
 
-module _ (s : PoolState) (a : ℕ) (version : Version) (first second : LeafState) (at : ℕ) (sum one bytes : List ℕ)
-    (place : AtCopies s a version first second at sum) (long : length one ≡ 4096) (long' : length bytes ≡ 4096)
-    (fault fault' : Option Fault) (damage damage' : ℕ → ℕ → Bool) (shows : Seen)
-    (bad : IsBad version.content (Read first.dev at one fault) shows) where
-  two_calls : List Noted
-  two_calls = record { call = Read first.dev at one fault; damage = damage } ∷ record { call = Read second.dev at bytes fault'; damage = damage' } ∷ []
-
-  second_serves : IsSame version.content bytes (Read second.dev at bytes fault') fault' ⊎ IsOther version.content bytes fault'
-      → IsRead s a two_calls (Ok bytes) ⊎ ClashesWith two_calls (wanted s a)
-  unfolding two_calls
-  second_serves (inl same) = inl (in_source s a (Copies version) first second _ _ place.inside place.source place.first_is place.second_is
-      (two_asks version first second at one bytes fault fault' damage damage' bad.trouble None long long' place.place bad.met same.met)
-      (second_answer a version first second bytes (Read first.dev at one fault) second.dev at fault' damage damage' bad.trouble same.answered bad.met same.met same.same))
-  second_serves (inr other) = inr (clash_at s a version _ bytes other.block place.source other.is_known (inr (inl (rw other.answered refl))) other.other other.sums)
-
-  second_step : (r : Result (Unit {0}) Seen) → IsSeen fault' bytes sum r
-      → IsRead s a two_calls (with_leaves a bytes (shown_by first second shows r)) ⊎ ClashesWith two_calls (wanted s a)
-  unfolding two_calls
-  second_step (Ok done) seen = second_serves (served_copy version.content bytes sum second.dev at fault' place.sum_is seen)
-  second_step (Err shows') seen =
-      let bad' = bad_copy version.content bytes sum second.dev at fault' shows' place.sum_is seen in
-      inl (in_source s a (Copies version) first second _ _ place.inside place.source place.first_is place.second_is
-      (two_asks version first second at one bytes fault fault' damage damage' bad.trouble (Some bad'.trouble) long long' place.place bad.met bad'.met)
-      (neither_answer a version first second (Read first.dev at one fault) (Read second.dev at bytes fault') damage damage' bad.trouble bad'.trouble shows shows' bad.met bad'.met bad.shown_as bad'.shown_as))
-
--- the first copy didn't serve, and the second was read
-read_second : (s : PoolState) (a : ℕ) (old new : Option Story) (f g : ℕ → ℕ) (version : Version) (first second : LeafState) (at : ℕ) (sum bytes : List ℕ)
-    (result : Result (Unit {0}) (List LeafSeen)) → AtCopies s a version first second at sum
-    → TriesSecond first second at sum old new f g bytes result → Reads s a old new f g (with_leaves a bytes result)
-unfolding two_calls
-read_second s a old new f g version first second at sum bytes result place t = rw t.result_is (record {
-  made = record { call = Read first.dev at t.first_bytes t.tries_first.fault; damage = t.tries_first.damage }
-      ∷ record { call = Read second.dev at bytes t.tries_second.fault; damage = t.tries_second.damage } ∷ [];
-  calls = made_more old t.told new f t.faults g (_ ∷ []) (_ ∷ []) t.tries_first.calls t.tries_second.calls;
-  reads = (tt, (tt, tt));
-  step = second_step s a version first second at sum t.first_bytes bytes place t.tries_first.whole t.tries_second.whole
-      t.tries_first.fault t.tries_second.fault t.tries_first.damage t.tries_second.damage t.first_seen
-      (bad_copy version.content t.first_bytes sum first.dev at t.tries_first.fault t.first_seen place.sum_is t.tries_first.is_seen)
-      t.second_result t.tries_second.is_seen;
-})
-
-pub read_both : {s : PoolState} {a : ℕ} {old new : Option Story} {f g : ℕ → ℕ} (version : Version) (first second : LeafState) (at : ℕ) (sum bytes : List ℕ)
-    (result : Result (Unit {0}) (List LeafSeen)) → AtCopies s a version first second at sum
-    → TriesBoth first second at sum old new f g bytes result → Reads s a old new f g (with_leaves a bytes result)
-read_both {s} {a} {old} {new} {f} {g} version first second at sum bytes result place (inl t) =
-    rw t.0 (read_first version first second at sum bytes place t.1)
-read_both {s} {a} {old} {new} {f} {g} version first second at sum bytes result place (inr t) =
-    read_second s a old new f g version first second at sum bytes result place t
+read_tried : {s : PoolState} {a : ℕ} {old new : Option Story} {f g : ℕ → ℕ} (version : Version) (sum bytes : List ℕ) (tried : Result (Unit {0}) (List LeafSeen))
+    → AtCopies s a version sum → TriesAll (data_start + version.sector) sum (tries version.birth (leaves s)) old new f g bytes tried
+    → Reads s a old new f g (with_leaves a bytes (shown_by (leaves s) tried))
+read_tried version sum bytes (Ok done) place t = read_served version sum bytes place t
+read_tried version sum bytes (Err seen) place t = read_missed version sum seen place t
 
 -- a committed block that the pool has this pointer of
 record IsPointed (pointer : Pointer) (committed : Option Version) : Type 0 where
@@ -279,22 +341,22 @@ pointed_by : (pointer : Pointer) (committed : Option Version) → Some pointer �
 pointed_by pointer None e = absurd cc
 pointed_by pointer (Some version) e = record { version = version; is = refl; pointer_is = cc }
 
+-- the pointer of a committed block
+pointer_is : (pool : Pool) (s : PoolState) (a : ℕ) (pointer : Option Pointer) → Represents pool s → a < s.blocks
+    → slice_get pool.pointers.items a ≡ Some pointer → pointer ≡ option_map pointer_of (s.committed a)
+pointer_is pool s a pointer r inside is = same_Some pointer (option_map pointer_of (s.committed a)) (sym is ∙ r.committed a inside)
+
 -- a read of a committed block
 pub read_committed : {s : PoolState} {a : ℕ} {old new : Option Story} {f g : ℕ → ℕ} (pool : Pool) (pointer : Pointer) (bytes : List ℕ)
-    (result : Result (Unit {0}) (List LeafSeen)) → Represents pool s → a < pool.config.blocks → s.writes a ≡ None
-    → slice_get pool.config.pointers.items a ≡ Some (Some pointer) → TriesCopies pool pointer old new f g bytes result
+    (result : Result (Unit {0}) (List LeafSeen)) → Represents pool s → a < pool.blocks → s.writes a ≡ None
+    → slice_get pool.pointers.items a ≡ Some (Some pointer) → TriesCopies s pointer old new f g bytes result
     → Reads s a old new f g (with_leaves a bytes result)
-read_committed {s} {a} {old} {new} {f} {g} pool pointer bytes result r inside unwritten is tries =
+read_committed {s} {a} {old} {new} {f} {g} pool pointer bytes result r inside unwritten is t =
     let below : a < s.blocks = rw r.blocks inside in
     let p = pointed_by pointer (s.committed a) (pointer_is pool s a (Some pointer) r below is) in
-    read_both p.version (first_of pool) (second_of pool) (data_start + pointer.sector) pointer.sum bytes result (record {
-      inside = below;
-      source = ap₂ source_of unwritten p.is;
-      first_is = r.first;
-      second_is = r.second;
-      place = ap (λ q. data_start + q.sector) p.pointer_is;
-      sum_is = ap (λ q. q.sum) p.pointer_is;
-    }) tries
+    rw t.result_is (read_tried p.version pointer.sum bytes t.tried
+    (record { inside = below; source = ap₂ source_of unwritten p.is; sum_is = ap (λ q. q.sum) p.pointer_is })
+    (subst (λ q. TriesAll (data_start + q.sector) pointer.sum (tries q.birth.0 (leaves s)) old new f g bytes t.tried) p.pointer_is t.tries_all))
 
 -- nothing is committed where the pool has no pointer
 uncommitted : (committed : Option Version) → None ≡ option_map pointer_of committed → committed ≡ None
@@ -303,7 +365,7 @@ uncommitted (Some version) e = absurd cc
 
 -- a read where nothing is
 pub read_nothing : {s : PoolState} {a : ℕ} {told : Option Story} {faults : ℕ → ℕ} (pool : Pool) (bytes : List ℕ) → Represents pool s
-    → a < pool.config.blocks → s.writes a ≡ None → slice_get pool.config.pointers.items a ≡ Some None → bytes ≡ zero_block
+    → a < pool.blocks → s.writes a ≡ None → slice_get pool.pointers.items a ≡ Some None → bytes ≡ zero_block
     → Reads s a told told faults faults (Ok bytes)
 read_nothing {s} {a} {told} {faults} pool bytes r inside unwritten is zeros_are =
     let below : a < s.blocks = rw r.blocks inside in

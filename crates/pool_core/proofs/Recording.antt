@@ -1,112 +1,124 @@
 -- The configuration that a pool keeps is that of the state that it stands for, and its round writes it.
-use Rattle.std.proofs.Common.{◌≡◌, ℕ, ◌-◌, ◌<◌, ◌≤◌, Bool, false, get_or, List, [], ◌∷◌, ◌++◌, Option, length, take, refl, arith, sym, ◌∙◌, ap, length-append}
-use Rattle.std.proofs.Math.Seq.{take-append_seam, drop-append_seam}
+use Rattle.std.proofs.Common.{◌≡◌, ℕ, ◌+◌, ◌-◌, ◌*◌, ◌%◌, ◌<◌, ◌≤◌, Bool, true, List, [], ◌∷◌, ◌++◌, Option, length, take, refl, arith, sym, ◌∙◌, ap, length-append, subst}
+use Rattle.std.proofs.Math.Path.{fun_ext}
+use Rattle.std.proofs.Math.Seq.{take-append_seam, take-append-add, drop-append_seam}
+use Rattle.std.proofs.lemmas.List.{take-replicate}
+use Rattle.std.specs.Int.{div_ceil}
 use Rattle.std.specs.Option.{option_map}
 use Rattle.mp_base.specs.Block.{zeros}
+use Rattle.mp_base.specs.declared.number.Group.{Group}
 use Rattle.mp_base.specs.declared.number.Guid.{Guid}
-use Rattle.bank_core.specs.Disk.{sector_size}
-use Rattle.bank_core.proofs.Blocks.{block_whole, block_sectors}
+use Rattle.bank_core.specs.Disk.{sector_size, sectors_in}
 use Rattle.bank_core.specs.Story.{Story}
+use Rattle.label_store.specs.declared.member.Member.{Member}
 use Rattle.label_store.specs.Committing.{IsSealed, Commits}
 use Rattle.label_store.specs.Records.{IsHeaded}
-use Rattle.label_store.specs.Rounds.{Commit}
-use Rattle.config_codec.specs.Fields.{Fields, config_fields}
+use Rattle.label_store.specs.Rounds.{Commit, IsRound}
+use Rattle.config_codec.specs.Fields.{Fields}
 use Rattle.config_codec.specs.Spelling.{config_bytes}
 use Rattle.config_codec.specs.Validity.{IsValid}
-use Rattle.config_codec.proofs.Deciding.{back, fits, some}
+use Rattle.config_codec.proofs.Deciding.{back, fits_part, some}
 use Rattle.config_codec.proofs.Placing.{length-zeros}
 use Rattle.config_codec.proofs.Returning.{same_fields}
+use Rattle.vdev_tree.specs.declared.vdev.LeafVdev.{LeafVdev}
 use Rattle.pool_core.specs.declared.pool.Pool.{Pool}
 use Rattle.pool_core.specs.Heads.{head_of, head_from}
-use Rattle.pool_core.specs.Keeping.{Represents, leaves_of}
-use Rattle.pool_core.specs.Recorded.{pointer_of, pointers_of, leaf_config, fields_in, sealed, commit_of, members_of}
-use Rattle.pool_core.specs.State.{PoolState, leaves}
-use Rattle.pool_core.specs.Steps.{MakesOwnRound}
+use Rattle.pool_core.specs.Keeping.{Represents, IsLeaf}
+use Rattle.pool_core.specs.Pairs.{leaf_fields}
+use Rattle.pool_core.specs.Recorded.{pointer_of, pointers_of, leaf_config, fields_in, padding, sealed, commit_for}
+use Rattle.pool_core.specs.State.{LeafState, PoolState, board}
+use Rattle.pool_core.specs.Steps.{MakesRoundOf, MakesOwnRound}
 use Rattle.pool_core.proofs.Lists.{all_addresses}
+use Rattle.pool_core.proofs.Validating.{pool_fields, pool_valid}
 
-pointers_are : (pool : Pool) (s : PoolState) → Represents pool s → pointers_of s.committed s.blocks ≡ pool.config.pointers.items
+pointers_are : (pool : Pool) (s : PoolState) → Represents pool s → pointers_of s.committed s.blocks ≡ pool.pointers.items
 pointers_are pool s r =
-    all_addresses pool.config.pointers.items (λ a. option_map pointer_of (s.committed a)) s.blocks (pool.valid.counted ∙ sym r.blocks) r.committed
+    all_addresses pool.pointers.items (λ a. option_map pointer_of (s.committed a)) s.blocks ((pool_valid pool).counted ∙ sym r.blocks) r.committed
 
-pub fields_are : (pool : Pool) (s : PoolState) → Represents pool s → fields_in s ≡ config_fields pool.config
+leaf_is : (n : ℕ) (v : LeafVdev) (leaf : LeafState) → IsLeaf v leaf → leaf_config n leaf ≡ leaf_fields n v
+leaf_is n v leaf is = rw (is.member, is.name, is.state, is.temporary, is.marked, fun_ext is.owes) refl
+
+pub fields_are : (pool : Pool) (s : PoolState) → Represents pool s → fields_in s ≡ pool_fields pool
 fields_are pool s r = same_fields _ _ _ _ _ _ _ _ _ _ _ _ _ _ _ _ _ _ _ _
-    (ap (λ g. g.0) r.pool_is) r.name r.blocks r.number r.next_member (pointers_are pool s r) r.sectors (ap (λ g. g.0) r.mirror)
-    (ap leaf_config r.first) (ap leaf_config r.second)
+    (ap (λ g. g.0) r.pool_is) r.name r.blocks r.number r.next_member (pointers_are pool s r) r.pair.sectors (ap (λ g. g.0) r.pair.mirror)
+    (leaf_is s.number pool.pair.first s.first r.pair.first ∙ ap (λ n. leaf_fields n pool.pair.first) r.number)
+    (leaf_is s.number pool.pair.second s.second r.pair.second ∙ ap (λ n. leaf_fields n pool.pair.second) r.number)
 
-pub leaves_are : (pool : Pool) (s : PoolState) → Represents pool s → leaves s ≡ leaves_of pool
-leaves_are pool s r = rw (r.first, r.second) refl
+-- whole sectors that begin with these bytes
+length-sealed : (bytes : List ℕ) → length (sealed bytes) ≡ length bytes + padding (length bytes)
+length-sealed bytes = length-append bytes (zeros (padding (length bytes))) ∙ ap (λ n. length bytes + n) (length-zeros (padding (length bytes)))
 
--- a sector that begins with these bytes
-length-sealed : (bytes : List ℕ) → length bytes ≤ 4096 → length (bytes ++ zeros (4096 - length bytes)) ≡ 4096
-length-sealed bytes fits = omega (arith, length-append bytes (zeros (4096 - length bytes)), length-zeros (4096 - length bytes))
-
-sealed_whole : (bytes : List ℕ) → 0 < length bytes → length bytes ≤ 4096 → IsSealed (bytes ++ zeros (4096 - length bytes)) (length bytes)
+sealed_whole : (bytes : List ℕ) → 0 < length bytes → length bytes ≤ 114688 → IsSealed (sealed bytes) (length bytes)
 unfolding sector_size
 sealed_whole bytes some fits =
-    let long = length-sealed bytes fits in
+    let long = length-sealed bytes in
     record {
-      whole = block_whole (bytes ++ zeros (4096 - length bytes)) long;
-      most = rw (block_sectors (bytes ++ zeros (4096 - length bytes)) long) (omega arith);
+      whole = omega (arith, long);
+      most = omega (arith, long);
       some = some;
       within = omega (arith, long);
       last = omega (arith, long);
-      rest = drop-append_seam bytes (zeros (4096 - length bytes)) ∙ ap (λ n. zeros (n - length bytes)) (sym long);
+      rest = drop-append_seam bytes (zeros (padding (length bytes))) ∙ ap zeros (omega (arith, long));
     }
 
-pub sealed_is : (c : Fields) → IsValid c → IsSealed (sealed (config_bytes c)) (length (config_bytes c))
-sealed_is c v = sealed_whole (config_bytes c) (some c v) (fits c v)
+-- the sectors that such bytes reach into, of a part that zeros fill
+cut_sealed : (bytes : List ℕ) (n : ℕ) → length bytes ≤ 114688 → n ≡ div_ceil (length bytes) 4096
+    → take (n * 4096) (bytes ++ zeros (114688 - length bytes)) ≡ sealed bytes
+unfolding zeros
+cut_sealed bytes n fits is =
+    let whole : n * 4096 ≡ length bytes + padding (length bytes) = omega arith in
+    let less : padding (length bytes) ≤ 114688 - length bytes = omega arith in
+    ap (λ m. take m (bytes ++ zeros (114688 - length bytes))) whole
+    ∙ take-append-add bytes (zeros (114688 - length bytes)) (padding (length bytes))
+    ∙ ap (λ tail. bytes ++ tail) (take-replicate (padding (length bytes)) (114688 - length bytes) 0 less)
 
-pub headed_is : (c : Fields) → IsValid c → IsHeaded head_of c.pool c.number (take (length (config_bytes c)) (sealed (config_bytes c)))
+-- What was encoded of these fields, cut to whole sectors.
+pub record IsCut (c : Fields) (out : List ℕ) (n : ℕ) : Type 0 where
+  pub out_is : out ≡ sealed (config_bytes c)
+  pub n_is : n ≡ length (config_bytes c)
+
+pub is_cut : (c : Fields) (part : List ℕ) (n sectors : ℕ) → IsValid c → part ≡ config_bytes c ++ zeros (114688 - length (config_bytes c))
+    → n ≡ length (config_bytes c) → sectors ≡ div_ceil n 4096 → IsCut c (take (sectors * 4096) part) n
+is_cut c part n sectors v bytes stop are = record {
+  out_is = ap (take (sectors * 4096)) bytes ∙ cut_sealed (config_bytes c) sectors (fits_part c v) (are ∙ ap (λ m. div_ceil m 4096) stop);
+  n_is = stop;
+}
+
+pub cut_sealed_is : (c : Fields) (out : List ℕ) (n : ℕ) → IsValid c → IsCut c out n → IsSealed out n
+cut_sealed_is c out n v cut = rw (cut.out_is, cut.n_is) (sealed_whole (config_bytes c) (some c v) (fits_part c v))
+
+headed_is : (c : Fields) → IsValid c → IsHeaded head_of c.pool c.number (take (length (config_bytes c)) (sealed (config_bytes c)))
 headed_is c v = record {
   head = head_from c;
-  reads = ap head_of (take-append_seam (config_bytes c) (zeros (4096 - length (config_bytes c)))) ∙ ap (option_map head_from) (back c v);
+  reads = ap head_of (take-append_seam (config_bytes c) (zeros (padding (length (config_bytes c))))) ∙ ap (option_map head_from) (back c v);
   pool_is = refl;
   number_is = refl;
 }
 
--- what was encoded is sealed, and a configuration
-pub encoded_sealed : (c f : Fields) (out : List ℕ) (n : ℕ) → IsValid c → f ≡ c → out ≡ sealed (config_bytes f) → n ≡ length (config_bytes f) → IsSealed out n
-encoded_sealed c f out n v same out_is n_is = rw (out_is, n_is, same) (sealed_is c v)
+pub cut_headed : (c : Fields) (out : List ℕ) (n : ℕ) → IsValid c → IsCut c out n → IsHeaded head_of c.pool c.number (take n out)
+cut_headed c out n v cut = rw (cut.out_is, cut.n_is) (headed_is c v)
 
-pub encoded_headed : (c f : Fields) (out : List ℕ) (n : ℕ) → IsValid c → f ≡ c → out ≡ sealed (config_bytes f) → n ≡ length (config_bytes f)
-    → IsHeaded head_of c.pool c.number (take n out)
-encoded_headed c f out n v same out_is n_is = rw (out_is, n_is, same) (headed_is c v)
+abbrev commit_with : Guid → Group → List ℕ → ℕ → Commit
+commit_with pool number blob length = record { pool = pool; number = number; blob = blob; length = length }
 
--- what a round of these fields writes
-abbrev commit_with : Guid → ℕ → List ℕ → ℕ → Commit
-commit_with pool number blob length = record { pool = pool; number = record { 0 = number }; blob = blob; length = length }
+-- a round of what was encoded is one of the configuration's record
+pub cut_round : {old new : Option Story} {before after : ℕ → ℕ} {results : List Bool} {members : List Member} (size : ℕ → ℕ) (c : Fields) (out : List ℕ) (n : ℕ)
+    → IsCut c out n → Commits head_of size (record { pool = c.pool; number = c.number; blob = out; length = n }) members results old new before after
+    → MakesRoundOf size c members results old new before after
+cut_round {old} {new} {before} {after} {results} {members} size c out n cut commits =
+    let is = ap (λ b. commit_with c.pool c.number b n) cut.out_is ∙ ap (commit_with c.pool c.number (sealed (config_bytes c))) cut.n_is in
+    record { made = commits.made; calls = commits.calls; round = subst (λ k. IsRound size k members results commits.made) is commits.round }
 
-same_commit : (p p' : Guid) (n n' : ℕ) (b b' : List ℕ) (l l' : ℕ) → p ≡ p' → n ≡ n' → b ≡ b' → l ≡ l' → commit_with p n b l ≡ commit_with p' n' b' l'
-same_commit p p' n n' b b' l l' e1 e2 e3 e4 = cc
-
-pub commit_is : (pool : Pool) (s : PoolState) (f : Fields) (out : List ℕ) (n : ℕ) → Represents pool s → f ≡ config_fields pool.config
-    → out ≡ sealed (config_bytes f) → n ≡ length (config_bytes f)
-    → record { pool = pool.config.pool; number = pool.config.number; blob = out; length = n } ≡ commit_of s
-commit_is pool s f out n r same out_is n_is =
-    let fields : f ≡ fields_in s = same ∙ sym (fields_are pool s r) in
-    same_commit pool.config.pool s.pool pool.config.number.0 s.number out (sealed (config_bytes (fields_in s))) n (length (config_bytes (fields_in s)))
-    (sym r.pool_is) (sym r.number) (out_is ∙ ap (λ c. sealed (config_bytes c)) fields) (n_is ∙ ap (λ c. length (config_bytes c)) fields)
-
-pub members_are : (pool : Pool) (s : PoolState) → Represents pool s
-    → members_of s ≡ record { dev = pool.first_dev; guid = pool.config.first.member } ∷ record { dev = pool.second_dev; guid = pool.config.second.member } ∷ []
-members_are pool s r = rw (r.first, r.second) refl
-
--- a list of two
-pub two_of : (results : List Bool) → length results ≡ 2 → results ≡ get_or results 0 false ∷ get_or results 1 false ∷ []
-two_of [] e = absurd (omega arith)
-two_of (a ∷ []) e = absurd (omega arith)
-two_of (a ∷ b ∷ []) e = refl
-two_of (a ∷ b ∷ c ∷ more) e = absurd (omega arith)
-
--- a round of the pool's configuration is one of the state's record
-pub own_round : {old new : Option Story} {before after : ℕ → ℕ} {out : List ℕ} {results : List Bool} (size : ℕ → ℕ) (pool : Pool) (s : PoolState) (f : Fields) (n : ℕ)
-    → Represents pool s → f ≡ config_fields pool.config → out ≡ sealed (config_bytes f) → n ≡ length (config_bytes f) → length results ≡ 2
-    → Commits head_of size (record { pool = pool.config.pool; number = pool.config.number; blob = out; length = n })
-    (record { dev = pool.first_dev; guid = pool.config.first.member } ∷ record { dev = pool.second_dev; guid = pool.config.second.member } ∷ [])
-    results old new before after
-    → MakesOwnRound size s (get_or results 0 false ∷ get_or results 1 false ∷ []) old new before after
-own_round {old} {new} {before} {after} {out} {results} size pool s f n r same out_is n_is two c = record {
-  made = c.made;
-  calls = c.calls;
-  round = rw (← commit_is pool s f out n r same out_is n_is, members_are pool s r, ← two_of results two) c.round;
+-- a round of the pool's configuration is one of the record of the state that it stands for
+pub own_round : {old new : Option Story} {before after : ℕ → ℕ} {results : List Bool} (size : ℕ → ℕ) (pool : Pool) (s : PoolState) (f : Fields) (members : List Member)
+    → Represents pool s → f ≡ pool_fields pool → members ≡ board s → MakesRoundOf size f members results old new before after
+    → MakesOwnRound size s results old new before after
+own_round {old} {new} {before} {after} {results} size pool s f members r same are m = record {
+  made = m.made;
+  calls = m.calls;
+  round = subst (λ c. IsRound size (commit_for c) (board s) results m.made) (same ∙ sym (fields_are pool s r))
+      (subst (λ some. IsRound size (commit_for f) some results m.made) are m.round);
 }
+
+pub parts_valid : (pool : Pool) (f : Fields) → f ≡ pool_fields pool → IsValid f
+parts_valid pool f is = rw is (pool_valid pool)

@@ -1,5 +1,5 @@
 -- The calls of a sync, against its plan.
-use Rattle.std.proofs.Common.{◌≡◌, ℕ, zero, suc, ◌+◌, ◌<◌, ◌≤◌, List, [], ◌∷◌, ◌++◌, Option, Some, None, refl, arith, inl, inr, ◌⊎◌, sym, ◌∙◌, ap, subst, append_assoc, append-nil, add-one}
+use Rattle.std.proofs.Common.{◌≡◌, ℕ, zero, suc, ◌+◌, ◌<◌, ◌≤◌, List, [], ◌∷◌, ◌++◌, Option, Some, None, refl, arith, inl, inr, ◌⊎◌, sym, ◌∙◌, ap, subst, append_assoc, append-nil, add-one, map}
 use Rattle.std.specs.Prelude.{slice_get}
 use Rattle.std.specs.Option.{option_map}
 use Rattle.std.specs.List.{flat_map}
@@ -9,14 +9,15 @@ use Rattle.bank_core.specs.declared.bank.Fault.{Fault}
 use Rattle.bank_core.specs.Asks.{Flushes}
 use Rattle.bank_core.specs.Parts.{MakesPart}
 use Rattle.bank_core.specs.Story.{Story}
-use Rattle.bank_core.proofs.Parting.{part_stop}
+use Rattle.bank_core.proofs.Parting.{part_stop, part_more}
+use Rattle.label_store.specs.declared.member.Member.{Member}
 use Rattle.config_codec.specs.declared.config.Pointer.{Pointer}
 use Rattle.pool_core.specs.declared.pool.Pool.{Pool}
 use Rattle.pool_core.specs.Committing.{free_sector}
-use Rattle.pool_core.specs.Keeping.{Represents, leaves_of}
+use Rattle.pool_core.specs.Keeping.{Represents}
 use Rattle.pool_core.specs.Recorded.{addresses, pointer_of}
-use Rattle.pool_core.specs.State.{PoolState, Version, data_start, other_sector}
-use Rattle.pool_core.specs.Syncing.{writes_to, writes_at, flush_plan}
+use Rattle.pool_core.specs.State.{PoolState, Version, board, data_start, other_sector}
+use Rattle.pool_core.specs.Syncing.{writes_to, writes_at, sync_plan}
 use Rattle.pool_core.proofs.Lists.{same_some}
 
 -- the free sector of an address, by the pointer and by the version
@@ -26,7 +27,7 @@ free_of a (Some version) = refl
 
 -- the pointer of a committed block
 pub pointer_is : (pool : Pool) (s : PoolState) (a : ℕ) (pointer : Option Pointer) → Represents pool s → a < s.blocks
-    → slice_get pool.config.pointers.items a ≡ Some pointer → pointer ≡ option_map pointer_of (s.committed a)
+    → slice_get pool.pointers.items a ≡ Some pointer → pointer ≡ option_map pointer_of (s.committed a)
 pointer_is pool s a pointer r inside is = same_some pointer (option_map pointer_of (s.committed a)) (sym is ∙ r.committed a inside)
 
 pub free_is : (a : ℕ) (pointer : Option Pointer) (committed : Option Version) → pointer ≡ option_map pointer_of committed
@@ -34,12 +35,12 @@ pub free_is : (a : ℕ) (pointer : Option Pointer) (committed : Option Version) 
 free_is a pointer committed is = ap (free_sector a) is ∙ free_of a committed
 
 -- the plan for one address, by the pool
-pub block_plan : (pool : Pool) (s : PoolState) (a : ℕ) (pointer : Option Pointer) (block : List ℕ) → Represents pool s → a < pool.config.blocks
-    → slice_get pool.config.pointers.items a ≡ Some pointer → slice_get pool.writes.items a ≡ Some (Some block)
-    → writes_at s a ≡ writes_to (leaves_of pool) (data_start + free_sector a pointer) (Some block)
-block_plan pool s a pointer block r inside is written =
+pub block_plan : (pool : Pool) (s : PoolState) (members : List Member) (a : ℕ) (pointer : Option Pointer) (block : List ℕ) → Represents pool s → members ≡ board s
+    → a < pool.blocks → slice_get pool.pointers.items a ≡ Some pointer → slice_get pool.writes.items a ≡ Some (Some block)
+    → writes_at s a ≡ writes_to members (data_start + free_sector a pointer) (Some block)
+block_plan pool s members a pointer block r members_are inside is written =
     let below : a < s.blocks = rw r.blocks inside in
-    rw (r.first, r.second, r.writes a (Some block) written, free_is a pointer (s.committed a) (pointer_is pool s a pointer r below is)) refl
+    rw (← members_are, r.writes a (Some block) written, free_is a pointer (s.committed a) (pointer_is pool s a pointer r below is)) refl
 
 -- what an address adds to the plan of those below it
 pub one_more : (s : PoolState) (a : ℕ) → flat_map (writes_at s) (addresses (a + 1)) ≡ flat_map (writes_at s) (addresses a) ++ writes_at s a
@@ -67,16 +68,24 @@ addresses_above : (a n : ℕ) → a < n → Above a n
 addresses_above a zero below = absurd (omega arith)
 addresses_above a (suc n) below = above_cases a n (addresses_above a n) below (cases_lt a n)
 
--- a part of the addresses' plan that stopped is one of the whole plan
-pub stops_within : (s : PoolState) (a n : ℕ) {old new : Option Story} {f g : ℕ → ℕ} {fault : Fault} → a < n
-    → MakesPart (flat_map (writes_at s) (addresses a) ++ writes_at s a) old new f g (Some fault)
-    → MakesPart (flat_map (writes_at s) (addresses n)) old new f g (Some fault)
-stops_within s a n {old} {new} {f} {g} {fault} below part =
+-- a block whose writes stopped ends the whole plan
+pub stops_within : (s : PoolState) (a n : ℕ) {old mid new : Option Story} {f g h : ℕ → ℕ} {fault : Fault} → a < n
+    → MakesPart (flat_map (writes_at s) (addresses a)) old mid f g None → MakesPart (writes_at s a) mid new g h (Some fault)
+    → MakesPart (flat_map (writes_at s) (addresses n)) old new f h (Some fault)
+stops_within s a n {old} {mid} {new} {f} {g} {h} {fault} below before part =
     let split = addresses_above a n below in
     let plan = ap (flat_map (writes_at s)) split.is ∙ flat_map-append (writes_at s) (addresses (a + 1)) split.more
     ∙ ap (λ first. first ++ flat_map (writes_at s) split.more) (one_more s a) in
-    subst (λ asks. MakesPart asks old new f g (Some fault)) (sym plan) (part_stop (flat_map (writes_at s) split.more) part)
+    subst (λ asks. MakesPart asks old new f h (Some fault)) (sym plan) (part_stop (flat_map (writes_at s) split.more) (part_more before part))
 
--- a flush of each of the two leaves
-pub flushes_are : (pool : Pool) (s : PoolState) → Represents pool s → flush_plan s ≡ Flushes pool.first_dev ∷ Flushes pool.second_dev ∷ []
-flushes_are pool s r = rw (r.first, r.second) refl
+-- the flushes behind the blocks
+pub then_flushes : {old mid new : Option Story} {f g h : ℕ → ℕ} {outcome : Option Fault} (s : PoolState) (members : List Member) → members ≡ board s
+    → MakesPart (flat_map (writes_at s) (addresses s.blocks)) old mid f g None → MakesPart (map (λ m. Flushes m.dev) members) mid new g h outcome
+    → MakesPart (sync_plan s) old new f h outcome
+then_flushes {old} {mid} {new} {f} {g} {h} {outcome} s members are blocks flushes =
+    part_more blocks (subst (λ some. MakesPart (map (λ m. Flushes m.dev) some) mid new g h outcome) are flushes)
+
+-- all blocks were written
+pub blocks_done : {old new : Option Story} {f g : ℕ → ℕ} (s : PoolState) (n : ℕ) → n ≡ s.blocks → MakesPart (flat_map (writes_at s) (addresses n)) old new f g None
+    → MakesPart (flat_map (writes_at s) (addresses s.blocks)) old new f g None
+blocks_done {old} {new} {f} {g} s n all part = subst (λ k. MakesPart (flat_map (writes_at s) (addresses k)) old new f g None) all part

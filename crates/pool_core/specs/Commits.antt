@@ -5,8 +5,8 @@ use Rattle.bank_core.specs.Asks.{Ask, IsPart}
 use Rattle.bank_core.specs.Disk.{Noted}
 use Rattle.label_store.specs.Plans.{stamp_plan}
 use Rattle.label_store.specs.Rounds.{IsRound}
-use Rattle.pool_core.specs.Recorded.{commit_of, members_of}
-use Rattle.pool_core.specs.State.{LeafState, PoolState, leaves}
+use Rattle.pool_core.specs.Recorded.{commit_of}
+use Rattle.pool_core.specs.State.{LeafState, PoolState, leaves, board}
 
 -- how many members left a round
 abbrev pub failures : List Bool → ℕ
@@ -14,9 +14,9 @@ failures [] = 0
 failures (true ∷ results) = failures results
 failures (false ∷ results) = failures results + 1
 
--- a round of the pool's record, in which so many members failed
+-- a round of the pool's record over its board, in which so many members failed
 abbrev pub IsOwnRound : (size : ℕ → ℕ) → PoolState → List Noted → ℕ → Type 0
-IsOwnRound size s made failed = (results : List Bool) × IsRound size (commit_of s) (members_of s) results made × (failed ≡ failures results)
+IsOwnRound size s made failed = (results : List Bool) × IsRound size (commit_of s) (board s) results made × (failed ≡ failures results)
 
 -- the round comes where no call before it failed
 abbrev pub IsRoundBehind : (size : ℕ → ℕ) → PoolState → Option Fault → List Noted → ℕ → Type 0
@@ -40,19 +40,19 @@ first_failed (leaf ∷ leaves) (true ∷ results) = first_failed leaves results
 first_failed (leaf ∷ leaves) (false ∷ results) = Some leaf
 
 abbrev pub FirstRound : (size : ℕ → ℕ) → PoolState → List Noted → Option LeafState → Type 0
-FirstRound size s made failed = (results : List Bool) × IsRound size (commit_of s) (members_of s) results made × (failed ≡ first_failed (leaves s) results)
+FirstRound size s made failed = (results : List Bool) × IsRound size (commit_of s) (board s) results made × (failed ≡ first_failed (leaves s) results)
 
--- A leaf was stamped, and these further calls come behind it where no call of the stamp failed.
-abbrev pub IsStampedFirst : (size : ℕ → ℕ) → PoolState → LeafState → List Noted → Option LeafState → (List Noted → Type 0) → Type 0
-IsStampedFirst size s leaf made failed Then = (mine : List Noted) × (rest : List Noted) × (outcome : Option Fault) × (made ≡ mine ++ rest)
-    × IsPart (stamp_plan leaf.dev (size leaf.dev) s.pool leaf.member) mine outcome × Behind outcome rest
+-- A leaf was stamped on this device, and these further calls come behind it where no call of the stamp failed.
+abbrev pub IsStampedFirst : (size : ℕ → ℕ) → PoolState → LeafState → (dev : ℕ) → List Noted → Option LeafState → (List Noted → Type 0) → Type 0
+IsStampedFirst size s leaf dev made failed Then = (mine : List Noted) × (rest : List Noted) × (outcome : Option Fault) × (made ≡ mine ++ rest)
+    × IsPart (stamp_plan dev (size dev) s.pool leaf.member) mine outcome × Behind outcome rest
   where
     Behind : Option Fault → List Noted → Type 0
     Behind None rest = Then rest
     Behind (Some fault) rest = (rest ≡ []) × (failed ≡ Some leaf)
 
--- The leaves are stamped in tree order, up to the first that fails, and then record 1 is committed by one
--- round. This leaf failed, the first in tree order, or none.
-abbrev pub AreMade : (size : ℕ → ℕ) → PoolState → List Noted → Option LeafState → Type 0
-AreMade size s made failed =
-    IsStampedFirst size s s.first made failed (λ rest. IsStampedFirst size s s.second rest failed (λ more. FirstRound size s more failed))
+-- The leaves are stamped on these devices in tree order, up to the first that fails, and then record 1 is
+-- committed by one round. This leaf failed, the first in tree order, or none.
+abbrev pub AreMade : (size : ℕ → ℕ) → PoolState → (seats : ℕ × ℕ) → List Noted → Option LeafState → Type 0
+AreMade size s seats made failed =
+    IsStampedFirst size s s.first seats.0 made failed (λ rest. IsStampedFirst size s s.second seats.1 rest failed (λ more. FirstRound size s more failed))

@@ -5,7 +5,6 @@ use Rattle.sha2.specs.Sha256.{sha256}
 use Rattle.mp_base.specs.declared.number.Group.{Group}
 use Rattle.config_codec.specs.declared.config.Pointer.{Pointer}
 use Rattle.pool_core.specs.declared.pool.Pool.{Pool}
-use Rattle.pool_core.specs.Keeping.{leaves_of}
 use Rattle.pool_core.specs.Opening.{version_of}
 use Rattle.pool_core.specs.State.{other_sector}
 
@@ -22,35 +21,33 @@ next_pointer number a pointer (Some block) = Some (record { birth = number; sect
 pub record IsNext (pool : Pool) (a : ℕ) (next : Option Pointer) : Type 0 where
   pub pointer : Option Pointer
   pub block : Option (List ℕ)
-  pub pointer_is : slice_get pool.config.pointers.items a ≡ Some pointer
+  pub pointer_is : slice_get pool.pointers.items a ≡ Some pointer
   pub block_is : slice_get pool.writes.items a ≡ Some block
-  pub is : next ≡ next_pointer pool.config.number a pointer block
+  pub is : next ≡ next_pointer pool.number a pointer block
 
 -- All but the pointers and the writes stays.
 pub record SameOtherwise (old new : Pool) : Type 0 where
-  pub name : new.config.name ≡ old.config.name
-  pub pool_is : new.config.pool ≡ old.config.pool
-  pub blocks : new.config.blocks ≡ old.config.blocks
-  pub number : new.config.number ≡ old.config.number
-  pub next_member : new.config.next_member ≡ old.config.next_member
-  pub sectors : new.config.sectors ≡ old.config.sectors
-  pub mirror : new.config.mirror ≡ old.config.mirror
-  pub leaves : leaves_of new ≡ leaves_of old
+  pub name : new.name ≡ old.name
+  pub pool_is : new.pool ≡ old.pool
+  pub blocks : new.blocks ≡ old.blocks
+  pub number : new.number ≡ old.number
+  pub next_member : new.next_member ≡ old.next_member
+  pub pair : new.pair ≡ old.pair
 
 -- One address was committed.
 pub record CommitsAt (old : Pool) (a : ℕ) (new : Pool) : Type 0 where
   pub next : Option Pointer
   pub is_next : IsNext old a next
-  pub pointers : new.config.pointers.items ≡ slice_set old.config.pointers.items a next
+  pub pointers : new.pointers.items ≡ slice_set old.pointers.items a next
   pub writes : new.writes.items ≡ slice_set old.writes.items a None
   pub same : SameOtherwise old new
 
 -- The addresses below n were committed.
 pub record CommitsBelow (old : Pool) (n : ℕ) (new : Pool) : Type 0 where
-  pub next : (a : ℕ) (pointer : Option Pointer) → a < n → slice_get new.config.pointers.items a ≡ Some pointer → IsNext old a pointer
+  pub next : (a : ℕ) (pointer : Option Pointer) → a < n → slice_get new.pointers.items a ≡ Some pointer → IsNext old a pointer
   pub cleared : (a : ℕ) (block : Option (List ℕ)) → a < n → slice_get new.writes.items a ≡ Some block → block ≡ None
-  pub pointers : (a : ℕ) → n ≤ a → slice_get new.config.pointers.items a ≡ slice_get old.config.pointers.items a
+  pub pointers : (a : ℕ) → n ≤ a → slice_get new.pointers.items a ≡ slice_get old.pointers.items a
   pub writes : (a : ℕ) → n ≤ a → slice_get new.writes.items a ≡ slice_get old.writes.items a
-  pub pointers_length : length new.config.pointers.items ≡ length old.config.pointers.items
+  pub pointers_length : length new.pointers.items ≡ length old.pointers.items
   pub writes_length : length new.writes.items ≡ length old.writes.items
   pub same : SameOtherwise old new

@@ -1,5 +1,9 @@
 -- What the calls of a pool did, against its abstract state.
-use Rattle.std.specs.Prelude.{◌≡◌, ℕ, ◌+◌, ◌*◌, ◌⊎◌, Bool, true, false, zero, suc, List, [], length, Option, Some, None, Result, Ok, Err}
+use Rattle.std.specs.Prelude.{◌≡◌, ℕ, ◌+◌, ◌*◌, ◌⊎◌, Bool, true, false, zero, suc, List, [], length, map, Option, Some, None, Result, Ok, Err}
+use Rattle.mp_base.specs.declared.range.GroupRange.{GroupRange}
+use Rattle.group_set.specs.Ranges.{ranges_upto}
+use Rattle.vdev_tree.specs.declared.vdev.State.{State}
+use Rattle.pool_core.specs.Away.{IsOnline}
 use Rattle.mp_base.specs.declared.number.Group.{Group}
 use Rattle.mp_base.specs.declared.refusal.Refusal.{Refusal}
 use Rattle.mp_base.specs.declared.refusal.Refusal.TheVariants as refusals
@@ -17,10 +21,11 @@ use Rattle.pool_core.specs.Clash.{ClashesWith}
 use Rattle.pool_core.specs.Commits.{IsCommit}
 use Rattle.pool_core.specs.Heads.{head_of}
 use Rattle.pool_core.specs.Keeping.{Represents}
-use Rattle.pool_core.specs.Opening.{IsIdentified, recommitted}
+use Rattle.pool_core.specs.Logs.{drawn}
+use Rattle.pool_core.specs.Opening.{IsIdentified}
 use Rattle.pool_core.specs.Outside.{troubles, last_given}
 use Rattle.pool_core.specs.Reading.{wanted, read_asks, read_answer}
-use Rattle.pool_core.specs.State.{PoolState, last_number}
+use Rattle.pool_core.specs.State.{LeafState, PoolState, leaves, last_number}
 use Rattle.pool_core.specs.Syncing.{sync_plan, flush_plan, synced}
 
 -- These calls are those of a read, and this is its answer, by what came from outside.
@@ -40,7 +45,15 @@ abbrev pub commit_answer : PoolState → (failed : ℕ) → Result Group Refusal
 commit_answer s zero = Ok (record { 0 = s.number })
 commit_answer s (suc n) = Err (refusals.Suspended (record { 0 = s.number }) s.mirror (suc n))
 
--- A sync of a pool that has numbers left. Where a call failed, the pool is of no further use.
+-- the group that would be drawn next has no leaf to be written to
+abbrev pub no_leaf : PoolState → Refusal
+no_leaf s = refusals.Suspended (record { 0 = s.number + 1 }) s.mirror 0
+
+-- no call was made, and the pool is as it was
+abbrev pub Refuses : PoolState → (old new : Option Story) → (before after : ℕ → ℕ) → Pool → Result Group Refusal → Refusal → Type 0
+Refuses s old new before after pool answer refusal = Made old new before after [] × Represents pool s × (answer ≡ Err refusal)
+
+-- A sync of a pool that has numbers left and a leaf on its board. Where a call failed, the pool is of no further use.
 pub record Syncs (size : ℕ → ℕ) (s : PoolState) (old new : Option Story) (before after : ℕ → ℕ) (pool : Pool) (answer : Result Group Refusal) : Type 0 where
   pub made : List Noted
   pub failed : ℕ
@@ -49,11 +62,24 @@ pub record Syncs (size : ℕ → ℕ) (s : PoolState) (old new : Option Story) (
   pub answer_is : answer ≡ commit_answer (synced s) failed
   pub represents : failed ≡ 0 → Represents pool (synced s)
 
--- so, or the numbers are spent
-abbrev pub SyncsIf : Bool → (size : ℕ → ℕ) → PoolState → (old new : Option Story) → (before after : ℕ → ℕ) → Pool → Result Group Refusal → Type 0
-SyncsIf false size s old new before after pool answer = Syncs size s old new before after pool answer
-SyncsIf true size s old new before after pool answer = Made old new before after [] × Represents pool s
-    × (answer ≡ Err (refusals.TreeFull last_number (s.number + 1)))
+-- so, or there was no memory; or the numbers are spent, or no leaf is readable
+abbrev pub SyncsIf : (spent empty : Bool) → (size : ℕ → ℕ) → PoolState → (old new : Option Story) → (before after : ℕ → ℕ) → Pool → Result Group Refusal → Type 0
+SyncsIf true empty size s old new before after pool answer = Refuses s old new before after pool answer (refusals.TreeFull last_number (s.number + 1))
+SyncsIf false true size s old new before after pool answer = Refuses s old new before after pool answer (no_leaf s)
+SyncsIf false false size s old new before after pool answer =
+    Syncs size s old new before after pool answer ⊎ Refuses s old new before after pool answer refusals.Memory
+
+-- `online` of this leaf, where there is one, made these calls, and this is what it left and answered.
+pub record Onlines (size : ℕ → ℕ) (s : PoolState) (leaf : Option LeafState) (dev : ℕ) (old new : Option Story) (before after : ℕ → ℕ) (pool : Pool) (answer : Result State Refusal) : Type 0 where
+  pub made : List Noted
+  pub next : PoolState
+  pub calls : Made old new before after made
+  pub onlines : IsOnline size s leaf dev made next answer
+  pub represents : Represents pool next
+
+-- The logs as they are shown, each leaf's with its name.
+abbrev pub shown_logs : PoolState → List (List ℕ × List GroupRange)
+shown_logs s = map (λ leaf. (leaf.name, ranges_upto leaf.owes s.number)) (leaves s)
 
 -- the configuration of the record that was found
 abbrev pub IsConfigOf : Option Found → Option Config → Type 0
@@ -73,10 +99,10 @@ pub record Seeks (size : ℕ → ℕ) (devs : List ℕ) (name : List ℕ) (old n
   pub is_config : IsConfigOf best config
 
 -- The identities of a configuration's leaves were looked for on these devices.
-pub record Identifies (size : ℕ → ℕ) (c : Fields) (first second : ℕ) (old new : Option Story) (before after : ℕ → ℕ) (found : Bool) : Type 0 where
+pub record Identifies (size : ℕ → ℕ) (c : Fields) (seats : Option ℕ × Option ℕ) (old new : Option Story) (before after : ℕ → ℕ) (found : Option ℕ × Option ℕ) : Type 0 where
   pub made : List Noted
   pub calls : Made old new before after made
-  pub identified : IsIdentified size c first second made found
+  pub identified : IsIdentified size c seats found made
 
 -- the pool that was opened, or the refusal
 abbrev pub IsOpened : PoolState → (failed : ℕ) → Result Pool Refusal → Type 0
@@ -85,14 +111,20 @@ IsOpened s zero (Err refusal) = ⊥
 IsOpened s (suc n) (Ok pool) = ⊥
 IsOpened s (suc n) (Err refusal) = refusal ≡ refusals.Suspended (record { 0 = s.number }) s.mirror (suc n)
 
--- The record of this state was committed again, by flushes and a round under the next number.
+-- The record of this state was committed again over its board, by flushes and a round under the next number.
 pub record Opens (size : ℕ → ℕ) (s : PoolState) (old new : Option Story) (before after : ℕ → ℕ) (result : Result Pool Refusal) : Type 0 where
   pub made : List Noted
   pub failed : ℕ
   pub calls : Made old new before after made
-  pub commit : IsCommit size (flush_plan s) (recommitted s) made failed
-  pub is_opened : IsOpened (recommitted s) failed result
+  pub commit : IsCommit size (flush_plan s) (drawn s) made failed
+  pub is_opened : IsOpened (drawn s) failed result
 
--- so, or there was no memory and no call was made
-abbrev pub OpensIf : (size : ℕ → ℕ) → PoolState → (old new : Option Story) → (before after : ℕ → ℕ) → Result Pool Refusal → Type 0
-OpensIf size s old new before after result = Opens size s old new before after result ⊎ ((result ≡ Err refusals.Memory) × Made old new before after [])
+-- no call was made, and there is no pool
+abbrev pub RefusesOpening : (old new : Option Story) → (before after : ℕ → ℕ) → Result Pool Refusal → Refusal → Type 0
+RefusesOpening old new before after result refusal = (result ≡ Err refusal) × Made old new before after []
+
+-- so, or there was no memory; or no leaf is readable
+abbrev pub OpensIf : (empty : Bool) → (size : ℕ → ℕ) → PoolState → (old new : Option Story) → (before after : ℕ → ℕ) → Result Pool Refusal → Type 0
+OpensIf true size s old new before after result = RefusesOpening old new before after result (no_leaf s)
+OpensIf false size s old new before after result =
+    Opens size s old new before after result ⊎ RefusesOpening old new before after result refusals.Memory

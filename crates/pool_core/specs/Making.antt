@@ -31,15 +31,15 @@ abbrev pub made_state : (size : ℕ → ℕ) → (name : List ℕ) → Guid → 
 made_state size name pool blocks first second = created name pool blocks (top_sectors (size first.1) (size second.1)) first second
 
 -- The pool was made, or this leaf failed, the first in tree order.
-pub record Creates (size : ℕ → ℕ) (s : PoolState) (old new : Option Story) (before after : ℕ → ℕ) (failed : Option LeafState) : Type 0 where
+pub record Creates (size : ℕ → ℕ) (s : PoolState) (seats : ℕ × ℕ) (old new : Option Story) (before after : ℕ → ℕ) (failed : Option LeafState) : Type 0 where
   pub made : List Noted
   pub calls : Made old new before after made
-  pub are_made : AreMade size s made failed
+  pub are_made : AreMade size s seats made failed
 
 -- so, or there was no memory and no call was made
 abbrev pub CreatesIf : (size : ℕ → ℕ) → (name : List ℕ) → Guid → (blocks : ℕ) → (first second : List ℕ × ℕ) → (old new : Option Story) → (before after : ℕ → ℕ) → Result Pool CreateFault → Type 0
 CreatesIf size name number blocks first second old new before after (Ok pool) =
-    Creates size (made_state size name number blocks first second) old new before after None × Represents pool (made_state size name number blocks first second)
+    Creates size (made_state size name number blocks first second) (first.1, second.1) old new before after None × Represents pool (made_state size name number blocks first second)
 CreatesIf size name number blocks first second old new before after (Err (faults.Device device)) =
-    (leaf : LeafState) × (leaf.name ≡ device) × Creates size (made_state size name number blocks first second) old new before after (Some leaf)
+    (leaf : LeafState) × (leaf.name ≡ device) × Creates size (made_state size name number blocks first second) (first.1, second.1) old new before after (Some leaf)
 CreatesIf size name number blocks first second old new before after (Err faults.Memory) = Made old new before after []

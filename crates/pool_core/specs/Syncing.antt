@@ -1,22 +1,24 @@
--- A sync: each block that was written goes to each leaf, in order of address, and then each leaf is
--- flushed. Then comes a round of the record of what is committed by it.
+-- A sync: each block that was written goes to each leaf of the board, in order of address, and then each of
+-- these leaves is flushed. Then comes a round of the record of what is committed by it.
 use Rattle.std.specs.Prelude.{ℕ, ◌+◌, List, [], ◌++◌, map, Option, Some, None}
 use Rattle.std.specs.List.{flat_map}
 use Rattle.bank_core.specs.Asks.{Ask, Writes, Flushes}
+use Rattle.label_store.specs.declared.member.Member.{Member}
+use Rattle.pool_core.specs.Logs.{drawn}
 use Rattle.pool_core.specs.Recorded.{addresses}
-use Rattle.pool_core.specs.State.{LeafState, Known, Version, PoolState, leaves, data_start, other_sector}
+use Rattle.pool_core.specs.State.{Known, Version, PoolState, board, data_start, other_sector}
 
--- the block goes to this device sector of each leaf, in tree order
-abbrev pub writes_to : List LeafState → ℕ → Option (List ℕ) → List Ask
-writes_to leaves at None = []
-writes_to leaves at (Some block) = map (λ leaf. Writes leaf.dev at block) leaves
+-- the block goes to this device sector of each of these leaves, in tree order
+abbrev pub writes_to : List Member → ℕ → Option (List ℕ) → List Ask
+writes_to members at None = []
+writes_to members at (Some block) = map (λ m. Writes m.dev at block) members
 
 abbrev pub writes_at : PoolState → ℕ → List Ask
-writes_at s a = writes_to (leaves s) (data_start + other_sector a (s.committed a)) (s.writes a)
+writes_at s a = writes_to (board s) (data_start + other_sector a (s.committed a)) (s.writes a)
 
--- each leaf is flushed, in tree order
+-- each leaf of the board is flushed, in tree order
 abbrev pub flush_plan : PoolState → List Ask
-flush_plan s = map (λ leaf. Flushes leaf.dev) (leaves s)
+flush_plan s = map (λ m. Flushes m.dev) (board s)
 
 -- all that a sync asks before its round
 abbrev pub sync_plan : PoolState → List Ask
@@ -27,10 +29,9 @@ abbrev pub next_version : ℕ → ℕ → Option Version → Option (List ℕ) �
 next_version number a committed None = committed
 next_version number a committed (Some block) = Some (record { birth = number; sector = other_sector a committed; content = Known block })
 
--- the state behind a sync: all that was written is committed
+-- the state behind a sync: all that was written is committed, and each leaf that was away owes the group
 abbrev pub synced : PoolState → PoolState
-synced s = record s {
+synced s = record (drawn s) {
   committed = λ a. next_version (s.number + 1) a (s.committed a) (s.writes a);
   writes = λ a. None;
-  number = s.number + 1;
 }

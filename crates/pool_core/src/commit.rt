@@ -3,31 +3,43 @@ ghost use Rattle.std.specs.Prelude.{◌≡◌, ◌/◌, ◌<◌, ◌^◌, length
 ghost use Rattle.pool_core.specs.Committing.{free_sector};
 
 use crate::Pool;
+use crate::pair::Pair;
 use config_codec::Pointer;
 use sha2::{Digest, Sha256};
 
 impl Pool {
-    ghost use Rattle.pool_core.specs.State.{PoolState};
-    ghost use Rattle.pool_core.specs.Keeping.{Represents, leaves_of};
-    ghost use Rattle.pool_core.specs.Opening.{recommitted};
-    ghost use Rattle.pool_core.specs.Syncing.{synced};
     ghost use Rattle.pool_core.specs.Committing.{IsNext, CommitsAt};
+    ghost use Rattle.pool_core.specs.Drafts.{DrawsTo};
+    ghost use Rattle.pool_core.specs.Keeping.{Represents, Stands};
+    ghost use Rattle.pool_core.specs.Logs.{drawn};
+    ghost use Rattle.pool_core.specs.State.{PoolState};
+    ghost use Rattle.pool_core.specs.Syncing.{synced};
 
-    // Draws the next number, and makes what was written the committed blocks of the configuration.
-    pub(crate) fn commit(&mut self)
-        requires { self.old.config.number.0 < 2 ^ 62 }
-        ensures leaves { leaves_of self.new ≡ leaves_of self.old }
-        ensures sectors { self.new.config.sectors ≡ self.old.config.sectors }
+    // Draws the next number, whose tree this is.
+    pub(crate) fn draw_number(&mut self, pair: Pair)
+        requires number { self.old.number.0 < 2 ^ 62 }
+        requires pair { DrawsTo self.old pair }
+        ensures pair { self.new.pair ≡ pair }
+        ensures drawn { (s : PoolState) → Represents self.old s → Represents self.new (drawn s) }
+    {
+        self.number.0 += 1;
+        self.pair = pair;
+    }
+
+    // Draws the next number, and makes what was written the committed blocks of the record.
+    pub(crate) fn commit(&mut self, pair: Pair)
+        requires number { self.old.number.0 < 2 ^ 62 }
+        requires pair { DrawsTo self.old pair }
+        ensures pair { self.new.pair ≡ pair }
         ensures committed { (s : PoolState) → Represents self.old s → Represents self.new (synced s) }
     {
-        self.draw_number();
+        self.draw_number(pair);
         self.commit_all();
     }
 
     fn commit_all(&mut self)
-        ensures leaves { leaves_of self.new ≡ leaves_of self.old }
-        ensures sectors { self.new.config.sectors ≡ self.old.config.sectors }
-        ensures committed { (s : PoolState) → Represents self.old (recommitted s) → Represents self.new (synced s) }
+        ensures pair { self.new.pair ≡ self.old.pair }
+        ensures committed { (s : PoolState) → Represents self.old (drawn s) → Represents self.new (synced s) }
     {
         for at in 0..self.writes.len() {
             self.commit_at(at);
@@ -39,7 +51,7 @@ impl Pool {
         ensures { CommitsAt self.old at self.new }
     {
         let next = self.next_pointer(at);
-        self.config.pointers[at] = next;
+        self.pointers[at] = next;
         self.writes[at] = None;
     }
 
@@ -51,7 +63,7 @@ impl Pool {
         let pointer = self.pointer_at(at);
         match self.write_at(at) {
             Some(block) => Some(Pointer {
-                birth: self.config.number,
+                birth: self.number,
                 sector: free_sector(at, pointer),
                 sum: Sha256::digest(block),
             }),

@@ -1,14 +1,20 @@
 //! The making of a pool on two devices.
 ghost use Rattle.std.specs.Prelude.{◌≡◌, ◌≢◌, ℕ, ◌<◌, ◌≤◌, List, Option, IfOk};
+ghost use Rattle.pool_core.specs.Keeping.{IsLeaf};
 ghost use Rattle.pool_core.specs.Making.{top_sectors};
+ghost use Rattle.pool_core.specs.State.{new_leaf};
 
 use crate::Pool;
+use crate::draft::Outline;
+use crate::open::NO_COUNTS;
+use crate::pair::Pair;
 use crate::pool::nothing;
 use bank_core::Bank;
-use config_codec::{Config, LeafConfig};
+use group_set::GroupSet;
 use label_store::stamp;
 use mp_base::{Group, Guid, MemFault, Name};
 use std::alloc::Global;
+use vdev_tree::{LeafVdev, State};
 
 /// The most data sectors that a configuration gives a top.
 const MOST_SECTORS: u64 = 1_048_320;
@@ -72,22 +78,28 @@ impl Pool {
         ensures creates { CreatesIf (B.size bank.old) name pool blocks (first.name, first.dev) (second.name, second.dev)
             (B.told bank.old) (B.told bank.new) (B.faults bank.old) (B.faults bank.new) result }
     {
-        let made = match Pool::new(alloc, bank, name, pool, blocks, first, second) {
+        let made = match Pool::new(alloc, bank, name, pool, blocks, &first, &second) {
             Ok(made) => made,
-            Err(MemFault) => return Err(CreateFault::Memory),
+            Err(_) => return Err(CreateFault::Memory),
         };
-        if stamp(bank, made.first_dev, pool, FIRST).is_err() {
-            return Err(CreateFault::Device(made.config.first.name));
+        let outline = match Outline::new(alloc, &made.pair) {
+            Ok(outline) => outline,
+            Err(_) => return Err(CreateFault::Memory),
+        };
+        if stamp(bank, first.dev, pool, FIRST).is_err() {
+            return Err(CreateFault::Device(first.name));
         }
-        if stamp(bank, made.second_dev, pool, SECOND).is_err() {
-            return Err(CreateFault::Device(made.config.second.name));
+        if stamp(bank, second.dev, pool, SECOND).is_err() {
+            return Err(CreateFault::Device(second.name));
         }
-        let (first_stayed, second_stayed) = made.commit_round(bank);
-        if !first_stayed {
-            return Err(CreateFault::Device(made.config.first.name));
+        let board = made.pair.board();
+        let mut stayed = [true; 2];
+        made.commit_round(bank, &board, outline, &mut stayed);
+        if !stayed[0] {
+            return Err(CreateFault::Device(first.name));
         }
-        if !second_stayed {
-            return Err(CreateFault::Device(made.config.second.name));
+        if !stayed[1] {
+            return Err(CreateFault::Device(second.name));
         }
         Ok(made)
     }
@@ -99,44 +111,56 @@ impl Pool {
         name: Name,
         pool: Guid,
         blocks: u64,
-        first: NewLeaf,
-        second: NewLeaf,
+        first: &NewLeaf,
+        second: &NewLeaf,
     ) -> Result<Pool, MemFault>
         requires some { 0 < blocks }
         requires few { blocks ≤ 32 }
         requires number { 1 ≤ pool.0 }
-        requires two_names { first.name ≢ second.name }
-        requires two_devices { first.dev ≢ second.dev }
-        requires first_room { 320 ≤ B.size bank.now first.dev }
-        requires second_room { 320 ≤ B.size bank.now second.dev }
+        requires two_names { first.now.name ≢ second.now.name }
+        requires two_devices { first.now.dev ≢ second.now.dev }
+        requires first_room { 320 ≤ B.size bank.now first.now.dev }
+        requires second_room { 320 ≤ B.size bank.now second.now.dev }
         ensures seated { IfOk result (λ made. IsSeated (B.size bank.now) made) }
         ensures state { IfOk result (λ made. Represents made
-            (made_state (B.size bank.now) name pool blocks (first.name, first.dev) (second.name, second.dev))) }
+            (made_state (B.size bank.now) name pool blocks (first.now.name, first.now.dev) (second.now.name, second.now.dev))) }
     {
         // A configuration is valid only with names that are names.
         name.spells_a_name();
         first.name.spells_a_name();
         second.name.spells_a_name();
-        let config = Config {
+        let sectors = top_sectors(bank.sectors(first.dev), bank.sectors(second.dev));
+        let one = new_leaf(alloc, FIRST, first)?;
+        let other = new_leaf(alloc, SECOND, second)?;
+        Ok(Pool {
+            alloc,
             pool,
             name,
             blocks,
             number: Group(1),
             next_member: NEXT_MEMBER,
             pointers: nothing(alloc, blocks as usize)?,
-            sectors: top_sectors(bank.sectors(first.dev), bank.sectors(second.dev)),
-            mirror: MIRROR,
-            first: LeafConfig {
-                member: FIRST,
-                name: first.name,
-            },
-            second: LeafConfig {
-                member: SECOND,
-                name: second.name,
-            },
-        };
-        Pool::with_config(alloc, config, first.dev, second.dev)
+            pair: Pair::new(alloc, MIRROR, sectors, one, other)?,
+            writes: nothing(alloc, blocks as usize)?,
+        })
     }
+}
+
+// A leaf as it is made: online, on its device, with an empty log.
+fn new_leaf(alloc: Global, guid: Guid, leaf: &NewLeaf) -> Result<LeafVdev, MemFault>
+    ensures { IfOk result (λ v. IsLeaf v (new_leaf guid.0 (leaf.now.name, leaf.now.dev))) }
+{
+    Ok(LeafVdev {
+        guid,
+        name: leaf.name.copy(alloc)?,
+        dev: Some(leaf.dev),
+        state: State::Online,
+        log: GroupSet::new(alloc),
+        settled: GroupSet::new(alloc),
+        marked: false,
+        temporary: false,
+        counts: NO_COUNTS,
+    })
 }
 
 // The data sectors of a top on two devices of so many sectors.

@@ -2,10 +2,14 @@
 #![tactic(auto)]
 
 mod accessors;
+mod away;
+mod board;
 mod commit;
 mod create;
+mod draft;
 mod number;
 mod open;
+mod pair;
 mod pool;
 mod read;
 mod round;
@@ -13,8 +17,9 @@ mod rule;
 mod sync;
 mod write;
 
+pub use away::LeafLog;
 pub use create::{CreateFault, NewLeaf};
 pub use number::pool_number;
-pub use open::{has_members, seek};
+pub use open::{find_members, seek};
 pub use pool::{MOST_BLOCKS, Pool};
 pub use rule::ConfigRule;

@@ -1,68 +1,42 @@
-//! A pool on one mirror of two leaves. Its configuration, and what was written since the last commit,
-//! stand in memory; the committed blocks stand on the devices.
-ghost use Rattle.std.specs.Prelude.{◌≡◌, ◌≢◌, None, length, replicate, IfOk};
-ghost use Rattle.config_codec.specs.Fields.{config_fields};
-ghost use Rattle.config_codec.specs.Validity.{IsValid};
+//! A pool on one mirror of two leaves. What its record says, its tree with the leaves' logs, and what was
+//! written since the last commit stand in memory; the committed blocks stand on the devices.
+ghost use Rattle.std.specs.Prelude.{◌≡◌, true, None, length, replicate, IfOk, IsTrue};
+ghost use Rattle.config_codec.specs.Validity.{is_valid};
+ghost use Rattle.pool_core.specs.Pairs.{AreApart, IsLoggedTo, fields_from, has_device};
 
-use config_codec::{Config, Pointer};
-use mp_base::{Block, MemFault};
+use crate::pair::Pair;
+use config_codec::Pointer;
+use mp_base::{Block, Group, Guid, MemFault, Name};
 use std::alloc::Global;
 
 /// The most blocks of a volume, as long as its pointers stand in the configuration itself.
 pub const MOST_BLOCKS: u64 = 32;
 
-/// A pool: a volume of at most 32 blocks on a mirror of two leaves, which are on two devices.
+/// A pool: a volume of at most 32 blocks on a mirror of two leaves, each of which may be away.
 #[derive(Drop)]
 pub struct Pool {
     pub(crate) alloc: Global,
-    pub(crate) config: Config,
-    pub(crate) first_dev: u32,
-    pub(crate) second_dev: u32,
+    pub(crate) pool: Guid,
+    pub(crate) name: Name,
+    pub(crate) blocks: u64,
+    /// The number of the last record.
+    pub(crate) number: Group,
+    pub(crate) next_member: u64,
+    pub(crate) pointers: Vec<Option<Pointer>>,
+    pub(crate) pair: Pair,
     pub(crate) writes: Vec<Option<Block>>,
-    ghost valid: { IsValid (config_fields config) },
-    ghost paired: { length writes.items ≡ length config.pointers.items },
-    ghost apart: { first_dev ≢ second_dev },
+    ghost valid: { IsTrue (is_valid (fields_from pool name blocks number next_member pointers.items pair)) },
+    ghost paired: { length writes.items ≡ length pointers.items },
+    ghost apart: { AreApart pair },
+    ghost first_log: { IsLoggedTo number.0 pair.first },
+    ghost second_log: { IsLoggedTo number.0 pair.second },
+    ghost first_dev: { has_device pair.first ≡ true },
+    ghost second_dev: { has_device pair.second ≡ true },
 }
 
 impl Pool {
-    ghost use Rattle.std.specs.Prelude.{◌+◌, ◌<◌, ◌^◌, Some, IfSome, slice_get};
+    ghost use Rattle.std.specs.Prelude.{◌<◌, Some, IfSome, slice_get};
     ghost use Rattle.std.specs.Option.{option_copied};
-    ghost use Rattle.pool_core.specs.Keeping.{Represents, leaves_of};
-    ghost use Rattle.pool_core.specs.Opening.{recommitted};
-    ghost use Rattle.pool_core.specs.State.{PoolState};
-    ghost use Rattle.pool_core.specs.Steps.{IsUnwritten};
-
-    // The pool of a configuration, with its leaves on these two devices.
-    pub(crate) fn with_config(
-        alloc: Global,
-        config: Config,
-        first_dev: u32,
-        second_dev: u32,
-    ) -> Result<Pool, MemFault>
-        requires valid { IsValid (config_fields config) }
-        requires apart { first_dev ≢ second_dev }
-        ensures { IfOk result (IsUnwritten config first_dev second_dev) }
-    {
-        let writes = nothing(alloc, config.pointers.len())?;
-        Ok(Pool {
-            alloc,
-            config,
-            first_dev,
-            second_dev,
-            writes,
-        })
-    }
-
-    // Draws the next number.
-    pub(crate) fn draw_number(&mut self)
-        requires { self.old.config.number.0 < 2 ^ 62 }
-        ensures leaves { leaves_of self.new ≡ leaves_of self.old }
-        ensures sectors { self.new.config.sectors ≡ self.old.config.sectors }
-        ensures number { self.new.config.number.0 ≡ self.old.config.number.0 + 1 }
-        ensures drawn { (s : PoolState) → Represents self.old s → Represents self.new (recommitted s) }
-    {
-        self.config.number.0 += 1;
-    }
 
     // What was written at an address since the last commit.
     pub(crate) fn write_at(&self, at: usize) -> Option<&[u8]>
@@ -79,10 +53,10 @@ impl Pool {
     // Where the committed block of an address stands.
     pub(crate) fn pointer_at(&self, at: usize) -> Option<Pointer>
         requires { at < length self.now.writes.items }
-        ensures is { slice_get self.now.config.pointers.items at ≡ Some result }
+        ensures is { slice_get self.now.pointers.items at ≡ Some result }
         ensures low { IfSome result (λ pointer. pointer.sector < 64) }
     {
-        self.config.pointers[at]
+        self.pointers[at]
     }
 }
 

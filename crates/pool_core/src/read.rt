@@ -1,12 +1,15 @@
-//! Reads. The copies of a block are tried in tree order, and the first whose sum is the pointer's
-//! answers; so bytes that a device made up are never handed out.
-ghost use Rattle.std.specs.Prelude.{◌≡◌, ℕ, ◌<◌, List, length};
+//! Reads. The copies of a block are tried in tree order, those of leaves that owe it last, and the first whose sum
+//! is the pointer's answers; so bytes that a device made up are never handed out.
+ghost use Rattle.std.specs.Prelude.{◌≡◌, ℕ, ◌<◌, ◌≤◌, List, length};
 ghost use Rattle.pool_core.specs.Copies.{TriesCopy};
+ghost use Rattle.pool_core.specs.Seating.{HasRoomFor};
+ghost use Rattle.pool_core.specs.Tries.{TriesAll, seen_in};
 
 use crate::Pool;
 use bank_core::Bank;
 use config_codec::Pointer;
-use mp_base::{LeafSeen, Refusal, Seen, SeenLeaves};
+use label_store::Member;
+use mp_base::{Guid, LeafSeen, Refusal, Seen, SeenLeaves};
 use sha2::{Digest, Sha256};
 
 /// The device sector at which the data sectors begin, behind the first two labels.
@@ -18,7 +21,8 @@ impl Pool {
     ghost use Rattle.pool_core.specs.Keeping.{Represents, IsSeated};
     ghost use Rattle.pool_core.specs.Reading.{answered};
     ghost use Rattle.pool_core.specs.Done.{Reads};
-    ghost use Rattle.pool_core.specs.Tries.{TriesCopies};
+    ghost use Rattle.pool_core.specs.State.{leaves};
+    ghost use Rattle.pool_core.specs.Tries.{TriesCopies, shown_in};
 
     /// Reads the block at an address: what was written since the last commit, else what is committed,
     /// else zeros. After an `Err` nothing is said of `out`.
@@ -31,7 +35,7 @@ impl Pool {
         ensures read { (s : PoolState) → Represents self.now s
             → Reads s address (B.told bank.old) (B.told bank.new) (B.faults bank.old) (B.faults bank.new) (answered out.new result) }
     {
-        let blocks = self.config.blocks;
+        let blocks = self.blocks;
         if address >= blocks {
             return Err(Refusal::BadAddress { limit: blocks });
         }
@@ -76,7 +80,8 @@ impl Pool {
         }
     }
 
-    // Tries the copies in tree order. Where none serves, it says what each leaf showed.
+    // Tries the copies, those of leaves that don't owe the block first. Where none serves, it says what each leaf
+    // showed, in tree order.
     fn read_copies<B: Bank>(
         &self,
         bank: &mut B,
@@ -89,28 +94,71 @@ impl Pool {
         ensures size { (d : ℕ) → B.size bank.new d ≡ B.size bank.old d }
         ensures numbers { (name : List ℕ) → B.number_of bank.new name ≡ B.number_of bank.old name }
         ensures lookups { B.lookup_faults bank.new ≡ B.lookup_faults bank.old }
-        ensures tries { TriesCopies self.now pointer.now (B.told bank.old) (B.told bank.new) (B.faults bank.old) (B.faults bank.new) out.new result }
+        ensures tries { (s : PoolState) → Represents self.now s
+            → TriesCopies s pointer.now (B.told bank.old) (B.told bank.new) (B.faults bank.old) (B.faults bank.new) out.new result }
     {
+        let tries = self.pair.tries(pointer.birth);
         let sector = DATA_START + pointer.sector;
-        let first = match read_copy(bank, self.first_dev, sector, &pointer.sum, out) {
-            Ok(()) => return Ok(()),
-            Err(seen) => seen,
-        };
-        let second = match read_copy(bank, self.second_dev, sector, &pointer.sum, out) {
-            Ok(()) => return Ok(()),
-            Err(seen) => seen,
-        };
-        let mut leaves = SeenLeaves::new();
-        leaves.push(LeafSeen {
-            member: self.config.first.member,
-            seen: first,
-        });
-        leaves.push(LeafSeen {
-            member: self.config.second.member,
-            seen: second,
-        });
-        Err(leaves)
+        match try_all(bank, tries.as_slice(), sector, &pointer.sum, out) {
+            Ok(()) => Ok(()),
+            Err(seen) => Err(self.shown(&seen)),
+        }
     }
+
+    // What each leaf showed, in tree order, by what those that were tried showed.
+    fn shown(&self, seen: &SeenLeaves) -> SeenLeaves
+        ensures { (s : PoolState) → Represents self.now s → result ≡ shown_in seen.now (leaves s) }
+    {
+        let mut leaves = SeenLeaves::new();
+        leaves.push(seen_at(self.pair.first().guid, seen));
+        leaves.push(seen_at(self.pair.second().guid, seen));
+        leaves
+    }
+}
+
+// What this leaf showed; one that wasn't tried isn't readable.
+fn seen_at(member: Guid, seen: &SeenLeaves) -> LeafSeen
+    ensures member { result.member ≡ member }
+    ensures seen { result.seen ≡ seen_in seen.now member }
+{
+    for leaf in seen.as_slice() {
+        if leaf.member.0 == member.0 {
+            return *leaf;
+        }
+    }
+    LeafSeen {
+        member,
+        seen: Seen::Unreadable,
+    }
+}
+
+// Tries these members' copies in order, up to the first that serves. Where none does, it says what each showed.
+fn try_all<B: Bank>(
+    bank: &mut B,
+    members: &[Member],
+    at: u64,
+    sum: &[u8; 32],
+    out: &mut [u8],
+) -> Result<(), SeenLeaves>
+    requires block { length out.old ≡ 4096 }
+    requires few { length members.now ≤ 32 }
+    requires room { HasRoomFor (B.size bank.old) members.now at }
+    ensures size { (d : ℕ) → B.size bank.new d ≡ B.size bank.old d }
+    ensures numbers { (name : List ℕ) → B.number_of bank.new name ≡ B.number_of bank.old name }
+    ensures lookups { B.lookup_faults bank.new ≡ B.lookup_faults bank.old }
+    ensures tries { TriesAll at sum.now members.now (B.told bank.old) (B.told bank.new) (B.faults bank.old) (B.faults bank.new) out.new result }
+{
+    let mut seen = SeenLeaves::new();
+    for member in members {
+        match read_copy(bank, member.dev, at, sum, out) {
+            Ok(()) => return Ok(()),
+            Err(showed) => seen.push(LeafSeen {
+                member: member.guid,
+                seen: showed,
+            }),
+        }
+    }
+    Err(seen)
 }
 
 // Reads one copy of a block, and says whether it has the block's sum.

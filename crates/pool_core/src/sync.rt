@@ -1,10 +1,16 @@
-//! A sync: what was written goes to every leaf, and is committed by a round once every leaf is flushed.
-ghost use Rattle.std.specs.Prelude.{◌≡◌, ℕ, ◌<◌, List, length};
+//! A sync: what was written goes to each leaf of the board, and is committed by a round once these are flushed.
+ghost use Rattle.std.specs.Prelude.{◌≡◌, ℕ, ◌<◌, ◌^◌, List, map, length};
+ghost use Rattle.bank_core.specs.Asks.{Flushes};
+ghost use Rattle.std.specs.Prelude.{Some};
 ghost use Rattle.bank_core.specs.Parts.{MakesPart};
 ghost use Rattle.bank_core.specs.Story.{fault_in};
+ghost use Rattle.pool_core.specs.Seating.{HasRoomFor};
+ghost use Rattle.pool_core.specs.Syncing.{writes_to};
 
 use crate::Pool;
+use crate::board::Board;
 use crate::commit::free_sector;
+use crate::draft::Draft;
 use crate::read::DATA_START;
 use bank_core::{Bank, Fault};
 use mp_base::{Group, Refusal};
@@ -13,68 +19,77 @@ use mp_base::{Group, Refusal};
 const LAST_NUMBER: u64 = (1 << 62) - 64;
 
 impl Pool {
-    ghost use Rattle.std.specs.Prelude.{Some};
     ghost use Rattle.std.specs.List.{flat_map};
-    ghost use Rattle.pool_core.specs.Done.{SyncsIf};
-    ghost use Rattle.pool_core.specs.Keeping.{Represents, IsSeated, leaves_of};
+    ghost use Rattle.pool_core.specs.Done.{SyncsIf, no_leaf};
+    ghost use Rattle.pool_core.specs.Keeping.{Represents, IsSeated, Stands};
     ghost use Rattle.pool_core.specs.Recorded.{addresses};
-    ghost use Rattle.pool_core.specs.State.{PoolState, is_spent};
-    ghost use Rattle.pool_core.specs.Syncing.{sync_plan, flush_plan, writes_at, writes_to};
+    ghost use Rattle.pool_core.specs.State.{PoolState, board, has_nobody, is_spent};
+    ghost use Rattle.pool_core.specs.Syncing.{sync_plan, writes_at};
 
     /// Commits what was written, and answers the number of its group. At `Ok` each block is on every
-    /// leaf, and each crash from then on leaves a device whose newest record commits it. At `Suspended` a
-    /// device call failed; the number is spent, and the pool is of no further use. At `TreeFull` the
-    /// numbers are spent, and nothing has changed.
+    /// readable leaf, every other leaf owes the group, and each crash from then on leaves a device whose newest
+    /// record commits it. At `Suspended` with faults a device call failed; the number is spent, and the pool is
+    /// of no further use. At `Suspended` without faults no leaf is readable, at `TreeFull` the numbers are spent,
+    /// at `Memory` there was none; then nothing has changed.
     pub fn sync<B: Bank>(&mut self, bank: &mut B) -> Result<Group, Refusal>
         requires seated { IsSeated (B.size bank.old) self.old }
         ensures size { (d : ℕ) → B.size bank.new d ≡ B.size bank.old d }
         ensures numbers { (name : List ℕ) → B.number_of bank.new name ≡ B.number_of bank.old name }
         ensures lookups { B.lookup_faults bank.new ≡ B.lookup_faults bank.old }
-        ensures leaves { leaves_of self.new ≡ leaves_of self.old }
         ensures seated { IsSeated (B.size bank.old) self.new }
-        ensures sync { (s : PoolState) → Represents self.old s → SyncsIf (is_spent s.number) (B.size bank.old) s
+        ensures sync { (s : PoolState) → Represents self.old s → SyncsIf (is_spent s.number) (has_nobody s) (B.size bank.old) s
             (B.told bank.old) (B.told bank.new) (B.faults bank.old) (B.faults bank.new) self.new result }
     {
-        let number = self.config.number.0;
+        let number = self.number.0;
         if number >= LAST_NUMBER {
             return Err(Refusal::TreeFull {
                 limit: LAST_NUMBER,
                 count: number + 1,
             });
         }
-        let written = self.write_out(bank);
-        self.commit();
-        self.end_commit(bank, written)
+        let board = self.pair.board();
+        if board.as_slice().is_empty() {
+            return Err(self.no_leaf());
+        }
+        let draft = match self.draft() {
+            Ok(draft) => draft,
+            Err(_) => return Err(Refusal::Memory),
+        };
+        let Draft { pair, outline } = draft;
+        let written = self.write_out(bank, &board);
+        self.commit(pair);
+        self.end_commit(bank, &board, outline, written)
     }
 
-    // Writes each block that was written to each leaf, and then flushes each leaf.
-    fn write_out<B: Bank>(&self, bank: &mut B) -> Result<(), Fault>
-        requires { IsSeated (B.size bank.old) self.now }
+    // The refusal where no leaf is readable: the group that would be drawn, and no fault.
+    pub(crate) fn no_leaf(&self) -> Refusal
+        requires { self.now.number.0 < 2 ^ 62 }
+        ensures { (s : PoolState) → Represents self.now s → result ≡ no_leaf s }
+    {
+        Refusal::Suspended {
+            group: Group(self.number.0 + 1),
+            top: self.pair.mirror(),
+            faults: 0,
+        }
+    }
+
+    // Writes each block that was written to each leaf of the board, and then flushes each of them.
+    fn write_out<B: Bank>(&self, bank: &mut B, members: &Board) -> Result<(), Fault>
+        requires seated { IsSeated (B.size bank.old) self.now }
+        requires board { (s : PoolState) → Stands self.now.pair s → members.now ≡ board s }
         ensures size { (d : ℕ) → B.size bank.new d ≡ B.size bank.old d }
         ensures numbers { (name : List ℕ) → B.number_of bank.new name ≡ B.number_of bank.old name }
         ensures lookups { B.lookup_faults bank.new ≡ B.lookup_faults bank.old }
         ensures part { (s : PoolState) → Represents self.now s
             → MakesPart (sync_plan s) (B.told bank.old) (B.told bank.new) (B.faults bank.old) (B.faults bank.new) (fault_in result) }
     {
-        self.write_blocks(bank)?;
-        self.flush_leaves(bank)
+        self.write_blocks(bank, members)?;
+        flush_all(bank, members)
     }
 
-    // Flushes each leaf.
-    pub(crate) fn flush_leaves<B: Bank>(&self, bank: &mut B) -> Result<(), Fault>
-        requires { IsSeated (B.size bank.old) self.now }
-        ensures size { (d : ℕ) → B.size bank.new d ≡ B.size bank.old d }
-        ensures numbers { (name : List ℕ) → B.number_of bank.new name ≡ B.number_of bank.old name }
-        ensures lookups { B.lookup_faults bank.new ≡ B.lookup_faults bank.old }
-        ensures part { (s : PoolState) → Represents self.now s
-            → MakesPart (flush_plan s) (B.told bank.old) (B.told bank.new) (B.faults bank.old) (B.faults bank.new) (fault_in result) }
-    {
-        bank.flush(self.first_dev)?;
-        bank.flush(self.second_dev)
-    }
-
-    fn write_blocks<B: Bank>(&self, bank: &mut B) -> Result<(), Fault>
-        requires { IsSeated (B.size bank.old) self.now }
+    fn write_blocks<B: Bank>(&self, bank: &mut B, members: &Board) -> Result<(), Fault>
+        requires seated { IsSeated (B.size bank.old) self.now }
+        requires board { (s : PoolState) → Stands self.now.pair s → members.now ≡ board s }
         ensures size { (d : ℕ) → B.size bank.new d ≡ B.size bank.old d }
         ensures numbers { (name : List ℕ) → B.number_of bank.new name ≡ B.number_of bank.old name }
         ensures lookups { B.lookup_faults bank.new ≡ B.lookup_faults bank.old }
@@ -82,14 +97,15 @@ impl Pool {
             → MakesPart (flat_map (writes_at s) (addresses s.blocks)) (B.told bank.old) (B.told bank.new) (B.faults bank.old) (B.faults bank.new) (fault_in result) }
     {
         for at in 0..self.writes.len() {
-            self.write_block(bank, at)?;
+            self.write_block(bank, members, at)?;
         }
         Ok(())
     }
 
-    // Writes the block of one address to each leaf, if one was written there.
-    fn write_block<B: Bank>(&self, bank: &mut B, at: usize) -> Result<(), Fault>
+    // Writes the block of one address to each leaf of the board, if one was written there.
+    fn write_block<B: Bank>(&self, bank: &mut B, members: &Board, at: usize) -> Result<(), Fault>
         requires seated { IsSeated (B.size bank.old) self.now }
+        requires board { (s : PoolState) → Stands self.now.pair s → members.now ≡ board s }
         requires inside { at < length self.now.writes.items }
         ensures size { (d : ℕ) → B.size bank.new d ≡ B.size bank.old d }
         ensures numbers { (name : List ℕ) → B.number_of bank.new name ≡ B.number_of bank.old name }
@@ -100,23 +116,40 @@ impl Pool {
         match self.write_at(at) {
             Some(block) => {
                 let sector = DATA_START + free_sector(at, self.pointer_at(at));
-                self.write_both(bank, sector, block)
+                write_all(bank, members, sector, block)
             }
             None => Ok(()),
         }
     }
+}
 
-    fn write_both<B: Bank>(&self, bank: &mut B, sector: u64, block: &[u8]) -> Result<(), Fault>
-        requires first { sector < B.size bank.old self.now.first_dev }
-        requires second { sector < B.size bank.old self.now.second_dev }
-        requires whole { length block.now ≡ 4096 }
-        ensures size { (d : ℕ) → B.size bank.new d ≡ B.size bank.old d }
-        ensures numbers { (name : List ℕ) → B.number_of bank.new name ≡ B.number_of bank.old name }
-        ensures lookups { B.lookup_faults bank.new ≡ B.lookup_faults bank.old }
-        ensures part { MakesPart (writes_to (leaves_of self.now) sector (Some block.now))
-            (B.told bank.old) (B.told bank.new) (B.faults bank.old) (B.faults bank.new) (fault_in result) }
-    {
-        bank.write(self.first_dev, sector, block)?;
-        bank.write(self.second_dev, sector, block)
+// Writes a block to this sector of each leaf of the board.
+fn write_all<B: Bank>(bank: &mut B, members: &Board, sector: u64, block: &[u8]) -> Result<(), Fault>
+    requires room { HasRoomFor (B.size bank.old) members.now sector }
+    requires whole { length block.now ≡ 4096 }
+    ensures size { (d : ℕ) → B.size bank.new d ≡ B.size bank.old d }
+    ensures numbers { (name : List ℕ) → B.number_of bank.new name ≡ B.number_of bank.old name }
+    ensures lookups { B.lookup_faults bank.new ≡ B.lookup_faults bank.old }
+    ensures part { MakesPart (writes_to members.now sector (Some block.now))
+        (B.told bank.old) (B.told bank.new) (B.faults bank.old) (B.faults bank.new) (fault_in result) }
+{
+    for member in members.as_slice() {
+        bank.write(member.dev, sector, block)?;
     }
+    Ok(())
+}
+
+// Flushes each leaf of the board.
+pub(crate) fn flush_all<B: Bank>(bank: &mut B, members: &Board) -> Result<(), Fault>
+    requires room { HasRoomFor (B.size bank.old) members.now 0 }
+    ensures size { (d : ℕ) → B.size bank.new d ≡ B.size bank.old d }
+    ensures numbers { (name : List ℕ) → B.number_of bank.new name ≡ B.number_of bank.old name }
+    ensures lookups { B.lookup_faults bank.new ≡ B.lookup_faults bank.old }
+    ensures part { MakesPart (map (λ m. Flushes m.dev) members.now)
+        (B.told bank.old) (B.told bank.new) (B.faults bank.old) (B.faults bank.new) (fault_in result) }
+{
+    for member in members.as_slice() {
+        bank.flush(member.dev)?;
+    }
+    Ok(())
 }

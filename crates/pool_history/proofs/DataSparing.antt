@@ -57,7 +57,7 @@ off_one at s ne = ⊎_elim (λ lt. inl lt) (λ le. inr (omega (arith, le, ne))) 
 pub record IsFreeAt (p : Pool) (dev at : ℕ) : Type 0 where
   pub low : p.member dev ≡ true → 128 ≤ at
   pub high : p.member dev ≡ true → at + 128 < p.size dev
-  pub unused : (r : Rec) (a : ℕ) (cell : Cell) → p.member dev ≡ true → IsIn r p.live → r.cells a ≡ Some cell → r.owes dev cell.birth ≡ false → at ≢ data_start + cell.sector
+  pub unused : (r : Rec) (a : ℕ) (cell : Cell) → p.member dev ≡ true → IsIn r p.live → r.cells a ≡ Some cell → r.owes (p.guid dev) cell.birth ≡ false → at ≢ data_start + cell.sector
 
 pub write_sparing : (head_of : List ℕ → Option Head) (p : Pool) (dev at : ℕ) (block : List ℕ) → Survives head_of p → length block ≡ 4096 → IsFreeAt p dev at
     → AreSparing p (Writes dev at block ∷ [])

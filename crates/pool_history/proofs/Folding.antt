@@ -40,7 +40,7 @@ calls_more (Third q d ∷ first) second = calls_more first second
 calls_more (Ends q d ∷ first) second = calls_more first second
 calls_more (Acks q ∷ first) second = calls_more first second
 calls_more (Loses d ∷ first) second = calls_more first second
-calls_more (Stops images ∷ first) second = calls_more first second
+calls_more (Stops sectors size ∷ first) second = calls_more first second
 
 -- Calls as events are these calls.
 pub calls_are : (made : List Noted) → calls_of (as_events made) ≡ made
@@ -89,9 +89,21 @@ pub guid_same : (v : Event) (p : Pool) → (after v p).guid ≡ p.guid
 guid_same (Calls noted) p = refl
 guid_same v p = refl
 
-pub size_same : (v : Event) (p : Pool) → (after v p).size ≡ p.size
-size_same (Calls noted) p = refl
-size_same v p = refl
+-- within a run no device changes its size
+pub size_same : (v : Event) (p : Pool) → IsOneRun (v ∷ []) → (after v p).size ≡ p.size
+size_same (Calls noted) p one = refl
+size_same (Stops sectors size) p one = absurd one
+size_same v p one = refl
+
+one_first : (v : Event) (vs : List Event) → IsOneRun (v ∷ vs) → IsOneRun (v ∷ [])
+one_first (Calls noted) vs one = tt
+one_first (Stops sectors size) vs one = one
+one_first v vs one = tt
+
+one_rest : (v : Event) (vs : List Event) → IsOneRun (v ∷ vs) → IsOneRun vs
+one_rest (Calls noted) vs one = one
+one_rest (Stops sectors size) vs one = absurd one
+one_rest v vs one = one
 
 pub name_kept : (vs : List Event) (p : Pool) → (pool_after vs p).name ≡ p.name
 name_kept [] p = refl
@@ -105,9 +117,9 @@ pub guid_kept : (vs : List Event) (p : Pool) → (pool_after vs p).guid ≡ p.gu
 guid_kept [] p = refl
 guid_kept (v ∷ vs) p = guid_kept vs (after v p) ∙ guid_same v p
 
-pub size_kept : (vs : List Event) (p : Pool) → (pool_after vs p).size ≡ p.size
-size_kept [] p = refl
-size_kept (v ∷ vs) p = size_kept vs (after v p) ∙ size_same v p
+pub size_kept : (vs : List Event) (p : Pool) → IsOneRun vs → (pool_after vs p).size ≡ p.size
+size_kept [] p one = refl
+size_kept (v ∷ vs) p one = size_kept vs (after v p) (one_rest v vs one) ∙ size_same v p (one_first v vs one)
 
 -- no other pool takes a device
 abbrev pub TakesNone : List Event → Type 0
@@ -121,7 +133,7 @@ TakesNone (Third q d ∷ vs) = TakesNone vs
 TakesNone (Ends q d ∷ vs) = TakesNone vs
 TakesNone (Acks q ∷ vs) = TakesNone vs
 TakesNone (Loses d ∷ vs) = ⊥
-TakesNone (Stops images ∷ vs) = TakesNone vs
+TakesNone (Stops sectors size ∷ vs) = TakesNone vs
 
 pub takes_none_more : (first second : List Event) → TakesNone first → TakesNone second → TakesNone (first ++ second)
 takes_none_more [] second a b = b
@@ -134,7 +146,7 @@ takes_none_more (Third q d ∷ first) second a b = takes_none_more first second 
 takes_none_more (Ends q d ∷ first) second a b = takes_none_more first second a b
 takes_none_more (Acks q ∷ first) second a b = takes_none_more first second a b
 takes_none_more (Loses d ∷ first) second a b = absurd a
-takes_none_more (Stops images ∷ first) second a b = takes_none_more first second a b
+takes_none_more (Stops sectors size ∷ first) second a b = takes_none_more first second a b
 
 pub calls_take_none : (made : List Noted) → TakesNone (as_events made)
 calls_take_none [] = tt
@@ -152,7 +164,7 @@ member_kept (Third q d ∷ vs) p none = member_kept vs (after (Third q d) p) non
 member_kept (Ends q d ∷ vs) p none = member_kept vs (after (Ends q d) p) none
 member_kept (Acks q ∷ vs) p none = member_kept vs (after (Acks q) p) none
 member_kept (Loses d ∷ vs) p none = absurd none
-member_kept (Stops images ∷ vs) p none = member_kept vs (after (Stops images) p) none
+member_kept (Stops sectors size ∷ vs) p none = member_kept vs (after (Stops sectors size) p) none
 
 -- a member was one before
 pub taken_false : (d e : ℕ) (f : ℕ → Bool) → cond (d == e) false (f e) ≡ true → f e ≡ true
@@ -184,7 +196,7 @@ moment_of (Third q d ∷ vs) (suc k) = let m = moment_of vs (suc k) in (suc m.0,
 moment_of (Ends q d ∷ vs) (suc k) = let m = moment_of vs (suc k) in (suc m.0, m.1)
 moment_of (Acks q ∷ vs) (suc k) = let m = moment_of vs (suc k) in (suc m.0, m.1)
 moment_of (Loses d ∷ vs) (suc k) = let m = moment_of vs (suc k) in (suc m.0, m.1)
-moment_of (Stops images ∷ vs) (suc k) = let m = moment_of vs (suc k) in (suc m.0, m.1)
+moment_of (Stops sectors size ∷ vs) (suc k) = let m = moment_of vs (suc k) in (suc m.0, m.1)
 
 -- within one run the devices are as its calls leave them
 pub run_sectors : (vs : List Event) (p : Pool) → IsOneRun vs → (pool_after vs p).sectors ≡ run (calls_of vs) p.sectors
@@ -198,7 +210,7 @@ run_sectors (Third q d ∷ vs) p one = run_sectors vs (after (Third q d) p) one
 run_sectors (Ends q d ∷ vs) p one = run_sectors vs (after (Ends q d) p) one
 run_sectors (Acks q ∷ vs) p one = run_sectors vs (after (Acks q) p) one
 run_sectors (Loses d ∷ vs) p one = run_sectors vs (after (Loses d) p) one
-run_sectors (Stops images ∷ vs) p one = absurd one
+run_sectors (Stops sectors size ∷ vs) p one = absurd one
 
 pub stops_never_more : (first second : List Event) → IsOneRun first → IsOneRun second → IsOneRun (first ++ second)
 stops_never_more [] second a b = b
@@ -211,7 +223,7 @@ stops_never_more (Third q d ∷ first) second a b = stops_never_more first secon
 stops_never_more (Ends q d ∷ first) second a b = stops_never_more first second a b
 stops_never_more (Acks q ∷ first) second a b = stops_never_more first second a b
 stops_never_more (Loses d ∷ first) second a b = stops_never_more first second a b
-stops_never_more (Stops images ∷ first) second a b = absurd a
+stops_never_more (Stops sectors size ∷ first) second a b = absurd a
 
 pub calls_never_stop : (made : List Noted) → IsOneRun (as_events made)
 calls_never_stop [] = tt

@@ -41,14 +41,13 @@ call_held (Admit dev holds) d s x b e h = rw e h
 call_held (Eject dev) d s x b e h = h
 
 -- and a stop: what is clean shows what it held, and what is damaged stays so
-pub stop_held : (x : Sector) (image : List ℕ) (b : List ℕ) → (IsClean x → image ≡ x.stable) → Held x b
-    → Held (record { stable = image; pending = Nothing; damaged = x.damaged }) b
-stop_held x image b shows h = record { still = refl; stands = by_test x.damaged refl h.stands }
+pub stop_held : (x y : Sector) (b : List ℕ) → y.pending ≡ Nothing → (IsClean x → y.stable ≡ x.stable) → (x.damaged ≡ true → y.damaged ≡ true) → Held x b → Held y b
+stop_held x y b still shows damage h = record { still = still; stands = by_test x.damaged refl h.stands }
   where
-    by_test : (t : Bool) → x.damaged ≡ t → (x.stable ≡ b) ⊎ (x.damaged ≡ true) → (image ≡ b) ⊎ (x.damaged ≡ true)
-    by_test true is st = inr is
+    by_test : (t : Bool) → x.damaged ≡ t → (x.stable ≡ b) ⊎ (x.damaged ≡ true) → (y.stable ≡ b) ⊎ (y.damaged ≡ true)
+    by_test true is st = inr (damage is)
     by_test false is (inl e) = inl (shows (record { still = h.still; sound = is }) ∙ e)
-    by_test false is (inr e) = inr e
+    by_test false is (inr e) = inr (damage e)
 
 -- What stands on a sector, what was written to it in this run and what is on the way there, all of one kind.
 pub record AreAll (P : List ℕ → Type 0) (x : Sector) (since : List (List ℕ)) : Type 0 where

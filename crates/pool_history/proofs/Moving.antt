@@ -2,7 +2,7 @@
 use Rattle.std.proofs.Common.{◌≡◌, ◌⊎◌, ℕ, ◌+◌, ◌≤◌, ◌<◌, ◌==◌, nat_lt, Bool, true, false, cond, List, [], ◌∷◌, ◌++◌, Option, refl, sym, ap, ◌∙◌, subst, inl, inr, arith, ⊎_elim}
 use Rattle.std.proofs.lemmas.Bool.Decides.{nat_tests}
 use Rattle.bank_core.specs.Standing.{touches}
-use Rattle.bank_core.specs.Disk.{Noted, after_call}
+use Rattle.bank_core.specs.Disk.{Sectors, Noted, after_call}
 use Rattle.label_store.specs.declared.rule.Head.{Head}
 use Rattle.label_store.specs.declared.uberblock.Uberblock.{Uberblock}
 use Rattle.label_store.specs.Layout.{slot_of}
@@ -59,6 +59,26 @@ above_or n r (q ∷ rs) i = by_test (nat_lt n (number_of q)) refl (λ j. above_o
     by_test false is more (inl e) = inl (subst (λ q. number_of q ≤ n) (sym e) (let le : number_of q ≤ n = grind (arith, nat_tests) in le))
     by_test false is more (inr i) = more i
 
+-- a member's device has the same size in the next run
+size_stays : (p : Pool) (size : ℕ → ℕ) (d : ℕ) → p.member d ≡ true → cond (p.member d) (p.size d) (size d) ≡ p.size d
+size_stays p size d is = rw is refl
+
+-- no event changes a member's number
+guids_after : (v : Event) (p : Pool) → (after v p).guid ≡ p.guid
+guids_after (Calls noted) p = refl
+guids_after (Accepts a block) p = refl
+guids_after (Looks known) p = refl
+guids_after (Opens r) p = refl
+guids_after (Begins q) p = refl
+guids_after (Third q d) p = refl
+guids_after (Ends q d) p = refl
+guids_after (Acks q) p = refl
+guids_after (Loses d) p = refl
+guids_after (Stops sectors size) p = refl
+
+takes_after : (v : Event) (p : Pool) (r : Rec) (d : ℕ) → takes_part r (p.guid d) ≡ true → takes_part r ((after v p).guid d) ≡ true
+takes_after v p r d takes = subst (λ guid. takes_part r (guid d) ≡ true) (sym (guids_after v p)) takes
+
 -- A record that fits goes on to fit.
 pub fits_after : (head_of : List ℕ → Option Head) (v : Event) (p : Pool) (r : Rec) → Fits head_of p r → Fits head_of (after v p) r
 fits_after head_of (Loses e) p r f = record {
@@ -68,14 +88,21 @@ fits_after head_of (Loses e) p r f = record {
   places = λ a cell at d is. f.places a cell at d (taken_false e d p.member is);
   blocks = f.blocks;
 }
+fits_after head_of (Stops sectors size) p r f = record {
+  pool_is = f.pool_is;
+  is_record = f.is_record;
+  name_is = f.name_is;
+  places = λ a cell at d is. subst (λ n. data_start + cell.sector + 128 < n) (sym (size_stays p size d is)) (f.places a cell at d is);
+  blocks = f.blocks;
+}
 fits_after head_of (Calls noted) p r f = record { pool_is = f.pool_is; is_record = f.is_record; name_is = f.name_is; places = f.places; blocks = f.blocks }
 fits_after head_of v p r f = record { pool_is = f.pool_is; is_record = f.is_record; name_is = f.name_is; places = f.places; blocks = f.blocks }
 
 -- So does a status, while its record stays live.
 status_after : (head_of : List ℕ → Option Head) (v : Event) (p : Pool) (d : ℕ) (status : Status) → ((r : Rec) → IsIn r p.live → IsIn r (after v p).live)
     → IsOf head_of p d status → IsOf head_of (after v p) d status
-status_after head_of v p d (Odd r) stays is = (stays r is.0, fits_after head_of v p r is.1, is.2)
-status_after head_of v p d (Even r) stays is = (stays r is.0, fits_after head_of v p r is.1, is.2)
+status_after head_of v p d (Odd r) stays is = (stays r is.0, fits_after head_of v p r is.1, takes_after v p r d is.2)
+status_after head_of v p d (Even r) stays is = (stays r is.0, fits_after head_of v p r is.1, takes_after v p r d is.2)
 status_after head_of v p d Lost stays is = tt
 
 -- A ring's sector that no event has changed, where what was known still is.
@@ -193,25 +220,25 @@ part_needs p d false status q s bytes n = n
 
 -- a new record's blocks are held too
 begun_cells : (head_of : List ℕ → Option Head) (p : Pool) (q : Rec) (d s : ℕ) (bytes : List ℕ) → Survives head_of p → IsDrawnUp head_of p q → p.member d ≡ true
-    → NeedsCell (q ∷ p.live) d s bytes → Held (p.sectors d s) bytes
+    → NeedsCell (q ∷ p.live) (p.guid d) s bytes → Held (p.sectors d s) bytes
 begun_cells head_of p q d s bytes sv m is n = of n.is_live
   where
     of : (n.r ≡ q) ⊎ IsIn n.r p.live → Held (p.sectors d s) bytes
     of (inl e) = subst (λ s. Held (p.sectors d s) bytes) (sym n.sector_is) (subst (λ b. Held (p.sectors d (data_start + n.cell.sector)) b) (sym n.bytes_are)
-        (m.held d n.a n.cell is (ap (λ r. r.cells n.a) (sym e) ∙ n.cell_is) (ap (λ r. r.owes d n.cell.birth) (sym e) ∙ n.has)))
+        (m.held d n.a n.cell is (ap (λ r. r.cells n.a) (sym e) ∙ n.cell_is) (ap (λ r. r.owes (p.guid d) n.cell.birth) (sym e) ∙ n.has)))
     of (inr i) = sv.held d s bytes (is, inr (record { r = n.r; is_live = i; a = n.a; cell = n.cell; cell_is = n.cell_is; has = n.has; sector_is = n.sector_is; bytes_are = n.bytes_are }))
 
 -- A round begins.
 begins_survive : (head_of : List ℕ → Option Head) (p : Pool) (q : Rec) → Survives head_of p → IsDrawnUp head_of p q → Survives head_of (after (Begins q) p)
 begins_survive head_of p q sv m = record {
   sizes = sv.sizes;
-  held = λ d s bytes n. ⊎_elim (λ label. sv.held d s bytes (n.0, inl (part_needs p d (takes_part q d) (p.status d) q s bytes label)))
+  held = λ d s bytes n. ⊎_elim (λ label. sv.held d s bytes (n.0, inl (part_needs p d (takes_part q (p.guid d)) (p.status d) q s bytes label)))
       (λ cell. begun_cells head_of p q d s bytes sv m n.0 cell) n.1;
   rings = λ d place is inside. ring_as p (after (Begins q) p) d (place_at (p.size d) place) refl refl
       (λ bytes known. known_more p (after (Begins q) p) d bytes refl (λ r i. inr i) known) (sv.rings d place is inside);
   places = λ r a cell d i at is. ⊎_elim (λ e. m.fits.places a cell (ap (λ r. r.cells a) (sym e) ∙ at) d is) (λ i. sv.places r a cell d i at is) i;
-  status_live = λ d is. status_after head_of (Begins q) p d (cond (takes_part q d) (begun (p.status d) q) (p.status d)) (λ r i. inr i)
-      (either (IsOf head_of p d) (takes_part q d) _ _ (begun_live head_of p d (p.status d) q (sv.status_live d is)) (sv.status_live d is));
+  status_live = λ d is. status_after head_of (Begins q) p d (cond (takes_part q (p.guid d)) (begun (p.status d) q) (p.status d)) (λ r i. inr i)
+      (either (IsOf head_of p d) (takes_part q (p.guid d)) _ _ (begun_live head_of p d (p.status d) q (sv.status_live d is)) (sv.status_live d is));
   acked_live = inr sv.acked_live;
   reads_live = inr sv.reads_live;
   not_below = λ r i. ⊎_elim (λ e. subst (λ r. number_of p.acked ≤ number_of r) (sym e) low) (λ i. sv.not_below r i) i;
@@ -253,7 +280,7 @@ at_live head_of p status d e here away is_member = by_test (d == e) refl
     by_test false is = away
 
 stand_held : (head_of : List ℕ → Option Head) (p : Pool) (q : Rec) (d : ℕ) (status : Status) → Survives head_of p → (p.member d ≡ true → MayStand head_of p q d status)
-    → (e s : ℕ) (bytes : List ℕ) → p.member e ≡ true → NeedsLabel (seat p e) (at_device d status p.status e) s bytes ⊎ NeedsCell p.live e s bytes → Held (p.sectors e s) bytes
+    → (e s : ℕ) (bytes : List ℕ) → p.member e ≡ true → NeedsLabel (seat p e) (at_device d status p.status e) s bytes ⊎ NeedsCell p.live (p.guid e) s bytes → Held (p.sectors e s) bytes
 stand_held head_of p q d status sv m e s bytes is n =
     ⊎_elim (λ label. at_held p status d e s bytes (λ member. (m member).held s bytes) (λ label. sv.held e s bytes (is, inl label)) is label) (λ cell. sv.held e s bytes (is, inr cell)) n
 
@@ -297,11 +324,11 @@ ends_survive head_of p q d sv m = record {
 acks_survive : (head_of : List ℕ → Option Head) (p : Pool) (q : Rec) → Survives head_of p → MayAck p q → Survives head_of (after (Acks q) p)
 acks_survive head_of p q sv m = record {
   sizes = sv.sizes;
-  held = λ d s bytes n. sv.held d s bytes (n.0, ⊎_elim (λ label. inl (kept_needs d (takes_part q d) s bytes label)) (λ cell. inr (alone d s bytes cell)) n.1);
+  held = λ d s bytes n. sv.held d s bytes (n.0, ⊎_elim (λ label. inl (kept_needs d (takes_part q (p.guid d)) s bytes label)) (λ cell. inr (alone d s bytes cell)) n.1);
   rings = λ d place is inside. ring_as p (after (Acks q) p) d (place_at (p.size d) place) refl refl
       (λ bytes known. known_more p (after (Acks q) p) d bytes refl (λ r i. still_drawn r i) known) (sv.rings d place is inside);
   places = λ r a cell d i at is. ⊎_elim (λ e. sv.places q a cell d live (ap (λ r. r.cells a) (sym e) ∙ at) is) (λ none. absurd none) i;
-  status_live = λ d is. acked_live d is (takes_part q d) refl;
+  status_live = λ d is. acked_live d is (takes_part q (p.guid d)) refl;
   acked_live = inl refl;
   reads_live = inl refl;
   not_below = λ r i. ⊎_elim (λ e. let le : number_of q ≤ number_of r = omega (arith, ap number_of e) in le) (λ none. absurd none) i;
@@ -321,14 +348,14 @@ acks_survive head_of p q sv m = record {
     kept_needs d true s bytes n = n
     kept_needs d false s bytes n = absurd n
 
-    acked_live : (d : ℕ) → p.member d ≡ true → (t : Bool) → takes_part q d ≡ t → IsOf head_of (after (Acks q) p) d (cond t (p.status d) Lost)
+    acked_live : (d : ℕ) → p.member d ≡ true → (t : Bool) → takes_part q (p.guid d) ≡ t → IsOf head_of (after (Acks q) p) d (cond t (p.status d) Lost)
     acked_live d is true takes =
         let odd = m.all d is takes in
         subst (IsOf head_of (after (Acks q) p) d) (sym odd)
         (inl refl, fits_after head_of (Acks q) p q (subst (IsOf head_of p d) odd (sv.status_live d is)).1, takes)
     acked_live d is false out = tt
 
-    alone : (d s : ℕ) (bytes : List ℕ) → NeedsCell (q ∷ []) d s bytes → NeedsCell p.live d s bytes
+    alone : (d s : ℕ) (bytes : List ℕ) → NeedsCell (q ∷ []) (p.guid d) s bytes → NeedsCell p.live (p.guid d) s bytes
     alone d s bytes n = record {
       r = n.r;
       is_live = ⊎_elim (λ e. subst (λ r. IsIn r p.live) (sym e) live) (λ none. absurd none) n.is_live;
@@ -375,18 +402,18 @@ loses_survive head_of p d sv = record {
         by_test true n = absurd n
         by_test false n = n
 
--- A stop: what was clean is as it was, and no ring shows what was never written there.
-stops_survive : (head_of : List ℕ → Option Head) (p : Pool) (images : ℕ → ℕ → List ℕ) → Survives head_of p → MayStop p images → Survives head_of (after (Stops images) p)
-stops_survive head_of p images sv m = record {
-  sizes = sv.sizes;
-  held = λ d s bytes n. stop_held (p.sectors d s) (images d s) bytes (m.are d s) (sv.held d s bytes n);
-  rings = λ d place is inside. record {
+-- A stop: what was clean is as it was, and no ring shows what was never written there. The members' devices keep their sizes.
+stops_survive : (head_of : List ℕ → Option Head) (p : Pool) (sectors : Sectors) (size : ℕ → ℕ) → Survives head_of p → MayStop p sectors → Survives head_of (after (Stops sectors size) p)
+stops_survive head_of p sectors size sv m = record {
+  sizes = λ d is. subst (λ n. 320 ≤ n) (sym (size_stays p size d is)) (sv.sizes d is);
+  held = λ d s bytes n. stop_held (p.sectors d s) (sectors d s) bytes (m.still d s n.0) (m.shows d s n.0) (m.damage d s n.0) (sv.held d s bytes n);
+  rings = λ d place is inside. subst (λ n. IsKnownRing (after (Stops sectors size) p) d (place_at n place)) (sym (size_stays p size d is)) (record {
     stable = λ u right some. shown d (place_at (p.size d) place) u right some (sv.rings d place is inside) (m.unforged d place u is inside right some);
     since = λ bytes none. absurd none;
-    pending = tt;
-  };
-  places = sv.places;
-  status_live = λ d is. status_after head_of (Stops images) p d (p.status d) (λ r i. i) (sv.status_live d is);
+    pending = subst (λ x. IsNoted x []) (sym (m.still d _ is)) tt;
+  });
+  places = λ r a cell d i at is. subst (λ n. data_start + cell.sector + 128 < n) (sym (size_stays p size d is)) (sv.places r a cell d i at is);
+  status_live = λ d is. status_after head_of (Stops sectors size) p d (p.status d) (λ r i. i) (sv.status_live d is);
   acked_live = sv.acked_live;
   reads_live = sv.reads_live;
   not_below = sv.not_below;
@@ -395,13 +422,13 @@ stops_survive head_of p images sv m = record {
   newest_above = sv.newest_above;
   given_below = sv.given_below;
   idle_alone = λ e. false_true e;
-  pools = pools_kept head_of p (Stops images) sv.pools m;
+  pools = pools_kept head_of p (Stops sectors size) sv.pools m;
 }
   where
-    shown : (d s : ℕ) (u : Uberblock) → IsUberblock u (images d s) → 1 ≤ u.number.0 → IsKnownRing p d s
-        → (images d s ≡ (p.sectors d s).stable) ⊎ IsAmong (images d s) (p.since d s) → IsDrawnUber p d u
+    shown : (d s : ℕ) (u : Uberblock) → IsUberblock u (sectors d s).stable → 1 ≤ u.number.0 → IsKnownRing p d s
+        → ((sectors d s).stable ≡ (p.sectors d s).stable) ⊎ IsAmong (sectors d s).stable (p.since d s) → IsDrawnUber p d u
     shown d s u right some ring (inl e) = ring.stable u (subst (IsUberblock u) e right) some
-    shown d s u right some ring (inr among) = ring.since (images d s) among u right some
+    shown d s u right some ring (inr among) = ring.since (sectors d s).stable among u right some
 
 -- Each event that a pool may have leaves it with the invariant.
 pub event_survives : (head_of : List ℕ → Option Head) (p : Pool) (v : Event) → Survives head_of p → May head_of p v → Survives head_of (after v p)
@@ -414,4 +441,4 @@ event_survives head_of p (Third q d) sv may = third_survive head_of p q d sv may
 event_survives head_of p (Ends q d) sv may = ends_survive head_of p q d sv may
 event_survives head_of p (Acks q) sv may = acks_survive head_of p q sv may
 event_survives head_of p (Loses d) sv may = loses_survive head_of p d sv
-event_survives head_of p (Stops images) sv may = stops_survive head_of p images sv may
+event_survives head_of p (Stops sectors size) sv may = stops_survive head_of p sectors size sv may

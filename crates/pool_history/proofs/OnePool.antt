@@ -21,4 +21,4 @@ pools_kept head_of p (Acks q) all may r i = all r (subst (λ l. IsIn r (l ++ p.g
     again : (live : List Rec) → live ≡ q ∷ may.rest → IsIn r ((q ∷ []) ++ (rest_of live ++ p.given)) → IsIn r ((q ∷ may.rest) ++ p.given)
     again live e i = subst (λ l. IsIn r ((q ∷ []) ++ (rest_of l ++ p.given))) e i
 pools_kept head_of p (Loses d) all may r i = all r i
-pools_kept head_of p (Stops images) all may r i = all r i
+pools_kept head_of p (Stops sectors size) all may r i = all r i

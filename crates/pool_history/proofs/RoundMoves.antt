@@ -119,7 +119,7 @@ all_at (b ∷ results) (suc i) c all e = all_at results i c (and_parts b (all_tr
 
 -- where none failed, the labels of each member that takes part hold the new record
 all_odd : (head_of : List ℕ → Option Head) (p : Pool) (q : Rec) (ms : List Member) (results : List Bool) (vs : List Event) → Setting head_of p q ms
-    → (r : IsRoundEvents p.size q ms results vs) → all_true results ≡ true → (d : ℕ) → p.member d ≡ true → takes_part q d ≡ true
+    → (r : IsRoundEvents p.size q ms results vs) → all_true results ≡ true → (d : ℕ) → p.member d ≡ true → takes_part q (p.guid d) ≡ true
     → (pool_after r.thirds (front q r.first r.second p)).status d ≡ Odd q
 all_odd head_of p q ms results vs st r all d is takes =
     let at = st.members.all d is takes in

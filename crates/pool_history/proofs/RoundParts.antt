@@ -25,7 +25,7 @@ use Rattle.pool_history.proofs.Sparing.{spared_known}
 -- A member of the pool, on its device, that takes part in the round. A device in the list that the pool has lost is no member.
 pub record IsSeated (p : Pool) (q : Rec) (m : Member) : Type 0 where
   pub is_member : p.member m.dev ≡ true
-  pub takes : takes_part q m.dev ≡ true
+  pub takes : takes_part q (p.guid m.dev) ≡ true
   pub big : 320 ≤ p.size m.dev
   pub seat_is : m ≡ seat p m.dev
 
@@ -54,7 +54,7 @@ label_back : (m : Member) (r : Rec) (size s : ℕ) (bytes : List ℕ) → sector
 label_back m r size s bytes few (inl (e, b)) = BackRing (slot_of (number_of r)) (omega arith) e
 label_back m r size s bytes few (inr (i, lt, e, b)) = BackPart i (omega arith) e
 
-cell_between : (p : Pool) (d s : ℕ) (bytes : List ℕ) → HasPlaces p d → NeedsCell p.live d s bytes → (128 ≤ s) × (s + 128 < p.size d)
+cell_between : (p : Pool) (d s : ℕ) (bytes : List ℕ) → HasPlaces p d → NeedsCell p.live (p.guid d) s bytes → (128 ≤ s) × (s + 128 < p.size d)
 cell_between p d s bytes places n =
     let below = places n.r n.a n.cell n.is_live n.cell_is in
     (omega (arith, n.sector_is), omega (arith, n.sector_is, below))
@@ -71,7 +71,7 @@ pub front_places : (head_of : List ℕ → Option Head) (p : Pool) (q : Rec) (d 
 front_places head_of p q d s fits is r a cell (inl e) at = fits.places a cell (ap (λ x. x.cells a) (sym e) ∙ at) d is
 front_places head_of p q d s fits is r a cell (inr old) at = s.places r a cell d old at is
 
-needs_front : (head_of : List ℕ → Option Head) (p : Pool) (q : Rec) (d s : ℕ) (bytes : List ℕ) → Survives head_of p → Fits head_of p q → takes_part q d ≡ true
+needs_front : (head_of : List ℕ → Option Head) (p : Pool) (q : Rec) (d s : ℕ) (bytes : List ℕ) → Survives head_of p → Fits head_of p q → takes_part q (p.guid d) ≡ true
     → Needs (after (Begins q) p) d s bytes → InFront (p.size d) (slot_of (number_of q)) s
 needs_front head_of p q d s bytes sv fits takes (is, inl label) =
     let old = begun_label (seat p d) (p.status d) q s bytes

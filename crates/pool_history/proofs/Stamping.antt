@@ -102,7 +102,7 @@ stamped_survives head_of name pool member guids size sectors st = record {
     no_cell_of r a cell (inl e) at = no_cell cell (sym (ap (λ r. r.cells a) e) ∙ at)
     no_cell_of r a cell (inr i) at = i
 
-    of_needs : (d s : ℕ) (bytes : List ℕ) → ⊥ ⊎ NeedsCell (nothing pool ∷ []) d s bytes → Held (sectors d s) bytes
+    of_needs : (d s : ℕ) (bytes : List ℕ) → ⊥ ⊎ NeedsCell (nothing pool ∷ []) (guids d) s bytes → Held (sectors d s) bytes
     of_needs d s bytes (inl n) = absurd n
     of_needs d s bytes (inr n) = absurd (no_cell_of n.r n.a n.cell n.is_live n.cell_is)
 

@@ -1,9 +1,9 @@
 -- A history keeps the invariant, and the invariant is more than soundness.
 use Rattle.std.proofs.Common.{◌≡◌, ◌⊎◌, ℕ, ◌+◌, true, List, [], ◌∷◌, take, Option, refl, sym, ap, ◌∙◌, subst, inl, inr}
-use Rattle.bank_core.specs.Disk.{Sector}
+use Rattle.bank_core.specs.Disk.{Sector, CrashImages, after_crash}
 use Rattle.label_store.specs.declared.rule.Head.{Head}
 use Rattle.pool_history.specs.Events.{Event}
-use Rattle.pool_history.specs.Moves.{Mays}
+use Rattle.pool_history.specs.Moves.{AreUnforged, MayStop, Mays}
 use Rattle.pool_history.specs.Needs.{Held}
 use Rattle.pool_history.specs.Pools.{Pool, after, pool_after}
 use Rattle.pool_history.specs.Records.{Rec, IsIn, data_start}
@@ -40,4 +40,13 @@ survives_sound head_of p sv = record {
   records_whole = λ r d live is. live_whole head_of p r d sv live is;
   current_whole = λ d is. live_whole head_of p p.reads d sv sv.reads_live is;
   places_safe = λ idle r a cell live at free. free a cell (ap (λ r. r.cells a) (sym (sv.idle_alone idle r live)) ∙ at) refl;
+}
+
+-- What a crash leaves of the devices is one of the things that the next run may begin with.
+pub crash_may : (p : Pool) (images : ℕ → ℕ → List ℕ) → CrashImages p.sectors images → AreUnforged p images → MayStop p (after_crash p.sectors images)
+crash_may p images are unforged = record {
+  still = λ d s is. refl;
+  shows = λ d s is clean. are d s clean;
+  damage = λ d s is damaged. damaged;
+  unforged = unforged;
 }

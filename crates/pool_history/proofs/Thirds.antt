@@ -168,7 +168,7 @@ AreTurns (Third q d ∷ vs) = AreTurns vs
 AreTurns (Ends q d ∷ vs) = AreTurns vs
 AreTurns (Acks q ∷ vs) = ⊥
 AreTurns (Loses d ∷ vs) = ⊥
-AreTurns (Stops images ∷ vs) = ⊥
+AreTurns (Stops sectors size ∷ vs) = ⊥
 
 -- They change the sectors by their calls, and the labels' statuses, and no more.
 pub turns_pool : (vs : List Event) (p : Pool) → AreTurns vs
@@ -183,7 +183,7 @@ turns_pool (Third q d ∷ vs) p t = turns_pool vs (after (Third q d) p) t
 turns_pool (Ends q d ∷ vs) p t = turns_pool vs (after (Ends q d) p) t
 turns_pool (Acks q ∷ vs) p t = absurd t
 turns_pool (Loses d ∷ vs) p t = absurd t
-turns_pool (Stops images ∷ vs) p t = absurd t
+turns_pool (Stops sectors size ∷ vs) p t = absurd t
 
 turns_more : (made : List Noted) (vs : List Event) → AreTurns vs → AreTurns (as_events made ++ vs)
 turns_more [] vs t = t

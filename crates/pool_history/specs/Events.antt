@@ -1,7 +1,7 @@
 -- The history of a pool: a flat list of what happened, each device call among it. Each front of the list
 -- is a moment, and what happened in several runs is one list with a stop between any two.
 use Rattle.std.specs.Prelude.{ℕ, List, [], ◌∷◌, Option}
-use Rattle.bank_core.specs.Disk.{Noted}
+use Rattle.bank_core.specs.Disk.{Noted, Sectors}
 use Rattle.pool_history.specs.Records.{Rec}
 
 -- What was read of the sectors of devices: None where no read of it answered.
@@ -27,8 +27,9 @@ pub data Event : Type 0 where
   Acks : (q : Rec) → Event
   -- another pool takes this device
   Loses : (d : ℕ) → Event
-  -- a stop, and what the devices hold when they are used again
-  Stops : (images : ℕ → ℕ → List ℕ) → Event
+  -- a stop, and what the next run begins with: the sectors of all devices, and how many each device of its bank has, 0
+  -- where it lacks the device
+  Stops : (sectors : Sectors) (size : ℕ → ℕ) → Event
 
 -- the device calls among these events
 abbrev pub calls_of : List Event → List Noted
@@ -42,7 +43,7 @@ calls_of (Third q d ∷ vs) = calls_of vs
 calls_of (Ends q d ∷ vs) = calls_of vs
 calls_of (Acks q ∷ vs) = calls_of vs
 calls_of (Loses d ∷ vs) = calls_of vs
-calls_of (Stops images ∷ vs) = calls_of vs
+calls_of (Stops sectors size ∷ vs) = calls_of vs
 
 -- these calls as events
 abbrev pub as_events : List Noted → List Event
@@ -61,4 +62,4 @@ IsOneRun (Third q d ∷ vs) = IsOneRun vs
 IsOneRun (Ends q d ∷ vs) = IsOneRun vs
 IsOneRun (Acks q ∷ vs) = IsOneRun vs
 IsOneRun (Loses d ∷ vs) = IsOneRun vs
-IsOneRun (Stops images ∷ vs) = ⊥
+IsOneRun (Stops sectors size ∷ vs) = ⊥

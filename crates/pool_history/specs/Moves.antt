@@ -1,7 +1,7 @@
 -- Which events keep the invariant: the moves that a pool, its devices and a stop may make.
 use Rattle.std.specs.Prelude.{◌≡◌, ◌⊎◌, ℕ, ◌+◌, ◌-◌, ◌<◌, ◌≤◌, true, false, List, [], ◌∷◌, Option, Some}
 use Rattle.bank_core.specs.Asks.{Ask, Reads, Writes, Flushes, Admits, Ejects}
-use Rattle.bank_core.specs.Disk.{Call, Read, Write, Flush, Admit, Eject, Sectors, IsClean, CrashImages, sector_of}
+use Rattle.bank_core.specs.Disk.{Call, Read, Write, Flush, Admit, Eject, Nothing, Sectors, IsClean, sector_of}
 use Rattle.bank_core.specs.Standing.{touches, aims, Spares}
 use Rattle.label_store.specs.declared.rule.Head.{Head}
 use Rattle.label_store.specs.declared.uberblock.Uberblock.{Uberblock}
@@ -76,12 +76,12 @@ pub record IsDrawnUp (head_of : List ℕ → Option Head) (p : Pool) (q : Rec) :
   pub fits : Fits head_of p q
   pub number_is : number_of q ≡ p.top + 1
   pub blocks_are : (a : ℕ) → block_at q a ≡ p.written a
-  pub held : (d a : ℕ) (cell : Cell) → p.member d ≡ true → q.cells a ≡ Some cell → q.owes d cell.birth ≡ false → Held (p.sectors d (data_start + cell.sector)) cell.block
+  pub held : (d a : ℕ) (cell : Cell) → p.member d ≡ true → q.cells a ≡ Some cell → q.owes (p.guid d) cell.birth ≡ false → Held (p.sectors d (data_start + cell.sector)) cell.block
 
 -- The labels of a member that takes part in the record's round have come to hold this.
 pub record MayStand (head_of : List ℕ → Option Head) (p : Pool) (q : Rec) (d : ℕ) (status : Status) : Type 0 where
   pub is_live : IsIn q p.live
-  pub takes : takes_part q d ≡ true
+  pub takes : takes_part q (p.guid d) ≡ true
   pub fits : Fits head_of p q
   pub held : (s : ℕ) (bytes : List ℕ) → NeedsLabel (seat p d) status s bytes → Held (p.sectors d s) bytes
 
@@ -90,15 +90,23 @@ pub record MayAck (p : Pool) (q : Rec) : Type 0 where
   pub rest : List Rec
   pub newest : p.live ≡ q ∷ rest
   pub number_is : number_of q ≡ p.top
-  pub all : (d : ℕ) → p.member d ≡ true → takes_part q d ≡ true → p.status d ≡ Odd q
+  pub all : (d : ℕ) → p.member d ≡ true → takes_part q (p.guid d) ≡ true → p.status d ≡ Odd q
 
--- What a stop may leave: an image of each device, on which no ring sector holds a correct uberblock that
--- neither stood there nor was written there in this run.
-pub record MayStop (p : Pool) (images : ℕ → ℕ → List ℕ) : Type 0 where
-  pub are : CrashImages p.sectors images
-  pub unforged : (d place : ℕ) (u : Uberblock) → p.member d ≡ true → place < 128 → IsUberblock u (images d (place_at (p.size d) place)) → 1 ≤ u.number.0
-      → (images d (place_at (p.size d) place) ≡ (p.sectors d (place_at (p.size d) place)).stable)
-      ⊎ IsAmong (images d (place_at (p.size d) place)) (p.since d (place_at (p.size d) place))
+-- On no image of a member's device does a ring sector hold a correct uberblock that neither stood there nor was written
+-- there in this run.
+abbrev pub AreUnforged : Pool → (images : ℕ → ℕ → List ℕ) → Type 0
+AreUnforged p images = (d place : ℕ) (u : Uberblock) → p.member d ≡ true → place < 128 → IsUberblock u (images d (place_at (p.size d) place)) → 1 ≤ u.number.0
+    → (images d (place_at (p.size d) place) ≡ (p.sectors d (place_at (p.size d) place)).stable)
+    ⊎ IsAmong (images d (place_at (p.size d) place)) (p.since d (place_at (p.size d) place))
+
+-- What the next run may begin with behind a stop. On a member's device nothing is on the way, each clean sector shows
+-- what was stable, and what was damaged still is; more may be damaged. Its rings are unforged. Of other devices nothing is said. A member that the next run
+-- lacks keeps what it had.
+pub record MayStop (p : Pool) (sectors : Sectors) : Type 0 where
+  pub still : (d s : ℕ) → p.member d ≡ true → (sectors d s).pending ≡ Nothing
+  pub shows : (d s : ℕ) → p.member d ≡ true → IsClean (p.sectors d s) → (sectors d s).stable ≡ (p.sectors d s).stable
+  pub damage : (d s : ℕ) → p.member d ≡ true → (p.sectors d s).damaged ≡ true → (sectors d s).damaged ≡ true
+  pub unforged : AreUnforged p (λ d s. (sectors d s).stable)
 
 -- The event is allowed. Of a device that the pool has lost, a third phase promises nothing.
 abbrev pub May : (List ℕ → Option Head) → Pool → Event → Type 0
@@ -111,7 +119,7 @@ May head_of p (Third q d) = p.member d ≡ true → MayStand head_of p q d (Even
 May head_of p (Ends q d) = p.member d ≡ true → MayStand head_of p q d (Odd q)
 May head_of p (Acks q) = MayAck p q
 May head_of p (Loses d) = Unit {0}
-May head_of p (Stops images) = MayStop p images
+May head_of p (Stops sectors size) = MayStop p sectors
 
 -- each of these events, one after another
 abbrev pub Mays : (List ℕ → Option Head) → Pool → List Event → Type 0

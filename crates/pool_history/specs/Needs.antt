@@ -1,5 +1,6 @@
 -- What has to stay on a member's device for an opening to find all of a live record.
 use Rattle.std.specs.Prelude.{◌≡◌, ◌⊎◌, ℕ, ◌+◌, ◌<◌, true, false, List, Some}
+use Rattle.mp_base.specs.declared.number.Guid.{Guid}
 use Rattle.bank_core.specs.Disk.{Sector, Nothing, sectors_in, sector_of}
 use Rattle.label_store.specs.declared.member.Member.{Member}
 use Rattle.label_store.specs.Layout.{slot_of}
@@ -37,17 +38,17 @@ NeedsLabel m (Odd r) s bytes = InRing m r s bytes ⊎ InPart odd_part r s bytes
 NeedsLabel m (Even r) s bytes = InRing m r s bytes ⊎ InPart even_part r s bytes
 NeedsLabel m Lost s bytes = ⊥
 
--- A live record has this block on sector s of each member whose log lacks the group that it was born in.
-pub record NeedsCell (live : List Rec) (d s : ℕ) (bytes : List ℕ) : Type 0 where
+-- A live record has this block on sector s of the member of this number, whose log lacks the group that it was born in.
+pub record NeedsCell (live : List Rec) (m : Guid) (s : ℕ) (bytes : List ℕ) : Type 0 where
   pub r : Rec
   pub is_live : IsIn r live
   pub a : ℕ
   pub cell : Cell
   pub cell_is : r.cells a ≡ Some cell
-  pub has : r.owes d cell.birth ≡ false
+  pub has : r.owes m cell.birth ≡ false
   pub sector_is : s ≡ data_start + cell.sector
   pub bytes_are : bytes ≡ cell.block
 
 -- Sector s of device d has to keep these bytes.
 abbrev pub Needs : Pool → (d s : ℕ) → List ℕ → Type 0
-Needs p d s bytes = (p.member d ≡ true) × (NeedsLabel (seat p d) (p.status d) s bytes ⊎ NeedsCell p.live d s bytes)
+Needs p d s bytes = (p.member d ≡ true) × (NeedsLabel (seat p d) (p.status d) s bytes ⊎ NeedsCell p.live (p.guid d) s bytes)

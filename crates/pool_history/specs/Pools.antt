@@ -1,7 +1,7 @@
 -- A pool and its devices as a history leaves them: a fold over the history's events.
 use Rattle.std.specs.Prelude.{ℕ, ◌-◌, ◌==◌, ◌&&◌, Bool, true, false, cond, List, [], ◌∷◌, ◌++◌}
 use Rattle.mp_base.specs.declared.number.Guid.{Guid}
-use Rattle.bank_core.specs.Disk.{Call, Read, Write, Flush, Admit, Eject, Sectors, run, covers, sectors_in, sector_of, after_crash}
+use Rattle.bank_core.specs.Disk.{Call, Read, Write, Flush, Admit, Eject, Sectors, run, covers, sectors_in, sector_of}
 use Rattle.label_store.specs.declared.member.Member.{Member}
 use Rattle.pool_history.specs.Events.{Event, Calls, Accepts, Looks, Opens, Begins, Third, Ends, Acks, Loses, Stops}
 use Rattle.pool_history.specs.Labels.{Status, Odd, Even, Lost, begun}
@@ -62,12 +62,12 @@ after (Calls noted) p = record p { sectors = run (noted ∷ []) p.sectors; since
 after (Accepts a block) p = record p { written = λ x. cond (a == x) block (p.written x) }
 after (Looks known) p = p
 after (Opens r) p = record p { reads = r; written = block_at r; top = number_of r; idle = false; missed = above (number_of r) p.live ++ p.missed }
-after (Begins q) p = record p { live = q ∷ p.live; top = number_of q; idle = false; status = λ d. cond (takes_part q d) (begun (p.status d) q) (p.status d) }
+after (Begins q) p = record p { live = q ∷ p.live; top = number_of q; idle = false; status = λ d. cond (takes_part q (p.guid d)) (begun (p.status d) q) (p.status d) }
 after (Third q d) p = record p { status = at_device d (Even q) p.status }
 after (Ends q d) p = record p { status = at_device d (Odd q) p.status }
-after (Acks q) p = record p { acked = q; reads = q; idle = true; live = q ∷ []; given = rest_of p.live ++ p.given; status = λ d. cond (takes_part q d) (p.status d) Lost }
+after (Acks q) p = record p { acked = q; reads = q; idle = true; live = q ∷ []; given = rest_of p.live ++ p.given; status = λ d. cond (takes_part q (p.guid d)) (p.status d) Lost }
 after (Loses d) p = record p { member = at_device d false p.member; status = at_device d Lost p.status }
-after (Stops images) p = record p { sectors = after_crash p.sectors images; since = λ d s. []; idle = false }
+after (Stops sectors size) p = record p { sectors = sectors; since = λ d s. []; idle = false; size = λ d. cond (p.member d) (p.size d) (size d) }
 
 abbrev pub pool_after : List Event → Pool → Pool
 pool_after [] p = p

@@ -57,4 +57,4 @@ AreGood head_of p (Third q d ∷ vs) = AreGood head_of (after (Third q d) p) vs
 AreGood head_of p (Ends q d ∷ vs) = AreGood head_of (after (Ends q d) p) vs
 AreGood head_of p (Acks q ∷ vs) = AreGood head_of (after (Acks q) p) vs
 AreGood head_of p (Loses d ∷ vs) = AreGood head_of (after (Loses d) p) vs
-AreGood head_of p (Stops images ∷ vs) = AreGood head_of (after (Stops images) p) vs
+AreGood head_of p (Stops sectors size ∷ vs) = AreGood head_of (after (Stops sectors size) p) vs

@@ -10,20 +10,20 @@ pub record Cell : Type 0 where
   pub sector : ℕ
   pub block : List ℕ
 
--- A record: a configuration, and the blocks that it commits, by their addresses. For each device it has a
--- log: the groups whose blocks the member there need not have.
+-- A record: a configuration, and the blocks that it commits, by their addresses. For each member it has a
+-- log: the groups whose blocks the member need not have.
 pub record Rec : Type 0 where
   pub commit : Commit
   pub cells : ℕ → Option Cell
-  -- which groups the log of device d has
-  pub owes : (d g : ℕ) → Bool
+  -- which groups the log of the member of this number has
+  pub owes : Guid → ℕ → Bool
 
 abbrev pub number_of : Rec → ℕ
 number_of r = r.commit.number.0
 
 -- A member takes part in a record's round exactly where its log in the record lacks the record's own number.
-abbrev pub takes_part : Rec → ℕ → Bool
-takes_part r d = not (r.owes d (number_of r))
+abbrev pub takes_part : Rec → Guid → Bool
+takes_part r m = not (r.owes m (number_of r))
 
 -- data sector 0 of a member is this sector of its device: the labels stand before it
 abbrev pub data_start : ℕ
@@ -39,7 +39,7 @@ block_at r a = block_of (r.cells a)
 
 -- what a pool reads before its first commit: number 0, nothing anywhere, and empty logs
 abbrev pub nothing : Guid → Rec
-nothing pool = record { commit = record { pool = pool; number = record { 0 = 0 }; blob = []; length = 0 }; cells = λ a. None; owes = λ d g. false }
+nothing pool = record { commit = record { pool = pool; number = record { 0 = 0 }; blob = []; length = 0 }; cells = λ a. None; owes = λ m g. false }
 
 -- one of these
 abbrev pub IsIn : Rec → List Rec → Type 0

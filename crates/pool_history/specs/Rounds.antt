@@ -49,8 +49,8 @@ pub record IsRoundEvents (size : ℕ → ℕ) (q : Rec) (members : List Member) 
 -- Each member of the pool that takes part in the record's round is in the list, under its own number, and
 -- no other member is. The list may have devices that the pool has lost.
 pub record AreMembersOf (p : Pool) (q : Rec) (members : List Member) : Type 0 where
-  pub seated : (i : ℕ) (m : Member) → slice_get members i ≡ Some m → p.member m.dev ≡ true → (m ≡ seat p m.dev) × (takes_part q m.dev ≡ true)
-  pub all : (d : ℕ) → p.member d ≡ true → takes_part q d ≡ true → (i : ℕ) × (slice_get members i ≡ Some (seat p d))
+  pub seated : (i : ℕ) (m : Member) → slice_get members i ≡ Some m → p.member m.dev ≡ true → (m ≡ seat p m.dev) × (takes_part q (p.guid m.dev) ≡ true)
+  pub all : (d : ℕ) → p.member d ≡ true → takes_part q (p.guid d) ≡ true → (i : ℕ) × (slice_get members i ≡ Some (seat p d))
 
 -- What the events of a round leave of a pool, by whether it was whole, that is whether no member failed, and
 -- by its calls. The record of a whole round is the acknowledged one, the pool reads it, and no other is live.

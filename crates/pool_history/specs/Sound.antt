@@ -16,7 +16,7 @@ Keeps x block = ((x.stable ≡ block) × (x.pending ≡ Nothing)) ⊎ ((x.damage
 
 -- a member's device keeps each block of the record that was born in a group which its log lacks
 abbrev pub IsWhole : Pool → Rec → (d : ℕ) → Type 0
-IsWhole p r d = (a : ℕ) (cell : Cell) → r.cells a ≡ Some cell → r.owes d cell.birth ≡ false → Keeps (p.sectors d (data_start + cell.sector)) cell.block
+IsWhole p r d = (a : ℕ) (cell : Cell) → r.cells a ≡ Some cell → r.owes (p.guid d) cell.birth ≡ false → Keeps (p.sectors d (data_start + cell.sector)) cell.block
 
 -- the next group may get this place: no block of the record that the pool reads stands there
 abbrev pub IsFree : Pool → (sector : ℕ) → Type 0

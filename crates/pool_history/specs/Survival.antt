@@ -57,8 +57,8 @@ pub record Fits (head_of : List ℕ → Option Head) (p : Pool) (r : Rec) : Type
 
 -- the labels of device d promise a live record that fits, and in which the member takes part
 abbrev pub IsOf : (List ℕ → Option Head) → Pool → (d : ℕ) → Status → Type 0
-IsOf head_of p d (Odd r) = IsIn r p.live × Fits head_of p r × (takes_part r d ≡ true)
-IsOf head_of p d (Even r) = IsIn r p.live × Fits head_of p r × (takes_part r d ≡ true)
+IsOf head_of p d (Odd r) = IsIn r p.live × Fits head_of p r × (takes_part r (p.guid d) ≡ true)
+IsOf head_of p d (Even r) = IsIn r p.live × Fits head_of p r × (takes_part r (p.guid d) ≡ true)
 IsOf head_of p d Lost = Unit {0}
 
 pub record Survives (head_of : List ℕ → Option Head) (p : Pool) : Type 0 where

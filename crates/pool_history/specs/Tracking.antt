@@ -1,6 +1,7 @@
 -- What may happen to a member since the last acknowledgement, if its labels are to go on holding a record:
 -- told by the events alone, with the record that the labels hold at that moment.
 use Rattle.std.specs.Prelude.{◌≡◌, ◌≢◌, ◌⊎◌, ℕ, ◌+◌, ◌<◌, ◌==◌, true, cond, List, [], ◌∷◌}
+use Rattle.mp_base.specs.declared.number.Guid.{Guid}
 use Rattle.pool_history.specs.Events.{Event, Calls, Accepts, Looks, Opens, Begins, Third, Ends, Acks, Loses, Stops}
 use Rattle.pool_history.specs.Labels.{Status, Odd, Even, Lost}
 use Rattle.pool_history.specs.Pools.{Pool}
@@ -16,22 +17,22 @@ MayBegin acked Lost q = ⊥
 -- These events, while the labels of d hold this. Only third phases and acknowledgements change it, and with
 -- an acknowledgement, in whose round the member takes part, the count of numbers begins anew. Of a round that
 -- it stays out of nothing is asked, as long as it isn't acknowledged.
-abbrev pub Keeps : (d : ℕ) → (acked : Rec) → Status → List Event → Type 0
-Keeps d acked status [] = Unit {0}
-Keeps d acked status (Calls noted ∷ vs) = Keeps d acked status vs
-Keeps d acked status (Accepts a block ∷ vs) = Keeps d acked status vs
-Keeps d acked status (Looks known ∷ vs) = Keeps d acked status vs
-Keeps d acked status (Opens r ∷ vs) = Keeps d acked status vs
-Keeps d acked status (Begins q ∷ vs) = (takes_part q d ≡ true → MayBegin acked status q) × Keeps d acked status vs
-Keeps d acked status (Third q e ∷ vs) = Keeps d acked (cond (e == d) (Even q) status) vs
-Keeps d acked status (Ends q e ∷ vs) = Keeps d acked (cond (e == d) (Odd q) status) vs
-Keeps d acked status (Acks q ∷ vs) = (takes_part q d ≡ true) × Keeps d q (Odd q) vs
-Keeps d acked status (Loses e ∷ vs) = (e ≢ d) × Keeps d acked status vs
-Keeps d acked status (Stops images ∷ vs) = Keeps d acked status vs
+abbrev pub Keeps : (d : ℕ) → (m : Guid) → (acked : Rec) → Status → List Event → Type 0
+Keeps d m acked status [] = Unit {0}
+Keeps d m acked status (Calls noted ∷ vs) = Keeps d m acked status vs
+Keeps d m acked status (Accepts a block ∷ vs) = Keeps d m acked status vs
+Keeps d m acked status (Looks known ∷ vs) = Keeps d m acked status vs
+Keeps d m acked status (Opens r ∷ vs) = Keeps d m acked status vs
+Keeps d m acked status (Begins q ∷ vs) = (takes_part q m ≡ true → MayBegin acked status q) × Keeps d m acked status vs
+Keeps d m acked status (Third q e ∷ vs) = Keeps d m acked (cond (e == d) (Even q) status) vs
+Keeps d m acked status (Ends q e ∷ vs) = Keeps d m acked (cond (e == d) (Odd q) status) vs
+Keeps d m acked status (Acks q ∷ vs) = (takes_part q m ≡ true) × Keeps d m q (Odd q) vs
+Keeps d m acked status (Loses e ∷ vs) = (e ≢ d) × Keeps d m acked status vs
+Keeps d m acked status (Stops sectors size ∷ vs) = Keeps d m acked status vs
 
 -- the events from here on
 abbrev pub KeepsLabels : Pool → (d : ℕ) → List Event → Type 0
-KeepsLabels p d vs = Keeps d p.acked (p.status d) vs
+KeepsLabels p d vs = Keeps d (p.guid d) p.acked (p.status d) vs
 
 -- no live record's number is 32 or more above the acknowledged one's, as behind each acknowledgement
 abbrev pub AreNear : Pool → Type 0

@@ -65,7 +65,7 @@ pub fn looks_show_the_labels()
 pub fn labels_stay_sound()
     ensures stays { (head_of : List ℕ → Option Head) (p : Pool) (d : ℕ) (vs : List Event) → Survives head_of p → AreNear p → HasPromise p d → Mays head_of p vs
         → KeepsLabels p d vs → HasPromise (pool_after vs p) d }
-    ensures since { (head_of : List ℕ → Option Head) (p : Pool) (d : ℕ) (q : Rec) (vs : List Event) → p.member d ≡ true → takes_part q d ≡ true → Mays head_of p (Acks q ∷ vs)
+    ensures since { (head_of : List ℕ → Option Head) (p : Pool) (d : ℕ) (q : Rec) (vs : List Event) → p.member d ≡ true → takes_part q (p.guid d) ≡ true → Mays head_of p (Acks q ∷ vs)
         → KeepsLabels (after (Acks q) p) d vs → HasPromise (pool_after (Acks q ∷ vs) p) d }
 {}
 

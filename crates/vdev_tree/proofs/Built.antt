@@ -6,9 +6,13 @@ use Rattle.vdev_tree.specs.declared.vdev.InnerVdev.{InnerVdev}
 use Rattle.vdev_tree.specs.declared.vdev.LeafVdev.{LeafVdev}
 use Rattle.vdev_tree.specs.declared.vdev.Vdev.TheVariants.{Leaf, Inner}
 use Rattle.vdev_tree.specs.declared.vdev.Kind.TheVariants.{Mirror}
-use Rattle.vdev_tree.specs.Tree.{leaves, is_top, is_mirror, form_of, form_over, form_of_mirror, a_leaf, marks, leaf_mark, opening, closing, pair_marks}
+use Rattle.vdev_tree.specs.declared.vdev.Vdev.TheOpen as F
+use Rattle.vdev_tree.specs.declared.vdev.Vdev.TheOpen.{Vdev-F}
+use Rattle.vdev_tree.specs.declared.vdev.Vdev.TheViews.{out-Vdev, roll-Vdev, roll-out-Vdev, rolls-Leaf, rolls-Inner}
+use Rattle.mp_base.specs.declared.number.Guid.{Guid}
+use Rattle.vdev_tree.specs.Tree.{leaves, is_top, is_mirror, form_of, form_over, form_of_mirror, a_leaf, guid_of, marks, leaf_mark, opening, closing, pair_marks}
 use Rattle.vdev_tree.specs.Changes.{form_alone}
-use Rattle.vdev_tree.proofs.Folds.{leaves_leaf, leaves_inner, form_leaf, form_inner, marks_at_leaf, marks_inner}
+use Rattle.vdev_tree.proofs.Folds.{leaves_leaf, leaves_inner, form_leaf, form_inner, guid_inner, marks_at_leaf, marks_inner}
 
 pub leaf_built : (old new : LeafVdev) → marks (Leaf new) ≡ marks (Leaf old)
 leaf_built old new = marks_at_leaf new ∙ sym (marks_at_leaf old)
@@ -56,3 +60,16 @@ unfolding is_top
 pair_is_top inner first second kind is =
     ap is_mirror (form_inner inner ∙ ap (λ k. form_over k (map form_of inner.children.items)) kind ∙ ap (λ vs. form_of_mirror (map form_of vs)) is
     ∙ ap (λ form. form_of_mirror (form ∷ form_of (Leaf second) ∷ [])) (form_leaf first) ∙ ap (λ form. form_of_mirror (a_leaf ∷ form ∷ [])) (form_leaf second))
+
+made_guid : (vdev : Vdev) (made : Vdev-F Vdev InnerVdev) (guid : Guid) → vdev ≡ roll-Vdev made → marks vdev ≡ pair_marks guid → guid_of vdev ≡ guid
+made_guid vdev (F.Leaf leaf) guid is built =
+    let e : leaf_mark ∷ [] ≡ pair_marks guid = sym (ap marks (is ∙ rolls-Leaf leaf) ∙ marks_at_leaf leaf) ∙ built in cc
+made_guid vdev (F.Inner inner) guid is built =
+    let inner_is : vdev ≡ Inner inner = is ∙ rolls-Inner inner in
+    let e : opening inner.guid inner.kind ∷ (flat_map marks inner.children.items ++ closing ∷ []) ≡ pair_marks guid = sym (ap marks inner_is ∙ marks_inner inner) ∙ built in
+    let same : inner.guid ≡ guid = cc in
+    ap guid_of inner_is ∙ guid_inner inner ∙ same
+
+-- its number is the one that its marks begin with
+pub pair_guid : (vdev : Vdev) (guid : Guid) → marks vdev ≡ pair_marks guid → guid_of vdev ≡ guid
+pair_guid vdev guid built = made_guid vdev (out-Vdev vdev) guid (sym (roll-out-Vdev vdev)) built

@@ -1,6 +1,6 @@
 -- A list in which one element after the other is replaced, seen by what each gives.
 use Rattle.std.proofs.Math.ListN.{length-set}
-use Rattle.std.proofs.Common.{◌≡◌, ◌≢◌, ℕ, ◌+◌, ◌<◌, ◌≤◌, List, [], ◌∷◌, ◌++◌, length, map, get_or, set, take, drop, take_all, refl, ap, sym, ◌∙◌, arith, add-zero, append_assoc, get_or-set_other}
+use Rattle.std.proofs.Common.{◌≡◌, ◌≢◌, ℕ, ◌+◌, ◌<◌, ◌≤◌, List, [], ◌∷◌, ◌++◌, length, map, get_or, set, take, drop, refl, ap, sym, ◌∙◌, arith, add-zero, append_assoc, get_or-set_other}
 use Rattle.std.specs.List.{flat_map, AllZip}
 use Rattle.std.proofs.lemmas.List.{take_more, take_more_set, drop_more, drop-set-lt, drop-drop, take-append-drop, append-nil, get_or-drop}
 use Rattle.std.proofs.lemmas.List.Concat.{flat_map-append}
@@ -43,9 +43,6 @@ module _ (V X : Type 0) (f : V → List X) where
       flat_set xs i v inside ∙ ap (λ zs. zs ++ (f v ++ flat_map f (drop (i + 1) xs))) same
       ∙ ap (λ zs. flat_map f (take i ys) ++ (zs ++ flat_map f (drop (i + 1) xs))) here
       ∙ ap (λ zs. flat_map f (take i ys) ++ (f (get_or ys i d) ++ flat_map f zs)) rest ∙ sym (flat_split ys i d inside')
-
-  pub same_all : (xs ys : List V) (i : ℕ) → length xs ≤ i → length ys ≤ i → flat_map f (take i xs) ≡ flat_map f (take i ys) → flat_map f xs ≡ flat_map f ys
-  same_all xs ys i all all' same = sym (ap (flat_map f) (take_all i xs all)) ∙ same ∙ ap (flat_map f) (take_all i ys all')
 
 module _ (V : Type 0) where
   pub drop_one : (xs ys : List V) (i : ℕ) → drop i xs ≡ drop i ys → drop (i + 1) xs ≡ drop (i + 1) ys

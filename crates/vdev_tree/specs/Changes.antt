@@ -22,6 +22,10 @@ abbrev pub brought : Guid → ℕ → LeafVdev → LeafVdev
 brought at dev leaf =
     cond (leaf.guid.0 == at.0) (record leaf { dev = Some dev; state = Online; marked = true; temporary = false }) leaf
 
+-- the leaf, marked to come back where it has this number
+abbrev pub marked_at : Guid → LeafVdev → LeafVdev
+marked_at at leaf = cond (leaf.guid.0 == at.0) (record leaf { marked = true }) leaf
+
 -- a leaf in whose log there is room for this many further runs
 abbrev pub has_room : ℕ → LeafVdev → Type 0
 has_room n leaf = n ≤ leaf.log.spare

@@ -3,7 +3,7 @@ ghost use Rattle.std.specs.Prelude.{◌≡◌, ◌^◌, ◌≤◌, ◌∷◌, []
 ghost use Rattle.std.specs.List.{flat_map, AllZip};
 ghost use Rattle.vdev_tree.specs.declared.vdev.LeafVdev.{LeafVdev};
 ghost use Rattle.vdev_tree.specs.Tree.{leaves, marks, form_of};
-ghost use Rattle.vdev_tree.specs.Changes.{form_alone, with_state, brought, has_room, Owes, KeepsLog};
+ghost use Rattle.vdev_tree.specs.Changes.{form_alone, with_state, brought, marked_at, has_room, Owes, KeepsLog};
 
 use crate::top::Top;
 use crate::vdev::{InnerVdev, LeafVdev, State, Vdev};
@@ -32,6 +32,15 @@ impl Top {
         ensures sectors { self.new.sectors ≡ self.old.sectors }
     {
         change_leaves(&mut self.mirror, &Bring { at, dev });
+    }
+
+    /// Marks the leaf of this number to come back.
+    pub fn mark(&mut self, at: Guid)
+        ensures leaves { leaves self.new.mirror ≡ map (marked_at at) (leaves self.old.mirror) }
+        ensures built { marks self.new.mirror ≡ marks self.old.mirror }
+        ensures sectors { self.new.sectors ≡ self.old.sectors }
+    {
+        change_leaves(&mut self.mirror, &SetMark { at });
     }
 
     /// Puts the group into the log of each leaf that isn't readable.
@@ -110,6 +119,21 @@ impl LeafChange for Bring {
         leaf.state = State::Online;
         leaf.marked = true;
         leaf.temporary = false;
+    }
+}
+
+#[derive(Drop)]
+struct SetMark {
+    at: Guid,
+}
+
+impl LeafChange for SetMark {
+    ghost may = { λ _ _. Unit {0} };
+
+    ghost changes = { λ c old new. new ≡ marked_at c.at old };
+
+    fn change(&self, leaf: &mut LeafVdev) {
+        leaf.marked |= leaf.guid == self.at;
     }
 }
 

@@ -1,7 +1,7 @@
 use Rattle.std.proofs.Common.{sym, ap, ◌∙◌, Err}
 use Rattle.config_codec.specs.Validity.{is_valid}
 use Rattle.config_codec.specs.Reading.{fields_of}
-use Rattle.config_codec.proofs.Refusing.{tops_read, fields_read, too_many, pool_unnamed, leaf_unnamed, handed_on}
+use Rattle.config_codec.proofs.Refusing.{tops_read, fields_read, too_many, pool_unnamed, no_leaves, handed_on}
 use Rattle.config_codec.proofs.Taking.{bad_name}
 use Rattle.config_codec.proofs.decoding.read.Goals as goal
 
@@ -16,7 +16,7 @@ returns-in_err-top-clause-none c = λ none.
     c.read_head-head.ensures.blocks c.read_head-head.ensures.rest c.in_ok-pointers.ensures.rest in
     let same = handed_on c.in_err-top.field-0.0 _ c.from_residual-in_err-top.result c.from_residual-in_err-top.ensures.1 none in
     ap (λ s. is_valid (fields_of s)) (sym c.new-cursor.ensures)
-    ∙ leaf_unnamed c.new-cursor.result c.read_pointers.new.cursor at_tops (c.in_err-top.ensures.none (ap Err same))
+    ∙ no_leaves c.new-cursor.result c.read_pointers.new.cursor at_tops (c.in_err-top.ensures.none (ap Err same))
 
 pub returns-in_err-name-clause-none : goal.returns-in_err-name-clause-none
 returns-in_err-name-clause-none c = λ none.

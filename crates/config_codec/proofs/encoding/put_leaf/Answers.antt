@@ -1,9 +1,10 @@
+use Rattle.std.proofs.Common.{[], ◌∷◌, ap}
 use Rattle.config_codec.specs.Spelling.{leaf_bytes}
-use Rattle.config_codec.proofs.Placing.{puts_next}
+use Rattle.config_codec.proofs.Placing.{puts_next, puts_same}
 use Rattle.config_codec.proofs.encoding.put_leaf.Goals as goal
 
 pub returns-clause-piece : goal.returns-clause-piece
 unfolding leaf_bytes
 returns-clause-piece c =
     puts_next (puts_next (puts_next c.put_u8-at.ensures.piece c.put_u64-at.ensures.piece) c.put_name-at.ensures.piece)
-    (puts_next c.put_u8-at-2.ensures.piece c.put_u32.ensures.piece)
+    (puts_next (puts_same (ap (λ f. f ∷ []) c.flags_of.ensures) c.put_u8-at-2.ensures.piece) c.put_log.ensures.piece)

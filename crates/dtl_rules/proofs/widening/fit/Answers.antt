@@ -5,7 +5,7 @@ use Rattle.dtl_rules.proofs.widening.fit.Goals as goal
 use Rattle.dtl_rules.proofs.widening.fit.Goals.{After-widen_largest}
 
 pub loop-tally-init : goal.loop-tally-init
-loop-tally-init c = record { widened = none; built = refl; sectors = refl }
+loop-tally-init c = record { widened = none; counted = λ h. h; built = refl; sectors = refl }
 
 pub loop-tally-smaller : goal.loop-tally-smaller
 loop-tally-smaller c =
@@ -17,6 +17,7 @@ loop-tally-preserved c =
     record {
       widened = more c.loop-tally.invariant.widened (omega (arith, c.tally_of_all-tally.ensures.total))
           (subst (λ n. WidensFirst n (leaves_of tops) (leaves_of c.widen_largest.new.tops)) c.tally_of_all-tally.ensures.most c.widen_largest.ensures.widens);
+      counted = λ _. c.loop-tally.invariant.counted c.tally_of_all-tally.ensures.counted;
       built = c.widen_largest.ensures.built ∙ c.loop-tally.invariant.built;
       sectors = c.widen_largest.ensures.sectors ∙ c.loop-tally.invariant.sectors;
     }

@@ -1,5 +1,5 @@
 use Rattle.std.proofs.Common.{rules, arith, ◌∙◌, take}
-use Rattle.host_front.proofs.Scripts.{so_far_none, so_far_more, stop_ran, finish_ran}
+use Rattle.host_front.proofs.Scripts.{so_far_none, so_far_more, source_ran, stop_ran, finish_ran}
 use Rattle.host_front.proofs.script.script.Goals as goal
 
 pub input-init : goal.input-init
@@ -42,3 +42,7 @@ input-preserved g c = record {
   source = omega arith;
   sink = omega arith;
 }
+
+pub returns-in-Err-clause-ran : goal.returns-in-Err-clause-ran
+returns-in-Err-clause-ran g c = λ h stands.
+    source_ran _ c.input.host c.input.waiting.items (c.input.invariant.so_far h stands) c.in-Err.ensures.failed

@@ -1,5 +1,5 @@
-use Rattle.host_front.proofs.Ending.{seated_on}
-use Rattle.host_front.proofs.Opened.{answers_found, answers_no_record, answers_unlooked, stands_on_still}
+use Rattle.host_front.proofs.Opened.{answers_found, answers_no_record, answers_unlooked}
+use Rattle.host_front.proofs.Seating.{seated_on, stands_on_still}
 use Rattle.host_front.proofs.host.Host.import.Goals as goal
 
 pub open_found-requires-clause-seated : goal.open_found-requires-clause-seated

@@ -1,6 +1,7 @@
 use Rattle.std.proofs.Common.{refl, Some}
 use Rattle.pool_wire.specs.declared.request.Request.TheVariants as requests
 use Rattle.host_front.proofs.Answering.{answers_quiet, answers_read, keeps_on, named_some, unnamed, no_pool}
+use Rattle.host_front.proofs.Seating.{pool_seated}
 use Rattle.host_front.proofs.host.Host.read.Goals as goal
 
 pub returns-then-not-is_named-clause-answers : goal.returns-then-not-is_named-clause-answers
@@ -18,3 +19,6 @@ pub returns-in-None-clause-answers : goal.returns-in-None-clause-answers
 returns-in-None-clause-answers g c = λ h second stands.
     let none = no_pool h c.args.name.now (rw c.in-None.is at stands.keeps.pool) in
     answers_quiet h h (Some (requests.Read c.args.name.now c.args.address)) second stands.keeps (rw none refl, rw none refl)
+
+pub read_from-requires : goal.read_from-requires
+read_from-requires g c = record { seated = pool_seated _ c.in-Some.pool c.in-Some.is c.requires.seated }

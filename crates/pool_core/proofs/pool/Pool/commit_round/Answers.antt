@@ -1,18 +1,20 @@
-use Rattle.pool_core.proofs.Recording.{encoded_sealed, encoded_headed, own_round}
-use Rattle.config_codec.specs.Fields.{parts_fields, config_fields}
+use Rattle.std.proofs.Common.{arith, ◌∙◌}
+use Rattle.pool_core.proofs.Boards.{members_are}
+use Rattle.pool_core.proofs.Recording.{parts_valid, own_round}
+use Rattle.pool_core.proofs.Seated.{pool_seated, pool_apart}
 use Rattle.pool_core.proofs.pool.Pool.commit_round.Goals as goal
 
-pub commit_record-requires-clause-sealed : goal.commit_record-requires-clause-sealed
-commit_record-requires-clause-sealed g c =
-    encoded_sealed (config_fields c.args.self.now.config) (parts_fields c.parts.result) _ _ c.args.self.now.valid c.parts.ensures
-    c.encode_into-length.ensures.bytes c.encode_into-length.ensures.stop
+pub commit_parts-requires-clause-valid : goal.commit_parts-requires-clause-valid
+commit_parts-requires-clause-valid g c = parts_valid c.args.self.now _ c.parts-parts.ensures
 
-pub commit_record-requires-clause-headed : goal.commit_record-requires-clause-headed
-commit_record-requires-clause-headed g c =
-    encoded_headed (config_fields c.args.self.now.config) (parts_fields c.parts.result) _ _ c.args.self.now.valid c.parts.ensures
-    c.encode_into-length.ensures.bytes c.encode_into-length.ensures.stop
+pub commit_parts-requires-clause-seated : goal.commit_parts-requires-clause-seated
+commit_parts-requires-clause-seated g c =
+    pool_seated _ c.args.self.now _ (c.as_slice-3.ensures ∙ members_are c.args.self.now.pair c.args.members.now c.requires.board) c.requires.seated
+
+pub commit_parts-requires-clause-apart : goal.commit_parts-requires-clause-apart
+commit_parts-requires-clause-apart g c =
+    pool_apart c.args.self.now _ (c.as_slice-3.ensures ∙ members_are c.args.self.now.pair c.args.members.now c.requires.board)
 
 pub returns-clause-round : goal.returns-clause-round
 returns-clause-round g c = λ s r.
-    own_round _ c.args.self.now s (parts_fields c.parts.result) _ r c.parts.ensures
-    c.encode_into-length.ensures.bytes c.encode_into-length.ensures.stop c.commit_record.auto.results c.commit_record.ensures.round
+    own_round _ c.args.self.now s _ _ r c.parts-parts.ensures (c.as_slice-3.ensures ∙ c.requires.board s r.pair) c.commit_parts.ensures.round

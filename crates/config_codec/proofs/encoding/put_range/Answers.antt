@@ -1,0 +1,7 @@
+use Rattle.config_codec.specs.Spelling.{range_bytes}
+use Rattle.config_codec.proofs.Placing.{puts_next}
+use Rattle.config_codec.proofs.encoding.put_range.Goals as goal
+
+pub returns-clause-piece : goal.returns-clause-piece
+unfolding range_bytes
+returns-clause-piece c = puts_next c.put_u64-at.ensures.piece c.put_u64.ensures.piece
