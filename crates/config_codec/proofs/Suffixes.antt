@@ -13,7 +13,7 @@ use Rattle.config_codec.specs.declared.config.KeptState.TheVariants.{Online, Off
 use Rattle.config_codec.specs.declared.config.LeafConfig.{LeafConfig}
 use Rattle.config_codec.specs.declared.config.Pointer.{Pointer}
 use Rattle.config_codec.specs.Flags.{flags_of, kept_in, marked_in}
-use Rattle.config_codec.specs.Ranges.{Rises}
+use Rattle.mp_base.specs.Ranges.{Rises}
 use Rattle.config_codec.specs.Spelling.{be32, be64, text_bytes, pointer_bytes, range_bytes, log_bytes, leaf_bytes}
 use Rattle.config_codec.specs.Reading.{front, byte_in, count_in, number_in, text_in, behind_text, pointer_in, pointers_in, range_in, ranges_in, log_in, behind_log, leaf_in, behind_leaf}
 use Rattle.config_codec.proofs.Placing.{length-be32, length-be64, length-zeros}

@@ -10,7 +10,8 @@ use Rattle.mp_base.specs.declared.number.Group.{Group}
 use Rattle.mp_base.specs.declared.range.GroupRange.{GroupRange}
 use Rattle.config_codec.specs.declared.config.Pointer.{Pointer}
 use Rattle.config_codec.specs.Fields.{Fields}
-use Rattle.config_codec.specs.Ranges.{Rises, rises}
+use Rattle.mp_base.specs.Ranges.{Rises}
+use Rattle.config_codec.specs.Ranges.{rises}
 use Rattle.config_codec.specs.Validity.{IsIn, IsPointer, IsDrawn, IsValid, is_in, is_pointer, is_slot, are_slots, is_drawn, are_in_range, are_drawn, are_distinct, are_names, are_two_devices, are_pointers, are_logs, is_valid}
 
 in_from : (least most n : ℕ) → is_in least most n ≡ true → IsIn least most n

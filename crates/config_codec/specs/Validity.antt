@@ -7,7 +7,8 @@ use Rattle.mp_base.specs.declared.number.Group.{Group}
 use Rattle.config_codec.specs.declared.config.Pointer.{Pointer}
 use Rattle.config_codec.specs.declared.config.LeafConfig.{LeafConfig}
 use Rattle.config_codec.specs.Fields.{Fields}
-use Rattle.config_codec.specs.Ranges.{Rises, rises}
+use Rattle.mp_base.specs.Ranges.{Rises}
+use Rattle.config_codec.specs.Ranges.{rises}
 
 -- n lies from the least to the most
 abbrev pub IsIn : (least most n : ℕ) → Type 0

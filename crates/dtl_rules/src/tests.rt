@@ -1,5 +1,5 @@
 //! The rules on trees that are built by hand.
-use crate::{Extent, LogKind, ROOT, fit, logs_of, required};
+use crate::{Extent, LogKind, ROOT, fit, fit_one, logs_of, required};
 use group_set::GroupSet;
 use mp_base::{Group, Guid, MemFault, Name};
 use std::alloc::Global;
@@ -200,6 +200,9 @@ fn the_largest_log_becomes_one_range(rt: HostRuntime) -> Result<(), Fail> {
         let mut tops = [pair(alloc, up, &a, up, &b)?];
         fit(&mut tops);
         assert_eq!(rt; ranges(alloc, &tops[0])?.as_slice(), left.as_slice());
+        let mut top = pair(alloc, up, &a, up, &b)?;
+        fit_one(&mut top);
+        assert_eq!(rt; ranges(alloc, &top)?.as_slice(), left.as_slice());
     }
     Ok(())
 }

@@ -7,7 +7,8 @@ use Rattle.std.proofs.lemmas.List.{length-map}
 use Rattle.std.proofs.lemmas.Map.Made.{IsDistinct-from_AllPairs, is_member-Decides, length-from_same_keys}
 use Rattle.mp_base.specs.declared.range.GroupRange.{GroupRange}
 use Rattle.group_set.specs.Groups.{Groups, holds, begins, CountsRuns}
-use Rattle.group_set.specs.Ranges.{in_range, in_ranges, run_of, Rises, ranges_upto}
+use Rattle.mp_base.specs.Ranges.{Rises}
+use Rattle.group_set.specs.Ranges.{in_range, in_ranges, run_of, ranges_upto}
 use Rattle.group_set.specs.Runs.{between}
 use Rattle.group_set.proofs.Among.{or_true, or_true_right}
 use Rattle.group_set.proofs.Listed.{AreRuns-rising, in_runs_of}

@@ -7,7 +7,8 @@ use Rattle.mp_base.specs.declared.range.GroupRange.{GroupRange}
 use Rattle.group_set.specs.declared.run.Run.{Run}
 use Rattle.group_set.specs.Runs.{spans, in_runs, touches, IsRun, StandsApart, AreRuns}
 use Rattle.group_set.specs.Choice.{IsAmong, FirstFrom}
-use Rattle.group_set.specs.Ranges.{in_range, in_ranges, range_of, run_of, Rises, ranges_upto}
+use Rattle.mp_base.specs.Ranges.{Rises}
+use Rattle.group_set.specs.Ranges.{in_range, in_ranges, range_of, run_of, ranges_upto}
 use Rattle.group_set.proofs.Among.{or_nil}
 use Rattle.group_set.proofs.Placed.{or_step, touches_comm}
 use Rattle.group_set.proofs.Maximal.{IsRun-among, apart_among}

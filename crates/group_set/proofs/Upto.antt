@@ -1,9 +1,10 @@
 -- The maximal ranges of the groups up to a number.
 use Rattle.std.proofs.Common.{◌≡◌, ◌≢◌, ℕ, zero, suc, ◌+◌, ◌<◌, ◌≤◌, min, Bool, true, false, cond, ◌&&◌, ◌||◌, ◌==◌, nat_le, inl, inr, List, [], ◌∷◌, refl, ap, sym, ◌∙◌, arith, add-zero, add-suc}
 use Rattle.std.proofs.lemmas.Bool.Decides.{nat_tests}
-use Rattle.std.proofs.lemmas.Bool.{cases_lt, false_from_ne_true, false≢true}
+use Rattle.std.proofs.lemmas.Bool.{and_parts, cases_lt, false_from_ne_true, false≢true}
 use Rattle.mp_base.specs.declared.range.GroupRange.{GroupRange}
-use Rattle.group_set.specs.Ranges.{in_range, in_ranges, Rises, range_of_one, range_up_to, extended, ranges_upto}
+use Rattle.mp_base.specs.Ranges.{Rises}
+use Rattle.group_set.specs.Ranges.{in_range, in_ranges, range_of_one, range_up_to, extended, ranges_upto}
 use Rattle.group_set.specs.Runs.{between}
 use Rattle.group_set.proofs.Among.{or_cases, or_true, or_true_right}
 use Rattle.group_set.proofs.Placed.{or_step, or_false}
@@ -163,7 +164,7 @@ cut_upto (suc n) most ranges rises =
 pub upto_back : (most : ℕ) (ranges : List GroupRange) → Rises 1 most ranges → ranges_upto (in_ranges ranges) most ≡ ranges
 upto_back most ranges rises = cut_upto most most ranges rises ∙ cut_all most 1 most ranges rises (omega arith)
 
-Rises-later : (least most later : ℕ) (ranges : List GroupRange) → Rises least most ranges → most ≤ later → Rises least later ranges
+pub Rises-later : (least most later : ℕ) (ranges : List GroupRange) → Rises least most ranges → most ≤ later → Rises least later ranges
 Rises-later least most later [] rises le = tt
 Rises-later least most later (r ∷ ranges) rises le = (rises.0, rises.1, omega (arith, rises.2), Rises-later (r.high.0 + 2) most later ranges rises.3 le)
 
@@ -247,6 +248,13 @@ and_turn false b c = refl
 -- they have the groups of the set from 1 to n
 pub upto_has : (set : ℕ → Bool) (n g : ℕ) → in_ranges (ranges_upto set n) g ≡ (between 1 n g && set g)
 upto_has set n g = has-all set n g ∙ and_turn (nat_le 1 g) (nat_le g n) (set g)
+
+-- the groups of rising ranges are from the least to the most
+pub ranges_within : (n g : ℕ) (ranges : List GroupRange) → Rises 1 n ranges → in_ranges ranges g ≡ true → (1 ≤ g) × (g ≤ n)
+ranges_within n g ranges rises e = between_ends n g (sym (upto_has (in_ranges ranges) n g) ∙ ap (λ some. in_ranges some g) (upto_back n ranges rises) ∙ e)
+  where
+    between_ends : (n g : ℕ) → (between 1 n g && in_ranges ranges g) ≡ true → (1 ≤ g) × (g ≤ n)
+    between_ends n g inside = let ends = (and_parts (between 1 n g) (in_ranges ranges g) inside).0 in (grind (arith, nat_tests), grind (arith, nat_tests))
 
 same-step : (a b : Bool) (g : ℕ) (xs ys : List GroupRange) → a ≡ b → xs ≡ ys → more_if a g xs ≡ more_if b g ys
 same-step a b g xs ys is same = ap (λ x. more_if x g xs) is ∙ ap (more_if b g) same

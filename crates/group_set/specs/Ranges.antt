@@ -1,5 +1,5 @@
 -- The groups of a set as ranges in rising order, as they are written down and shown.
-use Rattle.std.specs.Prelude.{ℕ, zero, suc, ◌+◌, ◌≤◌, Bool, ◌&&◌, ◌==◌, cond, nat_le, List, [], ◌∷◌}
+use Rattle.std.specs.Prelude.{ℕ, zero, suc, ◌+◌, Bool, ◌&&◌, ◌==◌, cond, nat_le, List, [], ◌∷◌}
 use Rattle.std.specs.List.{list_any}
 use Rattle.mp_base.specs.declared.range.GroupRange.{GroupRange}
 use Rattle.group_set.specs.declared.run.Run.{Run}
@@ -11,12 +11,6 @@ in_range range g = nat_le range.low.0 g && nat_le g range.high.0
 -- the group lies in one of the ranges
 abbrev pub in_ranges : List GroupRange → ℕ → Bool
 in_ranges ranges g = list_any (λ range. in_range range g) ranges
-
--- ranges of groups between two, in rising order, with at least one group from each to the next
-abbrev pub Rises : (least most : ℕ) → List GroupRange → Type 0
-Rises least most [] = Unit {0}
-Rises least most (range ∷ ranges) =
-    (least ≤ range.low.0) × (range.low.0 ≤ range.high.0) × (range.high.0 ≤ most) × Rises (range.high.0 + 2) most ranges
 
 -- the range of this group alone
 abbrev pub range_of_one : ℕ → GroupRange

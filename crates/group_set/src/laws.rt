@@ -2,7 +2,8 @@
 ghost use Rattle.std.specs.Prelude.{◌≡◌, ℕ, ◌+◌, ◌<◌, ◌≤◌, Bool, false, ◌&&◌, List};
 ghost use Rattle.mp_base.specs.declared.range.GroupRange.{GroupRange};
 ghost use Rattle.group_set.specs.Runs.{between};
-ghost use Rattle.group_set.specs.Ranges.{in_ranges, ranges_upto, Rises};
+ghost use Rattle.mp_base.specs.Ranges.{Rises};
+ghost use Rattle.group_set.specs.Ranges.{in_ranges, ranges_upto};
 
 /// Rising ranges are those of their groups, and a set's ranges have its groups. So each set has one list
 /// of ranges up to a group, which is the same for all sets that have the same groups there.

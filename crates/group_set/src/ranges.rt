@@ -1,6 +1,7 @@
 //! Runs as ranges in rising order, and back.
 ghost use Rattle.std.specs.Prelude.{◌≡◌, ℕ, ◌^◌, ◌≤◌, true, length, map, IfOk};
-ghost use Rattle.group_set.specs.Ranges.{in_ranges, range_of, ranges_upto, run_of, Rises};
+ghost use Rattle.mp_base.specs.Ranges.{Rises};
+ghost use Rattle.group_set.specs.Ranges.{in_ranges, range_of, ranges_upto, run_of};
 ghost use Rattle.group_set.specs.Runs.{in_runs, AreRuns};
 
 use crate::choice::first_from;

@@ -3,7 +3,8 @@ ghost use Rattle.std.specs.Prelude.{◌≡◌, ℕ, ◌+◌, ◌-◌, ◌^◌, �
 ghost use Rattle.std.specs.List.{list_all};
 ghost use Rattle.group_set.specs.Runs.{between};
 ghost use Rattle.group_set.specs.Groups.{holds, run_count, SameGroups, begins, IsMaximalRun, CountsRuns, KeepsRoom, IsWidened};
-ghost use Rattle.group_set.specs.Ranges.{in_ranges, Rises, ranges_upto};
+ghost use Rattle.mp_base.specs.Ranges.{Rises};
+ghost use Rattle.group_set.specs.Ranges.{in_ranges, ranges_upto};
 
 use crate::choice::{first_from, hull, is_in, next_in};
 use crate::ranges::{ranges_of, runs_of};

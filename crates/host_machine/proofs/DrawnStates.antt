@@ -5,11 +5,12 @@ use Rattle.pool_core.specs.Logs.{with_log, drawn}
 use Rattle.pool_core.specs.Recorded.{fields_in}
 use Rattle.pool_core.specs.State.{LeafState, PoolState, is_spent}
 use Rattle.pool_core.specs.Syncing.{next_version, synced}
+use Rattle.group_set.proofs.Upto.{upto_rises}
 use Rattle.pool_core.proofs.Drawing.{relogged, drawn_relogs, drawn_within}
 use Rattle.pool_core.proofs.Widening.{AreFew, fitted_few}
 use Rattle.host_machine.specs.declared.device.HostDevice.{HostDevice}
 use Rattle.host_machine.specs.Fitness.{IsFitLeaf, IsFitPool, PoolIsNamed}
-use Rattle.host_machine.proofs.Logs.{IsWithin, log_rises}
+use Rattle.host_machine.proofs.Logs.{IsWithin}
 use Rattle.host_machine.proofs.NextStates.{below_spent, later_pointer, next_pointer, pointers_by, synced_beyond, synced_whole}
 use Rattle.host_machine.proofs.Settling.{none_some, pointers_long}
 
@@ -36,8 +37,8 @@ redrawn_valid a b s v open_numbers few = record {
   first_name = v.first_name;
   second_name = v.second_name;
   two_devices = v.two_devices;
-  first_log = log_rises a (s.number + 1);
-  second_log = log_rises b (s.number + 1);
+  first_log = upto_rises a (s.number + 1);
+  second_log = upto_rises b (s.number + 1);
   few_ranges = few;
 }
 

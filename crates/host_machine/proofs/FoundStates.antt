@@ -25,7 +25,8 @@ use Rattle.host_machine.specs.Machine.{HostState, open_state, new_seats, new_sta
 use Rattle.host_machine.specs.Records.{version_of, versions_of, slot_at, summed, committed_in, IsDrawn, AreDrawn}
 use Rattle.host_machine.proofs.DrawnStates.{drawn_fit, drawn_named}
 use Rattle.host_machine.proofs.HostSeats.{AreSeated, member_number, member_room}
-use Rattle.host_machine.proofs.Logs.{IsWithin, log_rises, listed_back, listed_within}
+use Rattle.group_set.proofs.Upto.{ranges_within, upto_back, upto_rises}
+use Rattle.host_machine.proofs.Logs.{IsWithin}
 use Rattle.host_machine.proofs.NewStates.{HasNewSeats, new_seats_found, seats_apart, some_blocks, top_room, made_valid}
 use Rattle.host_machine.proofs.Settling.{same_some, none_some, pointers_long, pointers_at, map_twice}
 
@@ -120,11 +121,11 @@ found_valid c committed found v are = record {
   first_name = v.first_name;
   second_name = v.second_name;
   two_devices = v.two_devices;
-  first_log = log_rises (in_ranges c.first.log) c.number.0;
-  second_log = log_rises (in_ranges c.second.log) c.number.0;
+  first_log = upto_rises (in_ranges c.first.log) c.number.0;
+  second_log = upto_rises (in_ranges c.second.log) c.number.0;
   few_ranges =
-      subst (λ x. length x + length (ranges_upto (in_ranges c.second.log) c.number.0) ≤ 4096) (sym (listed_back c.number.0 c.first.log v.first_log))
-      (subst (λ x. length c.first.log + length x ≤ 4096) (sym (listed_back c.number.0 c.second.log v.second_log)) v.few_ranges);
+      subst (λ x. length x + length (ranges_upto (in_ranges c.second.log) c.number.0) ≤ 4096) (sym (upto_back c.number.0 c.first.log v.first_log))
+      (subst (λ x. length c.first.log + length x ≤ 4096) (sym (upto_back c.number.0 c.second.log v.second_log)) v.few_ranges);
 }
 
 leaf_fit : (size : ℕ → ℕ) (sectors number : ℕ) (leaf : LeafConfig) (found : Option ℕ) → ((d : ℕ) → found ≡ Some d → sectors + 256 ≤ size d)
@@ -137,8 +138,8 @@ pub found_fit : (h : HostState) (config : List ℕ) (c : Fields) (found : Option
     → IsFitPool h.size (open_state h config c found)
 found_fit h config c found fit is seated = record {
   valid = found_valid c (committed_in h.records config c) found valid are.pointers;
-  first = leaf_fit h.size c.sectors c.number.0 c.first found.0 seated.first_room (listed_within c.number.0 c.first.log valid.first_log);
-  second = leaf_fit h.size c.sectors c.number.0 c.second found.1 seated.second_room (listed_within c.number.0 c.second.log valid.second_log);
+  first = leaf_fit h.size c.sectors c.number.0 c.first found.0 seated.first_room (λ g. ranges_within c.number.0 g c.first.log valid.first_log);
+  second = leaf_fit h.size c.sectors c.number.0 c.second found.1 seated.second_room (λ g. ranges_within c.number.0 g c.second.log valid.second_log);
   apart = λ d one two. valid.two_devices (fit.apart.by c.first.name c.second.name d (seated.first_number d one) (seated.second_number d two));
   inside = λ a block e. absurd (none_some block e);
   whole = λ a block e. absurd (none_some block e);

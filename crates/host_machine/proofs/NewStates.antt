@@ -21,7 +21,7 @@ use Rattle.host_machine.specs.declared.device.HostDevice.{HostDevice}
 use Rattle.host_machine.specs.Devices.{AreApart, member_of}
 use Rattle.host_machine.specs.Machine.{HostState, is_bad_size, both, new_seats}
 use Rattle.host_machine.proofs.HostSeats.{both_are, member_number}
-use Rattle.host_machine.proofs.Logs.{log_rises}
+use Rattle.group_set.proofs.Upto.{upto_rises}
 use Rattle.host_machine.proofs.Settling.{same_some, none_some, pointers_long, pointers_at}
 
 -- each of these is a byte
@@ -158,8 +158,8 @@ made_valid size name second blocks first other seats named first_named other_nam
   first_name = first_named;
   second_name = other_named;
   two_devices = differ;
-  first_log = log_rises (λ g. false) 1;
-  second_log = log_rises (λ g. false) 1;
+  first_log = upto_rises (λ g. false) 1;
+  second_log = upto_rises (λ g. false) 1;
   few_ranges = no_ranges;
 }
   where

@@ -2,20 +2,17 @@
 use Rattle.std.proofs.Common.{◌≡◌, ℕ, ◌+◌, ◌^◌, ◌<◌, ◌≤◌, Bool, true, nat_le, not, ◌&&◌, ◌||◌, is_some, List, [], ◌∷◌, Option, Some, None, length, replicate, get_or, refl, ap, sym, ◌∙◌, arith}
 use Rattle.std.proofs.Math.Bool.{or-true}
 use Rattle.std.proofs.Math.Path.{fun_ext}
-use Rattle.std.proofs.lemmas.Bool.{and_parts, leb-true}
 use Rattle.std.proofs.lemmas.Option.{none-some, same_Some, slice_get-get_or}
 use Rattle.std.specs.Option.{option_map}
 use Rattle.std.specs.Prelude.{slice_get, IsTrue}
-use Rattle.mp_base.specs.declared.range.GroupRange.{GroupRange}
 use Rattle.group_set.specs.Groups.{holds}
-use Rattle.group_set.specs.Ranges.{in_ranges, ranges_upto, Rises}
-use Rattle.group_set.specs.Runs.{between}
-use Rattle.group_set.proofs.Upto.{upto_back, upto_has, upto_rises}
+use Rattle.mp_base.specs.Ranges.{Rises}
+use Rattle.group_set.specs.Ranges.{ranges_upto}
+use Rattle.group_set.proofs.Upto.{ranges_within, upto_back, upto_rises}
 use Rattle.config_codec.specs.declared.config.KeptState.{KeptState}
 use Rattle.config_codec.specs.declared.config.LeafConfig.{LeafConfig}
 use Rattle.config_codec.specs.declared.config.Pointer.{Pointer}
 use Rattle.config_codec.specs.Fields.{Fields}
-use Rattle.config_codec.specs.Ranges.{Rises as ConfigRises}
 use Rattle.config_codec.specs.Validity.{IsValid, is_valid}
 use Rattle.config_codec.proofs.Testing.{valid_test}
 use Rattle.vdev_tree.specs.Leaf.{is_up}
@@ -27,27 +24,14 @@ use Rattle.pool_core.specs.Pairs.{PairState, AreApart, IsLoggedTo, fields_from, 
 use Rattle.pool_core.specs.Recorded.{pointer_of}
 use Rattle.pool_core.specs.State.{Content, Known, Summed, Version}
 use Rattle.pool_core.proofs.Lists.{replicate_get}
-use Rattle.pool_core.proofs.Redrawn.{rises_too}
 
--- ranges of a configuration as ones of a set, up to a later group
-pub rises_by : (least most later : ℕ) (log : List GroupRange) → ConfigRises least most log → most ≤ later → Rises least later log
-rises_by least most later [] rises le = tt
-rises_by least most later (r ∷ log) rises le = (rises.0, rises.1, omega (arith, rises.2), rises_by (r.high.0 + 2) most later log rises.3 le)
+pub found_log : (number : ℕ) (leaf : LeafConfig) (dev : Option ℕ) (v : LeafVdev) → IsLeaf v (leaf_on leaf dev) → Rises 1 number leaf.log → IsLoggedTo number v
+found_log number leaf dev v is rises g e = ranges_within number g leaf.log rises (is.owes g ∙ e)
 
-in_log : (number g : ℕ) (log : List GroupRange) → Rises 1 number log → in_ranges log g ≡ true → (1 ≤ g) × (g ≤ number)
-in_log number g log rises e =
-    let back = ap (λ ranges. in_ranges ranges g) (upto_back number log rises) in
-    let inside = (and_parts (between 1 number g) (in_ranges log g) (sym (upto_has (in_ranges log) number g) ∙ back ∙ e)).0 in
-    let ends = and_parts (nat_le 1 g) (nat_le g number) inside in
-    (leb-true 1 g ends.0, leb-true g number ends.1)
-
-pub found_log : (number : ℕ) (leaf : LeafConfig) (dev : Option ℕ) (v : LeafVdev) → IsLeaf v (leaf_on leaf dev) → ConfigRises 1 number leaf.log → IsLoggedTo number v
-found_log number leaf dev v is rises g e = in_log number g leaf.log (rises_by 1 number number leaf.log rises (omega arith)) (is.owes g ∙ e)
-
-found_ranges : (number : ℕ) (leaf : LeafConfig) (dev : Option ℕ) (v : LeafVdev) → IsLeaf v (leaf_on leaf dev) → ConfigRises 1 number leaf.log
+found_ranges : (number : ℕ) (leaf : LeafConfig) (dev : Option ℕ) (v : LeafVdev) → IsLeaf v (leaf_on leaf dev) → Rises 1 number leaf.log
     → ranges_upto (holds v.log) number ≡ leaf.log
 found_ranges number leaf dev v is rises =
-    ap (λ log. ranges_upto log number) (sym (fun_ext is.owes)) ∙ upto_back number leaf.log (rises_by 1 number number leaf.log rises (omega arith))
+    ap (λ log. ranges_upto log number) (sym (fun_ext is.owes)) ∙ upto_back number leaf.log rises
 
 state_device : (dev : Option ℕ) (keeps : KeptState) → (not (is_up (found_as dev keeps)) || is_some dev) ≡ true
 state_device None keeps = refl
@@ -94,8 +78,8 @@ found_valid c committed one two pair v stands =
       first_name = rw (← stands.first.name) v.first_name;
       second_name = rw (← stands.second.name) v.second_name;
       two_devices = rw (← stands.first.name, ← stands.second.name) v.two_devices;
-      first_log = rises_too 1 c.number.0 _ (upto_rises (holds pair.first.log) c.number.0);
-      second_log = rises_too 1 c.number.0 _ (upto_rises (holds pair.second.log) c.number.0);
+      first_log = upto_rises (holds pair.first.log) c.number.0;
+      second_log = upto_rises (holds pair.second.log) c.number.0;
       few_ranges = omega (arith, v.few_ranges);
     })
 

@@ -4,11 +4,10 @@ use Rattle.std.proofs.Math.Path.{fun_ext}
 use Rattle.std.specs.Prelude.{IsTrue}
 use Rattle.mp_base.specs.declared.number.Group.{Group}
 use Rattle.mp_base.specs.declared.number.Guid.{Guid}
-use Rattle.mp_base.specs.declared.range.GroupRange.{GroupRange}
 use Rattle.group_set.specs.Groups.{holds}
-use Rattle.group_set.specs.Ranges.{Rises, ranges_upto}
+use Rattle.mp_base.specs.Ranges.{Rises}
+use Rattle.group_set.specs.Ranges.{ranges_upto}
 use Rattle.group_set.proofs.Upto.{upto_rises}
-use Rattle.config_codec.specs.Ranges.{Rises as ConfigRises}
 use Rattle.config_codec.specs.Fields.{Fields}
 use Rattle.config_codec.specs.Validity.{IsValid, is_valid}
 use Rattle.config_codec.proofs.Testing.{valid_from, valid_test}
@@ -113,11 +112,6 @@ still_seated size number old new is seated = (
   still_room size old.pair.sectors new.pair.sectors old.pair.second new.pair.second is.sectors is.second seated.1,
 )
 
--- the ranges of a log, as a configuration has them
-pub rises_too : (least most : ℕ) (ranges : List GroupRange) → Rises least most ranges → ConfigRises least most ranges
-rises_too least most [] rises = tt
-rises_too least most (r ∷ ranges) rises = (rises.0, rises.1, rises.2, rises_too (r.high.0 + 2) most ranges rises.3)
-
 -- the configuration of the next number is valid
 pub valid_drawn : (pool : Pool) (pair : PairState) (number : Group) → IsRedrawn number.0 pool.pair pair → pool.number.0 ≤ number.0 → number.0 ≤ 2 ^ 62
     → IsTrue (is_valid (fields_from pool.pool pool.name pool.blocks number pool.next_member pool.pointers.items pair))
@@ -141,8 +135,8 @@ valid_drawn pool pair number is le most =
       first_name = rw is.first.name v.first_name;
       second_name = rw is.second.name v.second_name;
       two_devices = rw (is.first.name, is.second.name) v.two_devices;
-      first_log = rises_too 1 number.0 _ (upto_rises (holds pair.first.log) number.0);
-      second_log = rises_too 1 number.0 _ (upto_rises (holds pair.second.log) number.0);
+      first_log = upto_rises (holds pair.first.log) number.0;
+      second_log = upto_rises (holds pair.second.log) number.0;
       few_ranges = is.few;
     })
 

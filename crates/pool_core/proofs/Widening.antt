@@ -3,7 +3,8 @@ use Rattle.std.proofs.Common.{◌≡◌, ℕ, zero, suc, ◌+◌, ◌<◌, ◌�
 use Rattle.std.proofs.lemmas.Bool.{or_cases, or_left, or_right, and_parts, and_from, leb-true, leb-false, le-leb, true≢false}
 use Rattle.std.proofs.lemmas.Bool.Decides.{nat_tests}
 use Rattle.mp_base.specs.declared.range.GroupRange.{GroupRange}
-use Rattle.group_set.specs.Ranges.{in_range, in_ranges, ranges_upto, Rises}
+use Rattle.mp_base.specs.Ranges.{Rises}
+use Rattle.group_set.specs.Ranges.{in_range, in_ranges, ranges_upto}
 use Rattle.group_set.specs.Runs.{between}
 use Rattle.group_set.proofs.Upto.{in_ranges_below, upto_has, upto_rises}
 use Rattle.pool_core.specs.Logs.{any_upto, hull_upto, count_upto, widened, fitted_once, fitted}

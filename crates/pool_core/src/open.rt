@@ -3,7 +3,7 @@ ghost use Rattle.std.specs.Prelude.{◌≡◌, ◌^◌, ℕ, ◌+◌, ◌<◌, �
 ghost use Rattle.config_codec.specs.Fields.{config_fields};
 ghost use Rattle.config_codec.specs.Validity.{IsValid};
 ghost use Rattle.label_store.specs.Newest.{ReadsOnly};
-ghost use Rattle.group_set.specs.Ranges.{Rises};
+ghost use Rattle.mp_base.specs.Ranges.{Rises};
 ghost use Rattle.pool_core.specs.Done.{Seeks, Identifies};
 ghost use Rattle.pool_core.specs.Keeping.{IsLeaf, Represents};
 ghost use Rattle.pool_core.specs.Opening.{IsCommitted, found_as, found_state, leaf_on};

@@ -1,14 +1,15 @@
 use Rattle.std.proofs.Common.{arith, ap, ◌∙◌, refl, length, None}
 use Rattle.std.proofs.lemmas.List.{length-replicate}
+use Rattle.group_set.proofs.Upto.{Rises-later}
 use Rattle.config_codec.specs.Fields.{config_fields}
-use Rattle.pool_core.proofs.Founding.{rises_by, found_apart, found_device, found_log, found_represents, found_stands, found_valid}
+use Rattle.pool_core.proofs.Founding.{found_apart, found_device, found_log, found_represents, found_stands, found_valid}
 use Rattle.pool_core.proofs.pool.Pool.found.Goals as goal
 
 pub leaf_on-requires : goal.leaf_on-requires
-leaf_on-requires c = rises_by 1 c.args.config.number.0 _ c.args.config.first.log c.requires.valid.first_log c.requires.valid.number.1
+leaf_on-requires c = Rises-later 1 c.args.config.number.0 _ c.args.config.first.log c.requires.valid.first_log c.requires.valid.number.1
 
 pub leaf_on-requires-2 : goal.leaf_on-requires-2
-leaf_on-requires-2 c = rises_by 1 c.args.config.number.0 _ c.args.config.second.log c.requires.valid.second_log c.requires.valid.number.1
+leaf_on-requires-2 c = Rises-later 1 c.args.config.number.0 _ c.args.config.second.log c.requires.valid.second_log c.requires.valid.number.1
 
 pub invariant_of-result : goal.invariant_of-result
 invariant_of-result c =
