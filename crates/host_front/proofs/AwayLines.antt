@@ -1,6 +1,5 @@
 -- The lines of leaves that are away.
 use Rattle.std.proofs.Common.{◌≡◌, ℕ, Bool, true, false, List, [], ◌∷◌, map, Option, Some, None, is_some, Result, refl, sym, ◌∙◌, ap, subst, inl, inr, ◌⊎◌, bytes_eq, if◌then◌else◌}
-use Rattle.std.proofs.lemmas.Slice.Eq.{bytes_eq-Decides}
 use mathlib.Core.List.{map-map}
 use Rattle.mp_base.specs.declared.range.GroupRange.{GroupRange}
 use Rattle.mp_base.specs.declared.refusal.Refusal.{Refusal}
@@ -22,6 +21,7 @@ use Rattle.pool_core.specs.Keeping.{Represents}
 use Rattle.pool_core.specs.State.{LeafState, PoolState, leaves}
 use Rattle.host_machine.specs.Devices.{number_in}
 use Rattle.host_machine.specs.Machine.{HostState, IsAnswered, WantsMemory, Clashes, OnlinesOn, OnlinesNamed, online_reply, reply_of, shown_log, with_pool}
+use Rattle.host_machine.proofs.AwayLines.{leaf_name}
 use Rattle.host_front.specs.declared.host.Host.{Host}
 use Rattle.host_front.specs.Bringing.{BringsBack, IsBrought}
 use Rattle.host_front.specs.Session.{Answers}
@@ -39,23 +39,6 @@ answers_offline {size = size} h pool pool' name device temporary second result n
     answers_quiet h (with_pool h o.0) (Some (requests.Offline name device temporary)) second (keeps_with size h pool' o.0 table sizes is o.1)
     (rw n.named (o.0, result, o.2, (refl, ap (λ r. (with_pool h o.0, r)) reply_is)))
 
--- the leaf of a name has the name
-
-same_leaf : (one other : LeafState) → Some one ≡ Some other → one ≡ other
-same_leaf one other e = cc
-
-no_leaf : (leaf : LeafState) → None ≡ Some leaf → ⊥
-no_leaf leaf e = cc
-
-named_at : (name : List ℕ) (one leaf : LeafState) (more : Option LeafState) (t : Bool) → bytes_eq one.name name ≡ t → (more ≡ Some leaf → leaf.name ≡ name)
-    → (if t then Some one else more) ≡ Some leaf → leaf.name ≡ name
-named_at name one leaf more true is rest found = ap (λ (l : LeafState). l.name) (sym (same_leaf one leaf found)) ∙ (bytes_eq-Decides one.name name).0 is
-named_at name one leaf more false is rest found = rest found
-
-name_of : (name : List ℕ) (some : List LeafState) (leaf : LeafState) → leaf_named name some ≡ Some leaf → leaf.name ≡ name
-name_of name [] leaf e = absurd (no_leaf leaf e)
-name_of name (one ∷ some) leaf e = named_at name one leaf (leaf_named name some) (bytes_eq one.name name) refl (λ found. name_of name some leaf found) e
-
 -- `online`
 
 module _ (size : ℕ → ℕ) (h : HostState) (s : PoolState) (sizes : h.size ≡ size) (is_open : h.pool ≡ Some s) (made : List Noted) (next : PoolState) (reply : Reply) where
@@ -70,7 +53,7 @@ module _ (size : ℕ → ℕ) (h : HostState) (s : PoolState) (sizes : h.size �
       → IsBrought s leaf dev size made next reply → OnlinesNamed h s leaf made (with_pool h next) reply
   brought_named device dev None e number b = (b.0, same_outcome (replies.Refused refusals.NoVdev) b.1 b.2)
   brought_named device dev (Some leaf) e number b =
-      subst (λ at. OnlinesOn h s leaf at made (with_pool h next) reply) (number ∙ ap (λ name. number_in name h.table) (sym (name_of device (leaves s) leaf e)))
+      subst (λ at. OnlinesOn h s leaf at made (with_pool h next) reply) (number ∙ ap (λ name. number_in name h.table) (sym (leaf_name s device leaf e)))
       (brought_on leaf dev b)
 
 pub answers_online : {host : Host} {old new : Option Story} {f g size' : ℕ → ℕ} {reply : Reply} (size : ℕ → ℕ) (h : HostState) (pool pool' : Pool) (name device : List ℕ) (second : ℕ)
@@ -117,7 +100,7 @@ back_memory pool r = quiet_back pool r (inr (refl, refl, refl))
 no_device_at : (s : PoolState) (name : List ℕ) (size : ℕ → ℕ) (leaf : Option LeafState) → true ≡ is_some leaf → leaf_named name (leaves s) ≡ leaf
     → IsBrought s leaf None size [] s (replies.NoDevice name)
 no_device_at s name size None e is = absurd (cc)
-no_device_at s name size (Some leaf) e is = (refl, refl, ap replies.NoDevice (sym (name_of name (leaves s) leaf is)))
+no_device_at s name size (Some leaf) e is = (refl, refl, ap replies.NoDevice (sym (leaf_name s name leaf is)))
 
 pub back_nowhere : {s : PoolState} {name : List ℕ} {size : ℕ → ℕ} {told : Option Story} {faults : ℕ → ℕ} (pool : Pool) → Represents pool s
     → true ≡ is_some (leaf_named name (leaves s)) → BringsBack s name None size told told faults faults pool (replies.NoDevice name)
@@ -128,7 +111,7 @@ back_at : (s : PoolState) (name : List ℕ) (dev : ℕ) (size : ℕ → ℕ) (ma
     → true ≡ is_some leaf → leaf_named name (leaves s) ≡ leaf → ((leaf : LeafState) → leaf.name ≡ name → reply ≡ online_reply leaf answer)
     → IsOnline size s leaf dev made next answer → IsBrought s leaf (Some dev) size made next reply
 back_at s name dev size made next answer reply None e is said o = absurd (cc)
-back_at s name dev size made next answer reply (Some leaf) e is said o = (answer, o, said leaf (name_of name (leaves s) leaf is))
+back_at s name dev size made next answer reply (Some leaf) e is said o = (answer, o, said leaf (leaf_name s name leaf is))
 
 pub back_by : {s : PoolState} {name : List ℕ} {dev : ℕ} {size : ℕ → ℕ} {old new : Option Story} {f g : ℕ → ℕ} {reply : Reply} (pool : Pool) (answer : Result State Refusal)
     → true ≡ is_some (leaf_named name (leaves s)) → ((leaf : LeafState) → leaf.name ≡ name → reply ≡ online_reply leaf answer)

@@ -9,6 +9,7 @@ use Rattle.bank_core.specs.Story.{Story}
 use Rattle.bank_core.proofs.Composing.{made_none, made_more}
 use Rattle.label_store.specs.declared.found.Found.{Found}
 use Rattle.label_store.specs.Newest.{Parts, IsLook, IsBest, AreReads, ReadsOnly}
+use Rattle.label_store.proofs.Reading.{are_reads_more, look_reads}
 use Rattle.pool_wire.specs.declared.reply.Reply.{Reply}
 use Rattle.pool_wire.specs.declared.reply.Reply.TheVariants as replies
 use Rattle.pool_wire.specs.declared.request.Request.TheVariants as requests
@@ -32,8 +33,8 @@ use Rattle.host_front.specs.declared.host.Host.{Host}
 use Rattle.host_front.specs.Importing.{AreRooms, OpensFound, OpensThere}
 use Rattle.host_front.specs.Session.{Answers}
 use Rattle.host_front.specs.Standing.{Keeps, PoolStands}
+use Rattle.host_machine.proofs.Away.{identified_reads}
 use Rattle.host_front.proofs.Answering.{answers_by, answers_without, entry_of, same_sizes, sizes_on, keeps_on}
-use Rattle.host_front.proofs.LabelReads.{reads_on, look_reads, identified_reads}
 use Rattle.host_front.proofs.Ending.{committed_by, closed_by, keeps_committed, keeps_closed}
 
 -- the numbers are spent, or not
@@ -189,7 +190,7 @@ found_there {host} {host'} {old} {mid} {new} {f} {g} {k} {size''} {reply} size h
         → OpensUnless (is_spent c.number.0) h bytes c (i.made ++ o.made) o.next reply
         ⊎ ((reply ≡ replies.Refused refusals.Memory) × (o.next ≡ h) × AreReads (i.made ++ o.made))
     go (inl done) = inl (rw fresh (subst (λ p. OpensOn h bytes c p (i.made ++ o.made) o.next reply) (sym none) (i.made, o.made, found, refl, identified, done)))
-    go (inr memory) = inr (memory.0, memory.1, reads_on i.made o.made (identified_reads size c seats found i.made i.identified) (subst AreReads (sym memory.2) tt))
+    go (inr memory) = inr (memory.0, memory.1, are_reads_more i.made o.made (identified_reads size c seats found i.made i.identified) (subst AreReads (sym memory.2) tt))
 
 -- the line, by the newest record of the name
 
@@ -263,5 +264,5 @@ answers_found {host} {host'} {old} {mid} {new} {f} {g} {k} {size''} {reply = rep
     steps found o (inr memory) = inr (inl (record {
       reply = memory.0;
       same = memory.1;
-      reads = reads_on s.made o.made (look_reads size (all_handed host.table.items) s.looks s.made s.look) memory.2;
+      reads = are_reads_more s.made o.made (look_reads size (all_handed host.table.items) s.looks s.made s.look) memory.2;
     }))

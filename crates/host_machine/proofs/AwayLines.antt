@@ -93,7 +93,7 @@ onlines_reads size s leaf dev made left result is = by (is_away leaf.state) (nat
     by true true e f = let h = rw f at (rw e at is) in search_reads s.pool leaf.member dev (size dev) made h.0 h.1
 
 -- the name of the leaf of a name
-leaf_name : (s : PoolState) (name : List ℕ) (leaf : LeafState) → leaf_named name (leaves s) ≡ Some leaf → leaf.name ≡ name
+pub leaf_name : (s : PoolState) (name : List ℕ) (leaf : LeafState) → leaf_named name (leaves s) ≡ Some leaf → leaf.name ≡ name
 leaf_name s name leaf e = by (bytes_eq s.first.name name) (bytes_eq s.second.name name) refl refl e
   where
     is : (one : LeafState) → bytes_eq one.name name ≡ true → Some one ≡ Some leaf → leaf.name ≡ name

@@ -7,6 +7,7 @@ use Rattle.mp_base.specs.declared.number.Guid.{Guid}
 use Rattle.label_store.specs.declared.member.Member.{Member}
 use Rattle.label_store.specs.Seats.{AreApart}
 use Rattle.pool_core.specs.State.{LeafState, PoolState, is_readable, seat_of, board, is_nobody, has_nobody}
+use Rattle.pool_core.proofs.Boards.{both_seats, one_of, in_turn}
 use Rattle.host_machine.proofs.Settling.{same_some, none_some}
 
 -- The leaf is readable, and this is its member on its device.
@@ -22,7 +23,7 @@ seat_by true (Some d) guid m e =
     let same : record { dev = d; guid = guid } ≡ m = same_some (record { dev = d; guid = guid }) m e in (refl, ap (λ (x : Member). Some x.dev) same, sym (ap (λ (x : Member). x.guid) same))
 seat_by false dev guid m e = absurd (none_some m e)
 
-seat_is : (leaf : LeafState) (m : Member) → seat_of leaf ≡ Some m → IsSeatOf leaf m
+pub seat_is : (leaf : LeafState) (m : Member) → seat_of leaf ≡ Some m → IsSeatOf leaf m
 seat_is leaf m e = let parts = seat_by (is_readable leaf) leaf.dev leaf.member m e in record { readable = parts.0; dev = parts.1; guid = parts.2 }
 
 abbrev member_on : Guid → ℕ → Member
@@ -36,44 +37,18 @@ seated_by false dev guid d t e = absurd (let no : false ≡ true = t in cc)
 seat_from : (leaf : LeafState) (d : ℕ) → is_readable leaf ≡ true → leaf.dev ≡ Some d → seat_of leaf ≡ Some (record { dev = d; guid = leaf.member })
 seat_from leaf d up e = seated_by (is_readable leaf) leaf.dev leaf.member d up e
 
--- the board of two leaves
-abbrev both_of : Option Member → Option Member → List Member
-both_of a b = cons_option a (cons_option b [])
-
-both_from : (a b : Option Member) (i : ℕ) (m : Member) → slice_get (both_of a b) i ≡ Some m → (a ≡ Some m) ⊎ (b ≡ Some m)
-both_from None None i m e = absurd (none_some m e)
-both_from None (Some b) zero m e = inr e
-both_from None (Some b) (suc i) m e = absurd (none_some m e)
-both_from (Some a) None zero m e = inl e
-both_from (Some a) None (suc i) m e = absurd (none_some m e)
-both_from (Some a) (Some b) zero m e = inl e
-both_from (Some a) (Some b) (suc zero) m e = inr e
-both_from (Some a) (Some b) (suc (suc i)) m e = absurd (none_some m e)
-
-both_first : (a b : Option Member) (m : Member) → a ≡ Some m → (i : ℕ) × (slice_get (both_of a b) i ≡ Some m)
+both_first : (a b : Option Member) (m : Member) → a ≡ Some m → (i : ℕ) × (slice_get (both_seats a b) i ≡ Some m)
 both_first None b m e = absurd (none_some m e)
 both_first (Some a) b m e = (zero, e)
 
-both_second : (a b : Option Member) (m : Member) → b ≡ Some m → (i : ℕ) × (slice_get (both_of a b) i ≡ Some m)
+both_second : (a b : Option Member) (m : Member) → b ≡ Some m → (i : ℕ) × (slice_get (both_seats a b) i ≡ Some m)
 both_second a None m e = absurd (none_some m e)
 both_second None (Some b) m e = (zero, e)
 both_second (Some a) (Some b) m e = (suc zero, e)
 
-both_apart : (a b : Option Member) → ((m n : Member) → a ≡ Some m → b ≡ Some n → m.dev ≢ n.dev) → AreApart (both_of a b)
-both_apart a b apart zero zero m n e f below = absurd (omega arith)
-both_apart None None apart i j m n e f below = absurd (none_some m e)
-both_apart None (Some b) apart i zero m n e f below = absurd (omega arith)
-both_apart None (Some b) apart i (suc j) m n e f below = absurd (none_some n f)
-both_apart (Some a) None apart i zero m n e f below = absurd (omega arith)
-both_apart (Some a) None apart i (suc j) m n e f below = absurd (none_some n f)
-both_apart (Some a) (Some b) apart i zero m n e f below = absurd (omega arith)
-both_apart (Some a) (Some b) apart zero (suc zero) m n e f below = apart m n e f
-both_apart (Some a) (Some b) apart (suc i) (suc zero) m n e f below = absurd (omega arith)
-both_apart (Some a) (Some b) apart i (suc (suc j)) m n e f below = absurd (none_some n f)
-
 -- Each member of the board is one of the leaves'.
 pub board_leaf : (s : PoolState) (i : ℕ) (m : Member) → slice_get (board s) i ≡ Some m → IsSeatOf s.first m ⊎ IsSeatOf s.second m
-board_leaf s i m e = ⊎_elim (λ one. inl (seat_is s.first m one)) (λ two. inr (seat_is s.second m two)) (both_from (seat_of s.first) (seat_of s.second) i m e)
+board_leaf s i m e = ⊎_elim (λ one. inl (seat_is s.first m one)) (λ two. inr (seat_is s.second m two)) (one_of (seat_of s.first) (seat_of s.second) i m e)
 
 -- And each readable leaf with a device is on it.
 pub first_board : (s : PoolState) (d : ℕ) → is_readable s.first ≡ true → s.first.dev ≡ Some d → (i : ℕ) × (slice_get (board s) i ≡ Some (record { dev = d; guid = s.first.member }))
@@ -84,9 +59,9 @@ second_board s d up e = both_second (seat_of s.first) (seat_of s.second) (record
 
 -- no two of its members have one device
 pub board_apart : (s : PoolState) → ((d : ℕ) → s.first.dev ≡ Some d → s.second.dev ≡ Some d → ⊥) → AreApart (board s)
-board_apart s apart =
-    both_apart (seat_of s.first) (seat_of s.second)
-    (λ m n e f same. apart n.dev ((seat_is s.first m e).dev ∙ ap Some same) (seat_is s.second n f).dev)
+board_apart s apart i j m n e f less same =
+    let both = in_turn (seat_of s.first) (seat_of s.second) i j m n e f less in
+    apart n.dev ((seat_is s.first m both.0).dev ∙ ap Some same) (seat_is s.second n both.1).dev
 
 -- What holds of both leaves' members holds of each on the board.
 pub board_each : (P : Member → Type 0) (s : PoolState) → ((m : Member) → IsSeatOf s.first m → P m) → ((m : Member) → IsSeatOf s.second m → P m)

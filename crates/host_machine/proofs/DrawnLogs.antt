@@ -5,9 +5,8 @@ use Rattle.mp_base.specs.declared.number.Guid.{Guid}
 use Rattle.pool_history.proofs.LooksFound.{alike}
 use Rattle.pool_core.specs.Logs.{any_upto, hull_upto, count_upto, widened, fitted_once, owing_too, drawn}
 use Rattle.pool_core.specs.State.{LeafState, PoolState, is_readable}
-use Rattle.pool_core.proofs.Drawing.{drawn_relogs, drawn_number}
+use Rattle.pool_core.proofs.Drawing.{IsWithin, drawn_relogs, drawn_number}
 use Rattle.host_machine.specs.Records.{owed_by}
-use Rattle.host_machine.proofs.Logs.{IsWithin}
 
 any_at : (p : ℕ → Bool) (n k : ℕ) → 1 ≤ k → k ≤ n → p k ≡ true → any_upto p n ≡ true
 any_at p zero k low high is = absurd (omega arith)

@@ -6,11 +6,10 @@ use Rattle.pool_core.specs.Recorded.{fields_in}
 use Rattle.pool_core.specs.State.{LeafState, PoolState, is_spent}
 use Rattle.pool_core.specs.Syncing.{next_version, synced}
 use Rattle.group_set.proofs.Upto.{upto_rises}
-use Rattle.pool_core.proofs.Drawing.{relogged, drawn_relogs, drawn_within}
+use Rattle.pool_core.proofs.Drawing.{IsWithin, AreWithin, relogged, drawn_relogs, drawn_within}
 use Rattle.pool_core.proofs.Widening.{AreFew, fitted_few}
 use Rattle.host_machine.specs.declared.device.HostDevice.{HostDevice}
 use Rattle.host_machine.specs.Fitness.{IsFitLeaf, IsFitPool, PoolIsNamed}
-use Rattle.host_machine.proofs.Logs.{IsWithin}
 use Rattle.host_machine.proofs.NextStates.{below_spent, later_pointer, next_pointer, pointers_by, synced_beyond, synced_whole}
 use Rattle.host_machine.proofs.Settling.{none_some, pointers_long}
 
@@ -41,10 +40,6 @@ redrawn_valid a b s v open_numbers few = record {
   second_log = upto_rises b (s.number + 1);
   few_ranges = few;
 }
-
--- both logs are
-abbrev AreWithin : ℕ → PoolState → Type 0
-AreWithin n s = IsWithin n s.first.owes × IsWithin n s.second.owes
 
 relogged_leaf : (size : ℕ → ℕ) (sectors n m : ℕ) (log : ℕ → Bool) (leaf : LeafState) → IsFitLeaf size sectors n leaf → IsWithin m log
     → IsFitLeaf size sectors m (with_log log leaf)

@@ -26,7 +26,7 @@ use Rattle.host_machine.specs.Records.{version_of, versions_of, slot_at, summed,
 use Rattle.host_machine.proofs.DrawnStates.{drawn_fit, drawn_named}
 use Rattle.host_machine.proofs.HostSeats.{AreSeated, member_number, member_room}
 use Rattle.group_set.proofs.Upto.{ranges_within, upto_back, upto_rises}
-use Rattle.host_machine.proofs.Logs.{IsWithin}
+use Rattle.pool_core.proofs.Drawing.{IsWithin}
 use Rattle.host_machine.proofs.NewStates.{HasNewSeats, new_seats_found, seats_apart, some_blocks, top_room, made_valid}
 use Rattle.host_machine.proofs.Settling.{same_some, none_some, pointers_long, pointers_at, map_twice}
 

@@ -5,10 +5,7 @@ use Rattle.std.proofs.lemmas.Bool.Decides.{nat_tests}
 use Rattle.group_set.specs.Ranges.{in_ranges, ranges_upto}
 use Rattle.group_set.specs.Runs.{between}
 use Rattle.group_set.proofs.Upto.{upto_has}
-
--- the groups of a log are from 1 to n
-abbrev pub IsWithin : ℕ → (ℕ → Bool) → Type 0
-IsWithin n log = (g : ℕ) → log g ≡ true → (1 ≤ g) × (g ≤ n)
+use Rattle.pool_core.proofs.Drawing.{IsWithin}
 
 between_is : (n g : ℕ) → 1 ≤ g → g ≤ n → between 1 n g ≡ true
 between_is n g low high = grind (arith, nat_tests)

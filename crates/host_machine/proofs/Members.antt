@@ -1,12 +1,11 @@
 -- What holds of each leaf of a pool, and so of its members that are read and written.
-use Rattle.std.proofs.Common.{◌≡◌, ℕ, zero, suc, Bool, true, false, cond, List, [], ◌∷◌, ◌++◌, Option, Some, None, refl, ap, ◌∙◌, subst}
+use Rattle.std.proofs.Common.{◌≡◌, ℕ, zero, suc, Bool, true, false, cond, List, [], ◌∷◌, ◌++◌, Option, Some, None, refl, subst}
 use Rattle.std.specs.Prelude.{not, slice_get}
 use Rattle.std.specs.List.{cons_option, filter, filter_map}
-use Rattle.std.specs.Option.{option_map}
 use Rattle.label_store.specs.declared.member.Member.{Member}
 use Rattle.pool_history.proofs.LookedParts.{same_some}
 use Rattle.pool_core.specs.Reading.{tries}
-use Rattle.pool_core.specs.State.{LeafState, PoolState, leaves, having, owing, is_readable, seat_of}
+use Rattle.pool_core.specs.State.{LeafState, PoolState, leaves, having, owing, seat_of}
 
 -- what holds of each of these
 abbrev pub AllOf : {X : Type 0} → (X → Type 0) → List X → Type 0
@@ -41,18 +40,6 @@ all_mapped P f (x ∷ xs) a = by (f x) refl (all_mapped P f xs a.1)
     by : (y : Option _) → f x ≡ y → AllOf P (filter_map f xs) → AllOf P (cons_option y (filter_map f xs))
     by None e more = more
     by (Some y) e more = (a.0 y e, more)
-
--- a readable leaf's member is on its device
-pub seat_is : (leaf : LeafState) (m : Member) → seat_of leaf ≡ Some m → (leaf.dev ≡ Some m.dev) × (leaf.member ≡ m.guid)
-seat_is leaf m e = by (is_readable leaf) leaf.dev refl e
-  where
-    on : (d : ℕ) → Some (record { dev = d; guid = leaf.member }) ≡ Some m → (Some d ≡ Some m.dev) × (leaf.member ≡ m.guid)
-    on d e = let same = same_some (record { dev = d; guid = leaf.member }) m e in (ap (λ (n : Member). Some n.dev) same, ap (λ (n : Member). n.guid) same)
-
-    by : (t : Bool) (dev : Option ℕ) → leaf.dev ≡ dev → cond t (option_map (λ d. record { dev = d; guid = leaf.member }) dev) None ≡ Some m → (leaf.dev ≡ Some m.dev) × (leaf.member ≡ m.guid)
-    by true (Some d) is e = (is ∙ (on d e).0, (on d e).1)
-    by true None is e = absurd (cc)
-    by false dev is e = absurd (cc)
 
 -- what holds of each leaf's member holds of each copy that is tried
 pub tries_all : (P : Member → Type 0) (birth : ℕ) (s : PoolState) → ((m : Member) → seat_of s.first ≡ Some m → P m) → ((m : Member) → seat_of s.second ≡ Some m → P m)

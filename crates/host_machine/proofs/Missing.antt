@@ -37,7 +37,8 @@ use Rattle.host_machine.specs.Machine.{HostState, Entry, Step, IsAnswered, Wants
 use Rattle.host_machine.specs.Records.{version_of, versions_of, owed_by}
 use Rattle.host_machine.specs.Tracking.{Place, IsAt, IsOpenAs, is_member, is_ours, StandsIn, Tracks}
 use Rattle.host_machine.proofs.Away.{not_both}
-use Rattle.host_machine.proofs.Members.{AllOf, all_to, all_at, all_filtered, all_mapped, seat_is, tries_all}
+use Rattle.host_machine.proofs.Members.{AllOf, all_to, all_at, all_filtered, all_mapped, tries_all}
+use Rattle.host_machine.proofs.Boards.{seat_is}
 use Rattle.host_machine.proofs.QuietLines.{named_is}
 
 -- The pool that is open is this one, where one of its devices is a member.
@@ -180,8 +181,8 @@ HoldsRead p s a = (cell : Cell) → p.reads.cells a ≡ Some cell → AllOf (Hol
 cell_held : (p : Pool) (s : PoolState) (a : ℕ) → Survives head_of p → AreMembers p s → IsOpenAs p s → HoldsRead p s a
 cell_held p s a left seated is_open cell is =
     tries_all (Holds p s cell.birth (data_start + cell.sector) cell.block) cell.birth s
-    (λ m e. let seat = seat_is s.first m e in held m (seated.first m.dev seat.0 ∙ seat.1))
-    (λ m e. let seat = seat_is s.second m e in held m (seated.second m.dev seat.0 ∙ seat.1))
+    (λ m e. let seat = seat_is s.first m e in held m (seated.first m.dev seat.dev ∙ sym seat.guid))
+    (λ m e. let seat = seat_is s.second m e in held m (seated.second m.dev seat.dev ∙ sym seat.guid))
   where
     held : (m : Member) → p.guid m.dev ≡ m.guid → Holds p s cell.birth (data_start + cell.sector) cell.block m
     held m guid member log =
@@ -386,7 +387,7 @@ having_owes : (p : Pool) (s : PoolState) (birth : ℕ) → AreMembers p s → Al
 having_owes p s birth seated =
     all_mapped (λ (m : Member). owed_by s m.guid birth ≡ false) seat_of (having birth (leaves s))
     (all_filtered (λ leaf. (m : Member) → seat_of leaf ≡ Some m → owed_by s m.guid birth ≡ false) (λ leaf. not (leaf.owes birth)) (leaves s)
-    (λ t m e. first t m (seat_is s.first m e).1, (λ t m e. second t m (seat_is s.second m e).1, tt)))
+    (λ t m e. first t m (sym (seat_is s.first m e).guid), (λ t m e. second t m (sym (seat_is s.second m e).guid), tt)))
   where
     first : not (s.first.owes birth) ≡ true → (m : Member) → s.first.member ≡ m.guid → owed_by s m.guid birth ≡ false
     first t m guid =

@@ -24,7 +24,8 @@ use Rattle.pool_core.specs.Heads.{head_from, head_of}
 use Rattle.pool_core.specs.Recorded.{addresses, pointer_of, pointers_of, fields_in, padding, sealed, commit_of}
 use Rattle.pool_core.specs.State.{Content, Known, Summed, Version, PoolState}
 use Rattle.host_machine.specs.Records.{version_of, cell_with, cell_of, is_known_content, is_known_version, is_known, owed_by, record_of, IsDrawn}
-use Rattle.host_machine.proofs.Logs.{IsWithin, log_ranges}
+use Rattle.pool_core.proofs.Drawing.{IsWithin}
+use Rattle.host_machine.proofs.Logs.{log_ranges}
 
 -- The state's configuration is valid, its logs have groups up to its number, and its blocks are whole and within the
 -- volume.

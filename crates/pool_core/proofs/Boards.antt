@@ -43,7 +43,7 @@ state_of pair number = record {
   number = number;
 }
 
-is_leaf : (v : LeafVdev) → IsLeaf v (leaf_state v)
+pub is_leaf : (v : LeafVdev) → IsLeaf v (leaf_state v)
 is_leaf v = record { member = refl; name = refl; dev = refl; state = refl; temporary = refl; marked = refl; owes = λ g. refl }
 
 pub stands_here : (pair : PairState) (number : ℕ) → Stands pair (state_of pair number)
@@ -59,7 +59,7 @@ pair_board pair = filter_map leaf_seat (pair.first ∷ pair.second ∷ [])
 pub seat_is : (v : LeafVdev) (leaf : LeafState) → IsLeaf v leaf → seat_of leaf ≡ leaf_seat v
 seat_is v leaf is = rw (is.state, is.dev, is.member) refl
 
-abbrev both_seats : Option Member → Option Member → List Member
+abbrev pub both_seats : Option Member → Option Member → List Member
 both_seats a b = filter_map (λ o. o) (a ∷ b ∷ [])
 
 pub board_is : (pair : PairState) (s : PoolState) → Stands pair s → board s ≡ pair_board pair
@@ -76,7 +76,7 @@ seat_dev : (v : LeafVdev) (m : Member) → leaf_seat v ≡ Some m → v.dev ≡ 
 seat_dev v m e = seated_dev (is_up v.state) v.dev v.guid m e
 
 -- a member that stands in a list of two at most
-one_of : (a b : Option Member) (i : ℕ) (m : Member) → slice_get (both_seats a b) i ≡ Some m → (a ≡ Some m) ⊎ (b ≡ Some m)
+pub one_of : (a b : Option Member) (i : ℕ) (m : Member) → slice_get (both_seats a b) i ≡ Some m → (a ≡ Some m) ⊎ (b ≡ Some m)
 one_of None None i m e = absurd (none-some m e)
 one_of None (Some y) zero m e = inr e
 one_of None (Some y) (suc i) m e = absurd (none-some m e)
@@ -86,7 +86,7 @@ one_of (Some x) (Some y) zero m e = inl e
 one_of (Some x) (Some y) (suc zero) m e = inr e
 one_of (Some x) (Some y) (suc (suc i)) m e = absurd (none-some m e)
 
-in_turn : (a b : Option Member) (i j : ℕ) (m n : Member) → slice_get (both_seats a b) i ≡ Some m → slice_get (both_seats a b) j ≡ Some n → i < j
+pub in_turn : (a b : Option Member) (i j : ℕ) (m n : Member) → slice_get (both_seats a b) i ≡ Some m → slice_get (both_seats a b) j ≡ Some n → i < j
     → (a ≡ Some m) × (b ≡ Some n)
 in_turn None None i j m n e f less = absurd (none-some m e)
 in_turn None (Some y) i zero m n e f less = absurd (omega arith)

@@ -46,10 +46,10 @@ pub drawn_number : (s : PoolState) → (drawn s).number ≡ s.number + 1
 drawn_number s = ap (λ t. t.number) (drawn_relogs s).is
 
 -- the groups of a log are from 1 to n
-abbrev IsWithin : ℕ → (ℕ → Bool) → Type 0
+abbrev pub IsWithin : ℕ → (ℕ → Bool) → Type 0
 IsWithin n log = (g : ℕ) → log g ≡ true → (1 ≤ g) × (g ≤ n)
 
-abbrev AreWithin : ℕ → PoolState → Type 0
+abbrev pub AreWithin : ℕ → PoolState → Type 0
 AreWithin n s = IsWithin n s.first.owes × IsWithin n s.second.owes
 
 within_at : (few more : Bool) (n : ℕ) (s : PoolState) → s.number ≡ n → AreWithin n s

@@ -1,7 +1,6 @@
 -- Trees that are mirrors of two leaves, and leaves that stand for those of a state.
 use Rattle.std.proofs.Common.{◌≡◌, ℕ, Bool, true, false, cond, ◌==◌, List, [], ◌∷◌, map, refl, ap, sym, ◌∙◌, subst, Some}
 use Rattle.mp_base.specs.declared.number.Guid.{Guid}
-use Rattle.group_set.specs.Groups.{holds}
 use Rattle.vdev_tree.specs.Tree.{leaves, marks, guid_of, pair_marks}
 use Rattle.vdev_tree.specs.declared.top.Top.{Top}
 use Rattle.vdev_tree.specs.declared.vdev.LeafVdev.{LeafVdev}
@@ -71,10 +70,3 @@ brought_leaf dev v leaf is = record { member = is.member; name = is.name; dev = 
 
 pub marked_leaf : Follows (λ v. record v { marked = true }) marked
 marked_leaf v leaf is = record { member = is.member; name = is.name; dev = is.dev; state = is.state; temporary = is.temporary; marked = refl; owes = is.owes }
-
--- the state that a leaf stands for
-abbrev pub state_of : LeafVdev → LeafState
-state_of v = record { member = v.guid; name = v.name; dev = v.dev; state = v.state; temporary = v.temporary; marked = v.marked; owes = λ g. holds v.log g }
-
-pub IsLeaf-itself : (v : LeafVdev) → IsLeaf v (state_of v)
-IsLeaf-itself v = record { member = refl; name = refl; dev = refl; state = refl; temporary = refl; marked = refl; owes = λ g. refl }

@@ -16,7 +16,8 @@ use Rattle.pool_core.specs.Keeping.{IsLeaf, Stands}
 use Rattle.pool_core.specs.Logs.{count_upto, widened, fitted_once, fitted, owing_too, drawn}
 use Rattle.pool_core.specs.Pairs.{PairState, pair_in, HasTwo, IsLoggedTo, both}
 use Rattle.pool_core.specs.State.{LeafState, PoolState}
-use Rattle.pool_core.proofs.Pairs.{pair_of, HasTwo-of, state_of, IsLeaf-itself}
+use Rattle.pool_core.proofs.Boards.{state_of, stands_here}
+use Rattle.pool_core.proofs.Pairs.{pair_of, HasTwo-of}
 use Rattle.pool_core.proofs.Widened.{IsLogged, owed_leaf, widened_leaf}
 
 -- Two leaves with their logs, which stand for those of a state: its numbers are those of a pair.
@@ -238,25 +239,6 @@ drawn_keeps n pair copy kept owed new s first last first_log second_log copies k
       other = subst (λ m. IsLogged n o.second (owing_too m s.second)) (sym next) other;
     }) widenings few
 
--- a state that a pair stands for
-abbrev standing : PairState → (number : ℕ) → PoolState
-standing pair number = record {
-  name = [];
-  pool = record { 0 = 0 };
-  blocks = 0;
-  next_member = 0;
-  sectors = pair.sectors;
-  mirror = pair.mirror;
-  first = state_of pair.first;
-  second = state_of pair.second;
-  committed = λ a. None;
-  writes = λ a. None;
-  number = number;
-}
-
-Stands-standing : (pair : PairState) (number : ℕ) → Stands pair (standing pair number)
-Stands-standing pair number = record { mirror = refl; sectors = refl; first = IsLeaf-itself pair.first; second = IsLeaf-itself pair.second }
-
 -- A draw on a tree: a copy of it with room, in which the number is owed and the logs are made to fit.
 pub record IsDraw (n : ℕ) (old copy kept owed new : Top) : Type 0 where
   pub two : HasTwo old
@@ -287,7 +269,7 @@ module _ (n : ℕ) (old copy kept owed new : Top) (draw : IsDraw n old copy kept
   -- it is a mirror of two leaves again
   pub HasTwo-drawn : 1 ≤ n → n ≤ 2 ^ 62 → IsLoggedTo n (pair_in old).first → IsLoggedTo n (pair_in old).second → HasTwo new
   HasTwo-drawn first last first_log second_log =
-      let keeps = new_keeps (standing (pair_in old) (n - 1)) first last first_log second_log (Stands-standing (pair_in old) (n - 1)) (omega arith) in
+      let keeps = new_keeps (state_of (pair_in old) (n - 1)) first last first_log second_log (stands_here (pair_in old) (n - 1)) (omega arith) in
       HasTwo-of new keeps.first keeps.second (guid_of old.mirror) keeps.are new_built
 
   -- which stand for the leaves behind the draw
