@@ -6,7 +6,6 @@ mod Feedings
 mod FoundDevices
 mod Handling
 mod KnownRecords
-mod LabelReads
 mod LineEnds
 mod NamedLeaves
 mod OpenSeats

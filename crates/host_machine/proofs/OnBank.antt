@@ -39,7 +39,8 @@ use Rattle.host_machine.specs.Devices.{all_handed, number_in}
 use Rattle.host_machine.specs.Fitness.{IsFitLeaf, IsFitPool, PoolIsFit, IsFit}
 use Rattle.host_machine.specs.Machine.{HostState, Entry, Step, IsAnswered, WantsMemory, Clashes, IsSync, SyncsUnless, named_pool, is_bad_size, new_seats, new_state, CreatesOn, CreatesUnless, IsImport, OpensIf, OpensOn, OpensUnless, OpensBest, open_seats, open_state, read_line_asks, OfflinesIn, OnlinesIn, OnlinesNamed, OnlinesOn}
 use Rattle.host_machine.proofs.HostSeats.{handed_room, seat_room, member_room, found_seated, identified_found}
-use Rattle.host_machine.proofs.Members.{AllOf, all_mapped, seat_is, tries_all}
+use Rattle.host_machine.proofs.Boards.{seat_is}
+use Rattle.host_machine.proofs.Members.{AllOf, all_mapped, tries_all}
 use Rattle.host_machine.proofs.NewStates.{new_seats_found}
 use Rattle.host_machine.proofs.QuietLines.{named_is}
 use Rattle.host_machine.proofs.Rising.{AreOn, dev_asked, device_asked, on_more, sync_over, flush_over, drawn_board}
@@ -181,7 +182,7 @@ identified_on P size c seats found made one other (mine, more, all, first, secon
 
 -- a board is on such devices where its leaves are
 board_on : (P : ℕ → Type 0) (s : PoolState) → IsSuch P s.first.dev → IsSuch P s.second.dev → AllOf (λ (m : Member). P m.dev) (board s)
-board_on P s one other = all_mapped (λ (m : Member). P m.dev) seat_of (leaves s) (λ m e. one m.dev (seat_is s.first m e).0, (λ m e. other m.dev (seat_is s.second m e).0, tt))
+board_on P s one other = all_mapped (λ (m : Member). P m.dev) seat_of (leaves s) (λ m e. one m.dev (seat_is s.first m e).dev, (λ m e. other m.dev (seat_is s.second m e).dev, tt))
 
 drawn_on : (P : ℕ → Type 0) (s : PoolState) → AllOf (λ (m : Member). P m.dev) (board s) → AllOf (λ (m : Member). P m.dev) (board (drawn s))
 drawn_on P s on = subst (AllOf (λ (m : Member). P m.dev)) (sym (drawn_board s)) on
@@ -264,8 +265,8 @@ source_on h s (Memory block) outside fit = tt
 source_on h s Hole outside fit = tt
 source_on h s (Copies version) outside fit =
     copies_on (IsOfBank h) (data_start + version.sector) (tries version.birth (leaves s)) outside
-    (tries_all (λ (m : Member). IsOfBank h m.dev) version.birth s (λ m e. leaf_on h s s.first fit.first m.dev (seat_is s.first m e).0)
-    (λ m e. leaf_on h s s.second fit.second m.dev (seat_is s.second m e).0))
+    (tries_all (λ (m : Member). IsOfBank h m.dev) version.birth s (λ m e. leaf_on h s s.first fit.first m.dev (seat_is s.first m e).dev)
+    (λ m e. leaf_on h s s.second fit.second m.dev (seat_is s.second m e).dev))
 
 if_on : (P : ℕ → Type 0) (b : Bool) (asks : List Ask) → AreOn P asks → AreOn P (if b then asks else [])
 if_on P true asks on = on

@@ -25,6 +25,7 @@ fn two_devices(alloc: Global) -> Result<MemBank, Fail> {
 }
 
 /// What a device of the bank holds.
+#[tactic(auto, unfolding(bank_core::specs::Disk::sector_size))]
 fn bytes_of(alloc: Global, bank: &MemBank, dev: u32) -> Result<Vec<u8>, Fail> {
     let mut bytes = Vec::new(alloc);
     for at in 0..bank.sectors(dev) {
