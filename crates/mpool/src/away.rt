@@ -1,6 +1,6 @@
 //! What a pool answers while a device is away, and once it is back.
 use crate::stops::{name, replies};
-use bank_core::{Damage, Fault, ImageChoice, MemBank};
+use bank_core::{Bank, Damage, Fault, ImageChoice, MemBank};
 use std::alloc::Global;
 use std::test::Fail;
 
@@ -25,9 +25,14 @@ fn two_devices(alloc: Global) -> Result<MemBank, Fail> {
 }
 
 /// What a device of the bank holds.
+#[tactic(auto, unfolding(bank_core::specs::Disk::sector_size))]
 fn bytes_of(alloc: Global, bank: &MemBank, dev: u32) -> Result<Vec<u8>, Fail> {
-    let mut bytes = vec![in alloc; 0; SECTORS as usize * 4096]?;
-    bank.image(bank.place(), dev, 0, ImageChoice::Old, &mut bytes);
+    let mut bytes = Vec::new(alloc);
+    for at in 0..bank.sectors(dev) {
+        let mut sector = [0; 4096];
+        bank.image(bank.place(), dev, at, ImageChoice::Old, &mut sector);
+        bytes.extend_from_slice(&sector)?;
+    }
     Ok(bytes)
 }
 
