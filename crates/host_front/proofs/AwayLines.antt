@@ -1,5 +1,5 @@
 -- The lines of leaves that are away.
-use Rattle.std.proofs.Common.{◌≡◌, ℕ, Bool, true, false, List, [], ◌∷◌, map, Option, Some, None, is_some, Result, refl, sym, ◌∙◌, ap, subst, inl, inr, ◌⊎◌, bytes_eq, if◌then◌else◌}
+use Rattle.std.proofs.Common.{◌≡◌, ℕ, Bool, true, false, List, [], map, Option, Some, None, is_some, Result, refl, sym, ◌∙◌, ap, subst, inl, inr, ◌⊎◌}
 use mathlib.Core.List.{map-map}
 use Rattle.mp_base.specs.declared.range.GroupRange.{GroupRange}
 use Rattle.mp_base.specs.declared.refusal.Refusal.{Refusal}

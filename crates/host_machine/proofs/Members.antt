@@ -5,7 +5,7 @@ use Rattle.std.specs.List.{cons_option, filter, filter_map}
 use Rattle.label_store.specs.declared.member.Member.{Member}
 use Rattle.pool_history.proofs.LookedParts.{same_some}
 use Rattle.pool_core.specs.Reading.{tries}
-use Rattle.pool_core.specs.State.{LeafState, PoolState, leaves, having, owing, seat_of}
+use Rattle.pool_core.specs.State.{PoolState, leaves, having, owing, seat_of}
 
 -- what holds of each of these
 abbrev pub AllOf : {X : Type 0} → (X → Type 0) → List X → Type 0

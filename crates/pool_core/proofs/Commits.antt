@@ -1,5 +1,5 @@
 -- A commit, address by address, and the state that it leaves.
-use Rattle.std.proofs.Common.{◌≡◌, ℕ, ◌≢◌, ◌+◌, ◌<◌, ◌≤◌, inl, inr, ◌⊎◌, set, List, [], ◌∷◌, Option, Some, None, length, refl, sym, ◌∙◌, ap, arith, get_or, subst}
+use Rattle.std.proofs.Common.{◌≡◌, ℕ, ◌≢◌, ◌+◌, ◌<◌, ◌≤◌, inl, inr, ◌⊎◌, set, List, Option, Some, None, length, refl, sym, ◌∙◌, ap, arith, get_or, subst}
 use Rattle.std.specs.Prelude.{slice_get}
 use Rattle.std.specs.Option.{option_map}
 use Rattle.std.proofs.lemmas.Bool.{cases_lt}

@@ -1,7 +1,7 @@
 -- The making of a pool: its state in memory, its stamps and its round.
-use Rattle.std.proofs.Common.{◌≡◌, ◌≢◌, ℕ, ◌+◌, ◌^◌, ◌<◌, ◌≤◌, Bool, true, false, List, [], ◌∷◌, ◌++◌, Option, Some, None, Result, Ok, Err, refl, sym, ◌∙◌, ap, subst, append-nil, arith, replicate, length, get_or}
+use Rattle.std.proofs.Common.{◌≡◌, ◌≢◌, ℕ, ◌^◌, ◌<◌, ◌≤◌, Bool, true, false, List, [], ◌∷◌, ◌++◌, Option, Some, None, Result, Ok, Err, refl, sym, ◌∙◌, ap, subst, append-nil, arith, replicate, length, get_or}
 use Rattle.std.proofs.Math.Path.{fun_ext}
-use Rattle.std.specs.Prelude.{slice_get, is_err, IsTrue}
+use Rattle.std.specs.Prelude.{is_err, IsTrue}
 use Rattle.std.proofs.lemmas.List.{length-replicate}
 use Rattle.mp_base.specs.Name.{is_name}
 use Rattle.mp_base.specs.declared.number.Guid.{Guid}

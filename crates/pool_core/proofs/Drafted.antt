@@ -6,7 +6,7 @@ use Rattle.pool_core.specs.Drafts.{DrawsTo}
 use Rattle.pool_core.specs.Keeping.{Stands, IsSeated}
 use Rattle.pool_core.specs.Pairs.{PairState}
 use Rattle.pool_core.specs.State.{PoolState, board}
-use Rattle.pool_core.proofs.Boards.{pair_board, board_is, members_are}
+use Rattle.pool_core.proofs.Boards.{board_is, members_are}
 use Rattle.pool_core.proofs.Redrawn.{IsRedrawn, draws_to, same_board, still_seated}
 use Rattle.pool_core.proofs.Seated.{seated_on}
 

@@ -1,7 +1,7 @@
 -- What the draw of a number changes of a state: its number, and the logs.
-use Rattle.std.proofs.Common.{◌≡◌, ℕ, ◌+◌, ◌≤◌, ◌⊎◌, inl, inr, Bool, true, false, cond, not, ◌&&◌, ◌||◌, ◌==◌, nat_le, refl, ap, sym, ◌∙◌, arith}
+use Rattle.std.proofs.Common.{◌≡◌, ℕ, ◌+◌, ◌≤◌, inl, inr, Bool, true, false, cond, not, ◌&&◌, ◌==◌, nat_le, refl, ap, ◌∙◌, arith}
 use Rattle.std.proofs.lemmas.Bool.{or_cases, and_parts, eqb-true}
-use Rattle.pool_core.specs.Logs.{count_upto, hull_upto, with_log, widened, fitted_once, fitted, owing_too, drawn}
+use Rattle.pool_core.specs.Logs.{count_upto, hull_upto, with_log, widened, fitted_once, owing_too, drawn}
 use Rattle.pool_core.specs.State.{LeafState, PoolState, is_readable}
 use Rattle.pool_core.proofs.Widening.{hull_within}
 

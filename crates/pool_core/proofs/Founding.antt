@@ -1,10 +1,10 @@
 -- A pool in memory as a record says, with its leaves on the devices where they were found.
-use Rattle.std.proofs.Common.{◌≡◌, ℕ, ◌+◌, ◌^◌, ◌<◌, ◌≤◌, Bool, true, nat_le, not, ◌&&◌, ◌||◌, is_some, List, [], ◌∷◌, Option, Some, None, length, replicate, get_or, refl, ap, sym, ◌∙◌, arith}
+use Rattle.std.proofs.Common.{◌≡◌, ℕ, ◌+◌, ◌<◌, ◌≤◌, true, not, ◌||◌, is_some, List, Option, Some, None, length, replicate, get_or, refl, ap, sym, ◌∙◌, arith}
 use Rattle.std.proofs.Math.Bool.{or-true}
 use Rattle.std.proofs.Math.Path.{fun_ext}
 use Rattle.std.proofs.lemmas.Option.{none-some, same_Some, slice_get-get_or}
 use Rattle.std.specs.Option.{option_map}
-use Rattle.std.specs.Prelude.{slice_get, IsTrue}
+use Rattle.std.specs.Prelude.{IsTrue}
 use Rattle.group_set.specs.Groups.{holds}
 use Rattle.mp_base.specs.Ranges.{Rises}
 use Rattle.group_set.specs.Ranges.{ranges_upto}

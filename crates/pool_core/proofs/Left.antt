@@ -1,5 +1,5 @@
 -- The outage of the leaves that are left without one, in the tree and in the state.
-use Rattle.std.proofs.Common.{◌≡◌, ◌≢◌, ℕ, ◌≤◌, ◌<◌, Bool, true, false, cond, ◌&&◌, ◌||◌, ◌==◌, not, List, [], ◌∷◌, inl, inr, Option, Some, None, IfSome, IfNone, refl, ap, sym, ◌∙◌, subst, arith}
+use Rattle.std.proofs.Common.{◌≡◌, ◌≢◌, ℕ, Bool, true, false, cond, ◌&&◌, ◌||◌, ◌==◌, not, List, [], ◌∷◌, inl, inr, Option, Some, None, IfSome, IfNone, refl, ap, sym, ◌∙◌}
 use Rattle.std.specs.List.{filter, list_all}
 use Rattle.std.proofs.lemmas.Bool.{cases_lt, false≢true, false_from_ne_true, eqb-true}
 use Rattle.mp_base.specs.declared.number.Guid.{Guid}
@@ -13,7 +13,7 @@ use Rattle.vdev_tree.specs.declared.vdev.State.{State}
 use Rattle.dtl_rules.specs.Rules as rules
 use Rattle.dtl_rules.proofs.Flat.{pair_left}
 use Rattle.dtl_rules.proofs.Passing.{rest_at_top}
-use Rattle.pool_core.specs.Away.{is_out, others, IsOut, LeastOut, IsRequired}
+use Rattle.pool_core.specs.Away.{is_out, others, LeastOut, IsRequired}
 use Rattle.pool_core.specs.Keeping.{IsLeaf, Stands}
 use Rattle.pool_core.specs.Pairs.{pair_in, first_in, second_in, HasTwo}
 use Rattle.pool_core.specs.State.{LeafState, PoolState, leaves as leaves_in}

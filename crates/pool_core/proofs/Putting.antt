@@ -2,12 +2,10 @@
 use Rattle.std.proofs.Common.{◌≡◌, ℕ, ◌<◌, ◌≤◌, ◌==◌, Bool, true, false, cond, List, Option, Some, None, length, refl, set, sym, ◌∙◌, ap, inl, subst, lt-ltb, Ok, Err, arith}
 use Rattle.std.proofs.lemmas.Bool.{eqb-true, eqb-false}
 use Rattle.std.specs.Prelude.{slice_get}
-use Rattle.std.specs.Option.{option_map}
 use Rattle.mp_base.specs.declared.refusal.Refusal.TheVariants as refusals
 use Rattle.pool_core.specs.declared.pool.Pool.{Pool}
 use Rattle.pool_core.specs.Committing.{SameOtherwise}
 use Rattle.pool_core.specs.Keeping.{Represents, Stands}
-use Rattle.pool_core.specs.Recorded.{pointer_of}
 use Rattle.pool_core.specs.State.{PoolState, written}
 use Rattle.pool_core.specs.Writing.{Puts}
 use Rattle.pool_core.proofs.Lists.{same_some, set_get_same, set_get_other}

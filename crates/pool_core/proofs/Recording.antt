@@ -1,5 +1,5 @@
 -- The configuration that a pool keeps is that of the state that it stands for, and its round writes it.
-use Rattle.std.proofs.Common.{◌≡◌, ℕ, ◌+◌, ◌-◌, ◌*◌, ◌%◌, ◌<◌, ◌≤◌, Bool, true, List, [], ◌∷◌, ◌++◌, Option, length, take, refl, arith, sym, ◌∙◌, ap, length-append, subst}
+use Rattle.std.proofs.Common.{◌≡◌, ℕ, ◌+◌, ◌-◌, ◌*◌, ◌<◌, ◌≤◌, Bool, List, ◌++◌, Option, length, take, refl, arith, sym, ◌∙◌, ap, length-append, subst}
 use Rattle.std.proofs.Math.Path.{fun_ext}
 use Rattle.std.proofs.Math.Seq.{take-append_seam, take-append-add, drop-append_seam}
 use Rattle.std.proofs.lemmas.List.{take-replicate}
@@ -8,7 +8,7 @@ use Rattle.std.specs.Option.{option_map}
 use Rattle.mp_base.specs.Block.{zeros}
 use Rattle.mp_base.specs.declared.number.Group.{Group}
 use Rattle.mp_base.specs.declared.number.Guid.{Guid}
-use Rattle.bank_core.specs.Disk.{sector_size, sectors_in}
+use Rattle.bank_core.specs.Disk.{sector_size}
 use Rattle.bank_core.specs.Story.{Story}
 use Rattle.label_store.specs.declared.member.Member.{Member}
 use Rattle.label_store.specs.Committing.{IsSealed, Commits}

@@ -1,21 +1,19 @@
 -- The draw of a number on a pair of leaves, whose logs are made to fit.
-use Rattle.std.proofs.Common.{◌≡◌, ℕ, ◌+◌, ◌-◌, ◌^◌, ◌<◌, ◌≤◌, min, max, Bool, true, false, cond, ◌&&◌, ◌==◌, not, nat_le, inl, inr, ◌⊎◌, List, [], ◌∷◌, ◌++◌, All, None, length, refl, ap, sym, ◌∙◌, subst, arith, length-append}
+use Rattle.std.proofs.Common.{◌≡◌, ℕ, ◌+◌, ◌-◌, ◌^◌, ◌<◌, ◌≤◌, min, max, Bool, true, false, cond, ◌&&◌, ◌==◌, not, nat_le, inl, inr, ◌⊎◌, List, [], ◌∷◌, ◌++◌, All, length, refl, ap, sym, ◌∙◌, subst, arith, length-append}
 use Rattle.std.specs.List.{AllZip}
 use Rattle.std.proofs.lemmas.Bool.{false≢true}
 use Rattle.std.proofs.lemmas.Bool.Decides.{nat_tests}
 use Rattle.std.proofs.lemmas.List.Elements.{All-head, All-tail}
-use Rattle.mp_base.specs.declared.number.Guid.{Guid}
-use Rattle.group_set.specs.Groups.{run_count}
 use Rattle.vdev_tree.specs.Leaf.{SameLeaf}
 use Rattle.vdev_tree.specs.Changes.{Owes, KeepsLog}
 use Rattle.vdev_tree.specs.Tree.{leaves, marks, guid_of, pair_marks, IsCopy}
 use Rattle.vdev_tree.specs.declared.top.Top.{Top}
 use Rattle.vdev_tree.specs.declared.vdev.LeafVdev.{LeafVdev}
 use Rattle.dtl_rules.specs.Widening.{ranges_of, total_ranges, most_ranges, none_has, IsCounted, WidensLeaf, WidensFirst, Widenings, none, more}
-use Rattle.pool_core.specs.Keeping.{IsLeaf, Stands}
+use Rattle.pool_core.specs.Keeping.{Stands}
 use Rattle.pool_core.specs.Logs.{count_upto, widened, fitted_once, fitted, owing_too, drawn}
 use Rattle.pool_core.specs.Pairs.{PairState, pair_in, HasTwo, IsLoggedTo, both}
-use Rattle.pool_core.specs.State.{LeafState, PoolState}
+use Rattle.pool_core.specs.State.{PoolState}
 use Rattle.pool_core.proofs.Boards.{state_of, stands_here}
 use Rattle.pool_core.proofs.Pairs.{pair_of, HasTwo-of}
 use Rattle.pool_core.proofs.Widened.{IsLogged, owed_leaf, widened_leaf}

@@ -1,17 +1,13 @@
 -- A pair behind the draw of the next number, against the pair before it.
-use Rattle.std.proofs.Common.{◌≡◌, ◌≢◌, ℕ, ◌+◌, ◌^◌, ◌<◌, ◌≤◌, Bool, true, false, not, ◌||◌, is_some, List, [], ◌∷◌, Option, Some, None, length, refl, ap, sym, ◌∙◌, arith, subst}
+use Rattle.std.proofs.Common.{◌≡◌, ℕ, ◌+◌, ◌^◌, ◌≤◌, Bool, true, length, refl, ap, sym, ◌∙◌, arith, subst}
 use Rattle.std.proofs.Math.Path.{fun_ext}
 use Rattle.std.specs.Prelude.{IsTrue}
 use Rattle.mp_base.specs.declared.number.Group.{Group}
-use Rattle.mp_base.specs.declared.number.Guid.{Guid}
 use Rattle.group_set.specs.Groups.{holds}
-use Rattle.mp_base.specs.Ranges.{Rises}
 use Rattle.group_set.specs.Ranges.{ranges_upto}
 use Rattle.group_set.proofs.Upto.{upto_rises}
-use Rattle.config_codec.specs.Fields.{Fields}
-use Rattle.config_codec.specs.Validity.{IsValid, is_valid}
+use Rattle.config_codec.specs.Validity.{is_valid}
 use Rattle.config_codec.proofs.Testing.{valid_from, valid_test}
-use Rattle.vdev_tree.specs.Leaf.{is_up}
 use Rattle.vdev_tree.specs.declared.vdev.LeafVdev.{LeafVdev}
 use Rattle.pool_core.specs.declared.pool.Pool.{Pool}
 use Rattle.pool_core.specs.Drafts.{DrawsTo}
@@ -19,8 +15,8 @@ use Rattle.pool_core.specs.Keeping.{IsLeaf, Stands, Represents, IsSeated, HasRoo
 use Rattle.pool_core.specs.Logs.{drawn, with_log, count_upto}
 use Rattle.pool_core.specs.Pairs.{PairState, AreApart, IsLoggedTo, fields_from, has_device}
 use Rattle.pool_core.specs.State.{LeafState, PoolState}
-use Rattle.pool_core.proofs.Boards.{leaf_state, state_of, stands_here, leaf_seat, pair_board}
-use Rattle.pool_core.proofs.Drawing.{drawn_relogs, drawn_number, drawn_within}
+use Rattle.pool_core.proofs.Boards.{leaf_state, state_of, stands_here, pair_board}
+use Rattle.pool_core.proofs.Drawing.{drawn_relogs, drawn_within}
 use Rattle.pool_core.proofs.Validating.{pointer_later}
 use Rattle.pool_core.proofs.Widening.{AreFew, fitted_few}
 

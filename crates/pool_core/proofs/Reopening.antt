@@ -10,7 +10,7 @@ use Rattle.bank_core.specs.Story.{Story}
 use Rattle.bank_core.proofs.Composing.{made_none, made_more}
 use Rattle.label_store.specs.declared.member.Member.{Member}
 use Rattle.pool_core.specs.declared.pool.Pool.{Pool}
-use Rattle.pool_core.specs.Done.{commit_answer, no_leaf, Opens, OpensIf, IsOpened}
+use Rattle.pool_core.specs.Done.{commit_answer, no_leaf, OpensIf, IsOpened}
 use Rattle.pool_core.specs.Keeping.{Represents}
 use Rattle.pool_core.specs.Logs.{drawn}
 use Rattle.pool_core.specs.State.{PoolState, board, has_nobody}

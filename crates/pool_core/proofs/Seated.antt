@@ -1,5 +1,5 @@
 -- Where a pool's board is seated.
-use Rattle.std.proofs.Common.{◌≡◌, ℕ, ◌+◌, ◌≤◌, ◌<◌, List, sym, subst, arith}
+use Rattle.std.proofs.Common.{◌≡◌, ℕ, ◌+◌, ◌<◌, List, sym, subst, arith}
 use Rattle.label_store.specs.declared.member.Member.{Member}
 use Rattle.label_store.specs.Seats.{AreSeated, AreApart}
 use Rattle.vdev_tree.specs.declared.vdev.LeafVdev.{LeafVdev}

@@ -1,6 +1,6 @@
 -- What a pool keeps of its abstract state: what its record says, its tree, and the blocks that were written
 -- since the last commit. Of a committed block it keeps where it stands and its sum.
-use Rattle.std.specs.Prelude.{◌≡◌, ℕ, ◌+◌, ◌<◌, ◌≤◌, List, [], ◌∷◌, length, Option, Some, None, slice_get}
+use Rattle.std.specs.Prelude.{◌≡◌, ℕ, ◌+◌, ◌<◌, ◌≤◌, List, length, Option, Some, None, slice_get}
 use Rattle.std.specs.Option.{option_map}
 use Rattle.group_set.specs.Groups.{holds}
 use Rattle.vdev_tree.specs.declared.vdev.LeafVdev.{LeafVdev}

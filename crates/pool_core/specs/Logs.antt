@@ -1,6 +1,6 @@
 -- How the logs of a pool change when a number is drawn: each leaf that isn't on the board owes it, and logs
 -- of too many ranges are widened.
-use Rattle.std.specs.Prelude.{ℕ, zero, suc, ◌+◌, ◌==◌, Bool, true, false, ◌&&◌, ◌||◌, not, cond, nat_le, length}
+use Rattle.std.specs.Prelude.{ℕ, zero, suc, ◌+◌, ◌==◌, Bool, false, ◌&&◌, ◌||◌, not, cond, nat_le, length}
 use Rattle.group_set.specs.Ranges.{ranges_upto}
 use Rattle.pool_core.specs.State.{LeafState, PoolState, is_readable}
 

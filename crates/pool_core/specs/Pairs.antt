@@ -1,5 +1,5 @@
 -- The tree of a pool at this stage: one top, a mirror of two leaves.
-use Rattle.std.specs.Prelude.{◌≡◌, ◌≢◌, ℕ, ◌<◌, ◌≤◌, ◌==◌, Bool, true, false, not, ◌||◌, is_some, cond, List, [], ◌∷◌, length, Option, Some, None}
+use Rattle.std.specs.Prelude.{◌≡◌, ℕ, ◌≤◌, Bool, true, false, not, ◌||◌, is_some, List, [], ◌∷◌, Option, Some, None}
 use Rattle.mp_base.specs.declared.number.Group.{Group}
 use Rattle.mp_base.specs.declared.number.Guid.{Guid}
 use Rattle.config_codec.specs.declared.config.LeafConfig.{LeafConfig}
@@ -7,12 +7,11 @@ use Rattle.config_codec.specs.declared.config.Pointer.{Pointer}
 use Rattle.config_codec.specs.Fields.{Fields}
 use Rattle.group_set.specs.Ranges.{ranges_upto}
 use Rattle.pool_core.specs.Recorded.{kept_of}
-use Rattle.group_set.specs.Groups.{Groups, holds, run_count}
+use Rattle.group_set.specs.Groups.{holds}
 use Rattle.vdev_tree.specs.Leaf.{is_up}
 use Rattle.vdev_tree.specs.Tree.{leaves, marks, guid_of, pair_marks}
 use Rattle.vdev_tree.specs.declared.top.Top.{Top}
 use Rattle.vdev_tree.specs.declared.vdev.LeafVdev.{LeafVdev}
-use Rattle.vdev_tree.specs.declared.vdev.Vdev.{Vdev}
 use Rattle.vdev_tree.specs.declared.vdev.State.TheVariants as states
 
 -- the mirror's number, the data sectors of each member, and the two leaves in tree order

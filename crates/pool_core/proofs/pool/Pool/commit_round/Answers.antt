@@ -1,4 +1,4 @@
-use Rattle.std.proofs.Common.{arith, ◌∙◌}
+use Rattle.std.proofs.Common.{◌∙◌}
 use Rattle.pool_core.proofs.Boards.{members_are}
 use Rattle.pool_core.proofs.Recording.{parts_valid, own_round}
 use Rattle.pool_core.proofs.Seated.{pool_seated, pool_apart}

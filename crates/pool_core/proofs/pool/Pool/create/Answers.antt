@@ -1,6 +1,5 @@
-use Rattle.std.proofs.Common.{◌≡◌, ◌∙◌, sym, ap, refl, length, arith}
+use Rattle.std.proofs.Common.{◌∙◌, sym, ap, refl, length}
 use Rattle.pool_core.specs.Making.{made_state}
-use Rattle.pool_core.specs.State.{board}
 use Rattle.pool_core.proofs.Creating.{stamps, first_fails, second_fails, after_round, left_first, left_second, left_none}
 use Rattle.pool_core.proofs.pool.Pool.create.Goals as goal
 

@@ -1,4 +1,4 @@
-use Rattle.std.proofs.Common.{sym, arith, ap, length, ◌∙◌}
+use Rattle.std.proofs.Common.{sym, arith, ap, length}
 use Rattle.pool_core.proofs.Boards.{board_short, members_are}
 use Rattle.pool_core.proofs.Ending.{ends_suspended, ends_whole, ends_failed}
 use Rattle.pool_core.proofs.pool.Pool.end_commit.Goals as goal
