@@ -1,6 +1,8 @@
 -- The state behind the draw of a number, as an opening commits it again: it stays fit.
-use Rattle.std.proofs.Common.{◌≡◌, ℕ, ◌+◌, Bool, false, List, Some, None, sym, subst, arith}
+use Rattle.std.proofs.Common.{◌≡◌, ℕ, ◌+◌, Bool, false, List, Some, None, sym, subst, arith, refl}
+use Rattle.config_codec.specs.Fields.{Fields}
 use Rattle.config_codec.specs.Validity.{IsValid}
+use Rattle.config_codec.proofs.Changes.{valid_changed}
 use Rattle.pool_core.specs.Logs.{with_log, drawn}
 use Rattle.pool_core.specs.Recorded.{fields_in}
 use Rattle.pool_core.specs.State.{LeafState, PoolState, is_spent}
@@ -18,28 +20,16 @@ abbrev pub redrawn : (a b : ℕ → Bool) → PoolState → PoolState
 redrawn a b s = relogged a b (record s { number = s.number + 1 })
 
 redrawn_valid : (a b : ℕ → Bool) (s : PoolState) → IsValid (fields_in s) → is_spent s.number ≡ false → AreFew (redrawn a b s) → IsValid (fields_in (redrawn a b s))
-redrawn_valid a b s v open_numbers few = record {
-  pool = v.pool;
-  name = v.name;
-  blocks = v.blocks;
-  number = (omega arith, let below = below_spent s.number open_numbers in omega (arith, below));
-  next_member = v.next_member;
-  counted = v.counted;
-  pointers = λ x p e. later_pointer s.number x p (v.pointers x p e);
-  sectors = v.sectors;
-  mirror = v.mirror;
-  first = v.first;
-  second = v.second;
-  not_first = v.not_first;
-  not_second = v.not_second;
-  two_members = v.two_members;
-  first_name = v.first_name;
-  second_name = v.second_name;
-  two_devices = v.two_devices;
-  first_log = upto_rises a (s.number + 1);
-  second_log = upto_rises b (s.number + 1);
-  few_ranges = few;
-}
+redrawn_valid a b s v open_numbers few =
+    let now = fields_in (redrawn a b s) in
+    valid_changed (fields_in s) now.number now.pointers now.first now.second v (refl, refl) (refl, refl) (record {
+      number = (omega arith, let below = below_spent s.number open_numbers in omega (arith, below));
+      counted = v.counted;
+      pointers = λ x p e. later_pointer s.number x p (v.pointers x p e);
+      first_log = upto_rises a (s.number + 1);
+      second_log = upto_rises b (s.number + 1);
+      few_ranges = few;
+    })
 
 relogged_leaf : (size : ℕ → ℕ) (sectors n m : ℕ) (log : ℕ → Bool) (leaf : LeafState) → IsFitLeaf size sectors n leaf → IsWithin m log
     → IsFitLeaf size sectors m (with_log log leaf)
@@ -73,28 +63,14 @@ redrawn_synced a b s = record (redrawn a b s) { committed = λ x. next_version (
 
 synced_at : (size : ℕ → ℕ) (a b : ℕ → Bool) (s : PoolState) → IsFitPool size s → is_spent s.number ≡ false → IsFitPool size (redrawn a b s) → IsFitPool size (redrawn_synced a b s)
 synced_at size a b s fit open_numbers drawn = record {
-  valid = record {
-    pool = v.pool;
-    name = v.name;
-    blocks = v.blocks;
+  valid = valid_changed (fields_in (redrawn a b s)) now.number now.pointers now.first now.second v (refl, refl) (refl, refl) (record {
     number = v.number;
-    next_member = v.next_member;
     counted = pointers_long (redrawn_synced a b s).committed s.blocks;
     pointers = pointers_by (redrawn_synced a b s).committed s.blocks (record { 0 = s.number + 1 }) (λ x version e. next_pointer size s x version fit e);
-    sectors = v.sectors;
-    mirror = v.mirror;
-    first = v.first;
-    second = v.second;
-    not_first = v.not_first;
-    not_second = v.not_second;
-    two_members = v.two_members;
-    first_name = v.first_name;
-    second_name = v.second_name;
-    two_devices = v.two_devices;
     first_log = v.first_log;
     second_log = v.second_log;
     few_ranges = v.few_ranges;
-  };
+  });
   first = drawn.first;
   second = drawn.second;
   apart = drawn.apart;
@@ -104,6 +80,9 @@ synced_at size a b s fit open_numbers drawn = record {
   known_whole = λ x version block e known. synced_whole size s x version block fit e known;
 }
   where
+    now : Fields
+    now = fields_in (redrawn_synced a b s)
+
     v : IsValid (fields_in (redrawn a b s))
     v = drawn.valid
 

@@ -14,6 +14,7 @@ use Rattle.config_codec.specs.Fields.{Fields}
 use Rattle.config_codec.specs.Reading.{config_in}
 use Rattle.config_codec.specs.Validity.{IsValid}
 use Rattle.config_codec.proofs.Deciding.{is_config}
+use Rattle.config_codec.proofs.Changes.{valid_changed}
 use Rattle.pool_history.specs.Records.{Rec, Cell}
 use Rattle.pool_core.specs.Making.{top_sectors}
 use Rattle.pool_core.specs.Logs.{drawn}
@@ -100,33 +101,21 @@ found_committed (r ∷ records) config c drawn is =
 -- The configuration of the state that is opened is valid.
 pub found_valid : (c : Fields) (committed : ℕ → Option Version) (found : Option ℕ × Option ℕ) → IsValid c
     → ((a : ℕ) → a < c.blocks → slice_get c.pointers a ≡ Some (option_map pointer_of (committed a))) → IsValid (fields_in (found_state c committed found.0 found.1))
-found_valid c committed found v are = record {
-  pool = v.pool;
-  name = v.name;
-  blocks = v.blocks;
-  number = v.number;
-  next_member = v.next_member;
-  counted = pointers_long committed c.blocks;
-  pointers = λ a p is.
-      let within : a < length (pointers_of committed c.blocks) = slice_get_within (pointers_of committed c.blocks) a (Some p) is in
-      let below : a < c.blocks = subst (λ n. a < n) (pointers_long committed c.blocks) within in
-      v.pointers a p (are a below ∙ sym (pointers_at committed c.blocks a below) ∙ is);
-  sectors = v.sectors;
-  mirror = v.mirror;
-  first = v.first;
-  second = v.second;
-  not_first = v.not_first;
-  not_second = v.not_second;
-  two_members = v.two_members;
-  first_name = v.first_name;
-  second_name = v.second_name;
-  two_devices = v.two_devices;
-  first_log = upto_rises (in_ranges c.first.log) c.number.0;
-  second_log = upto_rises (in_ranges c.second.log) c.number.0;
-  few_ranges =
-      subst (λ x. length x + length (ranges_upto (in_ranges c.second.log) c.number.0) ≤ 4096) (sym (upto_back c.number.0 c.first.log v.first_log))
-      (subst (λ x. length c.first.log + length x ≤ 4096) (sym (upto_back c.number.0 c.second.log v.second_log)) v.few_ranges);
-}
+found_valid c committed found v are =
+    let now = fields_in (found_state c committed found.0 found.1) in
+    valid_changed c c.number now.pointers now.first now.second v (refl, refl) (refl, refl) (record {
+      number = v.number;
+      counted = pointers_long committed c.blocks;
+      pointers = λ a p is.
+          let within : a < length (pointers_of committed c.blocks) = slice_get_within (pointers_of committed c.blocks) a (Some p) is in
+          let below : a < c.blocks = subst (λ n. a < n) (pointers_long committed c.blocks) within in
+          v.pointers a p (are a below ∙ sym (pointers_at committed c.blocks a below) ∙ is);
+      first_log = upto_rises (in_ranges c.first.log) c.number.0;
+      second_log = upto_rises (in_ranges c.second.log) c.number.0;
+      few_ranges =
+          subst (λ x. length x + length (ranges_upto (in_ranges c.second.log) c.number.0) ≤ 4096) (sym (upto_back c.number.0 c.first.log v.first_log))
+          (subst (λ x. length c.first.log + length x ≤ 4096) (sym (upto_back c.number.0 c.second.log v.second_log)) v.few_ranges);
+    })
 
 leaf_fit : (size : ℕ → ℕ) (sectors number : ℕ) (leaf : LeafConfig) (found : Option ℕ) → ((d : ℕ) → found ≡ Some d → sectors + 256 ≤ size d)
     → IsWithin number (in_ranges leaf.log) → IsFitLeaf size sectors number (leaf_on leaf found)

@@ -8,6 +8,7 @@ use Rattle.bank_core.specs.declared.bank.Fault.{Fault}
 use Rattle.bank_core.specs.Disk.{Noted}
 use Rattle.vdev_tree.specs.declared.vdev.State.{State}
 use Rattle.config_codec.specs.Validity.{IsValid}
+use Rattle.config_codec.proofs.Changes.{valid_kept}
 use Rattle.pool_history.proofs.LooksFound.{alike}
 use Rattle.pool_core.specs.Away.{leaf_named, changed_if, with_leaf, is_offline, taken_offline, TakesOffline, OfflinesLeaf, IsOffline, is_away, brought, marked, online_answer, OnlinesLeaf}
 use Rattle.pool_core.specs.Recorded.{fields_in}
@@ -74,52 +75,10 @@ changed_leaf : (size : ℕ → ℕ) (sectors number : ℕ) (leaf : LeafState) (d
 changed_leaf size sectors number leaf dev state temporary marked fit seated room = record { seated = seated; room = room; logged = fit.logged }
 
 first_valid : (s : PoolState) (dev : Option ℕ) (state : State) (temporary marked : Bool) → IsValid (fields_in s) → IsValid (fields_in (with_first (changed_to dev state temporary marked) s))
-first_valid s dev state temporary marked v = record {
-  pool = v.pool;
-  name = v.name;
-  blocks = v.blocks;
-  number = v.number;
-  next_member = v.next_member;
-  counted = v.counted;
-  pointers = v.pointers;
-  sectors = v.sectors;
-  mirror = v.mirror;
-  first = v.first;
-  second = v.second;
-  not_first = v.not_first;
-  not_second = v.not_second;
-  two_members = v.two_members;
-  first_name = v.first_name;
-  second_name = v.second_name;
-  two_devices = v.two_devices;
-  first_log = v.first_log;
-  second_log = v.second_log;
-  few_ranges = v.few_ranges;
-}
+first_valid s dev state temporary marked v = valid_kept (fields_in s) (fields_in (with_first (changed_to dev state temporary marked) s)).first (fields_in s).second v (refl, refl) (refl, refl) refl refl
 
 second_valid : (s : PoolState) (dev : Option ℕ) (state : State) (temporary marked : Bool) → IsValid (fields_in s) → IsValid (fields_in (with_second (changed_to dev state temporary marked) s))
-second_valid s dev state temporary marked v = record {
-  pool = v.pool;
-  name = v.name;
-  blocks = v.blocks;
-  number = v.number;
-  next_member = v.next_member;
-  counted = v.counted;
-  pointers = v.pointers;
-  sectors = v.sectors;
-  mirror = v.mirror;
-  first = v.first;
-  second = v.second;
-  not_first = v.not_first;
-  not_second = v.not_second;
-  two_members = v.two_members;
-  first_name = v.first_name;
-  second_name = v.second_name;
-  two_devices = v.two_devices;
-  first_log = v.first_log;
-  second_log = v.second_log;
-  few_ranges = v.few_ranges;
-}
+second_valid s dev state temporary marked v = valid_kept (fields_in s) (fields_in s).first (fields_in (with_second (changed_to dev state temporary marked) s)).second v (refl, refl) (refl, refl) refl refl
 
 -- names with one device are one, and the leaves have two
 two_apart : (table : List HostDevice) (s : PoolState) (d : ℕ) → AreApart table → IsValid (fields_in s) → number_in s.first.name table ≡ Some d → number_in s.second.name table ≡ Some d → ⊥

@@ -9,6 +9,7 @@ use Rattle.mp_base.specs.declared.number.Group.{Group}
 use Rattle.config_codec.specs.declared.config.Pointer.{Pointer}
 use Rattle.config_codec.specs.Fields.{Fields}
 use Rattle.config_codec.specs.Validity.{IsValid, IsPointer, is_valid}
+use Rattle.config_codec.proofs.Changes.{valid_changed}
 use Rattle.config_codec.proofs.Testing.{valid_from, valid_test}
 use Rattle.pool_core.specs.declared.pool.Pool.{Pool}
 use Rattle.pool_core.specs.Committing.{free_sector, next_pointer, IsNext}
@@ -38,28 +39,14 @@ pointer_at number slots a x next p false is new old e = old p (set_get_other slo
 -- the same configuration with another pointer
 valid_set : (c : Fields) (a : ℕ) (next : Option Pointer) → IsValid c → ((p : Pointer) → next ≡ Some p → IsPointer c.number a p)
     → IsValid (record c { pointers = set c.pointers a next })
-valid_set c a next v is = record {
-  pool = v.pool;
-  name = v.name;
-  blocks = v.blocks;
+valid_set c a next v is = valid_changed c c.number (set c.pointers a next) c.first c.second v (refl, refl) (refl, refl) (record {
   number = v.number;
-  next_member = v.next_member;
   counted = length-set c.pointers a next ∙ v.counted;
   pointers = λ x p e. pointer_at c.number c.pointers a x next p (x == a) refl is (v.pointers x) e;
-  sectors = v.sectors;
-  mirror = v.mirror;
-  first = v.first;
-  second = v.second;
-  not_first = v.not_first;
-  not_second = v.not_second;
-  two_members = v.two_members;
-  first_name = v.first_name;
-  second_name = v.second_name;
-  two_devices = v.two_devices;
   first_log = v.first_log;
   second_log = v.second_log;
   few_ranges = v.few_ranges;
-}
+})
 
 -- a pointer's sector is one of the first 64
 low_sector : (c : Fields) (a : ℕ) (p : Pointer) → IsValid c → a < length c.pointers → slice_get c.pointers a ≡ Some (Some p) → p.sector < 64
