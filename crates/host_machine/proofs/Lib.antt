@@ -31,6 +31,7 @@ pub mod Missing
 pub mod NewStates
 pub mod NextStates
 pub mod OnBank
+pub mod Onlines
 pub mod Openings
 pub mod QuietLines
 pub mod Rereading

@@ -9,7 +9,8 @@ use Rattle.bank_core.proofs.Composing.{caused_split}
 use Rattle.pool_wire.specs.declared.reply.Reply.TheVariants as replies
 use Rattle.pool_wire.specs.declared.request.Request.TheVariants as requests
 use Rattle.pool_core.specs.State.{PoolState, is_spent}
-use Rattle.host_machine.specs.Answering.{SomeRose, SuspendsByCounts, CommitsByCounts, CreatesByCounts}
+use Rattle.host_machine.specs.Answering.{SomeRose, SuspendsByCounts, CommitsByCounts, CreatesByCounts, OnlinesByCounts}
+use Rattle.host_machine.specs.Devices.{number_in}
 use Rattle.host_machine.specs.Machine.{HostState, Entry, Step, Replay, is_bad_size, new_seats, named_pool}
 use Rattle.host_machine.specs.Runs.{EndsByCounts, EndByCounts}
 use Rattle.host_machine.proofs.Running.{entry_of}
@@ -26,6 +27,8 @@ pub record CountLaws : Type 0 where
   pub imports : (h : HostState) (entry : Entry) (made : List Noted) (next : HostState) (name : List ℕ) (before after : ℕ → ℕ) (group : Group) (top : Guid) (faults : ℕ)
       → Step h entry made next → entry.asked ≡ Some (requests.Import name) → entry.reply ≡ replies.Refused (refusals.Suspended group top faults)
       → AllCaused made before after → (faults ≡ 0) ⊎ SomeRose before after
+  pub onlines : (h : HostState) (entry : Entry) (made : List Noted) (next : HostState) (name device : List ℕ) (dev : ℕ) (before after : ℕ → ℕ) → Step h entry made next
+      → entry.asked ≡ Some (requests.Online name device) → number_in device h.table ≡ Some dev → AllCaused made before after → OnlinesByCounts dev before after entry.reply
 
 entry_ends : CountLaws → (h : HostState) (entries : List Entry) (calls : List Noted) (next : HostState) (start end : ℕ → ℕ) → Replay h entries calls next → AllCaused calls start end
     → (before : List Entry) (entry : Entry) (after : List Entry) → entries ≡ before ++ entry ∷ after → EndsByCounts h before entry after calls next start end
@@ -47,6 +50,7 @@ entry_ends laws h entries calls next start end replay caused before entry after 
       creates = λ name blocks one other seats asked good found.
           laws.creates at.old entry at.made at.new name blocks one other seats front.0 mine.0 at.step asked good found mine.1;
       imports = λ name group top faults asked reply. laws.imports at.old entry at.made at.new name front.0 mine.0 group top faults at.step asked reply mine.1;
+      onlines = λ name device dev asked number. laws.onlines at.old entry at.made at.new name device dev front.0 mine.0 at.step asked number mine.1;
     }
 
 pub entries_end : CountLaws → (h : HostState) (entries : List Entry) (calls : List Noted) (next : HostState) (start end : ℕ → ℕ) → Replay h entries calls next

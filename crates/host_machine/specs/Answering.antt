@@ -138,6 +138,12 @@ pub record CreatesByCounts (first second : List ℕ) (seats : ℕ × ℕ) (befor
   pub cause : (name : List ℕ) → reply ≡ replies.DeviceFault name → IsBlamed first seats.0 before after reply ⊎ IsBlamed second seats.1 before after reply
   pub blamed : (d : ℕ) → before d < after d → IsBlamed first seats.0 before after reply ⊎ (IsBlamed second seats.1 before after reply ⊎ HasNoMemory reply)
 
+-- An `online` on the device of this number tells a failed read only where the device's count rises in it, and that the
+-- device has another identity only where none moves.
+pub record OnlinesByCounts (dev : ℕ) (before after : ℕ → ℕ) (reply : Reply) : Type 0 where
+  pub cause : (name : List ℕ) → reply ≡ replies.DeviceFault name → Rose (before dev) (after dev)
+  pub calm : (name : List ℕ) → reply ≡ replies.WrongLabel name → NoneMoved before after
+
 -- what stands on the sectors of all devices
 abbrev pub all_stable : Sectors → Known
 all_stable sectors d s = Some (sectors d s).stable

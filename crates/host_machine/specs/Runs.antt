@@ -15,9 +15,9 @@ use Rattle.pool_history.specs.Premises.{Premises, AreGood}
 use Rattle.pool_history.specs.Survival.{Survives}
 use Rattle.pool_core.specs.Heads.{head_of}
 use Rattle.pool_core.specs.State.{PoolState, is_spent}
-use Rattle.host_machine.specs.Answering.{IsLost, HasClash, IsExcused, SomeRose, SuspendsByCounts, CommitsByCounts, CreatesByCounts}
+use Rattle.host_machine.specs.Answering.{IsLost, HasClash, IsExcused, SomeRose, SuspendsByCounts, CommitsByCounts, CreatesByCounts, OnlinesByCounts}
 use Rattle.host_machine.specs.Births.{IsBorn, StampFails, LeavesPool, LeavesThroughout, new_pool}
-use Rattle.host_machine.specs.Devices.{all_handed}
+use Rattle.host_machine.specs.Devices.{all_handed, number_in}
 use Rattle.host_machine.specs.Machine.{HostState, Entry, is_bad_size, new_seats, new_state, IsCreate, IsImport, Step, Replay, named_pool}
 use Rattle.host_machine.specs.Tracking.{Cost, Takes, Tracks, Follows, FindsPool, HasNoTwins, is_ours}
 
@@ -89,7 +89,7 @@ pub record KeepsPools (h : HostState) (sectors : Sectors) (entries : List Entry)
       → BeginsPool at.old (new_state at.old entry.second name blocks one other seats) seats (run at.first sectors) at.made at.new after at.rest next at.later
 
 -- How an entry of a run ended, by the counts of its own calls: a sync of the open pool with numbers left, a create
--- with its devices found, and an opening that was suspended.
+-- with its devices found, an opening that was suspended, and an `online` of a device that was found.
 pub record EndsByCounts (h : HostState) (before : List Entry) (entry : Entry) (after : List Entry) (calls : List Noted) (next : HostState) (start end : ℕ → ℕ) : Type 0 where
   pub at : IsEntryOf h before entry after calls next
   pub from : ℕ → ℕ
@@ -103,6 +103,7 @@ pub record EndsByCounts (h : HostState) (before : List Entry) (entry : Entry) (a
       → new_seats at.old blocks one other ≡ Some seats → CreatesByCounts one other seats from to entry.reply
   pub imports : (name : List ℕ) (group : Group) (top : Guid) (faults : ℕ) → entry.asked ≡ Some (requests.Import name)
       → entry.reply ≡ replies.Refused (refusals.Suspended group top faults) → (faults ≡ 0) ⊎ SomeRose from to
+  pub onlines : (name device : List ℕ) (dev : ℕ) → entry.asked ≡ Some (requests.Online name device) → number_in device at.old.table ≡ Some dev → OnlinesByCounts dev from to entry.reply
 
 -- so each of them
 pub record EndByCounts (h : HostState) (entries : List Entry) (calls : List Noted) (next : HostState) (start end : ℕ → ℕ) : Type 0 where

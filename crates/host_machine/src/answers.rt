@@ -13,7 +13,8 @@ ghost use Rattle.pool_history.specs.Pools.{Pool};
 ghost use Rattle.pool_history.specs.Survival.{Survives};
 ghost use Rattle.pool_core.specs.Heads.{head_of};
 ghost use Rattle.pool_core.specs.State.{PoolState, is_spent};
-ghost use Rattle.host_machine.specs.Answering.{IsOpenIn, HasClash, IsExcused, IsLost, IsGoodMember, SomeRose, SuspendsByCounts, CommitsByCounts, CreatesByCounts, SomeFailed, FindsNone};
+ghost use Rattle.host_machine.specs.Answering.{IsOpenIn, HasClash, IsExcused, IsLost, IsGoodMember, SomeRose, SuspendsByCounts, CommitsByCounts, CreatesByCounts, OnlinesByCounts, SomeFailed, FindsNone};
+ghost use Rattle.host_machine.specs.Devices.{number_in};
 ghost use Rattle.host_machine.specs.Fitness.{IsFit};
 ghost use Rattle.host_machine.specs.Machine.{HostState, Entry, Step, named_pool, is_bad_size, new_seats};
 ghost use Rattle.host_machine.specs.Tracking.{Tracks, is_ours};
@@ -23,9 +24,9 @@ ghost use Rattle.host_machine.specs.Tracking.{Tracks, is_ours};
 /// computes nothing: its clauses are the law.
 ///
 /// `refuses`, `answers` and `good_member` are of one read of a pool that its devices keep, behind any history,
-/// and `ours` says when it is the open one. `suspends`, `commits`, `creates` and `imports` are of the counts of
-/// failed calls, over every bank: a sync, a create or an opening is refused for a failed call only where a count
-/// rose in that very line, and a sync or a create commits where none did. `finds` says that an opening which
+/// and `ours` says when it is the open one. `suspends`, `commits`, `creates`, `imports` and `onlines` are of the
+/// counts of failed calls, over every bank: a sync, a create, an opening or an `online` is refused for a failed call
+/// only where a count rose in that very line, and a sync or a create commits where none did. `finds` says that an opening which
 /// finds no record of a name passed over none that it read, so that a read failed on each device whose clean
 /// labels have one; and `causes` that its count rose then. The free end of a line is want of memory, and a read
 /// has one more: wrong bytes with the sum of those that it wanted.
@@ -50,6 +51,8 @@ pub fn good_member_answers()
     ensures imports { (h : HostState) (entry : Entry) (made : List Noted) (next : HostState) (name : List ℕ) (before after : ℕ → ℕ) (group : Group) (top : Guid) (faults : ℕ)
         → Step h entry made next → entry.asked ≡ Some (requests.Import name) → entry.reply ≡ replies.Refused (refusals.Suspended group top faults)
         → AllCaused made before after → (faults ≡ 0) ⊎ SomeRose before after }
+    ensures onlines { (h : HostState) (entry : Entry) (made : List Noted) (next : HostState) (name device : List ℕ) (dev : ℕ) (before after : ℕ → ℕ) → Step h entry made next
+        → entry.asked ≡ Some (requests.Online name device) → number_in device h.table ≡ Some dev → AllCaused made before after → OnlinesByCounts dev before after entry.reply }
     ensures finds { (sectors : Sectors) (h : HostState) (entry : Entry) (made : List Noted) (next : HostState) (name : List ℕ) → IsFit h → AllAnswer sectors made
         → Step h entry made next → entry.asked ≡ Some (requests.Import name) → entry.reply ≡ replies.Refused refusals.NoRecord → FindsNone h sectors name made }
     ensures causes { (made : List Noted) (d : ℕ) (before after : ℕ → ℕ) → SomeFailed d made → AllCaused made before after → Rose (before d) (after d) }

@@ -28,4 +28,5 @@ returns-clause-counts c = entries_end (record {
   commits = c.good_member_answers.ensures.commits;
   creates = c.good_member_answers.ensures.creates;
   imports = c.good_member_answers.ensures.imports;
+  onlines = c.good_member_answers.ensures.onlines;
 })
