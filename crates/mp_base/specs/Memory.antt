@@ -1,5 +1,6 @@
 -- What the source, the sink and the clock in memory tell.
-use Rattle.std.specs.Prelude.{ℕ, cond, List, Option, Some, None, drop}
+use Rattle.std.specs.Prelude.{ℕ, ◌-◌, cond, List, Option, Some, None, drop}
+use Rattle.std.specs.Vec.{vec_capacity, vec_len}
 use Rattle.mp_base.specs.declared.source.MemSource.{MemSource}
 use Rattle.mp_base.specs.declared.sink.MemSink.{MemSink}
 use Rattle.mp_base.specs.declared.clock.MemClock.{MemClock}
@@ -27,3 +28,7 @@ clock_second c = c.second
 -- the seconds that it gave, while it tells
 abbrev pub clock_seconds : MemClock → Option (List ℕ)
 clock_seconds c = cond c.tells (Some c.gave.items) None
+
+-- for how many further seconds it has room
+abbrev pub clock_room : MemClock → ℕ
+clock_room c = vec_capacity c.gave - vec_len c.gave

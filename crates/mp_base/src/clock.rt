@@ -2,6 +2,7 @@
 ghost use Rattle.std.specs.Prelude.{◌≡◌, ℕ, List, [], ◌∷◌, ◌++◌, Option, Some};
 ghost use Rattle.mp_base.specs.Outside.{Taken};
 
+use crate::MemFault;
 use std::alloc::Global;
 
 /// A clock that is asked for the second.
@@ -14,7 +15,8 @@ pub trait Clock {
         ensures { Taken (gave self.old) (gave self.new) (result ∷ []) };
 }
 
-/// A clock in memory, which stands still until it is set.
+/// A clock in memory, which stands still until it is set. It keeps the seconds that it gave as long as its
+/// list finds memory; one that has room goes on telling.
 #[derive(Drop)]
 pub struct MemClock {
     second: u64,
@@ -23,7 +25,8 @@ pub struct MemClock {
 }
 
 impl MemClock {
-    ghost use Rattle.mp_base.specs.Memory.{clock_second, clock_seconds};
+    ghost use Rattle.std.specs.Prelude.{◌+◌, ◌<◌, ◌≤◌, OnOk, OnErr};
+    ghost use Rattle.mp_base.specs.Memory.{clock_second, clock_seconds, clock_room};
 
     /// A clock that stands at this second.
     pub fn new(alloc: Global, second: u64) -> MemClock
@@ -37,9 +40,20 @@ impl MemClock {
         }
     }
 
+    /// Takes the room for so many further seconds.
+    pub fn reserve(&mut self, seconds: usize) -> Result<(), MemFault>
+        ensures room { OnOk result (seconds ≤ clock_room self.new) }
+        ensures gave { clock_seconds self.new ≡ clock_seconds self.old }
+        ensures second { clock_second self.new ≡ clock_second self.old }
+    {
+        self.gave.reserve(seconds)?;
+        Ok(())
+    }
+
     /// From now on it stands at this second.
     pub fn set(&mut self, second: u64)
         ensures gave { clock_seconds self.new ≡ clock_seconds self.old }
+        ensures room { clock_room self.new ≡ clock_room self.old }
         ensures second { clock_second self.new ≡ second }
     {
         self.second = second;
@@ -47,13 +61,15 @@ impl MemClock {
 }
 
 impl Clock for MemClock {
-    ghost use Rattle.mp_base.specs.Memory.{clock_second, clock_seconds};
+    ghost use Rattle.std.specs.Prelude.{◌+◌, ◌<◌};
+    ghost use Rattle.mp_base.specs.Memory.{clock_second, clock_seconds, clock_room};
 
     ghost gave = { clock_seconds };
 
     // Where its list finds no memory it stops telling, for good.
     fn now(&mut self) -> u64
         ensures gave { Taken (clock_seconds self.old) (clock_seconds self.new) (result ∷ []) }
+        ensures tells { (before : List ℕ) → 0 < clock_room self.old → clock_seconds self.old ≡ Some before → clock_seconds self.new ≡ Some (before ++ result ∷ []) }
         ensures second { result ≡ clock_second self.old }
         ensures stands { clock_second self.new ≡ clock_second self.old }
     {
