@@ -9,8 +9,6 @@ mod flags;
 mod laws;
 mod parts;
 mod pieces;
-#[cfg(test)]
-mod tests;
 mod unread;
 mod validity;
 

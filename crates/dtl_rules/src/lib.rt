@@ -4,8 +4,6 @@
 
 mod logs;
 mod rule;
-#[cfg(test)]
-mod tests;
 mod widening;
 
 pub use logs::{Extent, LogKind, logs_of};

@@ -6,8 +6,6 @@ mod laws;
 mod ranges;
 mod run;
 mod set;
-#[cfg(test)]
-mod tests;
 
 pub use laws::ranges_are_exact;
 pub use set::GroupSet;

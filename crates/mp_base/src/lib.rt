@@ -12,8 +12,6 @@ mod range;
 mod refusal;
 mod sink;
 mod source;
-#[cfg(test)]
-mod tests;
 
 pub use block::{BLOCK_BYTES, Block};
 pub use clock::{Clock, MemClock};

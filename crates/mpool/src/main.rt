@@ -3,6 +3,8 @@
 
 #[cfg(test)]
 mod away;
+#[cfg(test)]
+mod broad;
 mod clock;
 mod devices;
 mod stdio;

@@ -12,6 +12,3 @@ pub use line::{asks_one_thing, read_line};
 pub use reply::{LeafLog, LeafLogs, NamedLeaf, NamedLeaves, Reply};
 pub use request::{LineFault, Request};
 pub use text::{told_block_is_data, write_reply};
-
-#[cfg(test)]
-mod tests;

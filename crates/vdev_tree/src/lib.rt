@@ -3,8 +3,6 @@
 
 mod changes;
 mod form;
-#[cfg(test)]
-mod tests;
 mod top;
 mod vdev;
 

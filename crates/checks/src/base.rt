@@ -1,7 +1,6 @@
 //! That names, the source, the sink and the clock serve where there is memory, and that the source and
 //! the sink fail where it is planned, and there alone.
-use crate::{Clock, Failed, MemClock, MemSink, MemSource, Name, NameFault, Sink, Source};
-use std::process::Abort;
+use mp_base::{Clock, Failed, MemClock, MemSink, MemSource, Name, NameFault, Sink, Source};
 use std::test::Fail;
 
 #[test]
@@ -28,7 +27,7 @@ fn a_name_has_up_to_64_bytes_and_is_no_word(rt: HostRuntime) -> Result<(), Fail>
 }
 
 #[test]
-fn a_source_gives_pieces_and_fails_once(rt: HostRuntime) -> Result<(), Fail> {
+fn streams_fail_once_and_a_clock_stands(rt: HostRuntime) -> Result<(), Fail> {
     let bytes = Vec::from_slice(rt.alloc(), b"c0ffee")?;
     let mut source = MemSource::new(bytes, 4, Some(1));
     let mut out = [b'-'; 4];
@@ -41,22 +40,14 @@ fn a_source_gives_pieces_and_fails_once(rt: HostRuntime) -> Result<(), Fail> {
         assert_eq!(rt; source.read(&mut out), answer);
         assert_eq!(rt; out.as_slice(), front);
     }
-    Ok(())
-}
-
-#[test]
-fn a_sink_takes_pieces_and_fails_once(rt: HostRuntime) {
     let mut sink = MemSink::new(rt.alloc(), 4, Some(1));
     assert_eq!(rt; sink.write(b"c0ffee"), Ok(4));
     assert_eq!(rt; sink.write(b"ee"), Err(Failed));
     assert_eq!(rt; sink.write(b"ee"), Ok(2));
     assert_eq!(rt; sink.bytes(), b"c0ffee".as_slice());
-}
-
-#[test]
-fn a_clock_stands_until_it_is_set(rt: HostRuntime) {
     let mut clock = MemClock::new(rt.alloc(), 7);
     assert_eq!(rt; [clock.now(), clock.now()], [7, 7]);
     clock.set(5);
     assert_eq!(rt; clock.now(), 5);
+    Ok(())
 }

@@ -1,47 +1,17 @@
 //! Trees that are built by hand.
-use crate::{Counts, InnerVdev, Kind, LeafVdev, State, Top, Vdev};
-use group_set::GroupSet;
+use crate::built::{inner, leaf, member};
 use mp_base::{Group, Guid, Name};
 use std::alloc::Global;
 use std::test::Fail;
+use vdev_tree::{Kind, State, Top, Vdev};
 
-fn member(alloc: Global, number: u64, name: &[u8], state: State) -> Result<LeafVdev, Fail> {
-    let mut log = GroupSet::new(alloc);
-    log.reserve(1)?;
-    log.insert(Group(7));
-    Ok(LeafVdev {
-        guid: Guid(number),
-        name: Name::new(alloc, name)?,
-        dev: None,
-        state,
-        log,
-        settled: GroupSet::new(alloc),
-        marked: false,
-        temporary: false,
-        counts: Counts {
-            reads: 0,
-            writes: 0,
-            mismatches: 0,
-        },
-    })
-}
-
-fn leaf(alloc: Global, number: u64, name: &[u8], state: State) -> Result<Vdev, Fail> {
-    Ok(Vdev::Leaf(member(alloc, number, name, state)?))
-}
-
-fn inner(number: u64, kind: Kind, children: Vec<Vdev>) -> Vdev {
-    Vdev::Inner(InnerVdev {
-        guid: Guid(number),
-        kind,
-        children,
-    })
-}
+/// What a leaf owes at the beginning.
+const OWES: &[(u64, u64)] = &[(7, 7)];
 
 fn row(alloc: Global, states: &[State]) -> Result<Vec<Vdev>, Fail> {
     let mut vdevs = Vec::new(alloc);
     for state in states {
-        vdevs.push(leaf(alloc, 9, b"x", *state)?)?;
+        vdevs.push(leaf(alloc, 9, b"x", *state, OWES)?)?;
     }
     Ok(vdevs)
 }
@@ -94,7 +64,7 @@ fn a_valid_tree_makes_a_top(rt: HostRuntime) -> Result<(), Fail> {
     assert!(rt; !inner(1, Kind::Mirror, row(alloc, &[])?).is_top());
     assert!(rt; inner(1, Kind::Mirror, row(alloc, &up[..8])?).is_top());
     assert!(rt; !inner(1, Kind::Mirror, row(alloc, &up)?).is_top());
-    assert!(rt; !leaf(alloc, 1, b"a", State::Online)?.is_top());
+    assert!(rt; !leaf(alloc, 1, b"a", State::Online, OWES)?.is_top());
     Ok(())
 }
 
@@ -102,18 +72,18 @@ fn a_valid_tree_makes_a_top(rt: HostRuntime) -> Result<(), Fail> {
 /// b (7).
 fn spared(alloc: Global) -> Result<Top, Fail> {
     let online = State::Online;
-    let old = leaf(alloc, 4, b"a", online)?;
-    let new = leaf(alloc, 5, b"n", online)?;
+    let old = leaf(alloc, 4, b"a", online, OWES)?;
+    let new = leaf(alloc, 5, b"n", online, OWES)?;
     let replacing = inner(3, Kind::Replacing, vec![in alloc; old, new]?);
     let spare = inner(
         2,
         Kind::Spare,
-        vec![in alloc; replacing, leaf(alloc, 6, b"s", online)?]?,
+        vec![in alloc; replacing, leaf(alloc, 6, b"s", online, OWES)?]?,
     );
     let mirror = inner(
         1,
         Kind::Mirror,
-        vec![in alloc; spare, leaf(alloc, 7, b"b", online)?]?,
+        vec![in alloc; spare, leaf(alloc, 7, b"b", online, OWES)?]?,
     );
     Ok(Top::new(mirror, 500).ok_or("no top")?)
 }
@@ -153,8 +123,8 @@ fn shown(top: &Top, place: usize) -> Option<(u64, State, Option<u32>, [bool; 3])
 fn a_leaf_that_was_away_owes_what_was_written_meanwhile(rt: HostRuntime) -> Result<(), Fail> {
     let alloc = rt.alloc();
     let online = State::Online;
-    let a = member(alloc, 2, b"a", online)?;
-    let b = member(alloc, 3, b"b", State::Degraded)?;
+    let a = member(alloc, 2, b"a", online, OWES)?;
+    let b = member(alloc, 3, b"b", State::Degraded, OWES)?;
     let mut top = Top::pair(alloc, Guid(1), 500, a, b)?;
     top.set_state(Guid(2), State::Offline, true);
     top.reserve(1)?;

@@ -1,54 +1,10 @@
 //! The rules on trees that are built by hand.
-use crate::{Extent, LogKind, ROOT, fit, fit_one, logs_of, required};
-use group_set::GroupSet;
-use mp_base::{Group, Guid, MemFault, Name};
+use crate::built::{inner, leaf};
+use dtl_rules::{Extent, LogKind, ROOT, fit, fit_one, logs_of, required};
+use mp_base::{Group, Guid, MemFault};
 use std::alloc::Global;
 use std::test::Fail;
-use vdev_tree::{Counts, InnerVdev, Kind, LeafVdev, State, Top, Vdev};
-
-/// The set with these runs.
-fn set_of(alloc: Global, runs: &[(u64, u64)]) -> Result<GroupSet, MemFault> {
-    let mut set = GroupSet::new(alloc);
-    for (low, high) in runs {
-        if 1 <= *low && *low <= *high && *high <= 1 << 62 {
-            set.reserve(1)?;
-            set.insert_range(Group(*low), Group(*high));
-        }
-    }
-    Ok(set)
-}
-
-fn leaf(
-    alloc: Global,
-    number: u64,
-    name: &[u8],
-    state: State,
-    log: &[(u64, u64)],
-) -> Result<Vdev, Fail> {
-    Ok(Vdev::Leaf(LeafVdev {
-        guid: Guid(number),
-        name: Name::new(alloc, name)?,
-        dev: None,
-        state,
-        log: set_of(alloc, log)?,
-        settled: GroupSet::new(alloc),
-        marked: false,
-        temporary: false,
-        counts: Counts {
-            reads: 0,
-            writes: 0,
-            mismatches: 0,
-        },
-    }))
-}
-
-fn inner(number: u64, kind: Kind, children: Vec<Vdev>) -> Vdev {
-    Vdev::Inner(InnerVdev {
-        guid: Guid(number),
-        kind,
-        children,
-    })
-}
+use vdev_tree::{Kind, State, Top, Vdev};
 
 /// A mirror of a (number 2) and b (number 3).
 fn pair(

@@ -3,7 +3,7 @@ ghost use Rattle.std.specs.Prelude.{◌<◌};
 ghost use Rattle.config_codec.specs.Fields.{config_fields};
 ghost use Rattle.config_codec.specs.Validity.{IsValid};
 
-use super::*;
+use config_codec::{Config, KeptState, PART_BYTES, Pointer, decode, encode_into};
 use mp_base::{Group, GroupRange, Guid, MemFault};
 use std::alloc::{AllocError, Global};
 use std::process::Abort;

@@ -1,5 +1,8 @@
-use super::*;
+//! Lines and replies, text by text.
 use mp_base::{Block, Group, GroupRange, Guid, LeafSeen, Name, Ranges, Refusal, Seen, SeenLeaves};
+use pool_wire::{
+    LeafLog, LeafLogs, LineFault, NamedLeaf, NamedLeaves, Reply, Request, read_line, write_reply,
+};
 use std::alloc::Global;
 use std::test::*;
 use vdev_tree::State;

@@ -1,22 +1,11 @@
 //! Sets of groups against lists of their groups.
 ghost use Rattle.std.specs.Prelude.{◌≡◌};
 
-use crate::GroupSet;
+use crate::built::set_of;
+use group_set::GroupSet;
 use mp_base::{Group, GroupRange, MemFault};
 use std::alloc::Global;
 use std::test::Fail;
-
-/// The set into which these runs were put, one after the other.
-fn set_of(alloc: Global, runs: &[(u64, u64)]) -> Result<GroupSet, MemFault> {
-    let mut set = GroupSet::new(alloc);
-    for (low, high) in runs {
-        if 1 <= *low && *low <= *high && *high <= 1 << 62 {
-            set.reserve(1)?;
-            set.insert_range(Group(*low), Group(*high));
-        }
-    }
-    Ok(set)
-}
 
 /// Its groups up to 30, in order.
 fn listed(alloc: Global, set: &GroupSet) -> Result<Vec<u64>, MemFault> {

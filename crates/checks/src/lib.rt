@@ -1,0 +1,17 @@
+//! Tests of the crates below by their public calls alone: a file for each crate, and many cases in each test.
+#![tactic(auto)]
+
+#[cfg(test)]
+mod base;
+#[cfg(test)]
+mod built;
+#[cfg(test)]
+mod codec;
+#[cfg(test)]
+mod rules;
+#[cfg(test)]
+mod sets;
+#[cfg(test)]
+mod trees;
+#[cfg(test)]
+mod wire;
