@@ -5,6 +5,7 @@ pub mod Choosing
 pub mod Composing
 pub mod Crashing
 pub mod Finding
+pub mod Framing
 pub mod Names
 pub mod Parting
 pub mod Sectors

@@ -26,7 +26,7 @@ rest_more : (noted : Noted) (first second : List Ask) (made made' : List Noted) 
 rest_more noted first second made made' outcome more (inl ok) = inl (ok.0, more ok.1)
 rest_more noted first second made made' outcome more (inr failed) = absurd (no_fault failed.0 failed.3)
 
-is_part_more : (first second : List Ask) (made made' : List Noted) (outcome : Option Fault)
+pub is_part_more : (first second : List Ask) (made made' : List Noted) (outcome : Option Fault)
     → IsPart first made None → IsPart second made' outcome → IsPart (first ++ second) (made ++ made') outcome
 is_part_more [] second [] made' outcome a b = b
 is_part_more [] second (noted ∷ made) made' outcome a b = absurd a
@@ -40,7 +40,7 @@ rest_stop : (noted : Noted) (first second : List Ask) (made : List Noted) (fault
 rest_stop noted first second made fault more (inl ok) = inl (ok.0, more ok.1)
 rest_stop noted first second made fault more (inr failed) = inr failed
 
-is_part_stop : (first second : List Ask) (made : List Noted) (fault : Fault) → IsPart first made (Some fault) → IsPart (first ++ second) made (Some fault)
+pub is_part_stop : (first second : List Ask) (made : List Noted) (fault : Fault) → IsPart first made (Some fault) → IsPart (first ++ second) made (Some fault)
 is_part_stop [] second [] fault a = absurd (no_fault fault (sym a))
 is_part_stop [] second (noted ∷ made) fault a = absurd a
 is_part_stop (ask ∷ first) second [] fault a = absurd a
@@ -64,7 +64,7 @@ part_stop {first} second {old} {new} {f} {g} {fault} a = record {
   part = is_part_stop first second a.made fault a.part;
 }
 
-one_part : (ask : Ask) (call : Call) (damage : ℕ → ℕ → Bool) (outcome : Option Fault) → ask_of call ≡ ask → fault_of call ≡ outcome
+pub one_part : (ask : Ask) (call : Call) (damage : ℕ → ℕ → Bool) (outcome : Option Fault) → ask_of call ≡ ask → fault_of call ≡ outcome
     → IsPart (ask ∷ []) (record { call = call; damage = damage } ∷ []) outcome
 one_part ask call damage None is ok = (is, inl (ok, refl))
 one_part ask call damage (Some fault) is failed = (is, inr (fault, failed, refl, refl))

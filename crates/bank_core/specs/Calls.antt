@@ -1,9 +1,10 @@
 -- What a function did with a bank: the calls that it made, with their answers and causes.
-use Rattle.std.specs.Prelude.{◌≡◌, ◌≢◌, ℕ, ◌≤◌, List, [], ◌∷◌, Option, Some, None}
+use Rattle.std.specs.Prelude.{◌≡◌, ◌≢◌, ℕ, ◌≤◌, List, [], ◌∷◌, Option, Some, None, IfSome, IfNone}
 use Rattle.mp_base.specs.Outside.{Rose}
 use Rattle.bank_core.specs.declared.bank.Fault.{Fault}
 use Rattle.bank_core.specs.Disk.{Call, Read, Write, Flush, Admit, Eject, Noted}
-use Rattle.bank_core.specs.Story.{Story, Continues}
+use Rattle.bank_core.specs.Story.{Story, Continues, Tells}
+use Rattle.bank_core.specs.BankView.{BankView, SameBank}
 
 abbrev pub device_of : Call → ℕ
 device_of (Read dev at bytes fault) = dev
@@ -37,3 +38,17 @@ AllCaused (noted ∷ more) before after = (between : ℕ → ℕ) × IsCaused no
 pub record Made (old new : Option Story) (before after : ℕ → ℕ) (made : List Noted) : Type 0 where
   pub caused : AllCaused made before after
   pub told : (story' : Story) → new ≡ Some story' → Continues old made story'
+
+-- One call was made, and the bank is the same but for this: the count of the call's device rose where it failed, and
+-- every other count stayed; where it answered Ok, each count stayed; and what the bank tells goes on by this call.
+pub record Called (call : Call) (old new : BankView) : Type 0 where
+  pub frame : SameBank old new
+  pub cause : IfSome (fault_of call) (λ fault. Rose (old.faults (device_of call)) (new.faults (device_of call)))
+  pub still : IfNone (fault_of call) ((d : ℕ) → new.faults d ≡ old.faults d)
+  pub others : (d : ℕ) → d ≢ device_of call → new.faults d ≡ old.faults d
+  pub told : Tells old.told new.told call
+
+-- Just these calls were made, on any devices, and else the bank is the same.
+pub record Makes (made : List Noted) (old new : BankView) : Type 0 where
+  pub frame : SameBank old new
+  pub calls : Made old.told new.told old.faults new.faults made

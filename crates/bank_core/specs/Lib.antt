@@ -1,5 +1,6 @@
 pub mod Absent
 pub mod Asks
+pub mod BankView
 pub mod Calls
 pub mod Disk
 pub mod Image

@@ -3,6 +3,7 @@ use Rattle.std.specs.Prelude.{◌≡◌, ℕ, ◌+◌, ◌<◌, cond, List, [], 
 use Rattle.bank_core.specs.declared.call.MemCall.{MemCall}
 use Rattle.bank_core.specs.declared.memory.MemBank.{MemBank}
 use Rattle.bank_core.specs.Memory.{size_in, number_in, names_in, story_in, with_device}
+use Rattle.bank_core.specs.BankView.{BankView}
 use Rattle.bank_core.specs.Disk.{Sector}
 use Rattle.bank_core.specs.Story.{Story}
 
@@ -32,6 +33,16 @@ bank_calls bank = length bank.calls.items
 -- the first sectors of its devices and its calls, while it tells
 abbrev pub bank_told : MemBank → Option Story
 bank_told bank = cond bank.tells (Some (story_in bank.devices.items bank.calls.items)) None
+
+abbrev pub bank_view : MemBank → BankView
+bank_view bank = record {
+  size = bank_size bank;
+  number_of = bank_number bank;
+  names = Some (bank_names bank);
+  faults = bank_faults bank;
+  lookup_faults = 0;
+  told = bank_told bank;
+}
 
 -- The bank tells the same, and counts the same.
 pub record IsUnchanged (old new : MemBank) : Type 0 where

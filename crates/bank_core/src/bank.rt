@@ -1,5 +1,5 @@
 //! The trait of a bank of devices.
-ghost use Rattle.std.specs.Prelude.{◌≡◌, ◌≢◌, ℕ, ◌+◌, ◌%◌, ◌<◌, ◌≤◌, List, Option, Some, None, length, IfOk, OnOk, OnErr, IfSome, IfNone, IsErrOf};
+ghost use Rattle.std.specs.Prelude.{◌≡◌, ℕ, ◌+◌, ◌%◌, ◌<◌, ◌≤◌, List, Some, length, IfOk, IfSome, IfNone, IsErrOf};
 ghost use Rattle.mp_base.specs.Outside.{Rose};
 ghost use Rattle.bank_core.specs.Absent.{IsAbsent};
 
@@ -29,87 +29,50 @@ pub enum FindFault {
 /// count rises where a call on it fails, and stays at every other call.
 pub trait Bank {
     ghost use Rattle.bank_core.specs.Disk.{Read, Write, Flush, sector_size, sectors_in};
-    ghost use Rattle.bank_core.specs.Story.{Story, Tells, fault_in};
+    ghost use Rattle.bank_core.specs.BankView.{BankView};
+    ghost use Rattle.bank_core.specs.Calls.{Called};
+    ghost use Rattle.bank_core.specs.Story.{fault_in};
 
-    /// How many sectors the device of this number has: 0 where there is none.
-    ghost size: { Self → ℕ → ℕ };
-
-    /// The number of the device of this name, once it was found.
-    ghost number_of: { Self → List ℕ → Option ℕ };
-
-    /// The names of its devices, at most 64, where it tells them.
-    ghost names: { Self → Option (List (List ℕ)) };
-
-    /// How often a call on the device of this number failed.
-    ghost faults: { Self → ℕ → ℕ };
-
-    /// How often a look-up failed.
-    ghost lookup_faults: { Self → ℕ };
-
-    /// What its devices held in the beginning, and the calls since, where it tells.
-    ghost told: { Self → Option Story };
+    /// The bank as its clauses see it.
+    ghost view: { Self → BankView };
 
     /// The number of the device of this name: the same one each time, and another one for each name.
     fn find(&mut self, name: &Name) -> Result<Option<u32>, FindFault>
-        ensures found { IfOk result (λ found. found ≡ number_of self.new name.now) }
-        ensures absent { IfOk result (λ found. IfNone found (IsAbsent (names self.old) name.now)) }
-        ensures size { IfOk result (λ found. IfSome found (λ dev. 0 < size self.new dev)) }
+        ensures found { IfOk result (λ found. found ≡ (view self.new).number_of name.now) }
+        ensures absent { IfOk result (λ found. IfNone found (IsAbsent (view self.old).names name.now)) }
+        ensures size { IfOk result (λ found. IfSome found (λ dev. 0 < (view self.new).size dev)) }
         ensures limit { IfOk result (λ found. IfSome found (λ dev. dev < 64)) }
-        ensures keeps { (other : List ℕ) (dev : ℕ) → number_of self.old other ≡ Some dev → number_of self.new other ≡ Some dev }
-        ensures apart { (one other : List ℕ) (dev : ℕ) → number_of self.new one ≡ Some dev → number_of self.new other ≡ Some dev → one ≡ other }
-        ensures sizes { (d : ℕ) → 0 < size self.old d → size self.new d ≡ size self.old d }
-        ensures names { names self.new ≡ names self.old }
-        ensures told { told self.new ≡ told self.old }
-        ensures same { (d : ℕ) → faults self.new d ≡ faults self.old d }
-        ensures counts { lookup_faults self.old ≤ lookup_faults self.new }
-        ensures cause { (fault : Fault) → IsErrOf result (FindFault.Fault fault) → Rose (lookup_faults self.old) (lookup_faults self.new) };
+        ensures keeps { (other : List ℕ) (dev : ℕ) → (view self.old).number_of other ≡ Some dev → (view self.new).number_of other ≡ Some dev }
+        ensures apart { (one other : List ℕ) (dev : ℕ) → (view self.new).number_of one ≡ Some dev → (view self.new).number_of other ≡ Some dev → one ≡ other }
+        ensures sizes { (d : ℕ) → 0 < (view self.old).size d → (view self.new).size d ≡ (view self.old).size d }
+        ensures names { (view self.new).names ≡ (view self.old).names }
+        ensures told { (view self.new).told ≡ (view self.old).told }
+        ensures same { (d : ℕ) → (view self.new).faults d ≡ (view self.old).faults d }
+        ensures counts { (view self.old).lookup_faults ≤ (view self.new).lookup_faults }
+        ensures cause { (fault : Fault) → IsErrOf result (FindFault.Fault fault) → Rose (view self.old).lookup_faults (view self.new).lookup_faults };
 
     /// How many sectors the device has.
     fn sectors(&self, dev: u32) -> u64
-        ensures { result ≡ size self.now dev };
+        ensures { result ≡ (view self.now).size dev };
 
     /// Reads whole sectors from `at` on.
     fn read(&mut self, dev: u32, at: u64, out: &mut [u8]) -> Result<(), Fault>
         requires whole { length out.old % sector_size ≡ 0 }
         requires some { 0 < length out.old }
-        requires inside { at + sectors_in out.old ≤ size self.old dev }
-        ensures size { (d : ℕ) → size self.new d ≡ size self.old d }
-        ensures numbers { (name : List ℕ) → number_of self.new name ≡ number_of self.old name }
-        ensures names { names self.new ≡ names self.old }
-        ensures lookups { lookup_faults self.new ≡ lookup_faults self.old }
-        ensures counts { (d : ℕ) → faults self.old d ≤ faults self.new d }
-        ensures cause { OnErr result (Rose (faults self.old dev) (faults self.new dev)) }
-        ensures still { OnOk result ((d : ℕ) → faults self.new d ≡ faults self.old d) }
-        ensures others { (d : ℕ) → d ≢ dev → faults self.new d ≡ faults self.old d }
-        ensures told { Tells (told self.old) (told self.new) (Read dev at out.new (fault_in result)) };
+        requires inside { at + sectors_in out.old ≤ (view self.old).size dev }
+        ensures { Called (Read dev at out.new (fault_in result)) (view self.old) (view self.new) };
 
     /// Writes whole sectors from `at` on. They are pending until a flush that answers `Ok`, also where
     /// the write failed.
     fn write(&mut self, dev: u32, at: u64, bytes: &[u8]) -> Result<(), Fault>
         requires whole { length bytes.now % sector_size ≡ 0 }
         requires some { 0 < length bytes.now }
-        requires inside { at + sectors_in bytes.now ≤ size self.old dev }
-        ensures size { (d : ℕ) → size self.new d ≡ size self.old d }
-        ensures numbers { (name : List ℕ) → number_of self.new name ≡ number_of self.old name }
-        ensures names { names self.new ≡ names self.old }
-        ensures lookups { lookup_faults self.new ≡ lookup_faults self.old }
-        ensures counts { (d : ℕ) → faults self.old d ≤ faults self.new d }
-        ensures cause { OnErr result (Rose (faults self.old dev) (faults self.new dev)) }
-        ensures still { OnOk result ((d : ℕ) → faults self.new d ≡ faults self.old d) }
-        ensures others { (d : ℕ) → d ≢ dev → faults self.new d ≡ faults self.old d }
-        ensures told { Tells (told self.old) (told self.new) (Write dev at bytes.now (fault_in result)) };
+        requires inside { at + sectors_in bytes.now ≤ (view self.old).size dev }
+        ensures { Called (Write dev at bytes.now (fault_in result)) (view self.old) (view self.new) };
 
     /// Makes what was written to the device stable. At `Ok` each sector whose last write answered `Ok`
     /// holds its bytes from then on, whatever crash comes.
     fn flush(&mut self, dev: u32) -> Result<(), Fault>
-        requires { 0 < size self.old dev }
-        ensures size { (d : ℕ) → size self.new d ≡ size self.old d }
-        ensures numbers { (name : List ℕ) → number_of self.new name ≡ number_of self.old name }
-        ensures names { names self.new ≡ names self.old }
-        ensures lookups { lookup_faults self.new ≡ lookup_faults self.old }
-        ensures counts { (d : ℕ) → faults self.old d ≤ faults self.new d }
-        ensures cause { OnErr result (Rose (faults self.old dev) (faults self.new dev)) }
-        ensures still { OnOk result ((d : ℕ) → faults self.new d ≡ faults self.old d) }
-        ensures others { (d : ℕ) → d ≢ dev → faults self.new d ≡ faults self.old d }
-        ensures told { Tells (told self.old) (told self.new) (Flush dev (fault_in result)) };
+        requires { 0 < (view self.old).size dev }
+        ensures { Called (Flush dev (fault_in result)) (view self.old) (view self.new) };
 }

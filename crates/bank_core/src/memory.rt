@@ -1,5 +1,5 @@
 //! A bank in memory, which tells what its devices hold, and whose calls fail as they are planned to.
-ghost use Rattle.std.specs.Prelude.{◌≡◌, ℕ, ◌+◌, ◌%◌, ◌<◌, ◌≤◌, ◌++◌, [], ◌∷◌, length, true, slice_index, Some, None, IfOk, OnOk, OnErr};
+ghost use Rattle.std.specs.Prelude.{◌≡◌, ℕ, ◌+◌, ◌%◌, ◌<◌, ◌≤◌, ◌++◌, [], ◌∷◌, length, true, is_some, slice_index, Some, None, IfOk, OnOk, OnErr};
 ghost use Rattle.std.specs.List.{list_all};
 ghost use Rattle.mp_base.specs.Outside.{Rose};
 ghost use Rattle.bank_core.specs.Disk.{sector_size, sectors_in};
@@ -77,6 +77,13 @@ impl MemBank {
         ensures { result ≡ bank_calls self.now }
     {
         self.calls.len() as u64
+    }
+
+    /// Whether it tells its story still: until memory for a call was refused.
+    pub fn tells(&self) -> bool
+        ensures { result ≡ is_some (bank_told self.now) }
+    {
+        self.tells
     }
 
     /// The calls that were made, the oldest first.
@@ -231,20 +238,9 @@ impl MemBank {
 }
 
 impl Bank for MemBank {
-    ghost use Rattle.std.specs.Prelude.{Some};
-    ghost use Rattle.bank_core.specs.MemBank.{bank_size, bank_number, bank_names, bank_faults, bank_told};
+    ghost use Rattle.bank_core.specs.MemBank.{bank_view};
 
-    ghost size = { bank_size };
-
-    ghost number_of = { bank_number };
-
-    ghost names = { λ bank. Some (bank_names bank) };
-
-    ghost faults = { bank_faults };
-
-    ghost lookup_faults = { λ bank. 0 };
-
-    ghost told = { bank_told };
+    ghost view = { bank_view };
 
     fn find(&mut self, name: &Name) -> Result<Option<u32>, FindFault> {
         Ok(place_of(&self.devices, name).map(|place| place as u32))

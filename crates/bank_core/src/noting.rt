@@ -1,10 +1,11 @@
 //! How a bank in memory notes a call: in its list, and in the count of faults of the device.
-ghost use Rattle.std.specs.Prelude.{◌≡◌, ◌≢◌, ℕ, ◌+◌, ◌<◌, ◌≤◌, ◌++◌, [], ◌∷◌, None, OnOk, OnErr};
+ghost use Rattle.std.specs.Prelude.{◌≡◌, ◌≢◌, ℕ, ◌+◌, ◌<◌, ◌≤◌, ◌++◌, [], ◌∷◌, OnOk, OnErr};
 ghost use Rattle.mp_base.specs.Outside.{Rose};
-ghost use Rattle.bank_core.specs.Disk.{sectors_in};
-ghost use Rattle.bank_core.specs.MemBank.{bank_size, bank_told, bank_faults};
+ghost use Rattle.bank_core.specs.Calls.{Called, device_of, fault_of};
+ghost use Rattle.bank_core.specs.Disk.{Call, sectors_in};
+ghost use Rattle.bank_core.specs.MemBank.{bank_size, bank_faults, bank_view};
 ghost use Rattle.bank_core.specs.Memory.{call_as, AnswersThere};
-ghost use Rattle.bank_core.specs.Story.{Tells, fault_in};
+ghost use Rattle.bank_core.specs.Story.{fault_in};
 
 use crate::bank::Fault;
 use crate::call::MemCall;
@@ -43,10 +44,8 @@ impl MemBank {
         requires { dev < 64 }
         ensures failed { result ≡ Err Fault.Failed }
         ensures devices { self.new.devices ≡ self.old.devices }
-        ensures told { bank_told self.new ≡ None }
-        ensures counts { (d : ℕ) → bank_faults self.old d ≤ bank_faults self.new d }
-        ensures rose { Rose (bank_faults self.old dev) (bank_faults self.new dev) }
-        ensures others { (d : ℕ) → d ≢ dev → bank_faults self.new d ≡ bank_faults self.old d }
+        ensures lost { (call : Call) → device_of call ≡ dev → fault_of call ≡ fault_in result
+            → Called call (bank_view self.old) (bank_view self.new) }
     {
         self.tells = false;
         self.count(dev);
@@ -58,13 +57,8 @@ impl MemBank {
         requires device { 0 < bank_size self.old call.dev }
         requires inside { call.at + sectors_in call.bytes.items ≤ bank_size self.old call.dev }
         requires answers { AnswersThere self.old.devices.items self.old.calls.items call }
-        ensures devices { self.new.devices ≡ self.old.devices }
-        ensures counts { (d : ℕ) → bank_faults self.old d ≤ bank_faults self.new d }
-        ensures cause { OnErr result (Rose (bank_faults self.old call.dev) (bank_faults self.new call.dev)) }
-        ensures still { OnOk result ((d : ℕ) → bank_faults self.new d ≡ bank_faults self.old d) }
-        ensures others { (d : ℕ) → d ≢ call.dev → bank_faults self.new d ≡ bank_faults self.old d }
-        ensures told { Tells (bank_told self.old) (bank_told self.new)
-            (call_as call.kind call.dev call.at call.bytes.items (fault_in result)) }
+        ensures { Called (call_as call.kind call.dev call.at call.bytes.items (fault_in result))
+            (bank_view self.old) (bank_view self.new) }
     {
         let dev = call.dev;
         let fault = call.fault;

@@ -144,20 +144,9 @@ impl<'r, R: Files> Bank for FileBank<'r, R>
 where
     R::File: AsRawFd,
 {
-    ghost use Rattle.std.specs.Prelude.{None, slice_index};
-    ghost use Rattle.bank_files.specs.Asked.{number_in};
+    ghost use Rattle.bank_files.specs.Asked.{view_of};
 
-    ghost size = { λ bank. slice_index bank.sizes };
-
-    ghost number_of = { λ bank. number_in bank.asked.items bank.sizes };
-
-    ghost names = { λ bank. None };
-
-    ghost faults = { λ bank. slice_index bank.faults };
-
-    ghost lookup_faults = { λ bank. bank.lookup_faults };
-
-    ghost told = { λ bank. None };
+    ghost view = { λ bank. view_of bank.asked.items bank.sizes bank.faults bank.lookup_faults };
 
     fn find(&mut self, name: &Name) -> Result<Option<u32>, FindFault> {
         let Some(place) = self.seat(name).map_err(|_| FindFault::Memory)? else {

@@ -1,5 +1,7 @@
 //! Lines and replies, text by text.
-use mp_base::{Block, Group, GroupRange, Guid, LeafSeen, Name, Ranges, Refusal, Seen, SeenLeaves};
+use mp_base::{
+    Block, Group, GroupRange, Guid, LeafSeen, Name, PlaceRule, Ranges, Refusal, Seen, SeenLeaves,
+};
 use pool_wire::{
     LeafLog, LeafLogs, LineFault, NamedLeaf, NamedLeaves, Reply, Request, read_line, write_reply,
 };
@@ -220,6 +222,30 @@ fn replies_have_their_texts(rt: HostRuntime) -> Result<(), Fail> {
         (
             Reply::DeviceFault { name: device },
             b"no 17 fault b".as_slice(),
+        ),
+        (
+            Reply::Refused(Refusal::WrongPlace {
+                rule: PlaceRule::Role,
+            }),
+            b"no 7 place role".as_slice(),
+        ),
+        (
+            Reply::Refused(Refusal::WrongPlace {
+                rule: PlaceRule::Spare,
+            }),
+            b"no 7 place spare".as_slice(),
+        ),
+        (
+            Reply::Refused(Refusal::WrongPlace {
+                rule: PlaceRule::Twice,
+            }),
+            b"no 7 place twice".as_slice(),
+        ),
+        (
+            Reply::Refused(Refusal::WrongPlace {
+                rule: PlaceRule::NotSpare,
+            }),
+            b"no 7 place notspare".as_slice(),
         ),
         (
             Reply::Refused(Refusal::DeviceFault { member: Guid(3) }),

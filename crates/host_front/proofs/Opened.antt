@@ -5,6 +5,7 @@ use Rattle.mp_base.specs.declared.number.Group.{Group}
 use Rattle.mp_base.specs.declared.refusal.Refusal.{Refusal}
 use Rattle.mp_base.specs.declared.refusal.Refusal.TheVariants as refusals
 use Rattle.bank_core.specs.Disk.{Noted}
+use Rattle.bank_core.specs.BankView.{BankView}
 use Rattle.bank_core.specs.Story.{Story}
 use Rattle.bank_core.proofs.Composing.{made_none, made_more}
 use Rattle.label_store.specs.declared.found.Found.{Found}
@@ -229,10 +230,11 @@ answers_no_record {host} {size' = size'} size h name second keeps still k =
     }))
 
 -- there was no memory for the look
-pub answers_unlooked : {host : Host} {old new : Option Story} {f g size' : ℕ → ℕ} (size : ℕ → ℕ) (h : HostState) (name : List ℕ) (second : ℕ) → Keeps size host h
-    → ((d : ℕ) → size' d ≡ size d) → ReadsOnly old new f g → Answers h (Some (requests.Import name)) second old new f g size' host (replies.Refused refusals.Memory)
+pub answers_unlooked : {host : Host} {old new : BankView} {size' : ℕ → ℕ} (size : ℕ → ℕ) (h : HostState) (name : List ℕ) (second : ℕ) → Keeps size host h
+    → ((d : ℕ) → size' d ≡ size d) → ReadsOnly old new
+    → Answers h (Some (requests.Import name)) second old.told new.told old.faults new.faults size' host (replies.Refused refusals.Memory)
 answers_unlooked {size' = size'} size h name second keeps still r =
-    answers_without h (Some (requests.Import name)) second r.made r.calls r.reads (keeps_on size size' still keeps)
+    answers_without h (Some (requests.Import name)) second r.made r.calls.calls r.reads (keeps_on size size' still keeps)
 
 -- one was found, and its pool opened, or not
 pub answers_found : {host host' : Host} {old mid new : Option Story} {f g k size'' : ℕ → ℕ} {reply : Reply} (size : ℕ → ℕ) (h : HostState) (name : List ℕ) (second : ℕ) (config : Config)

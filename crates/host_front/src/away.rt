@@ -41,12 +41,12 @@ impl Host {
     }
 
     pub(crate) fn online<B: Bank>(&mut self, bank: &mut B, name: &Name, device: &Name) -> Reply
-        requires seated { HostIsSeated (B.size bank.old) self.old }
-        ensures size { (d : ℕ) → B.size bank.new d ≡ B.size bank.old d }
-        ensures numbers { (name : List ℕ) → B.number_of bank.new name ≡ B.number_of bank.old name }
-        ensures lookups { B.lookup_faults bank.new ≡ B.lookup_faults bank.old }
-        ensures answers { (h : HostState) (second : ℕ) → Stands (B.size bank.old) self.old h → Answers h (Some (Online name.now device.now)) second
-            (B.told bank.old) (B.told bank.new) (B.faults bank.old) (B.faults bank.new) (B.size bank.new) self.new result }
+        requires seated { HostIsSeated (B.view bank.old).size self.old }
+        ensures size { (d : ℕ) → (B.view bank.new).size d ≡ (B.view bank.old).size d }
+        ensures numbers { (name : List ℕ) → (B.view bank.new).number_of name ≡ (B.view bank.old).number_of name }
+        ensures lookups { (B.view bank.new).lookup_faults ≡ (B.view bank.old).lookup_faults }
+        ensures answers { (h : HostState) (second : ℕ) → Stands (B.view bank.old).size self.old h → Answers h (Some (Online name.now device.now)) second
+            (B.view bank.old).told (B.view bank.new).told (B.view bank.old).faults (B.view bank.new).faults (B.view bank.new).size self.new result }
     {
         let dev = number_in(&self.table, device);
         match &mut self.pool {
@@ -89,11 +89,11 @@ fn online_in<B: Bank>(
     dev: Option<u32>,
 ) -> Reply
     requires own { (s : PoolState) (d : ℕ) → PairStands pool.old.pair s → dev ≡ Some d → IsOwnDevice s device.now d }
-    ensures size { (d : ℕ) → B.size bank.new d ≡ B.size bank.old d }
-    ensures numbers { (name : List ℕ) → B.number_of bank.new name ≡ B.number_of bank.old name }
-    ensures lookups { B.lookup_faults bank.new ≡ B.lookup_faults bank.old }
+    ensures size { (d : ℕ) → (B.view bank.new).size d ≡ (B.view bank.old).size d }
+    ensures numbers { (name : List ℕ) → (B.view bank.new).number_of name ≡ (B.view bank.old).number_of name }
+    ensures lookups { (B.view bank.new).lookup_faults ≡ (B.view bank.old).lookup_faults }
     ensures onlines { (s : PoolState) → Represents pool.old s
-        → BringsBack s device.now dev (B.size bank.old) (B.told bank.old) (B.told bank.new) (B.faults bank.old) (B.faults bank.new) pool.new result }
+        → BringsBack s device.now dev (B.view bank.old).size (B.view bank.old).told (B.view bank.new).told (B.view bank.old).faults (B.view bank.new).faults pool.new result }
 {
     if !pool.has_leaf(device) {
         return Reply::Refused(Refusal::NoVdev);

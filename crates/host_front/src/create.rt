@@ -33,12 +33,12 @@ impl Host {
         second: &Name,
         time: u64,
     ) -> Reply
-        requires seated { HostIsSeated (B.size bank.old) self.old }
-        ensures size { (d : ℕ) → B.size bank.new d ≡ B.size bank.old d }
-        ensures numbers { (name : List ℕ) → B.number_of bank.new name ≡ B.number_of bank.old name }
-        ensures lookups { B.lookup_faults bank.new ≡ B.lookup_faults bank.old }
-        ensures answers { (h : HostState) → Stands (B.size bank.old) self.old h → Answers h (Some (Create name.now blocks first.now second.now)) time
-            (B.told bank.old) (B.told bank.new) (B.faults bank.old) (B.faults bank.new) (B.size bank.new) self.new result }
+        requires seated { HostIsSeated (B.view bank.old).size self.old }
+        ensures size { (d : ℕ) → (B.view bank.new).size d ≡ (B.view bank.old).size d }
+        ensures numbers { (name : List ℕ) → (B.view bank.new).number_of name ≡ (B.view bank.old).number_of name }
+        ensures lookups { (B.view bank.new).lookup_faults ≡ (B.view bank.old).lookup_faults }
+        ensures answers { (h : HostState) → Stands (B.view bank.old).size self.old h → Answers h (Some (Create name.now blocks first.now second.now)) time
+            (B.view bank.old).told (B.view bank.new).told (B.view bank.old).faults (B.view bank.new).faults (B.view bank.new).size self.new result }
     {
         if is_bad_size(blocks) {
             return Reply::Refused(Refusal::BadAddress {
@@ -111,17 +111,17 @@ impl Host {
         first: NewLeaf,
         second: NewLeaf,
     ) -> Reply
-        requires seated { HostIsSeated (B.size bank.old) self.old }
+        requires seated { HostIsSeated (B.view bank.old).size self.old }
         requires some { 0 < blocks }
         requires few { blocks ≤ 32 }
         requires number { 1 ≤ number.0 }
-        requires two { AreTwoSeats (B.size bank.old) first.name second.name first.dev second.dev }
-        ensures size { (d : ℕ) → B.size bank.new d ≡ B.size bank.old d }
-        ensures numbers { (name : List ℕ) → B.number_of bank.new name ≡ B.number_of bank.old name }
-        ensures lookups { B.lookup_faults bank.new ≡ B.lookup_faults bank.old }
-        ensures makes { (h : HostState) → Keeps (B.size bank.old) self.old h
-            → MakesPool h (made_state (B.size bank.old) name number blocks (first.name, first.dev) (second.name, second.dev))
-            (first.dev, second.dev) (B.told bank.old) (B.told bank.new) (B.faults bank.old) (B.faults bank.new) (B.size bank.new) self.new result }
+        requires two { AreTwoSeats (B.view bank.old).size first.name second.name first.dev second.dev }
+        ensures size { (d : ℕ) → (B.view bank.new).size d ≡ (B.view bank.old).size d }
+        ensures numbers { (name : List ℕ) → (B.view bank.new).number_of name ≡ (B.view bank.old).number_of name }
+        ensures lookups { (B.view bank.new).lookup_faults ≡ (B.view bank.old).lookup_faults }
+        ensures makes { (h : HostState) → Keeps (B.view bank.old).size self.old h
+            → MakesPool h (made_state (B.view bank.old).size name number blocks (first.name, first.dev) (second.name, second.dev))
+            (first.dev, second.dev) (B.view bank.old).told (B.view bank.new).told (B.view bank.old).faults (B.view bank.new).faults (B.view bank.new).size self.new result }
     {
         match Pool::create(self.alloc, bank, name, number, blocks, first, second) {
             Ok(pool) => {

@@ -27,14 +27,14 @@ pub fn run<B: Bank, S: Source, W: Sink, C: Clock>(
     clock: &mut C,
 ) -> Status
     ensures usage { (result ≡ Status.Usage) ↔ (is_script (map string_bytes words.now) ≡ false) }
-    ensures idle { result ≡ Status.Usage → IsQuiet (B.told bank.old) (B.told bank.new) (B.faults bank.old) (B.faults bank.new)
+    ensures idle { result ≡ Status.Usage → IsQuiet (B.view bank.old).told (B.view bank.new).told (B.view bank.old).faults (B.view bank.new).faults
         (S.left input.old) (S.left input.new) (W.contents output.old) (W.contents output.new) (C.gave clock.old) (C.gave clock.new) }
-    ensures unsought { result ≡ Status.Usage → B.lookup_faults bank.new ≡ B.lookup_faults bank.old }
+    ensures unsought { result ≡ Status.Usage → (B.view bank.new).lookup_faults ≡ (B.view bank.old).lookup_faults }
     ensures ran { is_script (map string_bytes words.now) ≡ true
-        → RanScript result (B.number_of bank.new) (B.size bank.new) (B.names bank.old) (B.lookup_faults bank.old) (B.lookup_faults bank.new)
-        (B.told bank.old) (B.told bank.new) (B.faults bank.old) (B.faults bank.new)
+        → RanScript result (B.view bank.new).number_of (B.view bank.new).size (B.view bank.old).names (B.view bank.old).lookup_faults (B.view bank.new).lookup_faults
+        (B.view bank.old).told (B.view bank.new).told (B.view bank.old).faults (B.view bank.new).faults
         (S.left input.old) (S.left input.new) (W.contents output.old) (W.contents output.new) (C.gave clock.old) (C.gave clock.new)
-        ⊎ ((result ≡ Status.Memory) × IsQuiet (B.told bank.old) (B.told bank.new) (B.faults bank.old) (B.faults bank.new)
+        ⊎ ((result ≡ Status.Memory) × IsQuiet (B.view bank.old).told (B.view bank.new).told (B.view bank.old).faults (B.view bank.new).faults
         (S.left input.old) (S.left input.new) (W.contents output.old) (W.contents output.new) (C.gave clock.old) (C.gave clock.new)) }
     ensures source { result ≡ Status.SourceFault → Rose (S.faults input.old) (S.faults input.new) }
     ensures sink { result ≡ Status.SinkFault → Rose (W.faults output.old) (W.faults output.new) }

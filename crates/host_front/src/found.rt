@@ -20,11 +20,11 @@ pub(crate) fn find_devices<B: Bank>(
     alloc: Global,
     bank: &mut B,
 ) -> Result<Vec<HostDevice>, MemFault>
-    ensures found { IfOk result (λ table. AreLookedUp (B.number_of bank.new) (B.size bank.new) (B.names bank.old)
-        (B.lookup_faults bank.old) (B.lookup_faults bank.new) host_devices table.items) }
+    ensures found { IfOk result (λ table. AreLookedUp (B.view bank.new).number_of (B.view bank.new).size (B.view bank.old).names
+        (B.view bank.old).lookup_faults (B.view bank.new).lookup_faults host_devices table.items) }
     ensures apart { IfOk result (λ table. AreApart table.items) }
-    ensures told { B.told bank.new ≡ B.told bank.old }
-    ensures faults { (d : ℕ) → B.faults bank.new d ≡ B.faults bank.old d }
+    ensures told { (B.view bank.new).told ≡ (B.view bank.old).told }
+    ensures faults { (d : ℕ) → (B.view bank.new).faults d ≡ (B.view bank.old).faults d }
 {
     let mut table = Vec::with_capacity(alloc, HOST_DEVICES)?;
     for i in 0..HOST_DEVICES {
@@ -37,15 +37,15 @@ pub(crate) fn find_devices<B: Bank>(
 // Looks one device of the host up. It isn't there where its look-up finds nothing, or fails.
 fn look_up<B: Bank>(alloc: Global, bank: &mut B, i: usize) -> Result<HostDevice, MemFault>
     requires { i < 7 }
-    ensures looked_up { IfOk result (LooksUp (B.number_of bank.new) (B.size bank.new) (B.names bank.old)
-        (B.lookup_faults bank.old) (B.lookup_faults bank.new) i) }
-    ensures keeps { (other : List ℕ) (dev : ℕ) → B.number_of bank.old other ≡ Some dev → B.number_of bank.new other ≡ Some dev }
-    ensures apart { OnOk result ((one other : List ℕ) (dev : ℕ) → B.number_of bank.new one ≡ Some dev → B.number_of bank.new other ≡ Some dev → one ≡ other) }
-    ensures sizes { (d : ℕ) → 0 < B.size bank.old d → B.size bank.new d ≡ B.size bank.old d }
-    ensures names { B.names bank.new ≡ B.names bank.old }
-    ensures told { B.told bank.new ≡ B.told bank.old }
-    ensures faults { (d : ℕ) → B.faults bank.new d ≡ B.faults bank.old d }
-    ensures lookups { B.lookup_faults bank.old ≤ B.lookup_faults bank.new }
+    ensures looked_up { IfOk result (LooksUp (B.view bank.new).number_of (B.view bank.new).size (B.view bank.old).names
+        (B.view bank.old).lookup_faults (B.view bank.new).lookup_faults i) }
+    ensures keeps { (other : List ℕ) (dev : ℕ) → (B.view bank.old).number_of other ≡ Some dev → (B.view bank.new).number_of other ≡ Some dev }
+    ensures apart { OnOk result ((one other : List ℕ) (dev : ℕ) → (B.view bank.new).number_of one ≡ Some dev → (B.view bank.new).number_of other ≡ Some dev → one ≡ other) }
+    ensures sizes { (d : ℕ) → 0 < (B.view bank.old).size d → (B.view bank.new).size d ≡ (B.view bank.old).size d }
+    ensures names { (B.view bank.new).names ≡ (B.view bank.old).names }
+    ensures told { (B.view bank.new).told ≡ (B.view bank.old).told }
+    ensures faults { (d : ℕ) → (B.view bank.new).faults d ≡ (B.view bank.old).faults d }
+    ensures lookups { (B.view bank.old).lookup_faults ≤ (B.view bank.new).lookup_faults }
 {
     let (word, spare) = host_device(i);
     let name = match Name::new(alloc, word) {
@@ -65,15 +65,15 @@ fn look_up<B: Bank>(alloc: Global, bank: &mut B, i: usize) -> Result<HostDevice,
 
 // Looks one name up: nothing is found where the look-up fails, too.
 fn find<B: Bank>(bank: &mut B, name: &Name) -> Result<Option<u32>, MemFault>
-    ensures some { IfOk result (λ found. (dev : ℕ) → found ≡ Some dev → (B.number_of bank.new name.now ≡ Some dev) × (0 < B.size bank.new dev)) }
-    ensures none { IfOk result (λ found. found ≡ None → IsAbsent (B.names bank.old) name.now ⊎ Rose (B.lookup_faults bank.old) (B.lookup_faults bank.new)) }
-    ensures keeps { (other : List ℕ) (dev : ℕ) → B.number_of bank.old other ≡ Some dev → B.number_of bank.new other ≡ Some dev }
-    ensures apart { (one other : List ℕ) (dev : ℕ) → B.number_of bank.new one ≡ Some dev → B.number_of bank.new other ≡ Some dev → one ≡ other }
-    ensures sizes { (d : ℕ) → 0 < B.size bank.old d → B.size bank.new d ≡ B.size bank.old d }
-    ensures names { B.names bank.new ≡ B.names bank.old }
-    ensures told { B.told bank.new ≡ B.told bank.old }
-    ensures faults { (d : ℕ) → B.faults bank.new d ≡ B.faults bank.old d }
-    ensures lookups { B.lookup_faults bank.old ≤ B.lookup_faults bank.new }
+    ensures some { IfOk result (λ found. (dev : ℕ) → found ≡ Some dev → ((B.view bank.new).number_of name.now ≡ Some dev) × (0 < (B.view bank.new).size dev)) }
+    ensures none { IfOk result (λ found. found ≡ None → IsAbsent (B.view bank.old).names name.now ⊎ Rose (B.view bank.old).lookup_faults (B.view bank.new).lookup_faults) }
+    ensures keeps { (other : List ℕ) (dev : ℕ) → (B.view bank.old).number_of other ≡ Some dev → (B.view bank.new).number_of other ≡ Some dev }
+    ensures apart { (one other : List ℕ) (dev : ℕ) → (B.view bank.new).number_of one ≡ Some dev → (B.view bank.new).number_of other ≡ Some dev → one ≡ other }
+    ensures sizes { (d : ℕ) → 0 < (B.view bank.old).size d → (B.view bank.new).size d ≡ (B.view bank.old).size d }
+    ensures names { (B.view bank.new).names ≡ (B.view bank.old).names }
+    ensures told { (B.view bank.new).told ≡ (B.view bank.old).told }
+    ensures faults { (d : ℕ) → (B.view bank.new).faults d ≡ (B.view bank.old).faults d }
+    ensures lookups { (B.view bank.old).lookup_faults ≤ (B.view bank.new).lookup_faults }
 {
     match bank.find(name) {
         Ok(Some(dev)) => Ok(Some(dev)),
@@ -84,7 +84,7 @@ fn find<B: Bank>(bank: &mut B, name: &Name) -> Result<Option<u32>, MemFault>
 
 // How many sectors a device has, if it was found.
 fn sectors<B: Bank>(bank: &B, found: Option<u32>) -> u64
-    ensures { (dev : ℕ) → found ≡ Some dev → result ≡ B.size bank.now dev }
+    ensures { (dev : ℕ) → found ≡ Some dev → result ≡ (B.view bank.now).size dev }
 {
     match found {
         Some(dev) => bank.sectors(dev),

@@ -43,13 +43,13 @@ impl Host {
 
     /// Answers a line, which was asked at this second. A line outside the grammar is refused as not built.
     pub fn answer<B: Bank>(&mut self, bank: &mut B, line: &[u8], time: u64) -> Reply
-        requires seated { HostIsSeated (B.size bank.old) self.old }
-        ensures size { (d : ℕ) → B.size bank.new d ≡ B.size bank.old d }
-        ensures numbers { (name : List ℕ) → B.number_of bank.new name ≡ B.number_of bank.old name }
-        ensures lookups { B.lookup_faults bank.new ≡ B.lookup_faults bank.old }
-        ensures seated { HostIsSeated (B.size bank.new) self.new }
-        ensures answers { (h : HostState) → Stands (B.size bank.old) self.old h → Answers h (request_of line.now) time
-            (B.told bank.old) (B.told bank.new) (B.faults bank.old) (B.faults bank.new) (B.size bank.new) self.new result }
+        requires seated { HostIsSeated (B.view bank.old).size self.old }
+        ensures size { (d : ℕ) → (B.view bank.new).size d ≡ (B.view bank.old).size d }
+        ensures numbers { (name : List ℕ) → (B.view bank.new).number_of name ≡ (B.view bank.old).number_of name }
+        ensures lookups { (B.view bank.new).lookup_faults ≡ (B.view bank.old).lookup_faults }
+        ensures seated { HostIsSeated (B.view bank.new).size self.new }
+        ensures answers { (h : HostState) → Stands (B.view bank.old).size self.old h → Answers h (request_of line.now) time
+            (B.view bank.old).told (B.view bank.new).told (B.view bank.old).faults (B.view bank.new).faults (B.view bank.new).size self.new result }
     {
         match read_line(self.alloc, line) {
             Ok(request) => self.request(bank, &request, time),
@@ -60,13 +60,13 @@ impl Host {
 
     /// Answers a request, which was asked at this second.
     pub fn request<B: Bank>(&mut self, bank: &mut B, request: &Request, time: u64) -> Reply
-        requires seated { HostIsSeated (B.size bank.old) self.old }
-        ensures size { (d : ℕ) → B.size bank.new d ≡ B.size bank.old d }
-        ensures numbers { (name : List ℕ) → B.number_of bank.new name ≡ B.number_of bank.old name }
-        ensures lookups { B.lookup_faults bank.new ≡ B.lookup_faults bank.old }
-        ensures seated { HostIsSeated (B.size bank.new) self.new }
-        ensures answers { (h : HostState) → Stands (B.size bank.old) self.old h → Answers h (Some request.now) time
-            (B.told bank.old) (B.told bank.new) (B.faults bank.old) (B.faults bank.new) (B.size bank.new) self.new result }
+        requires seated { HostIsSeated (B.view bank.old).size self.old }
+        ensures size { (d : ℕ) → (B.view bank.new).size d ≡ (B.view bank.old).size d }
+        ensures numbers { (name : List ℕ) → (B.view bank.new).number_of name ≡ (B.view bank.old).number_of name }
+        ensures lookups { (B.view bank.new).lookup_faults ≡ (B.view bank.old).lookup_faults }
+        ensures seated { HostIsSeated (B.view bank.new).size self.new }
+        ensures answers { (h : HostState) → Stands (B.view bank.old).size self.old h → Answers h (Some request.now) time
+            (B.view bank.old).told (B.view bank.new).told (B.view bank.old).faults (B.view bank.new).faults (B.view bank.new).size self.new result }
     {
         hosts_stay_fit();
         asks_whole(request);
@@ -74,12 +74,12 @@ impl Host {
     }
 
     fn reply_to<B: Bank>(&mut self, bank: &mut B, request: &Request, time: u64) -> Reply
-        requires seated { HostIsSeated (B.size bank.old) self.old }
-        ensures size { (d : ℕ) → B.size bank.new d ≡ B.size bank.old d }
-        ensures numbers { (name : List ℕ) → B.number_of bank.new name ≡ B.number_of bank.old name }
-        ensures lookups { B.lookup_faults bank.new ≡ B.lookup_faults bank.old }
-        ensures answers { (h : HostState) → Stands (B.size bank.old) self.old h → Answers h (Some request.now) time
-            (B.told bank.old) (B.told bank.new) (B.faults bank.old) (B.faults bank.new) (B.size bank.new) self.new result }
+        requires seated { HostIsSeated (B.view bank.old).size self.old }
+        ensures size { (d : ℕ) → (B.view bank.new).size d ≡ (B.view bank.old).size d }
+        ensures numbers { (name : List ℕ) → (B.view bank.new).number_of name ≡ (B.view bank.old).number_of name }
+        ensures lookups { (B.view bank.new).lookup_faults ≡ (B.view bank.old).lookup_faults }
+        ensures answers { (h : HostState) → Stands (B.view bank.old).size self.old h → Answers h (Some request.now) time
+            (B.view bank.old).told (B.view bank.new).told (B.view bank.old).faults (B.view bank.new).faults (B.view bank.new).size self.new result }
     {
         match request {
             Request::Nothing => Reply::Done,

@@ -31,12 +31,12 @@ impl Host {
     ghost use Rattle.host_front.specs.Session.{Answers};
 
     pub(crate) fn import<B: Bank>(&mut self, bank: &mut B, name: &Name) -> Reply
-        requires seated { HostIsSeated (B.size bank.old) self.old }
-        ensures size { (d : ℕ) → B.size bank.new d ≡ B.size bank.old d }
-        ensures numbers { (name : List ℕ) → B.number_of bank.new name ≡ B.number_of bank.old name }
-        ensures lookups { B.lookup_faults bank.new ≡ B.lookup_faults bank.old }
-        ensures answers { (h : HostState) (second : ℕ) → Stands (B.size bank.old) self.old h → Answers h (Some (Import name.now)) second
-            (B.told bank.old) (B.told bank.new) (B.faults bank.old) (B.faults bank.new) (B.size bank.new) self.new result }
+        requires seated { HostIsSeated (B.view bank.old).size self.old }
+        ensures size { (d : ℕ) → (B.view bank.new).size d ≡ (B.view bank.old).size d }
+        ensures numbers { (name : List ℕ) → (B.view bank.new).number_of name ≡ (B.view bank.old).number_of name }
+        ensures lookups { (B.view bank.new).lookup_faults ≡ (B.view bank.old).lookup_faults }
+        ensures answers { (h : HostState) (second : ℕ) → Stands (B.view bank.old).size self.old h → Answers h (Some (Import name.now)) second
+            (B.view bank.old).told (B.view bank.new).told (B.view bank.old).faults (B.view bank.new).faults (B.view bank.new).size self.new result }
     {
         match self.newest_config(bank, name) {
             Ok(Some(config)) => self.open_found(bank, config),
@@ -47,14 +47,14 @@ impl Host {
 
     // The configuration of the newest record of the name, on all devices that are handed to an opening.
     fn newest_config<B: Bank>(&self, bank: &mut B, name: &Name) -> Result<Option<Config>, MemFault>
-        requires seated { HostIsSeated (B.size bank.old) self.now }
-        ensures size { (d : ℕ) → B.size bank.new d ≡ B.size bank.old d }
-        ensures numbers { (name : List ℕ) → B.number_of bank.new name ≡ B.number_of bank.old name }
-        ensures lookups { B.lookup_faults bank.new ≡ B.lookup_faults bank.old }
+        requires seated { HostIsSeated (B.view bank.old).size self.now }
+        ensures size { (d : ℕ) → (B.view bank.new).size d ≡ (B.view bank.old).size d }
+        ensures numbers { (name : List ℕ) → (B.view bank.new).number_of name ≡ (B.view bank.old).number_of name }
+        ensures lookups { (B.view bank.new).lookup_faults ≡ (B.view bank.old).lookup_faults }
         ensures valid { IfOk result (λ found. IfSome found (λ config. IsValid (config_fields config))) }
-        ensures seeks { IfOk result (λ found. Seeks (B.size bank.old) (all_handed self.now.table.items) name.now
-            (B.told bank.old) (B.told bank.new) (B.faults bank.old) (B.faults bank.new) found) }
-        ensures reads { OnErr result (ReadsOnly (B.told bank.old) (B.told bank.new) (B.faults bank.old) (B.faults bank.new)) }
+        ensures seeks { IfOk result (λ found. Seeks (B.view bank.old).size (all_handed self.now.table.items) name.now
+            (B.view bank.old).told (B.view bank.new).told (B.view bank.old).faults (B.view bank.new).faults found) }
+        ensures reads { OnErr result (ReadsOnly (B.view bank.old) (B.view bank.new)) }
     {
         let devs = self.handed_devices()?;
         seek(self.alloc, bank, &devs, name)
@@ -75,13 +75,13 @@ impl Host {
 
     // Opens the pool of the configuration that was found.
     fn open_found<B: Bank>(&mut self, bank: &mut B, config: Config) -> Reply
-        requires seated { HostIsSeated (B.size bank.old) self.old }
+        requires seated { HostIsSeated (B.view bank.old).size self.old }
         requires valid { IsValid (config_fields config) }
-        ensures size { (d : ℕ) → B.size bank.new d ≡ B.size bank.old d }
-        ensures numbers { (name : List ℕ) → B.number_of bank.new name ≡ B.number_of bank.old name }
-        ensures lookups { B.lookup_faults bank.new ≡ B.lookup_faults bank.old }
-        ensures opens { (h : HostState) (bytes : List ℕ) → Stands (B.size bank.old) self.old h → config_in bytes ≡ Some (config_fields config)
-            → OpensFound h bytes (config_fields config) (B.told bank.old) (B.told bank.new) (B.faults bank.old) (B.faults bank.new) (B.size bank.new) self.new result }
+        ensures size { (d : ℕ) → (B.view bank.new).size d ≡ (B.view bank.old).size d }
+        ensures numbers { (name : List ℕ) → (B.view bank.new).number_of name ≡ (B.view bank.old).number_of name }
+        ensures lookups { (B.view bank.new).lookup_faults ≡ (B.view bank.old).lookup_faults }
+        ensures opens { (h : HostState) (bytes : List ℕ) → Stands (B.view bank.old).size self.old h → config_in bytes ≡ Some (config_fields config)
+            → OpensFound h bytes (config_fields config) (B.view bank.old).told (B.view bank.new).told (B.view bank.old).faults (B.view bank.new).faults (B.view bank.new).size self.new result }
     {
         let number = config.number.0;
         if number >= LAST_NUMBER {
@@ -117,16 +117,16 @@ impl Host {
         config: Config,
         found: (Option<u32>, Option<u32>),
     ) -> Reply
-        requires seated { HostIsSeated (B.size bank.old) self.old }
+        requires seated { HostIsSeated (B.view bank.old).size self.old }
         requires closed { self.old.pool ≡ None }
         requires valid { IsValid (config_fields config) }
         requires number { config.number.0 < last_number }
-        requires two { AreRooms (B.size bank.old) config.sectors found }
-        ensures size { (d : ℕ) → B.size bank.new d ≡ B.size bank.old d }
-        ensures numbers { (name : List ℕ) → B.number_of bank.new name ≡ B.number_of bank.old name }
-        ensures lookups { B.lookup_faults bank.new ≡ B.lookup_faults bank.old }
-        ensures opens { (h : HostState) (bytes : List ℕ) → Stands (B.size bank.old) self.old h → config_in bytes ≡ Some (config_fields config)
-            → OpensThere h bytes (config_fields config) found (B.told bank.old) (B.told bank.new) (B.faults bank.old) (B.faults bank.new) (B.size bank.new) self.new result }
+        requires two { AreRooms (B.view bank.old).size config.sectors found }
+        ensures size { (d : ℕ) → (B.view bank.new).size d ≡ (B.view bank.old).size d }
+        ensures numbers { (name : List ℕ) → (B.view bank.new).number_of name ≡ (B.view bank.old).number_of name }
+        ensures lookups { (B.view bank.new).lookup_faults ≡ (B.view bank.old).lookup_faults }
+        ensures opens { (h : HostState) (bytes : List ℕ) → Stands (B.view bank.old).size self.old h → config_in bytes ≡ Some (config_fields config)
+            → OpensThere h bytes (config_fields config) found (B.view bank.old).told (B.view bank.new).told (B.view bank.old).faults (B.view bank.new).faults (B.view bank.new).size self.new result }
     {
         let number = config.number.0 + 1;
         match Pool::open(self.alloc, bank, config, found) {

@@ -30,16 +30,16 @@ pub(crate) fn handle_line<B: Bank, W: Sink, C: Clock>(
     output: &mut W,
     clock: &mut C,
 ) -> Result<(), Stop>
-    requires seated { HostIsSeated (B.size bank.old) host.old }
-    ensures size { (d : ℕ) → B.size bank.new d ≡ B.size bank.old d }
-    ensures numbers { (name : List ℕ) → B.number_of bank.new name ≡ B.number_of bank.old name }
-    ensures lookups { B.lookup_faults bank.new ≡ B.lookup_faults bank.old }
-    ensures seated { HostIsSeated (B.size bank.new) host.new }
-    ensures handles { OnOk result ((h : HostState) → Stands (B.size bank.old) host.old h → HandlesLine h line.now (B.told bank.old) (B.told bank.new)
-        (B.faults bank.old) (B.faults bank.new) (W.contents output.old) (W.contents output.new)
-        (C.gave clock.old) (C.gave clock.new) (B.size bank.new) host.new) }
-    ensures breaks { OnErr result ((h : HostState) → Stands (B.size bank.old) host.old h → BreaksLine h line.now (B.told bank.old) (B.told bank.new)
-        (B.faults bank.old) (B.faults bank.new) (W.contents output.old) (W.contents output.new)
+    requires seated { HostIsSeated (B.view bank.old).size host.old }
+    ensures size { (d : ℕ) → (B.view bank.new).size d ≡ (B.view bank.old).size d }
+    ensures numbers { (name : List ℕ) → (B.view bank.new).number_of name ≡ (B.view bank.old).number_of name }
+    ensures lookups { (B.view bank.new).lookup_faults ≡ (B.view bank.old).lookup_faults }
+    ensures seated { HostIsSeated (B.view bank.new).size host.new }
+    ensures handles { OnOk result ((h : HostState) → Stands (B.view bank.old).size host.old h → HandlesLine h line.now (B.view bank.old).told (B.view bank.new).told
+        (B.view bank.old).faults (B.view bank.new).faults (W.contents output.old) (W.contents output.new)
+        (C.gave clock.old) (C.gave clock.new) (B.view bank.new).size host.new) }
+    ensures breaks { OnErr result ((h : HostState) → Stands (B.view bank.old).size host.old h → BreaksLine h line.now (B.view bank.old).told (B.view bank.new).told
+        (B.view bank.old).faults (B.view bank.new).faults (W.contents output.old) (W.contents output.new)
         (C.gave clock.old) (C.gave clock.new)) }
     ensures whole { result ≢ Err Stop.TooLong }
     ensures counts { W.faults output.old ≤ W.faults output.new }
@@ -77,18 +77,18 @@ fn take_byte<B: Bank, W: Sink, C: Clock>(
     output: &mut W,
     clock: &mut C,
 ) -> Result<(), Stop>
-    requires seated { HostIsSeated (B.size bank.old) host.old }
+    requires seated { HostIsSeated (B.view bank.old).size host.old }
     requires open_line { IsOpen waiting.old.items }
     requires fits { length waiting.old.items ≤ longest }
-    ensures size { (d : ℕ) → B.size bank.new d ≡ B.size bank.old d }
-    ensures numbers { (name : List ℕ) → B.number_of bank.new name ≡ B.number_of bank.old name }
-    ensures lookups { B.lookup_faults bank.new ≡ B.lookup_faults bank.old }
-    ensures seated { HostIsSeated (B.size bank.new) host.new }
-    ensures feeds { OnOk result ((h : HostState) → Stands (B.size bank.old) host.old h → Feeds h waiting.old.items (b ∷ []) waiting.new.items (B.told bank.old) (B.told bank.new)
-        (B.faults bank.old) (B.faults bank.new) (W.contents output.old) (W.contents output.new)
-        (C.gave clock.old) (C.gave clock.new) (B.size bank.new) host.new) }
-    ensures stops { IfErr result (λ stop. (h : HostState) → Stands (B.size bank.old) host.old h → StopsBy stop h waiting.old.items (b ∷ []) (B.told bank.old) (B.told bank.new)
-        (B.faults bank.old) (B.faults bank.new) (W.contents output.old) (W.contents output.new)
+    ensures size { (d : ℕ) → (B.view bank.new).size d ≡ (B.view bank.old).size d }
+    ensures numbers { (name : List ℕ) → (B.view bank.new).number_of name ≡ (B.view bank.old).number_of name }
+    ensures lookups { (B.view bank.new).lookup_faults ≡ (B.view bank.old).lookup_faults }
+    ensures seated { HostIsSeated (B.view bank.new).size host.new }
+    ensures feeds { OnOk result ((h : HostState) → Stands (B.view bank.old).size host.old h → Feeds h waiting.old.items (b ∷ []) waiting.new.items (B.view bank.old).told (B.view bank.new).told
+        (B.view bank.old).faults (B.view bank.new).faults (W.contents output.old) (W.contents output.new)
+        (C.gave clock.old) (C.gave clock.new) (B.view bank.new).size host.new) }
+    ensures stops { IfErr result (λ stop. (h : HostState) → Stands (B.view bank.old).size host.old h → StopsBy stop h waiting.old.items (b ∷ []) (B.view bank.old).told (B.view bank.new).told
+        (B.view bank.old).faults (B.view bank.new).faults (W.contents output.old) (W.contents output.new)
         (C.gave clock.old) (C.gave clock.new)) }
     ensures open_line { OnOk result (IsOpen waiting.new.items) }
     ensures fits { OnOk result (length waiting.new.items ≤ longest) }
@@ -115,18 +115,18 @@ fn end_line<B: Bank, W: Sink, C: Clock>(
     output: &mut W,
     clock: &mut C,
 ) -> Result<(), Stop>
-    requires seated { HostIsSeated (B.size bank.old) host.old }
+    requires seated { HostIsSeated (B.view bank.old).size host.old }
     requires open_line { IsOpen waiting.old.items }
     requires fits { length waiting.old.items ≤ longest }
-    ensures size { (d : ℕ) → B.size bank.new d ≡ B.size bank.old d }
-    ensures numbers { (name : List ℕ) → B.number_of bank.new name ≡ B.number_of bank.old name }
-    ensures lookups { B.lookup_faults bank.new ≡ B.lookup_faults bank.old }
-    ensures seated { HostIsSeated (B.size bank.new) host.new }
-    ensures feeds { OnOk result ((h : HostState) → Stands (B.size bank.old) host.old h → Feeds h waiting.old.items (10 ∷ []) waiting.new.items (B.told bank.old) (B.told bank.new)
-        (B.faults bank.old) (B.faults bank.new) (W.contents output.old) (W.contents output.new)
-        (C.gave clock.old) (C.gave clock.new) (B.size bank.new) host.new) }
-    ensures stops { IfErr result (λ stop. (h : HostState) → Stands (B.size bank.old) host.old h → StopsBy stop h waiting.old.items (10 ∷ []) (B.told bank.old) (B.told bank.new)
-        (B.faults bank.old) (B.faults bank.new) (W.contents output.old) (W.contents output.new)
+    ensures size { (d : ℕ) → (B.view bank.new).size d ≡ (B.view bank.old).size d }
+    ensures numbers { (name : List ℕ) → (B.view bank.new).number_of name ≡ (B.view bank.old).number_of name }
+    ensures lookups { (B.view bank.new).lookup_faults ≡ (B.view bank.old).lookup_faults }
+    ensures seated { HostIsSeated (B.view bank.new).size host.new }
+    ensures feeds { OnOk result ((h : HostState) → Stands (B.view bank.old).size host.old h → Feeds h waiting.old.items (10 ∷ []) waiting.new.items (B.view bank.old).told (B.view bank.new).told
+        (B.view bank.old).faults (B.view bank.new).faults (W.contents output.old) (W.contents output.new)
+        (C.gave clock.old) (C.gave clock.new) (B.view bank.new).size host.new) }
+    ensures stops { IfErr result (λ stop. (h : HostState) → Stands (B.view bank.old).size host.old h → StopsBy stop h waiting.old.items (10 ∷ []) (B.view bank.old).told (B.view bank.new).told
+        (B.view bank.old).faults (B.view bank.new).faults (W.contents output.old) (W.contents output.new)
         (C.gave clock.old) (C.gave clock.new)) }
     ensures empty { OnOk result (waiting.new.items ≡ []) }
     ensures counts { W.faults output.old ≤ W.faults output.new }
@@ -150,18 +150,18 @@ pub(crate) fn feed<B: Bank, W: Sink, C: Clock>(
     output: &mut W,
     clock: &mut C,
 ) -> Result<(), Stop>
-    requires seated { HostIsSeated (B.size bank.old) host.old }
+    requires seated { HostIsSeated (B.view bank.old).size host.old }
     requires open_line { IsOpen waiting.old.items }
     requires fits { length waiting.old.items ≤ longest }
-    ensures size { (d : ℕ) → B.size bank.new d ≡ B.size bank.old d }
-    ensures numbers { (name : List ℕ) → B.number_of bank.new name ≡ B.number_of bank.old name }
-    ensures lookups { B.lookup_faults bank.new ≡ B.lookup_faults bank.old }
-    ensures seated { HostIsSeated (B.size bank.new) host.new }
-    ensures feeds { OnOk result ((h : HostState) → Stands (B.size bank.old) host.old h → Feeds h waiting.old.items piece.now waiting.new.items (B.told bank.old) (B.told bank.new)
-        (B.faults bank.old) (B.faults bank.new) (W.contents output.old) (W.contents output.new)
-        (C.gave clock.old) (C.gave clock.new) (B.size bank.new) host.new) }
-    ensures stops { IfErr result (λ stop. (h : HostState) → Stands (B.size bank.old) host.old h → StopsBy stop h waiting.old.items piece.now (B.told bank.old) (B.told bank.new)
-        (B.faults bank.old) (B.faults bank.new) (W.contents output.old) (W.contents output.new)
+    ensures size { (d : ℕ) → (B.view bank.new).size d ≡ (B.view bank.old).size d }
+    ensures numbers { (name : List ℕ) → (B.view bank.new).number_of name ≡ (B.view bank.old).number_of name }
+    ensures lookups { (B.view bank.new).lookup_faults ≡ (B.view bank.old).lookup_faults }
+    ensures seated { HostIsSeated (B.view bank.new).size host.new }
+    ensures feeds { OnOk result ((h : HostState) → Stands (B.view bank.old).size host.old h → Feeds h waiting.old.items piece.now waiting.new.items (B.view bank.old).told (B.view bank.new).told
+        (B.view bank.old).faults (B.view bank.new).faults (W.contents output.old) (W.contents output.new)
+        (C.gave clock.old) (C.gave clock.new) (B.view bank.new).size host.new) }
+    ensures stops { IfErr result (λ stop. (h : HostState) → Stands (B.view bank.old).size host.old h → StopsBy stop h waiting.old.items piece.now (B.view bank.old).told (B.view bank.new).told
+        (B.view bank.old).faults (B.view bank.new).faults (W.contents output.old) (W.contents output.new)
         (C.gave clock.old) (C.gave clock.new)) }
     ensures open_line { OnOk result (IsOpen waiting.new.items) }
     ensures fits { OnOk result (length waiting.new.items ≤ longest) }

@@ -13,12 +13,12 @@ use std::alloc::Global;
 
 // Reads a block of the pool. The buffer comes first, so that want of memory makes no device call.
 pub(crate) fn read_from<B: Bank>(alloc: Global, pool: &Pool, bank: &mut B, address: u64) -> Reply
-    requires seated { IsSeated (B.size bank.old) pool.now }
-    ensures size { (d : ℕ) → B.size bank.new d ≡ B.size bank.old d }
-    ensures numbers { (name : List ℕ) → B.number_of bank.new name ≡ B.number_of bank.old name }
-    ensures lookups { B.lookup_faults bank.new ≡ B.lookup_faults bank.old }
+    requires seated { IsSeated (B.view bank.old).size pool.now }
+    ensures size { (d : ℕ) → (B.view bank.new).size d ≡ (B.view bank.old).size d }
+    ensures numbers { (name : List ℕ) → (B.view bank.new).number_of name ≡ (B.view bank.old).number_of name }
+    ensures lookups { (B.view bank.new).lookup_faults ≡ (B.view bank.old).lookup_faults }
     ensures replies { (s : PoolState) → Represents pool.now s
-        → Replies s address (B.told bank.old) (B.told bank.new) (B.faults bank.old) (B.faults bank.new) result }
+        → Replies s address (B.view bank.old).told (B.view bank.new).told (B.view bank.old).faults (B.view bank.new).faults result }
 {
     let mut out = match zeros(alloc) {
         Ok(out) => out,

@@ -22,11 +22,11 @@ pub(crate) fn script<B: Bank, S: Source, W: Sink, C: Clock>(
     output: &mut W,
     clock: &mut C,
 ) -> Status
-    requires seated { HostIsSeated (B.size bank.old) host.old }
-    ensures size { (d : ℕ) → B.size bank.new d ≡ B.size bank.old d }
-    ensures numbers { (name : List ℕ) → B.number_of bank.new name ≡ B.number_of bank.old name }
-    ensures lookups { B.lookup_faults bank.new ≡ B.lookup_faults bank.old }
-    ensures ran { (h : HostState) → Stands (B.size bank.old) host.old h → Ran h result (B.told bank.old) (B.told bank.new) (B.faults bank.old) (B.faults bank.new)
+    requires seated { HostIsSeated (B.view bank.old).size host.old }
+    ensures size { (d : ℕ) → (B.view bank.new).size d ≡ (B.view bank.old).size d }
+    ensures numbers { (name : List ℕ) → (B.view bank.new).number_of name ≡ (B.view bank.old).number_of name }
+    ensures lookups { (B.view bank.new).lookup_faults ≡ (B.view bank.old).lookup_faults }
+    ensures ran { (h : HostState) → Stands (B.view bank.old).size host.old h → Ran h result (B.view bank.old).told (B.view bank.new).told (B.view bank.old).faults (B.view bank.new).faults
         (S.left input.old) (S.left input.new) (W.contents output.old) (W.contents output.new) (C.gave clock.old) (C.gave clock.new) }
     ensures source { result ≡ Status.SourceFault → Rose (S.faults input.old) (S.faults input.new) }
     ensures sink { result ≡ Status.SinkFault → Rose (W.faults output.old) (W.faults output.new) }
@@ -55,11 +55,11 @@ fn finish<B: Bank, W: Sink, C: Clock>(
     output: &mut W,
     clock: &mut C,
 ) -> Status
-    requires seated { HostIsSeated (B.size bank.old) host.old }
-    ensures size { (d : ℕ) → B.size bank.new d ≡ B.size bank.old d }
-    ensures numbers { (name : List ℕ) → B.number_of bank.new name ≡ B.number_of bank.old name }
-    ensures lookups { B.lookup_faults bank.new ≡ B.lookup_faults bank.old }
-    ensures ends { (h : HostState) → Stands (B.size bank.old) host.old h → Finishes h result waiting.now (B.told bank.old) (B.told bank.new) (B.faults bank.old) (B.faults bank.new)
+    requires seated { HostIsSeated (B.view bank.old).size host.old }
+    ensures size { (d : ℕ) → (B.view bank.new).size d ≡ (B.view bank.old).size d }
+    ensures numbers { (name : List ℕ) → (B.view bank.new).number_of name ≡ (B.view bank.old).number_of name }
+    ensures lookups { (B.view bank.new).lookup_faults ≡ (B.view bank.old).lookup_faults }
+    ensures ends { (h : HostState) → Stands (B.view bank.old).size host.old h → Finishes h result waiting.now (B.view bank.old).told (B.view bank.new).told (B.view bank.old).faults (B.view bank.new).faults
         (W.contents output.old) (W.contents output.new) (C.gave clock.old) (C.gave clock.new) }
     ensures source { result ≢ Status.SourceFault }
     ensures counts { W.faults output.old ≤ W.faults output.new }

@@ -7,11 +7,11 @@ use Rattle.std.proofs.lemmas.Grind.{flat_map-append}
 use Rattle.mp_base.specs.Outside.{Rose}
 use Rattle.bank_core.specs.declared.bank.Fault.{Fault}
 use Rattle.bank_core.specs.Asks.{Ask, Reads, ask_of, asks_of}
-use Rattle.bank_core.specs.Calls.{Made}
+use Rattle.bank_core.specs.BankView.{BankView}
+use Rattle.bank_core.specs.Calls.{Called, Makes}
 use Rattle.bank_core.specs.Disk.{Call, Read, Noted, sector_size, sectors_in}
-use Rattle.bank_core.specs.Story.{Story, Tells}
 use Rattle.bank_core.proofs.Adding.{get_front, get_last}
-use Rattle.bank_core.proofs.Composing.{made_none, made_more, one_made, ok_caused, failed_caused}
+use Rattle.bank_core.proofs.Framing.{makes_none, makes_more, makes_one}
 use Rattle.label_store.specs.declared.found.Found.{Found}
 use Rattle.label_store.specs.declared.rule.Head.{Head}
 use Rattle.label_store.specs.declared.uberblock.Uberblock.{Uberblock}
@@ -27,29 +27,29 @@ pub many_sectors : (bytes : List ℕ) (n : ℕ) → length bytes ≡ n * 4096 �
 unfolding sector_size
 many_sectors bytes n long = rw long (omega arith)
 
-pub part_answered : {old new : Option Story} {f g : ℕ → ℕ} (dev at n : ℕ) (bytes : List ℕ) (part : Option (List ℕ)) → length bytes ≡ n * 4096 → part ≡ Some bytes
-    → ((d : ℕ) → g d ≡ f d) → Tells old new (Read dev at bytes None) → ReadsPart dev at n old new f g part
-part_answered {old} {new} {f} {g} dev at n bytes part long is still tells =
+pub part_answered : {old new : BankView} (dev at n : ℕ) (bytes : List ℕ) (part : Option (List ℕ)) → length bytes ≡ n * 4096 → part ≡ Some bytes
+    → Called (Read dev at bytes None) old new → ReadsPart dev at n old new part
+part_answered dev at n bytes part long is c =
     let call : Call = Read dev at bytes None in
-    let one = one_made old new f g call (ok_caused call f g refl still) tells in
-    record { noted = record { call = call; damage = one.damage }; calls = one.made; ask = ap (Reads dev at) (many_sectors bytes n long); part_is = is }
+    let one = makes_one c in
+    record { noted = record { call = call; damage = one.damage }; calls = one.makes; ask = ap (Reads dev at) (many_sectors bytes n long); part_is = is }
 
-pub part_failed : {old new : Option Story} {f g : ℕ → ℕ} (dev at n : ℕ) (bytes : List ℕ) (fault : Fault) (part : Option (List ℕ)) → length bytes ≡ n * 4096 → part ≡ None
-    → ((d : ℕ) → f d ≤ g d) → Rose (f dev) (g dev) → ((d : ℕ) → d ≢ dev → g d ≡ f d) → Tells old new (Read dev at bytes (Some fault)) → ReadsPart dev at n old new f g part
-part_failed {old} {new} {f} {g} dev at n bytes fault part long is counts cause others tells =
+pub part_failed : {old new : BankView} (dev at n : ℕ) (bytes : List ℕ) (fault : Fault) (part : Option (List ℕ)) → length bytes ≡ n * 4096 → part ≡ None
+    → Called (Read dev at bytes (Some fault)) old new → ReadsPart dev at n old new part
+part_failed dev at n bytes fault part long is c =
     let call : Call = Read dev at bytes (Some fault) in
-    let one = one_made old new f g call (failed_caused call fault f g refl counts cause others) tells in
-    record { noted = record { call = call; damage = one.damage }; calls = one.made; ask = ap (Reads dev at) (many_sectors bytes n long); part_is = is }
+    let one = makes_one c in
+    record { noted = record { call = call; damage = one.damage }; calls = one.makes; ask = ap (Reads dev at) (many_sectors bytes n long); part_is = is }
 
-pub looks_none : {told : Option Story} {faults : ℕ → ℕ} → Looks [] told told faults faults []
-looks_none {told} {faults} = record { made = []; calls = made_none told faults; asks_are = refl; parts_are = refl }
+pub looks_none : {bank : BankView} → Looks [] bank bank []
+looks_none {bank} = record { made = []; calls = makes_none; asks_are = refl; parts_are = refl }
 
 -- one more part
-pub looks_more : {old mid new : Option Story} {f g h : ℕ → ℕ} {asks : List Ask} {parts : Parts} (dev at n : ℕ) (part : Option (List ℕ))
-    → Looks asks old mid f g parts → ReadsPart dev at n mid new g h part → Looks (asks ++ Reads dev at n ∷ []) old new f h (parts ++ part ∷ [])
-looks_more {old} {mid} {new} {f} {g} {h} {asks} {parts} dev at n part l r = record {
+pub looks_more : {old mid new : BankView} {asks : List Ask} {parts : Parts} (dev at n : ℕ) (part : Option (List ℕ))
+    → Looks asks old mid parts → ReadsPart dev at n mid new part → Looks (asks ++ Reads dev at n ∷ []) old new (parts ++ part ∷ [])
+looks_more {old} {mid} {new} {asks} {parts} dev at n part l r = record {
   made = l.made ++ r.noted ∷ [];
-  calls = made_more old mid new f g h l.made (r.noted ∷ []) l.calls r.calls;
+  calls = makes_more l.calls r.calls;
   asks_are = map-append (λ noted. ask_of noted.call) l.made (r.noted ∷ []) ∙ ap (λ a. a ++ ask_of r.noted.call ∷ []) l.asks_are ∙ ap (λ a. asks ++ a ∷ []) r.ask;
   parts_are = ap (λ p. p ++ part ∷ []) l.parts_are ∙ ap (λ p. parts_of l.made ++ p ∷ []) r.part_is ∙ sym (map-append (λ noted. given_by noted.call) l.made (r.noted ∷ []));
 }
@@ -58,35 +58,35 @@ two_more : (asks : List Ask) (a b : Ask) → (asks ++ a ∷ []) ++ b ∷ [] ≡ 
 two_more asks a b = append_assoc asks (a ∷ []) (b ∷ [])
 
 -- the parts of one more label
-pub label_more : {old mid between new : Option Story} {f g h i : ℕ → ℕ} {parts : Parts} (dev : ℕ) (labels : List ℕ) (k : ℕ) (ring config : Option (List ℕ)) (parts' : Parts) → k < length labels
+pub label_more : {old mid between new : BankView} {parts : Parts} (dev : ℕ) (labels : List ℕ) (k : ℕ) (ring config : Option (List ℕ)) (parts' : Parts) → k < length labels
     → parts' ≡ (parts ++ ring ∷ []) ++ config ∷ []
-    → Looks (flat_map (label_asks dev) (take k labels)) old mid f g parts
-    → ReadsPart dev (get_or labels k 0 + 32) 32 mid between g h ring → ReadsPart dev (get_or labels k 0 + 4) 28 between new h i config
-    → Looks (flat_map (label_asks dev) (take (k + 1) labels)) old new f i parts'
-label_more {old} {mid} {between} {new} {f} {g} {h} {i} {parts} dev labels k ring config parts' lt are l r c =
+    → Looks (flat_map (label_asks dev) (take k labels)) old mid parts
+    → ReadsPart dev (get_or labels k 0 + 32) 32 mid between ring → ReadsPart dev (get_or labels k 0 + 4) 28 between new config
+    → Looks (flat_map (label_asks dev) (take (k + 1) labels)) old new parts'
+label_more {old} {mid} {between} {new} {parts} dev labels k ring config parts' lt are l r c =
     let both = looks_more dev (get_or labels k 0 + 4) 28 config (looks_more dev (get_or labels k 0 + 32) 32 ring l r) c in
     let asks : flat_map (label_asks dev) (take (k + 1) labels) ≡ (flat_map (label_asks dev) (take k labels) ++ Reads dev (get_or labels k 0 + 32) 32 ∷ []) ++ Reads dev (get_or labels k 0 + 4) 28 ∷ [] =
     ap (flat_map (label_asks dev)) (take_more labels k 0 lt) ∙ flat_map-append (label_asks dev) (take k labels) (get_or labels k 0 ∷ [])
     ∙ sym (two_more (flat_map (label_asks dev) (take k labels)) (Reads dev (get_or labels k 0 + 32) 32) (Reads dev (get_or labels k 0 + 4) 28)) in
-    subst (λ p. Looks (flat_map (label_asks dev) (take (k + 1) labels)) old new f i p) (sym are)
-    (subst (λ a. Looks a old new f i ((parts ++ ring ∷ []) ++ config ∷ [])) (sym asks) both)
+    subst (λ p. Looks (flat_map (label_asks dev) (take (k + 1) labels)) old new p) (sym are)
+    (subst (λ a. Looks a old new ((parts ++ ring ∷ []) ++ config ∷ [])) (sym asks) both)
 
-pub looked : {old new : Option Story} {f g : ℕ → ℕ} {parts : Parts} (dev size : ℕ) (labels : List ℕ) (k : ℕ) → labels ≡ labels_of size → length labels ≤ k
-    → Looks (flat_map (label_asks dev) (take k labels)) old new f g parts → Looks (look_asks dev size) old new f g parts
-looked {old} {new} {f} {g} {parts} dev size labels k are end l =
-    subst (λ a. Looks a old new f g parts) (ap (flat_map (label_asks dev)) (take_all k labels end ∙ are)) l
+pub looked : {old new : BankView} {parts : Parts} (dev size : ℕ) (labels : List ℕ) (k : ℕ) → labels ≡ labels_of size → length labels ≤ k
+    → Looks (flat_map (label_asks dev) (take k labels)) old new parts → Looks (look_asks dev size) old new parts
+looked {old} {new} {parts} dev size labels k are end l =
+    subst (λ a. Looks a old new parts) (ap (flat_map (label_asks dev)) (take_all k labels end ∙ are)) l
 
 -- Devices that were looked at, and the best record so far.
-pub record LooksSoFar (head_of : List ℕ → Option Head) (size : ℕ → ℕ) (devs : List ℕ) (name : List ℕ) (n : ℕ) (old new : Option Story) (before after : ℕ → ℕ) (best : Option Found) : Type 0 where
+pub record LooksSoFar (head_of : List ℕ → Option Head) (size : ℕ → ℕ) (devs : List ℕ) (name : List ℕ) (n : ℕ) (old new : BankView) (best : Option Found) : Type 0 where
   pub made : List Noted
-  pub calls : Made old new before after made
+  pub calls : Makes made old new
   pub looks : List Parts
   pub look : IsLook size devs looks made
   pub count : length looks ≡ n
   pub is_best : IsBest head_of looks name (128 * n) best
 
-pub so_far_none : {told : Option Story} {faults : ℕ → ℕ} {head_of : List ℕ → Option Head} {size : ℕ → ℕ} {name : List ℕ} → LooksSoFar head_of size [] name 0 told told faults faults None
-so_far_none {told} {faults} = record { made = []; calls = made_none told faults; looks = []; look = refl; count = refl; is_best = λ k v config lt c. absurd (omega arith) }
+pub so_far_none : {bank : BankView} {head_of : List ℕ → Option Head} {size : ℕ → ℕ} {name : List ℕ} → LooksSoFar head_of size [] name 0 bank bank None
+so_far_none {bank} = record { made = []; calls = makes_none; looks = []; look = refl; count = refl; is_best = λ k v config lt c. absurd (omega arith) }
 
 is_look_more : (size : ℕ → ℕ) (devs : List ℕ) (looks : List Parts) (made mine : List Noted) (dev : ℕ) (parts : Parts) → IsLook size devs looks made
     → asks_of mine ≡ look_asks dev (size dev) → parts ≡ parts_of mine → IsLook size (devs ++ dev ∷ []) (looks ++ parts ∷ []) (made ++ mine)
@@ -127,19 +127,19 @@ best_longer head_of looks parts name (Some found) b = record {
 }
 
 -- one more device
-pub so_far_more : {old mid new : Option Story} {f g h : ℕ → ℕ} (head_of : List ℕ → Option Head) (size : ℕ → ℕ) (devs : List ℕ) (name : List ℕ) (i : ℕ) (dev : ℕ) (parts : Parts) (best best' : Option Found)
+pub so_far_more : {old mid new : BankView} (head_of : List ℕ → Option Head) (size : ℕ → ℕ) (devs : List ℕ) (name : List ℕ) (i : ℕ) (dev : ℕ) (parts : Parts) (best best' : Option Found)
     → i < length devs → dev ≡ get_or devs i 0
-    → LooksSoFar head_of size (take i devs) name i old mid f g best → Looks (look_asks dev (size dev)) mid new g h parts
+    → LooksSoFar head_of size (take i devs) name i old mid best → Looks (look_asks dev (size dev)) mid new parts
     → ((looks : List Parts) (n : ℕ) → slice_get looks n ≡ Some parts → IsBest head_of looks name (128 * n) best → IsBest head_of looks name (128 * (n + 1)) best')
-    → LooksSoFar head_of size (take (i + 1) devs) name (i + 1) old new f h best'
-so_far_more {old} {mid} {new} {f} {g} {h} head_of size devs name i dev parts best best' lt at s l improve =
+    → LooksSoFar head_of size (take (i + 1) devs) name (i + 1) old new best'
+so_far_more {old} {mid} {new} head_of size devs name i dev parts best best' lt at s l improve =
     let more : take (i + 1) devs ≡ take i devs ++ dev ∷ [] = take_more devs i 0 lt ∙ ap (λ d. take i devs ++ d ∷ []) (sym at) in
     let there : slice_get (s.looks ++ parts ∷ []) i ≡ Some parts = ap (slice_get (s.looks ++ parts ∷ [])) (sym s.count) ∙ get_last s.looks parts in
     let longer : IsBest head_of (s.looks ++ parts ∷ []) name (128 * i) best = subst (λ n. IsBest head_of (s.looks ++ parts ∷ []) name (128 * n) best) s.count
     (best_longer head_of s.looks parts name best (subst (λ n. IsBest head_of s.looks name (128 * n) best) (sym s.count) s.is_best)) in
     record {
       made = s.made ++ l.made;
-      calls = made_more old mid new f g h s.made l.made s.calls l.calls;
+      calls = makes_more s.calls l.calls;
       looks = s.looks ++ parts ∷ [];
       look = subst (λ d. IsLook size d (s.looks ++ parts ∷ []) (s.made ++ l.made)) (sym more) (is_look_more size (take i devs) s.looks s.made l.made dev parts s.look l.asks_are l.parts_are);
       count = length_more s.looks parts ∙ ap (λ n. n + 1) s.count;
@@ -149,8 +149,8 @@ so_far_more {old} {mid} {new} {f} {g} {h} head_of size devs name i dev parts bes
     length_more : (xs : List Parts) (p : Parts) → length (xs ++ p ∷ []) ≡ length xs + 1
     length_more xs p = length_push xs p
 
-pub found_newest : {old new : Option Story} {f g : ℕ → ℕ} (head_of : List ℕ → Option Head) (size : ℕ → ℕ) (devs : List ℕ) (name : List ℕ) (i : ℕ) (best : Option Found) → i ≡ length devs
-    → LooksSoFar head_of size (take i devs) name i old new f g best → FindsNewest head_of size devs name old new f g best
+pub found_newest : {old new : BankView} (head_of : List ℕ → Option Head) (size : ℕ → ℕ) (devs : List ℕ) (name : List ℕ) (i : ℕ) (best : Option Found) → i ≡ length devs
+    → LooksSoFar head_of size (take i devs) name i old new best → FindsNewest head_of size devs name old new best
 found_newest head_of size devs name i best e s = record {
   made = s.made;
   calls = s.calls;
@@ -160,8 +160,8 @@ found_newest head_of size devs name i best e s = record {
 }
 
 -- a look names the size of its device
-pub looks_same : {old new : Option Story} {f g : ℕ → ℕ} {parts : Parts} (dev size size' : ℕ) → size' ≡ size → Looks (look_asks dev size') old new f g parts → Looks (look_asks dev size) old new f g parts
-looks_same {old} {new} {f} {g} {parts} dev size size' e l = subst (λ n. Looks (look_asks dev n) old new f g parts) e l
+pub looks_same : {old new : BankView} {parts : Parts} (dev size size' : ℕ) → size' ≡ size → Looks (look_asks dev size') old new parts → Looks (look_asks dev size) old new parts
+looks_same {old} {new} {parts} dev size size' e l = subst (λ n. Looks (look_asks dev n) old new parts) e l
 
 pub many_inside : (bytes : List ℕ) (at n size : ℕ) → length bytes ≡ n * 4096 → at + n ≤ size → at + sectors_in bytes ≤ size
 many_inside bytes at n size long inside = rw (many_sectors bytes n long) inside

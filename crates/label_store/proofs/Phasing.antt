@@ -3,10 +3,11 @@ use Rattle.std.proofs.Common.{◌≡◌, ℕ, zero, suc, ◌+◌, ◌<◌, Bool,
 use Rattle.std.proofs.lemmas.List.{take_more, take_more_set, get_or-drop, drop-set-lt, drop-drop}
 use Rattle.bank_core.specs.declared.bank.Fault.{Fault}
 use Rattle.bank_core.specs.Asks.{Ask}
+use Rattle.bank_core.specs.BankView.{BankView}
 use Rattle.bank_core.specs.Disk.{Noted}
-use Rattle.bank_core.specs.Parts.{MakesPart}
-use Rattle.bank_core.specs.Story.{Story, fault_in}
-use Rattle.bank_core.proofs.Composing.{made_none, made_more}
+use Rattle.bank_core.specs.Parts.{Part}
+use Rattle.bank_core.specs.Story.{fault_in}
+use Rattle.bank_core.proofs.Framing.{makes_none, makes_more, part_makes}
 use Rattle.label_store.specs.declared.member.Member.{Member}
 use Rattle.label_store.specs.declared.round.Phase.{Phase}
 use Rattle.label_store.specs.declared.round.Phase.TheVariants as phase
@@ -24,31 +25,31 @@ is_phase_more plan (m' ∷ ms) (b' ∷ bs) [] made mine m b c p t = absurd p
 is_phase_more plan (m' ∷ ms) (b' ∷ bs) (c' ∷ cs) made mine m b c p t =
     (p.0, p.1 ++ mine, ap (λ l. l ++ mine) p.2 ∙ append_assoc p.0 p.1 mine, p.3, is_phase_more plan ms bs cs p.1 mine m b c p.4 t)
 
-pub phase_none : {plan : Member → List Ask} {told : Option Story} {faults : ℕ → ℕ} → MakesPhase plan [] [] [] told told faults faults
-phase_none {plan} {told} {faults} = record { made = []; calls = made_none told faults; phase = refl }
+pub phase_none : {plan : Member → List Ask} {bank : BankView} → MakesPhase plan [] [] [] bank bank
+phase_none {plan} {bank} = record { made = []; calls = makes_none; phase = refl }
 
-pub phase_more : {plan : Member → List Ask} {ms : List Member} {bs cs : List Bool} {m : Member} {b c : Bool} {old mid new : Option Story} {f g h : ℕ → ℕ}
-    → MakesPhase plan ms bs cs old mid f g → MakesTurn (plan m) b c mid new g h
-    → MakesPhase plan (ms ++ m ∷ []) (bs ++ b ∷ []) (cs ++ c ∷ []) old new f h
-phase_more {plan} {ms} {bs} {cs} {m} {b} {c} {old} {mid} {new} {f} {g} {h} p t = record {
+pub phase_more : {plan : Member → List Ask} {ms : List Member} {bs cs : List Bool} {m : Member} {b c : Bool} {old mid new : BankView}
+    → MakesPhase plan ms bs cs old mid → MakesTurn (plan m) b c mid new
+    → MakesPhase plan (ms ++ m ∷ []) (bs ++ b ∷ []) (cs ++ c ∷ []) old new
+phase_more {plan} {ms} {bs} {cs} {m} {b} {c} {old} {mid} {new} p t = record {
   made = p.made ++ t.made;
-  calls = made_more old mid new f g h p.made t.made p.calls t.calls;
+  calls = makes_more p.calls t.calls;
   phase = is_phase_more plan ms bs cs p.made t.made m b c p.phase t.turn;
 }
 
 -- a member that isn't on the board makes no call
-pub turn_off : (asks : List Ask) (was is : Bool) (told : Option Story) (faults : ℕ → ℕ) → was ≡ false → is ≡ false → MakesTurn asks was is told told faults faults
-turn_off asks was is told faults e f = rw (e, f) (record { made = []; calls = made_none told faults; turn = (refl, refl) })
+pub turn_off : (asks : List Ask) (was is : Bool) (bank : BankView) → was ≡ false → is ≡ false → MakesTurn asks was is bank bank
+turn_off asks was is bank e f = rw (e, f) (record { made = []; calls = makes_none; turn = (refl, refl) })
 
 ok_none : (r : Result (Unit {0}) Fault) → is_ok r ≡ is_none (fault_in r)
 ok_none (Ok x) = refl
 ok_none (Err fault) = refl
 
 -- one that is makes its part
-pub turn_on : (asks : List Ask) (was is : Bool) (r : Result (Unit {0}) Fault) (old new : Option Story) (f g : ℕ → ℕ) → was ≡ true → is ≡ is_ok r
-    → MakesPart asks old new f g (fault_in r) → MakesTurn asks was is old new f g
-turn_on asks was is r old new f g e i p =
-    rw e (record { made = p.made; calls = p.calls; turn = (fault_in r, p.part, i ∙ ok_none r) })
+pub turn_on : (asks : List Ask) (dev : ℕ) (was is : Bool) (r : Result (Unit {0}) Fault) (old new : BankView) → was ≡ true → is ≡ is_ok r
+    → Part dev asks old new (fault_in r) → MakesTurn asks was is old new
+turn_on asks dev was is r old new e i p =
+    rw e (record { made = p.made; calls = part_makes p; turn = (fault_in r, p.part, i ∙ ok_none r) })
 
 -- a plan reads the size of the member's own device alone
 pub plan_same : (phase : Phase) (size size' : ℕ → ℕ) (commit : Commit) (m : Member) → size m.dev ≡ size' m.dev → plan_of phase size commit m ≡ plan_of phase size' commit m
@@ -72,15 +73,15 @@ got_there (x ∷ xs) (suc i) d e lt = got_there xs i d e (omega arith)
 
 -- one more turn of a phase, in the list of results
 pub phase_turns : (phase : Phase) (size size' : ℕ → ℕ) (commit : Commit) (ms : List Member) (was is : List Bool) (i : ℕ) (m : Member) (c : Bool)
-    → {old mid new : Option Story} {f g h : ℕ → ℕ}
+    → {old mid new : BankView}
     → i < length ms → i < length was → length is ≡ length was → m ≡ get_or ms i m → size' m.dev ≡ size m.dev → drop i is ≡ drop i was
-    → MakesPhase (plan_of phase size commit) (take i ms) (take i was) (take i is) old mid f g
-    → MakesTurn (plan_of phase size' commit m) (get_or is i false) c mid new g h
-    → MakesPhase (plan_of phase size commit) (take (i + 1) ms) (take (i + 1) was) (take (i + 1) (set is i c)) old new f h
-phase_turns phase size size' commit ms was is i m c {old} {mid} {new} {f} {g} {h} lt_ms lt_was long at same left p t =
+    → MakesPhase (plan_of phase size commit) (take i ms) (take i was) (take i is) old mid
+    → MakesTurn (plan_of phase size' commit m) (get_or is i false) c mid new
+    → MakesPhase (plan_of phase size commit) (take (i + 1) ms) (take (i + 1) was) (take (i + 1) (set is i c)) old new
+phase_turns phase size size' commit ms was is i m c {old} {mid} {new} lt_ms lt_was long at same left p t =
     let lt_is : i < length is = omega arith in
     let b : get_or is i false ≡ get_or was i false = same_there i is was false left in
     rw (take_more ms i m lt_ms, take_more was i false lt_was, take_more_set is i c lt_is)
-    (phase_more p (subst (λ asks. MakesTurn asks (get_or was i false) c mid new g h)
+    (phase_more p (subst (λ asks. MakesTurn asks (get_or was i false) c mid new)
     (plan_same phase size' size commit m same ∙ ap (plan_of phase size commit) at)
-    (subst (λ was'. MakesTurn (plan_of phase size' commit m) was' c mid new g h) b t)))
+    (subst (λ was'. MakesTurn (plan_of phase size' commit m) was' c mid new) b t)))

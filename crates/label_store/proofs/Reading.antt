@@ -3,8 +3,8 @@ use Rattle.std.proofs.Common.{◌≡◌, ℕ, List, [], ◌∷◌, ◌++◌, Opt
 use Rattle.std.specs.List.{flat_map}
 use Rattle.bank_core.specs.Asks.{Ask, Reads, Writes, Flushes, Admits, Ejects, ask_of, asks_of}
 use Rattle.bank_core.specs.Disk.{Call, Read, Write, Flush, Admit, Eject, Noted}
-use Rattle.bank_core.specs.Story.{Story}
-use Rattle.bank_core.proofs.Composing.{made_more}
+use Rattle.bank_core.specs.BankView.{BankView}
+use Rattle.bank_core.proofs.Framing.{makes_more}
 use Rattle.label_store.specs.declared.found.Found.{Found}
 use Rattle.label_store.specs.declared.rule.Head.{Head}
 use Rattle.label_store.specs.Layout.{labels_of}
@@ -47,20 +47,20 @@ made_reads : (dev : ℕ) (labels : List ℕ) (made : List Noted) → asks_of mad
 made_reads dev labels made are = are_reads made (subst AreReadAsks (sym are) (labels_read dev labels))
 
 -- no call of a look is another
-pub looks_read : {old new : Option Story} {f g : ℕ → ℕ} {parts : Parts} (dev : ℕ) (labels : List ℕ) → Looks (flat_map (label_asks dev) labels) old new f g parts → ReadsOnly old new f g
+pub looks_read : {old new : BankView} {parts : Parts} (dev : ℕ) (labels : List ℕ) → Looks (flat_map (label_asks dev) labels) old new parts → ReadsOnly old new
 looks_read dev labels l = record { made = l.made; calls = l.calls; reads = made_reads dev labels l.made l.asks_are }
 
-pub look_read : {old new : Option Story} {f g : ℕ → ℕ} {parts : Parts} (dev size : ℕ) → Looks (look_asks dev size) old new f g parts → ReadsOnly old new f g
+pub look_read : {old new : BankView} {parts : Parts} (dev size : ℕ) → Looks (look_asks dev size) old new parts → ReadsOnly old new
 look_read dev size l = looks_read dev (labels_of size) l
 
-pub part_reads : {old new : Option Story} {f g : ℕ → ℕ} {dev at n : ℕ} {part : Option (List ℕ)} → ReadsPart dev at n old new f g part → ReadsOnly old new f g
+pub part_reads : {old new : BankView} {dev at n : ℕ} {part : Option (List ℕ)} → ReadsPart dev at n old new part → ReadsOnly old new
 part_reads r = record { made = r.noted ∷ []; calls = r.calls; reads = (is_read r.noted.call (subst IsReadAsk (sym r.ask) tt), tt) }
 
 -- reads, and more reads
-pub reads_more : {old mid new : Option Story} {f g h : ℕ → ℕ} → ReadsOnly old mid f g → ReadsOnly mid new g h → ReadsOnly old new f h
-reads_more {old} {mid} {new} {f} {g} {h} a b = record {
+pub reads_more : {old mid new : BankView} → ReadsOnly old mid → ReadsOnly mid new → ReadsOnly old new
+reads_more {old} {mid} {new} a b = record {
   made = a.made ++ b.made;
-  calls = made_more old mid new f g h a.made b.made a.calls b.calls;
+  calls = makes_more a.calls b.calls;
   reads = are_reads_more a.made b.made a.reads b.reads;
 }
 
@@ -71,8 +71,8 @@ look_reads size (dev ∷ devs) [] made l = absurd l
 look_reads size (dev ∷ devs) (parts ∷ looks) made l =
     subst AreReads (sym l.2) (are_reads_more l.0 l.1 (made_reads dev (labels_of (size dev)) l.0 l.3) (look_reads size devs looks l.1 l.5))
 
-pub so_far_reads : {old new : Option Story} {f g : ℕ → ℕ} {head_of : List ℕ → Option Head} {size : ℕ → ℕ} {devs : List ℕ} {name : List ℕ} {n : ℕ} {best : Option Found}
-    → LooksSoFar head_of size devs name n old new f g best → ReadsOnly old new f g
+pub so_far_reads : {old new : BankView} {head_of : List ℕ → Option Head} {size : ℕ → ℕ} {devs : List ℕ} {name : List ℕ} {n : ℕ} {best : Option Found}
+    → LooksSoFar head_of size devs name n old new best → ReadsOnly old new
 so_far_reads {size = size} {devs = devs} s = record { made = s.made; calls = s.calls; reads = look_reads size devs s.looks s.made s.look }
 
 pub on_err : {T E P : Type 0} (r : Result T E) → P → OnErr r P

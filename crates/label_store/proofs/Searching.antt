@@ -1,14 +1,15 @@
 -- Rings that are searched one after another.
-use Rattle.std.proofs.Common.{◌≡◌, ◌≢◌, ℕ, zero, suc, ◌+◌, ◌-◌, ◌*◌, ◌%◌, ◌<◌, ◌≤◌, Bool, true, false, List, [], ◌∷◌, ◌++◌, map, length, take, drop, get_or, Option, Some, None, Result, Ok, Err, OnErr, refl, sym, ap, ◌∙◌, subst, arith}
+use Rattle.std.proofs.Common.{◌≡◌, ◌≢◌, ℕ, zero, suc, ◌+◌, ◌-◌, ◌*◌, ◌%◌, ◌<◌, ◌≤◌, Bool, true, false, List, [], ◌∷◌, ◌++◌, map, length, take, drop, get_or, Option, Some, None, Result, Ok, Err, OnErr, IfSome, refl, sym, ap, ◌∙◌, subst, arith}
 use Rattle.std.proofs.lemmas.List.{take_more, map-append, take_all}
 use Rattle.mp_base.specs.Outside.{Rose}
 use Rattle.mp_base.specs.declared.number.Guid.{Guid}
 use Rattle.bank_core.specs.declared.bank.Fault.{Fault}
 use Rattle.bank_core.specs.Asks.{Reads, ask_of}
-use Rattle.bank_core.specs.Calls.{fault_of}
+use Rattle.bank_core.specs.BankView.{BankView}
+use Rattle.bank_core.specs.Calls.{Called, fault_of}
 use Rattle.bank_core.specs.Disk.{Call, Read, Noted, sector_of, sectors_in, sector_size}
-use Rattle.bank_core.specs.Story.{Story, Tells, fault_in}
-use Rattle.bank_core.proofs.Composing.{made_none, made_more, one_made, ok_caused, failed_caused}
+use Rattle.bank_core.specs.Story.{fault_in}
+use Rattle.bank_core.proofs.Framing.{makes_none, makes_more, makes_one}
 use Rattle.bank_core.proofs.Sectors.{piece_is}
 use Rattle.label_store.specs.Layout.{labels_of}
 use Rattle.label_store.proofs.Writing.{label_room}
@@ -45,25 +46,37 @@ ring_whole bytes long = rw long refl
 pub ring_inside : (bytes : List ℕ) (at size : ℕ) → length bytes ≡ 131072 → at + 32 ≤ size → at + sectors_in bytes ≤ size
 ring_inside bytes at size long inside = rw (ring_sectors bytes long) inside
 
-pub ring_failed : {old new : Option Story} {f g : ℕ → ℕ} (pool member : Guid) (dev at : ℕ) (bytes : List ℕ) (fault : Fault) → length bytes ≡ 131072
-    → ((d : ℕ) → f d ≤ g d) → Rose (f dev) (g dev) → ((d : ℕ) → d ≢ dev → g d ≡ f d) → Tells old new (Read dev at bytes (Some fault)) → ReadsRing pool member dev at old new f g (Err fault)
-ring_failed {old} {new} {f} {g} pool member dev at bytes fault long counts cause others tells =
+pub ring_failed : {old new : BankView} (pool member : Guid) (dev at : ℕ) (bytes : List ℕ) (fault : Fault) → length bytes ≡ 131072
+    → Called (Read dev at bytes (Some fault)) old new → ReadsRing pool member dev at old new (Err fault)
+ring_failed pool member dev at bytes fault long c =
     let call : Call = Read dev at bytes (Some fault) in
-    let one = one_made old new f g call (failed_caused call fault f g refl counts cause others) tells in
-    record { noted = record { call = call; damage = one.damage }; calls = one.made; ask = ap (Reads dev at) (ring_sectors bytes long); found = (refl, λ h. h) }
+    let one = makes_one c in
+    record {
+      noted = record { call = call; damage = one.damage };
+      calls = one.makes;
+      ask = ap (Reads dev at) (ring_sectors bytes long);
+      found = (refl, λ h. h);
+      cause = c.cause;
+    }
 
 answered : (pool member : Guid) (dev at : ℕ) (bytes : List ℕ) (found : Bool) → (found ≡ true → HasIdentity pool member bytes)
     → (found ≡ false → ¬ (HasIdentity pool member bytes)) → IsFound pool member (Read dev at bytes None) (Ok found)
 answered pool member dev at bytes true has non = has refl
 answered pool member dev at bytes false has non = (refl, non refl)
 
-pub ring_answered : {old new : Option Story} {f g : ℕ → ℕ} (pool member : Guid) (dev at : ℕ) (bytes : List ℕ) (found : Bool) → length bytes ≡ 131072
+pub ring_answered : {old new : BankView} (pool member : Guid) (dev at : ℕ) (bytes : List ℕ) (found : Bool) → length bytes ≡ 131072
     → (found ≡ true → HasIdentity pool member bytes) → (found ≡ false → ¬ (HasIdentity pool member bytes))
-    → ((d : ℕ) → g d ≡ f d) → Tells old new (Read dev at bytes None) → ReadsRing pool member dev at old new f g (Ok found)
-ring_answered {old} {new} {f} {g} pool member dev at bytes found long has non still tells =
+    → Called (Read dev at bytes None) old new → ReadsRing pool member dev at old new (Ok found)
+ring_answered pool member dev at bytes found long has non c =
     let call : Call = Read dev at bytes None in
-    let one = one_made old new f g call (ok_caused call f g refl still) tells in
-    record { noted = record { call = call; damage = one.damage }; calls = one.made; ask = ap (Reads dev at) (ring_sectors bytes long); found = answered pool member dev at bytes found has non }
+    let one = makes_one c in
+    record {
+      noted = record { call = call; damage = one.damage };
+      calls = one.makes;
+      ask = ap (Reads dev at) (ring_sectors bytes long);
+      found = answered pool member dev at bytes found has non;
+      cause = tt;
+    }
 
 misses_snoc : (pool member : Guid) (dev : ℕ) (rings : List ℕ) (made : List Noted) (at : ℕ) (noted : Noted) → AreMisses pool member dev rings made
     → ask_of noted.call ≡ Reads dev at 32 → ¬ (GivesIdentity pool member noted.call) → AreMisses pool member dev (rings ++ at ∷ []) (made ++ noted ∷ [])
@@ -90,25 +103,32 @@ found_fault pool member call (Ok true) test tells fails f = let t : test ≡ tru
 found_fault pool member call (Ok false) test tells fails f = f
 found_fault pool member call (Err fault) test tells fails f = f
 
-pub misses_none : {told : Option Story} {faults : ℕ → ℕ} {pool member : Guid} {dev : ℕ} → Misses pool member dev [] told told faults faults None
-misses_none {told} {faults} {pool} {member} {dev} = record { made = []; calls = made_none told faults; are_misses = refl; first = refl }
+pub misses_none : {bank : BankView} {pool member : Guid} {dev : ℕ} → Misses pool member dev [] bank bank None
+misses_none {bank} {pool} {member} {dev} = record { made = []; calls = makes_none; are_misses = refl; first = refl; cause = tt }
+
+fault_cause : (failed : Option Fault) (found : Result Bool Fault) (x y z : ℕ) → IfSome failed (λ fault. Rose x y) → x ≤ y → y ≤ z
+    → OnErr found (Rose y z) → IfSome (fault_or failed (fault_in found)) (λ fault. Rose x z)
+fault_cause None (Ok b) x y z earlier le le' cause = tt
+fault_cause None (Err f) x y z earlier le le' cause = omega arith
+fault_cause (Some f) found x y z earlier le le' cause = omega arith
 
 -- one more ring, that doesn't give it
-pub misses_more : {old mid new : Option Story} {f g h : ℕ → ℕ} (pool member : Guid) (dev : ℕ) (labels : List ℕ) (i : ℕ) (failed : Option Fault) (found : Result Bool Fault) (test : Bool)
+pub misses_more : {old mid new : BankView} (pool member : Guid) (dev : ℕ) (labels : List ℕ) (i : ℕ) (failed : Option Fault) (found : Result Bool Fault) (test : Bool)
     → i < length labels → (found ≡ Ok true → test ≡ true) → test ≡ false
-    → Misses pool member dev (map (λ at. at + 32) (take i labels)) old mid f g failed
-    → ReadsRing pool member dev (get_or labels i 0 + 32) mid new g h found
-    → Misses pool member dev (map (λ at. at + 32) (take (i + 1) labels)) old new f h (fault_or failed (fault_in found))
-misses_more {old} {mid} {new} {f} {g} {h} pool member dev labels i failed found test lt tells fails m r =
+    → Misses pool member dev (map (λ at. at + 32) (take i labels)) old mid failed
+    → ReadsRing pool member dev (get_or labels i 0 + 32) mid new found
+    → Misses pool member dev (map (λ at. at + 32) (take (i + 1) labels)) old new (fault_or failed (fault_in found))
+misses_more {old} {mid} {new} pool member dev labels i failed found test lt tells fails m r =
     let one = found_fault pool member r.noted.call found test tells fails r.found in
     let rings : map (λ at. at + 32) (take (i + 1) labels) ≡ map (λ at. at + 32) (take i labels) ++ (get_or labels i 0 + 32) ∷ [] =
     ap (map (λ at. at + 32)) (take_more labels i 0 lt) ∙ map-append (λ at. at + 32) (take i labels) (get_or labels i 0 ∷ []) in
     record {
       made = m.made ++ r.noted ∷ [];
-      calls = made_more old mid new f g h m.made (r.noted ∷ []) m.calls r.calls;
+      calls = makes_more m.calls r.calls;
       are_misses = subst (λ l. AreMisses pool member dev l (m.made ++ r.noted ∷ [])) (sym rings)
           (misses_snoc pool member dev _ m.made _ r.noted m.are_misses r.ask one.1);
       first = first_snoc m.made r.noted ∙ ap (λ a. fault_or a (fault_of r.noted.call)) m.first ∙ ap (fault_or failed) one.0;
+      cause = fault_cause failed found _ _ _ m.cause (m.calls.frame.counts dev) (r.calls.frame.counts dev) r.cause;
     }
 
 ring_of : (labels : List ℕ) (i : ℕ) → i < length labels → get_or (map (λ at. at + 32) labels) i 0 ≡ get_or labels i 0 + 32
@@ -122,14 +142,14 @@ take_map [] (suc i) = refl
 take_map (x ∷ labels) (suc i) = ap (λ l. (x + 32) ∷ l) (take_map labels i)
 
 -- the ring that gives it ends the search
-pub search_hit : {old mid new : Option Story} {f g h : ℕ → ℕ} (pool member : Guid) (dev size : ℕ) (labels : List ℕ) (i : ℕ) (failed : Option Fault) (found : Result Bool Fault)
+pub search_hit : {old mid new : BankView} (pool member : Guid) (dev size : ℕ) (labels : List ℕ) (i : ℕ) (failed : Option Fault) (found : Result Bool Fault)
     → labels ≡ labels_of size → i < length labels → found ≡ Ok true
-    → Misses pool member dev (map (λ at. at + 32) (take i labels)) old mid f g failed
-    → ReadsRing pool member dev (get_or labels i 0 + 32) mid new g h found
-    → Searches pool member dev size old new f h (Ok true)
-search_hit {old} {mid} {new} {f} {g} {h} pool member dev size labels i failed found are lt hit m r = record {
+    → Misses pool member dev (map (λ at. at + 32) (take i labels)) old mid failed
+    → ReadsRing pool member dev (get_or labels i 0 + 32) mid new found
+    → Searches pool member dev size old new (Ok true)
+search_hit {old} {mid} {new} pool member dev size labels i failed found are lt hit m r = record {
   made = m.made ++ r.noted ∷ [];
-  calls = made_more old mid new f g h m.made (r.noted ∷ []) m.calls r.calls;
+  calls = makes_more m.calls r.calls;
   search = record {
     before = i;
     inside = omega (arith, ap length are);
@@ -140,20 +160,23 @@ search_hit {old} {mid} {new} {f} {g} {h} pool member dev size labels i failed fo
     ask = r.ask ∙ ap (λ at. Reads dev at 32) (sym (ring_of labels i lt) ∙ ap (λ l. get_or (map (λ at. at + 32) l) i 0) are);
     gives = subst (IsFound pool member r.noted.call) hit r.found;
   };
+  cause = tt;
 }
 
-pub search_missed : {old new : Option Story} {f g : ℕ → ℕ} (pool member : Guid) (dev size : ℕ) (labels : List ℕ) (i : ℕ) (failed : Option Fault)
-    → labels ≡ labels_of size → length labels ≤ i → Misses pool member dev (map (λ at. at + 32) (take i labels)) old new f g failed
-    → Searches pool member dev size old new f g (search_outcome failed)
+pub search_missed : {old new : BankView} (pool member : Guid) (dev size : ℕ) (labels : List ℕ) (i : ℕ) (failed : Option Fault)
+    → labels ≡ labels_of size → length labels ≤ i → Misses pool member dev (map (λ at. at + 32) (take i labels)) old new failed
+    → Searches pool member dev size old new (search_outcome failed)
 search_missed pool member dev size labels i None are end m = record {
   made = m.made;
   calls = m.calls;
   search = (subst (λ l. AreMisses pool member dev l m.made) (ap (map (λ at. at + 32)) (take_all i labels end ∙ are)) m.are_misses, m.first);
+  cause = tt;
 }
 search_missed pool member dev size labels i (Some fault) are end m = record {
   made = m.made;
   calls = m.calls;
   search = (subst (λ l. AreMisses pool member dev l m.made) (ap (map (λ at. at + 32)) (take_all i labels end ∙ are)) m.are_misses, m.first);
+  cause = m.cause;
 }
 
 pub ring_room : (labels : List ℕ) (sectors size k : ℕ) → labels ≡ labels_of sectors → sectors ≡ size → 320 ≤ size → k < length labels → get_or labels k 0 + 32 + 32 ≤ size
@@ -161,16 +184,10 @@ ring_room labels sectors size k are is big lt =
     let same : get_or labels k 0 ≡ get_or (labels_of size) k 0 = ap (λ l. get_or l k 0) (are ∙ ap labels_of is) in
     let room = label_room size 64 k big (omega arith) in omega arith
 
-pub fault_cause : (failed : Option Fault) (found : Result Bool Fault) (now' : Option Fault) (fault : Fault) (x y z : ℕ) → now' ≡ fault_or failed (fault_in found) → now' ≡ Some fault
-    → ((fault' : Fault) → failed ≡ Some fault' → Rose x y) → x ≤ y → y ≤ z → OnErr found (Rose y z) → Rose x z
-fault_cause None (Ok b) now' fault x y z is e earlier le le' cause = absurd (cc)
-fault_cause None (Err f) now' fault x y z is e earlier le le' cause = omega arith
-fault_cause (Some f) found now' fault x y z is e earlier le le' cause = let rose = earlier f refl in omega arith
+pub misses_as : {old new : BankView} {pool member : Guid} {dev : ℕ} {rings : List ℕ} (failed failed' : Option Fault) → failed' ≡ failed
+    → Misses pool member dev rings old new failed → Misses pool member dev rings old new failed'
+misses_as {old} {new} {pool} {member} {dev} {rings} failed failed' e m = subst (Misses pool member dev rings old new) (sym e) m
 
-pub misses_as : {old new : Option Story} {f g : ℕ → ℕ} {pool member : Guid} {dev : ℕ} {rings : List ℕ} (failed failed' : Option Fault) → failed' ≡ failed
-    → Misses pool member dev rings old new f g failed → Misses pool member dev rings old new f g failed'
-misses_as failed failed' e m = record { made = m.made; calls = m.calls; are_misses = m.are_misses; first = m.first ∙ sym e }
-
-pub searches_as : {old new : Option Story} {f g : ℕ → ℕ} {pool member : Guid} {dev size : ℕ} (answer answer' : Result Bool Fault) → answer' ≡ answer
-    → Searches pool member dev size old new f g answer → Searches pool member dev size old new f g answer'
-searches_as {old} {new} {f} {g} {pool} {member} {dev} {size} answer answer' e s = subst (Searches pool member dev size old new f g) (sym e) s
+pub searches_as : {old new : BankView} {pool member : Guid} {dev size : ℕ} (answer answer' : Result Bool Fault) → answer' ≡ answer
+    → Searches pool member dev size old new answer → Searches pool member dev size old new answer'
+searches_as {old} {new} {pool} {member} {dev} {size} answer answer' e s = subst (Searches pool member dev size old new) (sym e) s

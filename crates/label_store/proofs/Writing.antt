@@ -7,9 +7,9 @@ use Rattle.bank_core.specs.Disk.{Flush, sector_size, sectors_in}
 use Rattle.mp_base.specs.Block.{zeros}
 use Rattle.mp_base.specs.Outside.{Rose}
 use Rattle.label_store.specs.Layout.{labels_of}
-use Rattle.bank_core.specs.Parts.{MakesPart}
-use Rattle.bank_core.specs.Story.{Story, Tells, fault_in}
-use Rattle.bank_core.proofs.Parting.{part_more, part_one, part_stop}
+use Rattle.bank_core.specs.BankView.{BankView}
+use Rattle.bank_core.specs.Parts.{Part}
+use Rattle.bank_core.proofs.Framing.{part_more, part_stop}
 use Rattle.label_store.specs.Plans.{label_writes, ring_plan, blank_uberblock, zero_ring}
 use Rattle.mp_base.specs.declared.number.Guid.{Guid}
 
@@ -28,17 +28,17 @@ writes_split : (dev : ℕ) (labels : List ℕ) (offset : ℕ) (bytes : List ℕ)
 writes_split dev labels offset bytes n =
     sym (map-append (λ at. Writes dev (at + offset) bytes) (take n labels) (drop n labels)) ∙ ap (λ l. label_writes dev l offset bytes) (take-append-drop n labels)
 
-pub one_more : {old mid new : Option Story} {f g h : ℕ → ℕ} {outcome : Option Fault} (dev : ℕ) (labels : List ℕ) (offset : ℕ) (bytes : List ℕ) (i : ℕ) → i < length labels
-    → MakesPart (label_writes dev (take i labels) offset bytes) old mid f g None
-    → MakesPart (Writes dev (get_or labels i 0 + offset) bytes ∷ []) mid new g h outcome
-    → MakesPart (label_writes dev (take (i + 1) labels) offset bytes) old new f h outcome
+pub one_more : {old mid new : BankView} {outcome : Option Fault} (dev : ℕ) (labels : List ℕ) (offset : ℕ) (bytes : List ℕ) (i : ℕ) → i < length labels
+    → Part dev (label_writes dev (take i labels) offset bytes) old mid None
+    → Part dev (Writes dev (get_or labels i 0 + offset) bytes ∷ []) mid new outcome
+    → Part dev (label_writes dev (take (i + 1) labels) offset bytes) old new outcome
 one_more dev labels offset bytes i lt a b = rw (writes_more dev labels offset bytes i lt) (part_more a b)
 
 -- it stops there, whatever is behind it
-pub stops_there : {old new : Option Story} {f g : ℕ → ℕ} {fault : Fault} (dev : ℕ) (labels : List ℕ) (offset : ℕ) (bytes : List ℕ) (n : ℕ)
-    → MakesPart (label_writes dev (take n labels) offset bytes) old new f g (Some fault) → MakesPart (label_writes dev labels offset bytes) old new f g (Some fault)
-stops_there {old} {new} {f} {g} {fault} dev labels offset bytes n a =
-    subst (λ asks. MakesPart asks old new f g (Some fault)) (writes_split dev labels offset bytes n) (part_stop (label_writes dev (drop n labels) offset bytes) a)
+pub stops_there : {old new : BankView} {fault : Fault} (dev : ℕ) (labels : List ℕ) (offset : ℕ) (bytes : List ℕ) (n : ℕ)
+    → Part dev (label_writes dev (take n labels) offset bytes) old new (Some fault) → Part dev (label_writes dev labels offset bytes) old new (Some fault)
+stops_there {old} {new} {fault} dev labels offset bytes n a =
+    subst (λ asks. Part dev asks old new (Some fault)) (writes_split dev labels offset bytes n) (part_stop (label_writes dev (drop n labels) offset bytes) a)
 
 -- a place in each label lies inside the device
 pub label_room : (size room : ℕ) (k : ℕ) → 320 ≤ size → room ≤ 64 → get_or (labels_of size) k 0 + room ≤ size
@@ -57,23 +57,12 @@ labels_inside labels sectors size offset bytes n are is big count small k lt =
     rw fill (omega arith)
 
 -- the writes as a plan has them
-pub writes_as : {old new : Option Story} {f g : ℕ → ℕ} {outcome : Option Fault} (dev : ℕ) (labels labels' : List ℕ) (offset : ℕ) (bytes bytes' : List ℕ)
-    → labels ≡ labels' → bytes ≡ bytes' → MakesPart (label_writes dev labels offset bytes) old new f g outcome
-    → MakesPart (label_writes dev labels' offset bytes') old new f g outcome
-writes_as {old} {new} {f} {g} {outcome} dev labels labels' offset bytes bytes' are is part =
-    subst (λ asks. MakesPart asks old new f g outcome)
+pub writes_as : {old new : BankView} {outcome : Option Fault} (dev : ℕ) (labels labels' : List ℕ) (offset : ℕ) (bytes bytes' : List ℕ)
+    → labels ≡ labels' → bytes ≡ bytes' → Part dev (label_writes dev labels offset bytes) old new outcome
+    → Part dev (label_writes dev labels' offset bytes') old new outcome
+writes_as {old} {new} {outcome} dev labels labels' offset bytes bytes' are is part =
+    subst (λ asks. Part dev asks old new outcome)
     (ap (λ l. label_writes dev l offset bytes) are ∙ ap (λ b. label_writes dev labels' offset b) is) part
-
--- and then a flush
-pub flushed : {old mid new : Option Story} {f g h : ℕ → ℕ} (asks : List Ask) (dev : ℕ) (r : Result (Unit {0}) Fault)
-    → MakesPart asks old mid f g None → ((d : ℕ) → g d ≤ h d) → OnErr r (Rose (g dev) (h dev)) → OnOk r ((d : ℕ) → h d ≡ g d)
-    → ((d : ℕ) → d ≢ dev → h d ≡ g d) → Tells mid new (Flush dev (fault_in r))
-    → MakesPart (asks ++ Flushes dev ∷ []) old new f h (fault_in r)
-flushed asks dev r a counts cause still others told = part_more a (part_one (Flush dev (fault_in r)) r refl counts cause still others told)
-
-pub later_cause : (r : Result (Unit {0}) Fault) (x y z : ℕ) → x ≤ y → OnErr r (Rose y z) → OnErr r (Rose x z)
-later_cause (Ok x') x y z le cause = tt
-later_cause (Err fault) x y z le cause = omega arith
 
 pub ring_whole : (ring : List ℕ) → ring ≡ zero_ring → length ring % sector_size ≡ 0
 unfolding sector_size
@@ -84,9 +73,9 @@ unfolding sector_size
 ring_sectors ring is = rw (ap length is, length-ring) refl
 
 -- the uberblock of a stamp, with zeros written out, on a device whose size was named otherwise
-pub blank_plan : {old new : Option Story} {f g : ℕ → ℕ} {outcome : Option Fault} (dev size size' : ℕ) (pool member : Guid) → size' ≡ size
-    → MakesPart (ring_plan dev size' (record { pool = pool; member = member; number = record { 0 = 0 }; length = 0; sum = replicate 32 0 })) old new f g outcome
-    → MakesPart (ring_plan dev size (blank_uberblock pool member)) old new f g outcome
+pub blank_plan : {old new : BankView} {outcome : Option Fault} (dev size size' : ℕ) (pool member : Guid) → size' ≡ size
+    → Part dev (ring_plan dev size' (record { pool = pool; member = member; number = record { 0 = 0 }; length = 0; sum = replicate 32 0 })) old new outcome
+    → Part dev (ring_plan dev size (blank_uberblock pool member)) old new outcome
 unfolding zeros
-blank_plan {old} {new} {f} {g} {outcome} dev size size' pool member same part =
-    subst (λ n. MakesPart (ring_plan dev n (blank_uberblock pool member)) old new f g outcome) same part
+blank_plan {old} {new} {outcome} dev size size' pool member same part =
+    subst (λ n. Part dev (ring_plan dev n (blank_uberblock pool member)) old new outcome) same part

@@ -2,9 +2,9 @@
 use Rattle.std.specs.Prelude.{◌≡◌, ◌≢◌, ℕ, ◌+◌, ◌-◌, ◌%◌, ◌^◌, ◌<◌, ◌≤◌, Bool, true, false, List, length, take, drop, Option, Some, slice_get}
 use Rattle.mp_base.specs.Block.{zeros}
 use Rattle.mp_base.specs.Outside.{Rose}
-use Rattle.bank_core.specs.Calls.{Made}
+use Rattle.bank_core.specs.BankView.{BankView}
+use Rattle.bank_core.specs.Calls.{Makes}
 use Rattle.bank_core.specs.Disk.{Sectors, Noted, run, sector_size, sectors_in}
-use Rattle.bank_core.specs.Story.{Story}
 use Rattle.label_store.specs.declared.member.Member.{Member}
 use Rattle.label_store.specs.declared.rule.Head.{Head}
 use Rattle.label_store.specs.declared.uberblock.Uberblock.{Uberblock}
@@ -34,16 +34,17 @@ EndsWhole head_of size commit members results made = (i : ℕ) (m : Member) → 
     → commit.pool.0 < 2 ^ 64 → m.guid.0 < 2 ^ 64 → (sectors : Sectors) (next : ℕ) → slot_of commit.number.0 ≢ slot_of next
     → HasRecord head_of (size m.dev) (run made sectors m.dev) next (uberblock_of commit m) (config_of commit)
 
--- A round was made.
-pub record Commits (head_of : List ℕ → Option Head) (size : ℕ → ℕ) (commit : Commit) (members : List Member) (results : List Bool)
-    (old new : Option Story) (before after : ℕ → ℕ) : Type 0 where
-  pub made : List Noted
-  pub calls : Made old new before after made
-  pub round : IsRound size commit members results made
-  pub keeps : KeepsRecords head_of size commit members made
-  pub ends : EndsWhole head_of size commit members results made
-
 -- each member that left the round had a failed call
 abbrev pub AreExcused : List Member → List Bool → (before after : ℕ → ℕ) → Type 0
 AreExcused members results before after =
     (i : ℕ) (m : Member) → slice_get members i ≡ Some m → slice_get results i ≡ Some false → Rose (before m.dev) (after m.dev)
+
+-- A round was made.
+pub record Commits (head_of : List ℕ → Option Head) (size : ℕ → ℕ) (commit : Commit) (members : List Member) (results : List Bool)
+    (old new : BankView) : Type 0 where
+  pub made : List Noted
+  pub calls : Makes made old new
+  pub round : IsRound size commit members results made
+  pub excused : AreExcused members results old.faults new.faults
+  pub keeps : KeepsRecords head_of size commit members made
+  pub ends : EndsWhole head_of size commit members results made

@@ -1,11 +1,12 @@
 -- How the identity of a device is found in its rings.
-use Rattle.std.specs.Prelude.{◌≡◌, ℕ, ◌+◌, ◌<◌, Bool, true, false, List, [], ◌∷◌, ◌++◌, map, take, Option, Some, None, Result, Ok, Err, slice_index}
+use Rattle.std.specs.Prelude.{◌≡◌, ℕ, ◌+◌, ◌<◌, Bool, true, false, List, [], ◌∷◌, ◌++◌, map, take, Option, Some, None, Result, Ok, Err, OnErr, IfSome, slice_index}
+use Rattle.mp_base.specs.Outside.{Rose}
 use Rattle.mp_base.specs.declared.number.Guid.{Guid}
 use Rattle.bank_core.specs.declared.bank.Fault.{Fault}
 use Rattle.bank_core.specs.Asks.{Reads, ask_of}
-use Rattle.bank_core.specs.Calls.{Made, fault_of}
+use Rattle.bank_core.specs.BankView.{BankView}
+use Rattle.bank_core.specs.Calls.{Makes, fault_of}
 use Rattle.bank_core.specs.Disk.{Call, Read, Write, Flush, Admit, Eject, Noted, sector_of}
-use Rattle.bank_core.specs.Story.{Story}
 use Rattle.label_store.specs.declared.uberblock.Uberblock.{Uberblock}
 use Rattle.label_store.specs.Layout.{labels_of, ring_offset, ring_slots}
 use Rattle.label_store.specs.Uberblock.{IsUberblock}
@@ -65,11 +66,12 @@ IsSearch pool member dev size made (Ok true) = IsHit pool member dev size made
 IsSearch pool member dev size made (Ok false) = AreMisses pool member dev (rings_of size) made × (first_fault made ≡ None)
 IsSearch pool member dev size made (Err fault) = AreMisses pool member dev (rings_of size) made × (first_fault made ≡ Some fault)
 
--- A search was made.
-pub record Searches (pool member : Guid) (dev size : ℕ) (old new : Option Story) (before after : ℕ → ℕ) (result : Result Bool Fault) : Type 0 where
+-- A search was made, and where it failed a read of this device did.
+pub record Searches (pool member : Guid) (dev size : ℕ) (old new : BankView) (result : Result Bool Fault) : Type 0 where
   pub made : List Noted
-  pub calls : Made old new before after made
+  pub calls : Makes made old new
   pub search : IsSearch pool member dev size made result
+  pub cause : OnErr result (Rose (old.faults dev) (new.faults dev))
 
 -- what one read of a ring says
 abbrev pub IsFound : (pool member : Guid) → Call → Result Bool Fault → Type 0
@@ -78,18 +80,20 @@ IsFound pool member call (Ok false) = (fault_of call ≡ None) × (¬ (GivesIden
 IsFound pool member call (Err fault) = (fault_of call ≡ Some fault) × (¬ (GivesIdentity pool member call))
 
 -- One ring was read.
-pub record ReadsRing (pool member : Guid) (dev at : ℕ) (old new : Option Story) (before after : ℕ → ℕ) (result : Result Bool Fault) : Type 0 where
+pub record ReadsRing (pool member : Guid) (dev at : ℕ) (old new : BankView) (result : Result Bool Fault) : Type 0 where
   pub noted : Noted
-  pub calls : Made old new before after (noted ∷ [])
+  pub calls : Makes (noted ∷ []) old new
   pub ask : ask_of noted.call ≡ Reads dev at ring_slots
   pub found : IsFound pool member noted.call result
+  pub cause : OnErr result (Rose (old.faults dev) (new.faults dev))
 
 -- The first rings were read, and none gave it; this fault came first.
-pub record Misses (pool member : Guid) (dev : ℕ) (rings : List ℕ) (old new : Option Story) (before after : ℕ → ℕ) (failed : Option Fault) : Type 0 where
+pub record Misses (pool member : Guid) (dev : ℕ) (rings : List ℕ) (old new : BankView) (failed : Option Fault) : Type 0 where
   pub made : List Noted
-  pub calls : Made old new before after made
+  pub calls : Makes made old new
   pub are_misses : AreMisses pool member dev rings made
   pub first : first_fault made ≡ failed
+  pub cause : IfSome failed (λ fault. Rose (old.faults dev) (new.faults dev))
 
 -- The sector has a correct uberblock of this identity.
 pub record NamesMember (pool member : Guid) (sector : List ℕ) : Type 0 where

@@ -3,9 +3,9 @@ use Rattle.std.specs.Prelude.{◌≡◌, ℕ, ◌+◌, ◌*◌, ◌/◌, ◌%◌
 use Rattle.std.specs.List.{flat_map}
 use Rattle.sha2.specs.Sha256.{sha256}
 use Rattle.bank_core.specs.Asks.{Ask, Reads, asks_of}
-use Rattle.bank_core.specs.Calls.{Made}
+use Rattle.bank_core.specs.BankView.{BankView}
+use Rattle.bank_core.specs.Calls.{Makes}
 use Rattle.bank_core.specs.Disk.{Call, Read, Write, Flush, Admit, Eject, Noted, sector_of}
-use Rattle.bank_core.specs.Story.{Story}
 use Rattle.label_store.specs.declared.found.Found.{Found}
 use Rattle.label_store.specs.declared.rule.Head.{Head}
 use Rattle.label_store.specs.declared.uberblock.Uberblock.{Uberblock}
@@ -86,16 +86,16 @@ IsLook size (dev ∷ devs) (parts ∷ looks) made = (mine : List Noted) × (rest
     × (asks_of mine ≡ look_asks dev (size dev)) × (parts ≡ parts_of mine) × IsLook size devs looks rest
 
 -- These reads were made, and gave these parts.
-pub record Looks (asks : List Ask) (old new : Option Story) (before after : ℕ → ℕ) (parts : Parts) : Type 0 where
+pub record Looks (asks : List Ask) (old new : BankView) (parts : Parts) : Type 0 where
   pub made : List Noted
-  pub calls : Made old new before after made
+  pub calls : Makes made old new
   pub asks_are : asks_of made ≡ asks
   pub parts_are : parts ≡ parts_of made
 
 -- These devices were looked at, and this is the newest record of the name.
-pub record FindsNewest (head_of : List ℕ → Option Head) (size : ℕ → ℕ) (devs : List ℕ) (name : List ℕ) (old new : Option Story) (before after : ℕ → ℕ) (best : Option Found) : Type 0 where
+pub record FindsNewest (head_of : List ℕ → Option Head) (size : ℕ → ℕ) (devs : List ℕ) (name : List ℕ) (old new : BankView) (best : Option Found) : Type 0 where
   pub made : List Noted
-  pub calls : Made old new before after made
+  pub calls : Makes made old new
   pub looks : List Parts
   pub look : IsLook size devs looks made
   pub is_best : IsBest head_of looks name (128 * length devs) best
@@ -113,7 +113,7 @@ AreReads [] = Unit {0}
 AreReads (noted ∷ more) = IsRead noted.call × AreReads more
 
 -- Reads were made, and no other call.
-pub record ReadsOnly (old new : Option Story) (before after : ℕ → ℕ) : Type 0 where
+pub record ReadsOnly (old new : BankView) : Type 0 where
   pub made : List Noted
-  pub calls : Made old new before after made
+  pub calls : Makes made old new
   pub reads : AreReads made

@@ -1,9 +1,9 @@
 -- The steps of a search for the newest record.
 use Rattle.std.specs.Prelude.{◌≡◌, ℕ, ◌+◌, ◌*◌, ◌/◌, ◌%◌, ◌<◌, ◌≤◌, List, [], ◌∷◌, length, take, Option, Some, None, slice_get}
 use Rattle.bank_core.specs.Asks.{Reads, ask_of}
-use Rattle.bank_core.specs.Calls.{Made}
+use Rattle.bank_core.specs.BankView.{BankView}
+use Rattle.bank_core.specs.Calls.{Makes}
 use Rattle.bank_core.specs.Disk.{Noted, sector_of}
-use Rattle.bank_core.specs.Story.{Story}
 use Rattle.label_store.specs.declared.found.Found.{Found}
 use Rattle.label_store.specs.Newest.{Parts, IsVerifiedBy, given_by}
 use Rattle.label_store.specs.Uberblock.{IsUberblock}
@@ -59,8 +59,8 @@ number_of None = 0
 number_of (Some found) = found.number.0
 
 -- One read of a part.
-pub record ReadsPart (dev at sectors : ℕ) (old new : Option Story) (before after : ℕ → ℕ) (part : Option (List ℕ)) : Type 0 where
+pub record ReadsPart (dev at sectors : ℕ) (old new : BankView) (part : Option (List ℕ)) : Type 0 where
   pub noted : Noted
-  pub calls : Made old new before after (noted ∷ [])
+  pub calls : Makes (noted ∷ []) old new
   pub ask : ask_of noted.call ≡ Reads dev at sectors
   pub part_is : part ≡ given_by noted.call

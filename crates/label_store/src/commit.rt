@@ -1,7 +1,7 @@
 //! Rounds: how a configuration comes onto the labels of a pool's members. At each moment a member that
 //! had a record has it still, or has the new one.
 ghost use Rattle.std.specs.Prelude.{◌≡◌, ℕ, ◌^◌, ◌≤◌, List, length, take};
-ghost use Rattle.bank_core.specs.Parts.{MakesPart};
+ghost use Rattle.bank_core.specs.Parts.{Part};
 ghost use Rattle.bank_core.specs.Story.{fault_in};
 ghost use Rattle.label_store.specs.Rounds.{uberblock_of};
 ghost use Rattle.label_store.specs.Committing.{IsSealed, Commits, AreExcused};
@@ -36,20 +36,16 @@ pub fn commit_record<B: Bank, R: BlobRule>(
     config_bytes: usize,
     results: &mut [bool],
 )
-    requires seated { AreSeated (B.size bank.old) devs.now }
+    requires seated { AreSeated (B.view bank.old).size devs.now }
     requires apart { AreApart devs.now }
     requires paired { length results.old ≡ length devs.now }
     requires least { 1 ≤ number.0 }
     requires most { number.0 ≤ 2 ^ 62 }
     requires sealed { IsSealed blob.now config_bytes }
     requires headed { IsHeaded R.head_of pool number (take config_bytes blob.now) }
-    ensures size { (d : ℕ) → B.size bank.new d ≡ B.size bank.old d }
-    ensures numbers { (name : List ℕ) → B.number_of bank.new name ≡ B.number_of bank.old name }
-    ensures lookups { B.lookup_faults bank.new ≡ B.lookup_faults bank.old }
-    ensures cause { AreExcused devs.now results.new (B.faults bank.old) (B.faults bank.new) }
-    ensures round { Commits R.head_of (B.size bank.old)
+    ensures { Commits R.head_of (B.view bank.old).size
         (record { pool = pool; number = number; blob = blob.now; length = config_bytes }) devs.now results.new
-        (B.told bank.old) (B.told bank.new) (B.faults bank.old) (B.faults bank.new) }
+        (B.view bank.old) (B.view bank.new) }
 {
     let round = Round {
         pool,
@@ -63,13 +59,10 @@ pub fn commit_record<B: Bank, R: BlobRule>(
 
 // The three phases, over all members.
 fn run_round<B: Bank>(bank: &mut B, round: &Round, members: &[Member], board: &mut [bool])
-    requires seated { AreSeated (B.size bank.old) members.now }
+    requires seated { AreSeated (B.view bank.old).size members.now }
     requires paired { length board.old ≡ length members.now }
-    ensures size { (d : ℕ) → B.size bank.new d ≡ B.size bank.old d }
-    ensures numbers { (name : List ℕ) → B.number_of bank.new name ≡ B.number_of bank.old name }
-    ensures lookups { B.lookup_faults bank.new ≡ B.lookup_faults bank.old }
-    ensures round { MakesRound (B.size bank.old) (commit_of round.now) members.now board.new
-        (B.told bank.old) (B.told bank.new) (B.faults bank.old) (B.faults bank.new) }
+    ensures { MakesRound (B.view bank.old).size (commit_of round.now) members.now board.new
+        (B.view bank.old) (B.view bank.new) }
 {
     board.fill(true);
     run_phase(bank, Phase::First, round, members, board);
@@ -85,13 +78,10 @@ fn run_phase<B: Bank>(
     members: &[Member],
     board: &mut [bool],
 )
-    requires seated { AreSeated (B.size bank.old) members.now }
+    requires seated { AreSeated (B.view bank.old).size members.now }
     requires paired { length board.old ≡ length members.now }
-    ensures size { (d : ℕ) → B.size bank.new d ≡ B.size bank.old d }
-    ensures numbers { (name : List ℕ) → B.number_of bank.new name ≡ B.number_of bank.old name }
-    ensures lookups { B.lookup_faults bank.new ≡ B.lookup_faults bank.old }
-    ensures phase { MakesPhase (plan_of phase (B.size bank.old) (commit_of round.now)) members.now board.old board.new
-        (B.told bank.old) (B.told bank.new) (B.faults bank.old) (B.faults bank.new) }
+    ensures { MakesPhase (plan_of phase (B.view bank.old).size (commit_of round.now)) members.now board.old board.new
+        (B.view bank.old) (B.view bank.new) }
 {
     for i in 0..members.len() {
         board[i] = take_turn(bank, phase, round, members[i], board[i]);
@@ -106,12 +96,9 @@ fn take_turn<B: Bank>(
     member: Member,
     on_board: bool,
 ) -> bool
-    requires device { 320 ≤ B.size bank.old member.dev }
-    ensures size { (d : ℕ) → B.size bank.new d ≡ B.size bank.old d }
-    ensures numbers { (name : List ℕ) → B.number_of bank.new name ≡ B.number_of bank.old name }
-    ensures lookups { B.lookup_faults bank.new ≡ B.lookup_faults bank.old }
-    ensures turn { MakesTurn (plan_of phase (B.size bank.old) (commit_of round.now) member) on_board result
-        (B.told bank.old) (B.told bank.new) (B.faults bank.old) (B.faults bank.new) }
+    requires device { 320 ≤ (B.view bank.old).size member.dev }
+    ensures { MakesTurn (plan_of phase (B.view bank.old).size (commit_of round.now) member) on_board result
+        (B.view bank.old) (B.view bank.new) }
 {
     if !on_board {
         return false;
@@ -125,12 +112,9 @@ fn write_phase<B: Bank>(
     round: &Round,
     member: Member,
 ) -> Result<(), Fault>
-    requires device { 320 ≤ B.size bank.old member.dev }
-    ensures size { (d : ℕ) → B.size bank.new d ≡ B.size bank.old d }
-    ensures numbers { (name : List ℕ) → B.number_of bank.new name ≡ B.number_of bank.old name }
-    ensures lookups { B.lookup_faults bank.new ≡ B.lookup_faults bank.old }
-    ensures part { MakesPart (plan_of phase (B.size bank.old) (commit_of round.now) member)
-        (B.told bank.old) (B.told bank.new) (B.faults bank.old) (B.faults bank.new) (fault_in result) }
+    requires device { 320 ≤ (B.view bank.old).size member.dev }
+    ensures { Part member.dev (plan_of phase (B.view bank.old).size (commit_of round.now) member)
+        (B.view bank.old) (B.view bank.new) (fault_in result) }
 {
     match phase {
         Phase::First => {

@@ -2,7 +2,7 @@
 ghost use Rattle.std.specs.Prelude.{◌≡◌, ℕ, ◌+◌, ◌%◌, ◌^◌, ◌<◌, ◌≤◌, List, length, EachIndex, slice_index, OnErr};
 ghost use Rattle.mp_base.specs.Outside.{Rose};
 ghost use Rattle.bank_core.specs.Disk.{sector_size, sectors_in};
-ghost use Rattle.bank_core.specs.Parts.{MakesPart};
+ghost use Rattle.bank_core.specs.Parts.{Part};
 ghost use Rattle.bank_core.specs.Story.{fault_in};
 ghost use Rattle.label_store.specs.Plans.{label_writes, config_plan, ring_plan};
 
@@ -20,15 +20,10 @@ pub(crate) fn write_labels<B: Bank>(
 ) -> Result<(), Fault>
     requires whole { length bytes.now % sector_size ≡ 0 }
     requires some { 0 < length bytes.now }
-    requires inside { EachIndex labels.now (λ k. slice_index labels.now k + offset + sectors_in bytes.now ≤ B.size bank.old dev) }
+    requires inside { EachIndex labels.now (λ k. slice_index labels.now k + offset + sectors_in bytes.now ≤ (B.view bank.old).size dev) }
     requires fits { EachIndex labels.now (λ k. slice_index labels.now k + offset < 2 ^ 64) }
-    ensures size { (d : ℕ) → B.size bank.new d ≡ B.size bank.old d }
-    ensures numbers { (name : List ℕ) → B.number_of bank.new name ≡ B.number_of bank.old name }
-    ensures lookups { B.lookup_faults bank.new ≡ B.lookup_faults bank.old }
-    ensures counts { (d : ℕ) → B.faults bank.old d ≤ B.faults bank.new d }
-    ensures cause { OnErr result (Rose (B.faults bank.old dev) (B.faults bank.new dev)) }
-    ensures part { MakesPart (label_writes dev labels.now offset bytes.now)
-        (B.told bank.old) (B.told bank.new) (B.faults bank.old) (B.faults bank.new) (fault_in result) }
+    ensures { Part dev (label_writes dev labels.now offset bytes.now)
+        (B.view bank.old) (B.view bank.new) (fault_in result) }
 {
     for at in labels {
         bank.write(dev, *at + offset, bytes)?;
@@ -45,16 +40,11 @@ pub(crate) fn write_config<B: Bank>(
 ) -> Result<(), Fault>
     requires whole { length blob.now % sector_size ≡ 0 }
     requires some { 0 < length blob.now }
-    requires device { 0 < B.size bank.old dev }
-    requires inside { EachIndex labels.now (λ k. slice_index labels.now k + 4 + sectors_in blob.now ≤ B.size bank.old dev) }
+    requires device { 0 < (B.view bank.old).size dev }
+    requires inside { EachIndex labels.now (λ k. slice_index labels.now k + 4 + sectors_in blob.now ≤ (B.view bank.old).size dev) }
     requires fits { EachIndex labels.now (λ k. slice_index labels.now k + 4 < 2 ^ 64) }
-    ensures size { (d : ℕ) → B.size bank.new d ≡ B.size bank.old d }
-    ensures numbers { (name : List ℕ) → B.number_of bank.new name ≡ B.number_of bank.old name }
-    ensures lookups { B.lookup_faults bank.new ≡ B.lookup_faults bank.old }
-    ensures counts { (d : ℕ) → B.faults bank.old d ≤ B.faults bank.new d }
-    ensures cause { OnErr result (Rose (B.faults bank.old dev) (B.faults bank.new dev)) }
-    ensures part { MakesPart (config_plan dev labels.now blob.now)
-        (B.told bank.old) (B.told bank.new) (B.faults bank.old) (B.faults bank.new) (fault_in result) }
+    ensures { Part dev (config_plan dev labels.now blob.now)
+        (B.view bank.old) (B.view bank.new) (fault_in result) }
 {
     write_labels(bank, dev, labels, CONFIG_OFFSET, blob)?;
     bank.flush(dev)
@@ -62,14 +52,9 @@ pub(crate) fn write_config<B: Bank>(
 
 /// Writes an uberblock into its slot of each ring, and flushes it.
 pub(crate) fn write_rings<B: Bank>(bank: &mut B, dev: u32, u: &Uberblock) -> Result<(), Fault>
-    requires device { 320 ≤ B.size bank.old dev }
-    ensures size { (d : ℕ) → B.size bank.new d ≡ B.size bank.old d }
-    ensures numbers { (name : List ℕ) → B.number_of bank.new name ≡ B.number_of bank.old name }
-    ensures lookups { B.lookup_faults bank.new ≡ B.lookup_faults bank.old }
-    ensures counts { (d : ℕ) → B.faults bank.old d ≤ B.faults bank.new d }
-    ensures cause { OnErr result (Rose (B.faults bank.old dev) (B.faults bank.new dev)) }
-    ensures part { MakesPart (ring_plan dev (B.size bank.old dev) u.now)
-        (B.told bank.old) (B.told bank.new) (B.faults bank.old) (B.faults bank.new) (fault_in result) }
+    requires device { 320 ≤ (B.view bank.old).size dev }
+    ensures { Part dev (ring_plan dev ((B.view bank.old).size dev) u.now)
+        (B.view bank.old) (B.view bank.new) (fault_in result) }
 {
     let mut sector = [0; SECTOR_BYTES];
     write_uberblock(u, &mut sector);

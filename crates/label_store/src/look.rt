@@ -24,13 +24,10 @@ pub fn newest<B: Bank, R: BlobRule>(
     devs: &[u32],
     name: &Name,
 ) -> Result<Option<Found>, MemFault>
-    requires devices { (i dev : ℕ) → slice_get devs.now i ≡ Some dev → 320 ≤ B.size bank.old dev }
-    ensures size { (d : ℕ) → B.size bank.new d ≡ B.size bank.old d }
-    ensures numbers { (other : List ℕ) → B.number_of bank.new other ≡ B.number_of bank.old other }
-    ensures lookups { B.lookup_faults bank.new ≡ B.lookup_faults bank.old }
-    ensures finds { IfOk result (λ best. FindsNewest R.head_of (B.size bank.old) devs.now name.now
-        (B.told bank.old) (B.told bank.new) (B.faults bank.old) (B.faults bank.new) best) }
-    ensures reads { OnErr result (ReadsOnly (B.told bank.old) (B.told bank.new) (B.faults bank.old) (B.faults bank.new)) }
+    requires devices { (i dev : ℕ) → slice_get devs.now i ≡ Some dev → 320 ≤ (B.view bank.old).size dev }
+    ensures finds { IfOk result (λ best. FindsNewest R.head_of (B.view bank.old).size devs.now name.now
+        (B.view bank.old) (B.view bank.new) best) }
+    ensures reads { OnErr result (ReadsOnly (B.view bank.old) (B.view bank.new)) }
 {
     let mut best = None;
     for dev in devs {
@@ -42,14 +39,11 @@ pub fn newest<B: Bank, R: BlobRule>(
 
 // Reads the ring and the configuration part of each label of a device.
 fn look<B: Bank>(alloc: Global, bank: &mut B, dev: u32) -> Result<Vec<Part>, MemFault>
-    requires device { 320 ≤ B.size bank.old dev }
-    ensures size { (d : ℕ) → B.size bank.new d ≡ B.size bank.old d }
-    ensures numbers { (other : List ℕ) → B.number_of bank.new other ≡ B.number_of bank.old other }
-    ensures lookups { B.lookup_faults bank.new ≡ B.lookup_faults bank.old }
+    requires device { 320 ≤ (B.view bank.old).size dev }
     ensures eight { IfOk result (λ parts. length parts.items ≡ 8) }
-    ensures looks { IfOk result (λ parts. Looks (look_asks dev (B.size bank.old dev))
-        (B.told bank.old) (B.told bank.new) (B.faults bank.old) (B.faults bank.new) parts.items) }
-    ensures reads { OnErr result (ReadsOnly (B.told bank.old) (B.told bank.new) (B.faults bank.old) (B.faults bank.new)) }
+    ensures looks { IfOk result (λ parts. Looks (look_asks dev ((B.view bank.old).size dev))
+        (B.view bank.old) (B.view bank.new) parts.items) }
+    ensures reads { OnErr result (ReadsOnly (B.view bank.old) (B.view bank.new)) }
 {
     let mut parts = Vec::new(alloc);
     let labels = labels_of(bank.sectors(dev));
@@ -69,13 +63,9 @@ fn read_part<B: Bank>(
 ) -> Result<Part, MemFault>
     requires some { 0 < sectors }
     requires few { sectors ≤ 32 }
-    requires inside { at + sectors ≤ B.size bank.old dev }
-    ensures size { (d : ℕ) → B.size bank.new d ≡ B.size bank.old d }
-    ensures numbers { (other : List ℕ) → B.number_of bank.new other ≡ B.number_of bank.old other }
-    ensures lookups { B.lookup_faults bank.new ≡ B.lookup_faults bank.old }
-    ensures read { IfOk result (λ part. ReadsPart dev at sectors
-        (B.told bank.old) (B.told bank.new) (B.faults bank.old) (B.faults bank.new) part) }
-    ensures reads { OnErr result (ReadsOnly (B.told bank.old) (B.told bank.new) (B.faults bank.old) (B.faults bank.new)) }
+    requires inside { at + sectors ≤ (B.view bank.old).size dev }
+    ensures read { IfOk result (λ part. ReadsPart dev at sectors (B.view bank.old) (B.view bank.new) part) }
+    ensures reads { OnErr result (ReadsOnly (B.view bank.old) (B.view bank.new)) }
 {
     let mut bytes = vec![in alloc; 0; sectors * SECTOR_BYTES]?;
     match bank.read(dev, at, &mut bytes) {

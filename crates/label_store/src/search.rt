@@ -13,13 +13,9 @@ use mp_base::Guid;
 /// Whether the device has the identity of this member of this pool. The rings are read one after another
 /// until one gives it. `Ok(false)` comes only where every ring was read.
 pub fn identity<B: Bank>(bank: &mut B, dev: u32, pool: Guid, member: Guid) -> Result<bool, Fault>
-    requires device { 320 ≤ B.size bank.old dev }
-    ensures size { (d : ℕ) → B.size bank.new d ≡ B.size bank.old d }
-    ensures numbers { (name : List ℕ) → B.number_of bank.new name ≡ B.number_of bank.old name }
-    ensures lookups { B.lookup_faults bank.new ≡ B.lookup_faults bank.old }
-    ensures cause { OnErr result (Rose (B.faults bank.old dev) (B.faults bank.new dev)) }
-    ensures search { Searches pool member dev (B.size bank.old dev)
-        (B.told bank.old) (B.told bank.new) (B.faults bank.old) (B.faults bank.new) result }
+    requires device { 320 ≤ (B.view bank.old).size dev }
+    ensures { Searches pool member dev ((B.view bank.old).size dev)
+        (B.view bank.old) (B.view bank.new) result }
 {
     let mut ring = [0; RING_BYTES];
     let labels = labels_of(bank.sectors(dev));
@@ -72,14 +68,8 @@ fn read_ring<B: Bank>(
     ring: &mut [u8],
 ) -> Result<bool, Fault>
     requires whole { length ring.old ≡ 131072 }
-    requires inside { at + 32 ≤ B.size bank.old dev }
-    ensures size { (d : ℕ) → B.size bank.new d ≡ B.size bank.old d }
-    ensures numbers { (name : List ℕ) → B.number_of bank.new name ≡ B.number_of bank.old name }
-    ensures lookups { B.lookup_faults bank.new ≡ B.lookup_faults bank.old }
-    ensures cause { OnErr result (Rose (B.faults bank.old dev) (B.faults bank.new dev)) }
-    ensures counts { (d : ℕ) → B.faults bank.old d ≤ B.faults bank.new d }
-    ensures read { ReadsRing pool member dev at
-        (B.told bank.old) (B.told bank.new) (B.faults bank.old) (B.faults bank.new) result }
+    requires inside { at + 32 ≤ (B.view bank.old).size dev }
+    ensures { ReadsRing pool member dev at (B.view bank.old) (B.view bank.new) result }
 {
     bank.read(dev, at, ring)?;
     Ok(has_identity(ring, pool, member))

@@ -1,7 +1,7 @@
 //! Stamps: the label of a device that gives it an identity, and no record.
 ghost use Rattle.std.specs.Prelude.{◌≡◌, ℕ, ◌≤◌, List, length, OnErr};
 ghost use Rattle.mp_base.specs.Outside.{Rose};
-ghost use Rattle.bank_core.specs.Parts.{MakesPart};
+ghost use Rattle.bank_core.specs.Parts.{Part};
 ghost use Rattle.bank_core.specs.Story.{fault_in};
 ghost use Rattle.label_store.specs.Layout.{labels_of, ring_offset};
 ghost use Rattle.label_store.specs.Plans.{label_writes, stamp_plan, zero_ring};
@@ -19,14 +19,9 @@ pub(crate) const RING_BYTES: usize = 131_072;
 /// over each ring, and then an uberblock of number 0 into each. It stops at its first failed call. At
 /// `Ok` all of it stands whatever crash comes; after an `Err` nothing is said of the rings.
 pub fn stamp<B: Bank>(bank: &mut B, dev: u32, pool: Guid, member: Guid) -> Result<(), Fault>
-    requires device { 320 ≤ B.size bank.old dev }
-    ensures size { (d : ℕ) → B.size bank.new d ≡ B.size bank.old d }
-    ensures numbers { (name : List ℕ) → B.number_of bank.new name ≡ B.number_of bank.old name }
-    ensures lookups { B.lookup_faults bank.new ≡ B.lookup_faults bank.old }
-    ensures counts { (d : ℕ) → B.faults bank.old d ≤ B.faults bank.new d }
-    ensures cause { OnErr result (Rose (B.faults bank.old dev) (B.faults bank.new dev)) }
-    ensures part { MakesPart (stamp_plan dev (B.size bank.old dev) pool member)
-        (B.told bank.old) (B.told bank.new) (B.faults bank.old) (B.faults bank.new) (fault_in result) }
+    requires device { 320 ≤ (B.view bank.old).size dev }
+    ensures { Part dev (stamp_plan dev ((B.view bank.old).size dev) pool member)
+        (B.view bank.old) (B.view bank.new) (fault_in result) }
 {
     clear_rings(bank, dev)?;
     write_rings(
@@ -44,14 +39,9 @@ pub fn stamp<B: Bank>(bank: &mut B, dev: u32, pool: Guid, member: Guid) -> Resul
 
 // Writes zeros over each ring.
 fn clear_rings<B: Bank>(bank: &mut B, dev: u32) -> Result<(), Fault>
-    requires device { 320 ≤ B.size bank.old dev }
-    ensures size { (d : ℕ) → B.size bank.new d ≡ B.size bank.old d }
-    ensures numbers { (name : List ℕ) → B.number_of bank.new name ≡ B.number_of bank.old name }
-    ensures lookups { B.lookup_faults bank.new ≡ B.lookup_faults bank.old }
-    ensures counts { (d : ℕ) → B.faults bank.old d ≤ B.faults bank.new d }
-    ensures cause { OnErr result (Rose (B.faults bank.old dev) (B.faults bank.new dev)) }
-    ensures part { MakesPart (label_writes dev (labels_of (B.size bank.old dev)) ring_offset zero_ring)
-        (B.told bank.old) (B.told bank.new) (B.faults bank.old) (B.faults bank.new) (fault_in result) }
+    requires device { 320 ≤ (B.view bank.old).size dev }
+    ensures { Part dev (label_writes dev (labels_of ((B.view bank.old).size dev)) ring_offset zero_ring)
+        (B.view bank.old) (B.view bank.new) (fault_in result) }
 {
     let zeros = zero_ring();
     let labels = labels_of(bank.sectors(dev));

@@ -20,6 +20,6 @@ pub use name::{Name, NameFault};
 pub use number::{Group, Guid};
 pub use place::{Key, Place, Pointer};
 pub use range::{GroupRange, Ranges};
-pub use refusal::{LeafSeen, Refusal, Seen, SeenLeaves};
+pub use refusal::{LeafSeen, PlaceRule, Refusal, Seen, SeenLeaves};
 pub use sink::{MemSink, Sink};
 pub use source::{MemSource, Source};

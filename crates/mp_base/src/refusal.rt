@@ -15,6 +15,10 @@ pub enum Refusal {
     },
     /// 6: no leaf of the pool has the name.
     NoVdev,
+    /// 7: nothing of this kind may be done at this place of a tree.
+    WrongPlace {
+        rule: PlaceRule,
+    },
     /// 8: without the device this group could be read from no leaf of its top, and it is the least such group.
     Required {
         group: Group,
@@ -55,6 +59,19 @@ pub enum Refusal {
     },
     /// 40: this form of line, or this case of it, isn't built yet.
     NotBuilt,
+}
+
+/// Which rule on places forbids it.
+#[derive(Clone, Copy, Debug, PartialEq, Eq)]
+pub enum PlaceRule {
+    /// Leaves that stand as this one does take no such change.
+    Role,
+    /// The device is a listed spare that stands in no tree, or a spare leaf.
+    Spare,
+    /// The name stands twice.
+    Twice,
+    /// The device isn't a spare device.
+    NotSpare,
 }
 
 /// What a read saw of a leaf whose copy didn't serve.

@@ -4,6 +4,7 @@ use Rattle.std.proofs.lemmas.Option.{same_Some}
 use Rattle.std.specs.Option.{option_map}
 use Rattle.std.proofs.lemmas.Bool.{ne_eqb, lt-leb, le-leb}
 use Rattle.bank_core.specs.declared.bank.Fault.{Fault}
+use Rattle.bank_core.specs.BankView.{BankView}
 use Rattle.bank_core.specs.Story.{Story}
 use Rattle.bank_core.proofs.Composing.{made_none}
 use Rattle.label_store.specs.Identities.{IsSearch, Searches}
@@ -68,19 +69,19 @@ online_small {size} {s} {name} {dev} {told} {faults} pool at state need has n aw
     })
 
 -- its identity was looked for
-pub online_searched : {size : ℕ → ℕ} {s : PoolState} {name : List ℕ} {dev : ℕ} {old new : Option Story} {f g : ℕ → ℕ} (was pool : Pool) (at : Guid) (state : State) (need has : ℕ)
+pub online_searched : {size : ℕ → ℕ} {s : PoolState} {name : List ℕ} {dev : ℕ} {old new : BankView} (was pool : Pool) (at : Guid) (state : State) (need has : ℕ)
     (found : Result Bool Fault) (next : PoolState) (answer : Result State Refusal) (n : IsNamed name s at) → is_away state ≡ true → state ≡ n.leaf.state
-    → need ≡ s.sectors + 256 → has ≡ size dev → need ≤ has → Represents was s → Searches was.pool at dev (size dev) old new f g found
+    → need ≡ s.sectors + 256 → has ≡ size dev → need ≤ has → Represents was s → Searches was.pool at dev (size dev) old new found
     → (next, answer) ≡ online_answer s n.leaf dev found → Represents pool next
-    → Onlines size s (leaf_named name (leaves s)) dev old new f g pool answer
-online_searched {size} {s} {name} {dev} {old} {new} {f} {g} was pool at state need has found next answer n away is need_is has_is enough r search answer_is r' =
+    → Onlines size s (leaf_named name (leaves s)) dev old.told new.told old.faults new.faults pool answer
+online_searched {size} {s} {name} {dev} {old} {new} was pool at state need has found next answer n away is need_is has_is enough r search answer_is r' =
     let goes : is_away n.leaf.state ≡ true = rw is at away in
     let room : nat_le (s.sectors + 256) (size dev) ≡ true = le-leb (s.sectors + 256) (size dev) (rw (← need_is, ← has_is) enough) in
     let look : IsSearch s.pool n.leaf.member dev (size dev) search.made found = rw (r.pool_is, ← n.member) search.search in
     rw n.is (record {
       made = search.made;
       next = next;
-      calls = search.calls;
+      calls = search.calls.calls;
       onlines = rw (goes, room) (found, look, answer_is);
       represents = r';
     })

@@ -9,6 +9,7 @@ use Rattle.mp_base.specs.Block.{zeros}
 use Rattle.mp_base.specs.declared.number.Group.{Group}
 use Rattle.mp_base.specs.declared.number.Guid.{Guid}
 use Rattle.bank_core.specs.Disk.{sector_size}
+use Rattle.bank_core.specs.BankView.{BankView}
 use Rattle.bank_core.specs.Story.{Story}
 use Rattle.label_store.specs.declared.member.Member.{Member}
 use Rattle.label_store.specs.Committing.{IsSealed, Commits}
@@ -102,12 +103,12 @@ abbrev commit_with : Guid → Group → List ℕ → ℕ → Commit
 commit_with pool number blob length = record { pool = pool; number = number; blob = blob; length = length }
 
 -- a round of what was encoded is one of the configuration's record
-pub cut_round : {old new : Option Story} {before after : ℕ → ℕ} {results : List Bool} {members : List Member} (size : ℕ → ℕ) (c : Fields) (out : List ℕ) (n : ℕ)
-    → IsCut c out n → Commits head_of size (record { pool = c.pool; number = c.number; blob = out; length = n }) members results old new before after
-    → MakesRoundOf size c members results old new before after
-cut_round {old} {new} {before} {after} {results} {members} size c out n cut commits =
+pub cut_round : {old new : BankView} {results : List Bool} {members : List Member} (size : ℕ → ℕ) (c : Fields) (out : List ℕ) (n : ℕ)
+    → IsCut c out n → Commits head_of size (record { pool = c.pool; number = c.number; blob = out; length = n }) members results old new
+    → MakesRoundOf size c members results old.told new.told old.faults new.faults
+cut_round {old} {new} {results} {members} size c out n cut commits =
     let is = ap (λ b. commit_with c.pool c.number b n) cut.out_is ∙ ap (commit_with c.pool c.number (sealed (config_bytes c))) cut.n_is in
-    record { made = commits.made; calls = commits.calls; round = subst (λ k. IsRound size k members results commits.made) is commits.round }
+    record { made = commits.made; calls = commits.calls.calls; round = subst (λ k. IsRound size k members results commits.made) is commits.round }
 
 -- a round of the pool's configuration is one of the record of the state that it stands for
 pub own_round : {old new : Option Story} {before after : ℕ → ℕ} {results : List Bool} (size : ℕ → ℕ) (pool : Pool) (s : PoolState) (f : Fields) (members : List Member)

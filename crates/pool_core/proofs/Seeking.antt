@@ -5,7 +5,7 @@ use Rattle.std.specs.List.{flat_map}
 use Rattle.mp_base.specs.declared.fault.MemFault.{MemFault}
 use Rattle.bank_core.specs.Asks.{Ask, Reads, Writes, Flushes, Admits, Ejects, ask_of, asks_of}
 use Rattle.bank_core.specs.Disk.{Call, Read, Write, Flush, Admit, Eject, Noted}
-use Rattle.bank_core.specs.Story.{Story}
+use Rattle.bank_core.specs.BankView.{BankView}
 use Rattle.label_store.specs.declared.found.Found.{Found}
 use Rattle.label_store.specs.declared.rule.Head.{Head}
 use Rattle.label_store.specs.Layout.{labels_of}
@@ -28,13 +28,13 @@ config_of_best looks name n found None best is =
     no_head None h e f = cc
     no_head (Some c) h e f = cc
 
-seeks_of : (old new : Option Story) (f g : ℕ → ℕ) (size : ℕ → ℕ) (devs name : List ℕ) (found : Found) (r : Result (Option Config) MemFault)
-    → FindsNewest head_of size devs name old new f g (Some found) → IfOk r (λ config. option_map config_fields config ≡ config_in found.blob.items)
-    → IfOk r (λ config. Seeks size devs name old new f g config)
-seeks_of old new f g size devs name found (Err e) finds is = tt
-seeks_of old new f g size devs name found (Ok config) finds is = record {
+seeks_of : (old new : BankView) (size : ℕ → ℕ) (devs name : List ℕ) (found : Found) (r : Result (Option Config) MemFault)
+    → FindsNewest head_of size devs name old new (Some found) → IfOk r (λ config. option_map config_fields config ≡ config_in found.blob.items)
+    → IfOk r (λ config. Seeks size devs name old.told new.told old.faults new.faults config)
+seeks_of old new size devs name found (Err e) finds is = tt
+seeks_of old new size devs name found (Ok config) finds is = record {
   made = finds.made;
-  calls = finds.calls;
+  calls = finds.calls.calls;
   looks = finds.looks;
   look = finds.look;
   best = Some found;
@@ -42,11 +42,11 @@ seeks_of old new f g size devs name found (Ok config) finds is = record {
   is_config = config_of_best finds.looks name (128 * length devs) found config finds.is_best is;
 }
 
-pub seeks_some : {old new : Option Story} {f g : ℕ → ℕ} (size : ℕ → ℕ) (devs name : List ℕ) (best : Option Found) (found : Found) (bytes : List ℕ)
-    (r : Result (Option Config) MemFault) → best ≡ Some found → bytes ≡ found.blob.items → FindsNewest head_of size devs name old new f g best
-    → IfOk r (λ config. option_map config_fields config ≡ config_in bytes) → IfOk r (λ config. Seeks size devs name old new f g config)
-seeks_some {old} {new} {f} {g} size devs name best found bytes r is bytes_are finds decoded =
-    seeks_of old new f g size devs name found r (subst (FindsNewest head_of size devs name old new f g) is finds)
+pub seeks_some : {old new : BankView} (size : ℕ → ℕ) (devs name : List ℕ) (best : Option Found) (found : Found) (bytes : List ℕ)
+    (r : Result (Option Config) MemFault) → best ≡ Some found → bytes ≡ found.blob.items → FindsNewest head_of size devs name old new best
+    → IfOk r (λ config. option_map config_fields config ≡ config_in bytes) → IfOk r (λ config. Seeks size devs name old.told new.told old.faults new.faults config)
+seeks_some {old} {new} size devs name best found bytes r is bytes_are finds decoded =
+    seeks_of old new size devs name found r (subst (FindsNewest head_of size devs name old new) is finds)
     (subst (λ b. IfOk r (λ config. option_map config_fields config ≡ config_in b)) bytes_are decoded)
 
 -- a look makes reads, and no other call
@@ -92,6 +92,6 @@ on_err : {T E P : Type 0} (r : Result T E) → P → OnErr r P
 on_err (Ok x) p = tt
 on_err (Err e) p = p
 
-pub finds_read : {old new : Option Story} {f g : ℕ → ℕ} {best : Option Found} {T E : Type 0} (size : ℕ → ℕ) (devs name : List ℕ) (r : Result T E)
-    → FindsNewest head_of size devs name old new f g best → OnErr r (ReadsOnly old new f g)
+pub finds_read : {old new : BankView} {best : Option Found} {T E : Type 0} (size : ℕ → ℕ) (devs name : List ℕ) (r : Result T E)
+    → FindsNewest head_of size devs name old new best → OnErr r (ReadsOnly old new)
 finds_read size devs name r finds = on_err r (record { made = finds.made; calls = finds.calls; reads = look_reads size devs finds.looks finds.made finds.look })

@@ -11,6 +11,9 @@ use Rattle.mp_base.specs.declared.refusal.Seen.{Seen}
 use Rattle.mp_base.specs.declared.refusal.Seen.TheVariants as seen
 use Rattle.bank_core.specs.declared.bank.Fault.{Fault}
 use Rattle.bank_core.specs.Disk.{Read, Noted}
+use Rattle.bank_core.specs.BankView.{BankView}
+use Rattle.bank_core.specs.Calls.{Called}
+use Rattle.bank_core.proofs.Framing.{makes_one}
 use Rattle.bank_core.specs.Story.{Story, Tells, fault_in}
 use Rattle.bank_core.proofs.Composing.{made_none, made_more, one_made, call_caused, MadeOne}
 use Rattle.config_codec.specs.declared.config.Pointer.{Pointer}
@@ -25,13 +28,13 @@ copy_tried : (dev at : ℕ) (sum : List ℕ) (old new : Option Story) (f g : ℕ
 copy_tried dev at sum old new f g bytes result fault whole one is = record { whole = whole; fault = fault; damage = one.damage; calls = one.made; is_seen = is }
 
 -- a read of a copy, and what was said of it
-pub tries_copy : {dev at : ℕ} {sum : List ℕ} {old new : Option Story} {f g : ℕ → ℕ} {bytes : List ℕ} {result : Result (Unit {0}) Seen}
-    (r : Result (Unit {0}) Fault) → length bytes ≡ 4096 → ((d : ℕ) → f d ≤ g d) → OnErr r (Rose (f dev) (g dev)) → OnOk r ((d : ℕ) → g d ≡ f d)
-    → ((d : ℕ) → d ≢ dev → g d ≡ f d) → Tells old new (Read dev at bytes (fault_in r))
-    → IsSeen (fault_in r) bytes sum result → TriesCopy dev at sum old new f g bytes result
-tries_copy {dev} {at} {sum} {old} {new} {f} {g} {bytes} {result} r whole counts cause still others tells is =
-    copy_tried dev at sum old new f g bytes result (fault_in r) whole
-    (one_made old new f g (Read dev at bytes (fault_in r)) (call_caused (Read dev at bytes (fault_in r)) r f g refl counts cause still others) tells) is
+pub tries_copy : {dev at : ℕ} {sum : List ℕ} {old new : BankView} {bytes : List ℕ} {result : Result (Unit {0}) Seen}
+    (r : Result (Unit {0}) Fault) → length bytes ≡ 4096 → Called (Read dev at bytes (fault_in r)) old new
+    → IsSeen (fault_in r) bytes sum result → TriesCopy dev at sum old.told new.told old.faults new.faults bytes result
+tries_copy {dev} {at} {sum} {old} {new} {bytes} {result} r whole c is =
+    let one = makes_one c in
+    copy_tried dev at sum old.told new.told old.faults new.faults bytes result (fault_in r) whole
+    (record { damage = one.damage; made = one.makes.calls }) is
 
 pub failed_copy : (r : Result (Unit {0}) Fault) (bytes sum : List ℕ) → is_err r ≡ true → IsSeen (fault_in r) bytes sum (Err seen.Failed)
 failed_copy (Ok done) bytes sum e = absurd (cc)

@@ -54,12 +54,12 @@ impl Pool {
     /// comes where no leaf has the name.
     pub fn online<B: Bank>(&mut self, bank: &mut B, name: &Name, dev: u32) -> Result<State, Refusal>
         requires own { (s : PoolState) → Stands self.old.pair s → IsOwnDevice s name.now dev }
-        ensures size { (d : ℕ) → B.size bank.new d ≡ B.size bank.old d }
-        ensures numbers { (other : List ℕ) → B.number_of bank.new other ≡ B.number_of bank.old other }
-        ensures lookups { B.lookup_faults bank.new ≡ B.lookup_faults bank.old }
-        ensures seated { IsSeated (B.size bank.old) self.old → IsSeated (B.size bank.old) self.new }
+        ensures size { (d : ℕ) → (B.view bank.new).size d ≡ (B.view bank.old).size d }
+        ensures numbers { (other : List ℕ) → (B.view bank.new).number_of other ≡ (B.view bank.old).number_of other }
+        ensures lookups { (B.view bank.new).lookup_faults ≡ (B.view bank.old).lookup_faults }
+        ensures seated { IsSeated (B.view bank.old).size self.old → IsSeated (B.view bank.old).size self.new }
         ensures online { (s : PoolState) → Represents self.old s
-            → Onlines (B.size bank.old) s (leaf_named name.now (leaves s)) dev (B.told bank.old) (B.told bank.new) (B.faults bank.old) (B.faults bank.new) self.new result }
+            → Onlines (B.view bank.old).size s (leaf_named name.now (leaves s)) dev (B.view bank.old).told (B.view bank.new).told (B.view bank.old).faults (B.view bank.new).faults self.new result }
     {
         let Some(at) = self.pair.named(name) else {
             return Err(Refusal::NoVdev);

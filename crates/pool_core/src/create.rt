@@ -69,14 +69,14 @@ impl Pool {
         requires number { 1 ≤ pool.0 }
         requires two_names { first.name ≢ second.name }
         requires two_devices { first.dev ≢ second.dev }
-        requires first_room { 320 ≤ B.size bank.old first.dev }
-        requires second_room { 320 ≤ B.size bank.old second.dev }
-        ensures size { (d : ℕ) → B.size bank.new d ≡ B.size bank.old d }
-        ensures numbers { (other : List ℕ) → B.number_of bank.new other ≡ B.number_of bank.old other }
-        ensures lookups { B.lookup_faults bank.new ≡ B.lookup_faults bank.old }
-        ensures seated { IfOk result (λ made. IsSeated (B.size bank.old) made) }
-        ensures creates { CreatesIf (B.size bank.old) name pool blocks (first.name, first.dev) (second.name, second.dev)
-            (B.told bank.old) (B.told bank.new) (B.faults bank.old) (B.faults bank.new) result }
+        requires first_room { 320 ≤ (B.view bank.old).size first.dev }
+        requires second_room { 320 ≤ (B.view bank.old).size second.dev }
+        ensures size { (d : ℕ) → (B.view bank.new).size d ≡ (B.view bank.old).size d }
+        ensures numbers { (other : List ℕ) → (B.view bank.new).number_of other ≡ (B.view bank.old).number_of other }
+        ensures lookups { (B.view bank.new).lookup_faults ≡ (B.view bank.old).lookup_faults }
+        ensures seated { IfOk result (λ made. IsSeated (B.view bank.old).size made) }
+        ensures creates { CreatesIf (B.view bank.old).size name pool blocks (first.name, first.dev) (second.name, second.dev)
+            (B.view bank.old).told (B.view bank.new).told (B.view bank.old).faults (B.view bank.new).faults result }
     {
         let made = match Pool::new(alloc, bank, name, pool, blocks, &first, &second) {
             Ok(made) => made,
@@ -119,11 +119,11 @@ impl Pool {
         requires number { 1 ≤ pool.0 }
         requires two_names { first.now.name ≢ second.now.name }
         requires two_devices { first.now.dev ≢ second.now.dev }
-        requires first_room { 320 ≤ B.size bank.now first.now.dev }
-        requires second_room { 320 ≤ B.size bank.now second.now.dev }
-        ensures seated { IfOk result (λ made. IsSeated (B.size bank.now) made) }
+        requires first_room { 320 ≤ (B.view bank.now).size first.now.dev }
+        requires second_room { 320 ≤ (B.view bank.now).size second.now.dev }
+        ensures seated { IfOk result (λ made. IsSeated (B.view bank.now).size made) }
         ensures state { IfOk result (λ made. Represents made
-            (made_state (B.size bank.now) name pool blocks (first.now.name, first.now.dev) (second.now.name, second.now.dev))) }
+            (made_state (B.view bank.now).size name pool blocks (first.now.name, first.now.dev) (second.now.name, second.now.dev))) }
     {
         // A configuration is valid only with names that are names.
         name.spells_a_name();

@@ -40,14 +40,14 @@ pub fn seek<B: Bank>(
     devs: &[u32],
     name: &Name,
 ) -> Result<Option<Config>, MemFault>
-    requires devices { (i dev : ℕ) → slice_get devs.now i ≡ Some dev → 320 ≤ B.size bank.old dev }
-    ensures size { (d : ℕ) → B.size bank.new d ≡ B.size bank.old d }
-    ensures numbers { (other : List ℕ) → B.number_of bank.new other ≡ B.number_of bank.old other }
-    ensures lookups { B.lookup_faults bank.new ≡ B.lookup_faults bank.old }
+    requires devices { (i dev : ℕ) → slice_get devs.now i ≡ Some dev → 320 ≤ (B.view bank.old).size dev }
+    ensures size { (d : ℕ) → (B.view bank.new).size d ≡ (B.view bank.old).size d }
+    ensures numbers { (other : List ℕ) → (B.view bank.new).number_of other ≡ (B.view bank.old).number_of other }
+    ensures lookups { (B.view bank.new).lookup_faults ≡ (B.view bank.old).lookup_faults }
     ensures valid { IfOk result (λ found. IfSome found (λ config. IsValid (config_fields config))) }
-    ensures seeks { IfOk result (λ found. Seeks (B.size bank.old) devs.now name.now
-        (B.told bank.old) (B.told bank.new) (B.faults bank.old) (B.faults bank.new) found) }
-    ensures reads { OnErr result (ReadsOnly (B.told bank.old) (B.told bank.new) (B.faults bank.old) (B.faults bank.new)) }
+    ensures seeks { IfOk result (λ found. Seeks (B.view bank.old).size devs.now name.now
+        (B.view bank.old).told (B.view bank.new).told (B.view bank.old).faults (B.view bank.new).faults found) }
+    ensures reads { OnErr result (ReadsOnly (B.view bank.old) (B.view bank.new)) }
 {
     match newest::<B, ConfigRule>(alloc, bank, devs, name)? {
         Some(found) => decode(alloc, &found.blob),
@@ -62,15 +62,15 @@ pub fn find_members<B: Bank>(
     config: &Config,
     seats: (Option<u32>, Option<u32>),
 ) -> (Option<u32>, Option<u32>)
-    requires first_room { (d : ℕ) → seats.0 ≡ Some d → 320 ≤ B.size bank.old d }
-    requires second_room { (d : ℕ) → seats.1 ≡ Some d → 320 ≤ B.size bank.old d }
-    ensures size { (d : ℕ) → B.size bank.new d ≡ B.size bank.old d }
-    ensures numbers { (other : List ℕ) → B.number_of bank.new other ≡ B.number_of bank.old other }
-    ensures lookups { B.lookup_faults bank.new ≡ B.lookup_faults bank.old }
+    requires first_room { (d : ℕ) → seats.0 ≡ Some d → 320 ≤ (B.view bank.old).size d }
+    requires second_room { (d : ℕ) → seats.1 ≡ Some d → 320 ≤ (B.view bank.old).size d }
+    ensures size { (d : ℕ) → (B.view bank.new).size d ≡ (B.view bank.old).size d }
+    ensures numbers { (other : List ℕ) → (B.view bank.new).number_of other ≡ (B.view bank.old).number_of other }
+    ensures lookups { (B.view bank.new).lookup_faults ≡ (B.view bank.old).lookup_faults }
     ensures first { (d : ℕ) → result.0 ≡ Some d → seats.0 ≡ Some d }
     ensures second { (d : ℕ) → result.1 ≡ Some d → seats.1 ≡ Some d }
-    ensures identifies { Identifies (B.size bank.old) (config_fields config.now) seats
-        (B.told bank.old) (B.told bank.new) (B.faults bank.old) (B.faults bank.new) result }
+    ensures identifies { Identifies (B.view bank.old).size (config_fields config.now) seats
+        (B.view bank.old).told (B.view bank.new).told (B.view bank.old).faults (B.view bank.new).faults result }
 {
     let first = find_member(bank, config, &config.first, seats.0);
     let second = find_member(bank, config, &config.second, seats.1);
@@ -84,13 +84,13 @@ fn find_member<B: Bank>(
     leaf: &LeafConfig,
     seat: Option<u32>,
 ) -> Option<u32>
-    requires room { (d : ℕ) → seat ≡ Some d → 320 ≤ B.size bank.old d }
-    ensures size { (d : ℕ) → B.size bank.new d ≡ B.size bank.old d }
-    ensures numbers { (other : List ℕ) → B.number_of bank.new other ≡ B.number_of bank.old other }
-    ensures lookups { B.lookup_faults bank.new ≡ B.lookup_faults bank.old }
+    requires room { (d : ℕ) → seat ≡ Some d → 320 ≤ (B.view bank.old).size d }
+    ensures size { (d : ℕ) → (B.view bank.new).size d ≡ (B.view bank.old).size d }
+    ensures numbers { (other : List ℕ) → (B.view bank.new).number_of other ≡ (B.view bank.old).number_of other }
+    ensures lookups { (B.view bank.new).lookup_faults ≡ (B.view bank.old).lookup_faults }
     ensures same { (d : ℕ) → result ≡ Some d → seat ≡ Some d }
-    ensures looks { LooksFor (config_fields config.now) leaf.now seat (B.size bank.old)
-        (B.told bank.old) (B.told bank.new) (B.faults bank.old) (B.faults bank.new) result }
+    ensures looks { LooksFor (config_fields config.now) leaf.now seat (B.view bank.old).size
+        (B.view bank.old).told (B.view bank.new).told (B.view bank.old).faults (B.view bank.new).faults result }
 {
     let dev = seat?;
     match identity(bank, dev, config.pool, leaf.member) {
@@ -117,16 +117,16 @@ impl Pool {
         requires valid { IsValid (config_fields config) }
         requires number { config.number.0 < last_number }
         requires apart { (d : ℕ) → found.0 ≡ Some d → found.1 ≡ Some d → ⊥ }
-        requires first_room { (d : ℕ) → found.0 ≡ Some d → config.sectors + 256 ≤ B.size bank.old d }
-        requires second_room { (d : ℕ) → found.1 ≡ Some d → config.sectors + 256 ≤ B.size bank.old d }
-        ensures size { (d : ℕ) → B.size bank.new d ≡ B.size bank.old d }
-        ensures numbers { (other : List ℕ) → B.number_of bank.new other ≡ B.number_of bank.old other }
-        ensures lookups { B.lookup_faults bank.new ≡ B.lookup_faults bank.old }
-        ensures seated { IfOk result (λ pool. IsSeated (B.size bank.old) pool) }
+        requires first_room { (d : ℕ) → found.0 ≡ Some d → config.sectors + 256 ≤ (B.view bank.old).size d }
+        requires second_room { (d : ℕ) → found.1 ≡ Some d → config.sectors + 256 ≤ (B.view bank.old).size d }
+        ensures size { (d : ℕ) → (B.view bank.new).size d ≡ (B.view bank.old).size d }
+        ensures numbers { (other : List ℕ) → (B.view bank.new).number_of other ≡ (B.view bank.old).number_of other }
+        ensures lookups { (B.view bank.new).lookup_faults ≡ (B.view bank.old).lookup_faults }
+        ensures seated { IfOk result (λ pool. IsSeated (B.view bank.old).size pool) }
         ensures opens { (committed : ℕ → Option Version) → IsCommitted (config_fields config) committed
-            → OpensIf (has_nobody (found_state (config_fields config) committed found.0 found.1)) (B.size bank.old)
+            → OpensIf (has_nobody (found_state (config_fields config) committed found.0 found.1)) (B.view bank.old).size
             (found_state (config_fields config) committed found.0 found.1)
-            (B.told bank.old) (B.told bank.new) (B.faults bank.old) (B.faults bank.new) result }
+            (B.view bank.old).told (B.view bank.new).told (B.view bank.old).faults (B.view bank.new).faults result }
     {
         if finds_nobody(&config, found) {
             return Err(Refusal::Suspended {

@@ -28,12 +28,12 @@ impl Pool {
     /// else zeros. After an `Err` nothing is said of `out`.
     pub fn read<B: Bank>(&self, bank: &mut B, address: u64, out: &mut [u8]) -> Result<(), Refusal>
         requires block { length out.old ≡ 4096 }
-        requires seated { IsSeated (B.size bank.old) self.now }
-        ensures size { (d : ℕ) → B.size bank.new d ≡ B.size bank.old d }
-        ensures numbers { (name : List ℕ) → B.number_of bank.new name ≡ B.number_of bank.old name }
-        ensures lookups { B.lookup_faults bank.new ≡ B.lookup_faults bank.old }
+        requires seated { IsSeated (B.view bank.old).size self.now }
+        ensures size { (d : ℕ) → (B.view bank.new).size d ≡ (B.view bank.old).size d }
+        ensures numbers { (name : List ℕ) → (B.view bank.new).number_of name ≡ (B.view bank.old).number_of name }
+        ensures lookups { (B.view bank.new).lookup_faults ≡ (B.view bank.old).lookup_faults }
         ensures read { (s : PoolState) → Represents self.now s
-            → Reads s address (B.told bank.old) (B.told bank.new) (B.faults bank.old) (B.faults bank.new) (answered out.new result) }
+            → Reads s address (B.view bank.old).told (B.view bank.new).told (B.view bank.old).faults (B.view bank.new).faults (answered out.new result) }
     {
         let blocks = self.blocks;
         if address >= blocks {
@@ -56,13 +56,13 @@ impl Pool {
         out: &mut [u8],
     ) -> Result<(), Refusal>
         requires block { length out.old ≡ 4096 }
-        requires seated { IsSeated (B.size bank.old) self.now }
+        requires seated { IsSeated (B.view bank.old).size self.now }
         requires inside { address < length self.now.writes.items }
-        ensures size { (d : ℕ) → B.size bank.new d ≡ B.size bank.old d }
-        ensures numbers { (name : List ℕ) → B.number_of bank.new name ≡ B.number_of bank.old name }
-        ensures lookups { B.lookup_faults bank.new ≡ B.lookup_faults bank.old }
+        ensures size { (d : ℕ) → (B.view bank.new).size d ≡ (B.view bank.old).size d }
+        ensures numbers { (name : List ℕ) → (B.view bank.new).number_of name ≡ (B.view bank.old).number_of name }
+        ensures lookups { (B.view bank.new).lookup_faults ≡ (B.view bank.old).lookup_faults }
         ensures read { (s : PoolState) → Represents self.now s → s.writes address ≡ None
-            → Reads s address (B.told bank.old) (B.told bank.new) (B.faults bank.old) (B.faults bank.new) (answered out.new result) }
+            → Reads s address (B.view bank.old).told (B.view bank.new).told (B.view bank.old).faults (B.view bank.new).faults (answered out.new result) }
     {
         match self.pointer_at(address as usize) {
             None => {
@@ -89,13 +89,13 @@ impl Pool {
         out: &mut [u8],
     ) -> Result<(), SeenLeaves>
         requires block { length out.old ≡ 4096 }
-        requires seated { IsSeated (B.size bank.old) self.now }
+        requires seated { IsSeated (B.view bank.old).size self.now }
         requires inside { pointer.now.sector < 64 }
-        ensures size { (d : ℕ) → B.size bank.new d ≡ B.size bank.old d }
-        ensures numbers { (name : List ℕ) → B.number_of bank.new name ≡ B.number_of bank.old name }
-        ensures lookups { B.lookup_faults bank.new ≡ B.lookup_faults bank.old }
+        ensures size { (d : ℕ) → (B.view bank.new).size d ≡ (B.view bank.old).size d }
+        ensures numbers { (name : List ℕ) → (B.view bank.new).number_of name ≡ (B.view bank.old).number_of name }
+        ensures lookups { (B.view bank.new).lookup_faults ≡ (B.view bank.old).lookup_faults }
         ensures tries { (s : PoolState) → Represents self.now s
-            → TriesCopies s pointer.now (B.told bank.old) (B.told bank.new) (B.faults bank.old) (B.faults bank.new) out.new result }
+            → TriesCopies s pointer.now (B.view bank.old).told (B.view bank.new).told (B.view bank.old).faults (B.view bank.new).faults out.new result }
     {
         let tries = self.pair.tries(pointer.birth);
         let sector = DATA_START + pointer.sector;
@@ -142,11 +142,11 @@ fn try_all<B: Bank>(
 ) -> Result<(), SeenLeaves>
     requires block { length out.old ≡ 4096 }
     requires few { length members.now ≤ 32 }
-    requires room { HasRoomFor (B.size bank.old) members.now at }
-    ensures size { (d : ℕ) → B.size bank.new d ≡ B.size bank.old d }
-    ensures numbers { (name : List ℕ) → B.number_of bank.new name ≡ B.number_of bank.old name }
-    ensures lookups { B.lookup_faults bank.new ≡ B.lookup_faults bank.old }
-    ensures tries { TriesAll at sum.now members.now (B.told bank.old) (B.told bank.new) (B.faults bank.old) (B.faults bank.new) out.new result }
+    requires room { HasRoomFor (B.view bank.old).size members.now at }
+    ensures size { (d : ℕ) → (B.view bank.new).size d ≡ (B.view bank.old).size d }
+    ensures numbers { (name : List ℕ) → (B.view bank.new).number_of name ≡ (B.view bank.old).number_of name }
+    ensures lookups { (B.view bank.new).lookup_faults ≡ (B.view bank.old).lookup_faults }
+    ensures tries { TriesAll at sum.now members.now (B.view bank.old).told (B.view bank.new).told (B.view bank.old).faults (B.view bank.new).faults out.new result }
 {
     let mut seen = SeenLeaves::new();
     for member in members {
@@ -170,11 +170,11 @@ fn read_copy<B: Bank>(
     out: &mut [u8],
 ) -> Result<(), Seen>
     requires block { length out.old ≡ 4096 }
-    requires inside { at < B.size bank.old dev }
-    ensures size { (d : ℕ) → B.size bank.new d ≡ B.size bank.old d }
-    ensures numbers { (name : List ℕ) → B.number_of bank.new name ≡ B.number_of bank.old name }
-    ensures lookups { B.lookup_faults bank.new ≡ B.lookup_faults bank.old }
-    ensures copy { TriesCopy dev at sum.now (B.told bank.old) (B.told bank.new) (B.faults bank.old) (B.faults bank.new) out.new result }
+    requires inside { at < (B.view bank.old).size dev }
+    ensures size { (d : ℕ) → (B.view bank.new).size d ≡ (B.view bank.old).size d }
+    ensures numbers { (name : List ℕ) → (B.view bank.new).number_of name ≡ (B.view bank.old).number_of name }
+    ensures lookups { (B.view bank.new).lookup_faults ≡ (B.view bank.old).lookup_faults }
+    ensures copy { TriesCopy dev at sum.now (B.view bank.old).told (B.view bank.new).told (B.view bank.old).faults (B.view bank.new).faults out.new result }
 {
     if bank.read(dev, at, out).is_err() {
         return Err(Seen::Failed);

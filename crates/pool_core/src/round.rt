@@ -36,14 +36,14 @@ impl Pool {
         outline: Outline,
         before: Result<(), Fault>,
     ) -> Result<Group, Refusal>
-        requires seated { IsSeated (B.size bank.old) self.now }
+        requires seated { IsSeated (B.view bank.old).size self.now }
         requires logs { HasLogs self.now.pair outline }
         requires board { (s : PoolState) → Stands self.now.pair s → members.now ≡ board s }
-        ensures size { (d : ℕ) → B.size bank.new d ≡ B.size bank.old d }
-        ensures numbers { (name : List ℕ) → B.number_of bank.new name ≡ B.number_of bank.old name }
-        ensures lookups { B.lookup_faults bank.new ≡ B.lookup_faults bank.old }
-        ensures ends { (s : PoolState) → Represents self.now s → EndsCommit (B.size bank.old) s (fault_in before)
-            (B.told bank.old) (B.told bank.new) (B.faults bank.old) (B.faults bank.new) result }
+        ensures size { (d : ℕ) → (B.view bank.new).size d ≡ (B.view bank.old).size d }
+        ensures numbers { (name : List ℕ) → (B.view bank.new).number_of name ≡ (B.view bank.old).number_of name }
+        ensures lookups { (B.view bank.new).lookup_faults ≡ (B.view bank.old).lookup_faults }
+        ensures ends { (s : PoolState) → Represents self.now s → EndsCommit (B.view bank.old).size s (fault_in before)
+            (B.view bank.old).told (B.view bank.new).told (B.view bank.old).faults (B.view bank.new).faults result }
     {
         if before.is_err() {
             return Err(self.suspended(1));
@@ -72,15 +72,15 @@ impl Pool {
         outline: Outline,
         stayed: &mut [bool],
     ) -> u64
-        requires seated { IsSeated (B.size bank.old) self.now }
+        requires seated { IsSeated (B.view bank.old).size self.now }
         requires logs { HasLogs self.now.pair outline }
         requires board { (s : PoolState) → Stands self.now.pair s → members.now ≡ board s }
         requires results { length members.now ≤ length stayed.old }
-        ensures size { (d : ℕ) → B.size bank.new d ≡ B.size bank.old d }
-        ensures numbers { (name : List ℕ) → B.number_of bank.new name ≡ B.number_of bank.old name }
-        ensures lookups { B.lookup_faults bank.new ≡ B.lookup_faults bank.old }
-        ensures round { (s : PoolState) → Represents self.now s → FailsIn (B.size bank.old) s result
-            (B.told bank.old) (B.told bank.new) (B.faults bank.old) (B.faults bank.new) }
+        ensures size { (d : ℕ) → (B.view bank.new).size d ≡ (B.view bank.old).size d }
+        ensures numbers { (name : List ℕ) → (B.view bank.new).number_of name ≡ (B.view bank.old).number_of name }
+        ensures lookups { (B.view bank.new).lookup_faults ≡ (B.view bank.old).lookup_faults }
+        ensures round { (s : PoolState) → Represents self.now s → FailsIn (B.view bank.old).size s result
+            (B.view bank.old).told (B.view bank.new).told (B.view bank.old).faults (B.view bank.new).faults }
     {
         let stayed = &mut stayed[..members.as_slice().len()];
         self.commit_round(bank, members, outline, stayed);
@@ -95,15 +95,15 @@ impl Pool {
         outline: Outline,
         stayed: &mut [bool],
     )
-        requires seated { IsSeated (B.size bank.old) self.now }
+        requires seated { IsSeated (B.view bank.old).size self.now }
         requires logs { HasLogs self.now.pair outline }
         requires board { (s : PoolState) → Stands self.now.pair s → members.now ≡ board s }
         requires results { length stayed.old ≡ length members.now }
-        ensures size { (d : ℕ) → B.size bank.new d ≡ B.size bank.old d }
-        ensures numbers { (name : List ℕ) → B.number_of bank.new name ≡ B.number_of bank.old name }
-        ensures lookups { B.lookup_faults bank.new ≡ B.lookup_faults bank.old }
-        ensures round { (s : PoolState) → Represents self.now s → MakesOwnRound (B.size bank.old) s stayed.new
-            (B.told bank.old) (B.told bank.new) (B.faults bank.old) (B.faults bank.new) }
+        ensures size { (d : ℕ) → (B.view bank.new).size d ≡ (B.view bank.old).size d }
+        ensures numbers { (name : List ℕ) → (B.view bank.new).number_of name ≡ (B.view bank.old).number_of name }
+        ensures lookups { (B.view bank.new).lookup_faults ≡ (B.view bank.old).lookup_faults }
+        ensures round { (s : PoolState) → Represents self.now s → MakesOwnRound (B.view bank.old).size s stayed.new
+            (B.view bank.old).told (B.view bank.new).told (B.view bank.old).faults (B.view bank.new).faults }
     {
         let mut part = outline.part;
         let parts = self.parts(outline.first_log.as_slice(), outline.second_log.as_slice());
@@ -141,15 +141,15 @@ fn commit_parts<B: Bank>(
     stayed: &mut [bool],
 )
     requires valid { IsValid (parts_fields parts.now) }
-    requires seated { AreSeated (B.size bank.old) members.now }
+    requires seated { AreSeated (B.view bank.old).size members.now }
     requires apart { AreApart members.now }
     requires part { length part.old ≡ 114688 }
     requires results { length stayed.old ≡ length members.now }
-    ensures size { (d : ℕ) → B.size bank.new d ≡ B.size bank.old d }
-    ensures numbers { (name : List ℕ) → B.number_of bank.new name ≡ B.number_of bank.old name }
-    ensures lookups { B.lookup_faults bank.new ≡ B.lookup_faults bank.old }
-    ensures round { MakesRoundOf (B.size bank.old) (parts_fields parts.now) members.now stayed.new
-        (B.told bank.old) (B.told bank.new) (B.faults bank.old) (B.faults bank.new) }
+    ensures size { (d : ℕ) → (B.view bank.new).size d ≡ (B.view bank.old).size d }
+    ensures numbers { (name : List ℕ) → (B.view bank.new).number_of name ≡ (B.view bank.old).number_of name }
+    ensures lookups { (B.view bank.new).lookup_faults ≡ (B.view bank.old).lookup_faults }
+    ensures round { MakesRoundOf (B.view bank.old).size (parts_fields parts.now) members.now stayed.new
+        (B.view bank.old).told (B.view bank.new).told (B.view bank.old).faults (B.view bank.new).faults }
 {
     let length = encode_into(parts, part);
     let sectors = length.div_ceil(BLOCK_BYTES);

@@ -32,13 +32,13 @@ impl Pool {
     /// of no further use. At `Suspended` without faults no leaf is readable, at `TreeFull` the numbers are spent,
     /// at `Memory` there was none; then nothing has changed.
     pub fn sync<B: Bank>(&mut self, bank: &mut B) -> Result<Group, Refusal>
-        requires seated { IsSeated (B.size bank.old) self.old }
-        ensures size { (d : ℕ) → B.size bank.new d ≡ B.size bank.old d }
-        ensures numbers { (name : List ℕ) → B.number_of bank.new name ≡ B.number_of bank.old name }
-        ensures lookups { B.lookup_faults bank.new ≡ B.lookup_faults bank.old }
-        ensures seated { IsSeated (B.size bank.old) self.new }
-        ensures sync { (s : PoolState) → Represents self.old s → SyncsIf (is_spent s.number) (has_nobody s) (B.size bank.old) s
-            (B.told bank.old) (B.told bank.new) (B.faults bank.old) (B.faults bank.new) self.new result }
+        requires seated { IsSeated (B.view bank.old).size self.old }
+        ensures size { (d : ℕ) → (B.view bank.new).size d ≡ (B.view bank.old).size d }
+        ensures numbers { (name : List ℕ) → (B.view bank.new).number_of name ≡ (B.view bank.old).number_of name }
+        ensures lookups { (B.view bank.new).lookup_faults ≡ (B.view bank.old).lookup_faults }
+        ensures seated { IsSeated (B.view bank.old).size self.new }
+        ensures sync { (s : PoolState) → Represents self.old s → SyncsIf (is_spent s.number) (has_nobody s) (B.view bank.old).size s
+            (B.view bank.old).told (B.view bank.new).told (B.view bank.old).faults (B.view bank.new).faults self.new result }
     {
         let number = self.number.0;
         if number >= LAST_NUMBER {
@@ -75,26 +75,26 @@ impl Pool {
 
     // Writes each block that was written to each leaf of the board, and then flushes each of them.
     fn write_out<B: Bank>(&self, bank: &mut B, members: &Board) -> Result<(), Fault>
-        requires seated { IsSeated (B.size bank.old) self.now }
+        requires seated { IsSeated (B.view bank.old).size self.now }
         requires board { (s : PoolState) → Stands self.now.pair s → members.now ≡ board s }
-        ensures size { (d : ℕ) → B.size bank.new d ≡ B.size bank.old d }
-        ensures numbers { (name : List ℕ) → B.number_of bank.new name ≡ B.number_of bank.old name }
-        ensures lookups { B.lookup_faults bank.new ≡ B.lookup_faults bank.old }
+        ensures size { (d : ℕ) → (B.view bank.new).size d ≡ (B.view bank.old).size d }
+        ensures numbers { (name : List ℕ) → (B.view bank.new).number_of name ≡ (B.view bank.old).number_of name }
+        ensures lookups { (B.view bank.new).lookup_faults ≡ (B.view bank.old).lookup_faults }
         ensures part { (s : PoolState) → Represents self.now s
-            → MakesPart (sync_plan s) (B.told bank.old) (B.told bank.new) (B.faults bank.old) (B.faults bank.new) (fault_in result) }
+            → MakesPart (sync_plan s) (B.view bank.old).told (B.view bank.new).told (B.view bank.old).faults (B.view bank.new).faults (fault_in result) }
     {
         self.write_blocks(bank, members)?;
         flush_all(bank, members)
     }
 
     fn write_blocks<B: Bank>(&self, bank: &mut B, members: &Board) -> Result<(), Fault>
-        requires seated { IsSeated (B.size bank.old) self.now }
+        requires seated { IsSeated (B.view bank.old).size self.now }
         requires board { (s : PoolState) → Stands self.now.pair s → members.now ≡ board s }
-        ensures size { (d : ℕ) → B.size bank.new d ≡ B.size bank.old d }
-        ensures numbers { (name : List ℕ) → B.number_of bank.new name ≡ B.number_of bank.old name }
-        ensures lookups { B.lookup_faults bank.new ≡ B.lookup_faults bank.old }
+        ensures size { (d : ℕ) → (B.view bank.new).size d ≡ (B.view bank.old).size d }
+        ensures numbers { (name : List ℕ) → (B.view bank.new).number_of name ≡ (B.view bank.old).number_of name }
+        ensures lookups { (B.view bank.new).lookup_faults ≡ (B.view bank.old).lookup_faults }
         ensures part { (s : PoolState) → Represents self.now s
-            → MakesPart (flat_map (writes_at s) (addresses s.blocks)) (B.told bank.old) (B.told bank.new) (B.faults bank.old) (B.faults bank.new) (fault_in result) }
+            → MakesPart (flat_map (writes_at s) (addresses s.blocks)) (B.view bank.old).told (B.view bank.new).told (B.view bank.old).faults (B.view bank.new).faults (fault_in result) }
     {
         for at in 0..self.writes.len() {
             self.write_block(bank, members, at)?;
@@ -104,14 +104,14 @@ impl Pool {
 
     // Writes the block of one address to each leaf of the board, if one was written there.
     fn write_block<B: Bank>(&self, bank: &mut B, members: &Board, at: usize) -> Result<(), Fault>
-        requires seated { IsSeated (B.size bank.old) self.now }
+        requires seated { IsSeated (B.view bank.old).size self.now }
         requires board { (s : PoolState) → Stands self.now.pair s → members.now ≡ board s }
         requires inside { at < length self.now.writes.items }
-        ensures size { (d : ℕ) → B.size bank.new d ≡ B.size bank.old d }
-        ensures numbers { (name : List ℕ) → B.number_of bank.new name ≡ B.number_of bank.old name }
-        ensures lookups { B.lookup_faults bank.new ≡ B.lookup_faults bank.old }
+        ensures size { (d : ℕ) → (B.view bank.new).size d ≡ (B.view bank.old).size d }
+        ensures numbers { (name : List ℕ) → (B.view bank.new).number_of name ≡ (B.view bank.old).number_of name }
+        ensures lookups { (B.view bank.new).lookup_faults ≡ (B.view bank.old).lookup_faults }
         ensures part { (s : PoolState) → Represents self.now s
-            → MakesPart (writes_at s at) (B.told bank.old) (B.told bank.new) (B.faults bank.old) (B.faults bank.new) (fault_in result) }
+            → MakesPart (writes_at s at) (B.view bank.old).told (B.view bank.new).told (B.view bank.old).faults (B.view bank.new).faults (fault_in result) }
     {
         match self.write_at(at) {
             Some(block) => {
@@ -125,13 +125,13 @@ impl Pool {
 
 // Writes a block to this sector of each leaf of the board.
 fn write_all<B: Bank>(bank: &mut B, members: &Board, sector: u64, block: &[u8]) -> Result<(), Fault>
-    requires room { HasRoomFor (B.size bank.old) members.now sector }
+    requires room { HasRoomFor (B.view bank.old).size members.now sector }
     requires whole { length block.now ≡ 4096 }
-    ensures size { (d : ℕ) → B.size bank.new d ≡ B.size bank.old d }
-    ensures numbers { (name : List ℕ) → B.number_of bank.new name ≡ B.number_of bank.old name }
-    ensures lookups { B.lookup_faults bank.new ≡ B.lookup_faults bank.old }
+    ensures size { (d : ℕ) → (B.view bank.new).size d ≡ (B.view bank.old).size d }
+    ensures numbers { (name : List ℕ) → (B.view bank.new).number_of name ≡ (B.view bank.old).number_of name }
+    ensures lookups { (B.view bank.new).lookup_faults ≡ (B.view bank.old).lookup_faults }
     ensures part { MakesPart (writes_to members.now sector (Some block.now))
-        (B.told bank.old) (B.told bank.new) (B.faults bank.old) (B.faults bank.new) (fault_in result) }
+        (B.view bank.old).told (B.view bank.new).told (B.view bank.old).faults (B.view bank.new).faults (fault_in result) }
 {
     for member in members.as_slice() {
         bank.write(member.dev, sector, block)?;
@@ -141,12 +141,12 @@ fn write_all<B: Bank>(bank: &mut B, members: &Board, sector: u64, block: &[u8]) 
 
 // Flushes each leaf of the board.
 pub(crate) fn flush_all<B: Bank>(bank: &mut B, members: &Board) -> Result<(), Fault>
-    requires room { HasRoomFor (B.size bank.old) members.now 0 }
-    ensures size { (d : ℕ) → B.size bank.new d ≡ B.size bank.old d }
-    ensures numbers { (name : List ℕ) → B.number_of bank.new name ≡ B.number_of bank.old name }
-    ensures lookups { B.lookup_faults bank.new ≡ B.lookup_faults bank.old }
+    requires room { HasRoomFor (B.view bank.old).size members.now 0 }
+    ensures size { (d : ℕ) → (B.view bank.new).size d ≡ (B.view bank.old).size d }
+    ensures numbers { (name : List ℕ) → (B.view bank.new).number_of name ≡ (B.view bank.old).number_of name }
+    ensures lookups { (B.view bank.new).lookup_faults ≡ (B.view bank.old).lookup_faults }
     ensures part { MakesPart (map (λ m. Flushes m.dev) members.now)
-        (B.told bank.old) (B.told bank.new) (B.faults bank.old) (B.faults bank.new) (fault_in result) }
+        (B.view bank.old).told (B.view bank.new).told (B.view bank.old).faults (B.view bank.new).faults (fault_in result) }
 {
     for member in members.as_slice() {
         bank.flush(member.dev)?;

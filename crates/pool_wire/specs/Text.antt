@@ -4,6 +4,8 @@ use Rattle.std.specs.List.{flat_map}
 use Rattle.mp_base.specs.declared.range.GroupRange.{GroupRange}
 use Rattle.mp_base.specs.declared.refusal.Refusal.{Refusal}
 use Rattle.mp_base.specs.declared.refusal.Refusal.TheVariants as refusals
+use Rattle.mp_base.specs.declared.refusal.PlaceRule.{PlaceRule}
+use Rattle.mp_base.specs.declared.refusal.PlaceRule.TheVariants as rules
 use Rattle.mp_base.specs.declared.refusal.LeafSeen.{LeafSeen}
 use Rattle.mp_base.specs.declared.refusal.Seen.{Seen}
 use Rattle.mp_base.specs.declared.refusal.Seen.TheVariants.{Unreadable, Failed, Mismatch}
@@ -82,10 +84,18 @@ limit_text limit count = codes "no 22 limit " ++ (decimal limit ++ (32 ∷ decim
 abbrev pub no_device_text : List ℕ → List ℕ
 no_device_text name = codes "no 26 nodevice " ++ name
 
+-- `no 7 place RULE`
+abbrev pub place_text : PlaceRule → List ℕ
+place_text rules.Role = codes "no 7 place role"
+place_text rules.Spare = codes "no 7 place spare"
+place_text rules.Twice = codes "no 7 place twice"
+place_text rules.NotSpare = codes "no 7 place notspare"
+
 abbrev pub refusal_text : Refusal → List ℕ
 refusal_text refusals.NoPool = codes "no 2 pool"
 refusal_text (refusals.BadAddress limit) = codes "no 3 address " ++ decimal limit
 refusal_text refusals.NoVdev = codes "no 6 vdev"
+refusal_text (refusals.WrongPlace rule) = place_text rule
 refusal_text (refusals.Required group) = codes "no 8 required " ++ decimal group.0
 refusal_text (refusals.TooSmall need has) = small_text need has
 refusal_text (refusals.Exhausted level index leaves) = exhausted_text level index (with_commas (map leaf_text leaves))

@@ -1,12 +1,12 @@
 //! The texts of replies.
 ghost use Rattle.std.specs.Prelude.{◌≡◌, ℕ, ◌<◌, true, false, List, [], ◌∷◌, ◌++◌, map, decimal, codes, length, slice_index, IfOk, OnOk, IfNone, IfSome, if◌then◌else◌, ◌==◌};
 ghost use Rattle.std.specs.List.{list_all};
-ghost use Rattle.pool_wire.specs.Text.{exhausted_text, fault_text, label_text, leaf_text, limit_text, named_leaf_text, no_device_text, refusal_text, seen_text, small_text, state_text, suspended_text, text_of};
+ghost use Rattle.pool_wire.specs.Text.{exhausted_text, fault_text, label_text, leaf_text, limit_text, named_leaf_text, no_device_text, place_text, refusal_text, seen_text, small_text, state_text, suspended_text, text_of};
 ghost use Rattle.pool_wire.specs.Words.{IsData, are_bytes, block_text, digits_text, is_zero, trimmed, with_commas};
 
 use crate::logs::write_logs;
 use crate::{NamedLeaf, Reply};
-use mp_base::{Block, Group, Guid, LeafSeen, MemFault, Refusal, Seen};
+use mp_base::{Block, Group, Guid, LeafSeen, MemFault, PlaceRule, Refusal, Seen};
 use std::alloc::Global;
 use vdev_tree::State;
 
@@ -114,6 +114,7 @@ fn write_refusal(alloc: Global, refusal: &Refusal) -> Result<Vec<u8>, MemFault>
             "no 3 address {limit}"
         )?.into_bytes()),
         Refusal::NoVdev => Ok(Vec::from_slice(alloc, b"no 6 vdev")?),
+        Refusal::WrongPlace { rule } => Ok(Vec::from_slice(alloc, place_text(*rule))?),
         Refusal::Required { group } => write_required(alloc, *group),
         Refusal::TooSmall { need, has } => write_too_small(alloc, *need, *has),
         Refusal::Exhausted {
@@ -131,6 +132,17 @@ fn write_refusal(alloc: Global, refusal: &Refusal) -> Result<Vec<u8>, MemFault>
         Refusal::NoRecord => Ok(Vec::from_slice(alloc, b"no 21 norecord")?),
         Refusal::TreeFull { limit, count } => write_limit(alloc, *limit, *count),
         Refusal::NotBuilt => Ok(Vec::from_slice(alloc, b"no 40 notbuilt")?),
+    }
+}
+
+fn place_text(rule: PlaceRule) -> &'static [u8]
+    ensures { result.now ≡ place_text rule }
+{
+    match rule {
+        PlaceRule::Role => b"no 7 place role",
+        PlaceRule::Spare => b"no 7 place spare",
+        PlaceRule::Twice => b"no 7 place twice",
+        PlaceRule::NotSpare => b"no 7 place notspare",
     }
 }
 

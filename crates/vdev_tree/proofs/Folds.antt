@@ -10,6 +10,7 @@ use Rattle.vdev_tree.specs.declared.vdev.Vdev.TheFolds.{fold-Vdev, fold_out-Vdev
 use Rattle.mp_base.specs.declared.number.Guid.{Guid}
 use Rattle.vdev_tree.specs.declared.vdev.State.{State}
 use Rattle.vdev_tree.specs.Tree.{joined, leaves, leaves_of_vdev, leaves_of_inner, state_of, state_over, state_of_vdev, state_of_inner, Form, form_of, form_over, form_of_vdev, form_of_inner, a_leaf, guid_of, guid_of_vdev, Mark, marks, leaf_mark, opening, closing, marks_of_vdev, marks_of_inner}
+use Rattle.vdev_tree.specs.Children.{only, alone, Part, a_child, part_of, part_over, part_of_vdev, part_of_inner}
 
 -- at a leaf
 pub fold_leaf : (A : Type 0) (at_vdev : Vdev-F A A → A) (at_inner : InnerVdev-F A A → A) (leaf : LeafVdev)
@@ -80,6 +81,14 @@ unfolding marks
 marks_inner inner =
     fold_inner (List Mark) marks_of_vdev marks_of_inner inner
     ∙ ap (λ ms. opening inner.guid inner.kind ∷ (ms ++ closing ∷ [])) (joined-marks inner.children.items)
+
+pub part_leaf : (leaf : LeafVdev) → part_of (Leaf leaf) ≡ a_child (alone (only leaf))
+unfolding part_of
+part_leaf leaf = fold_leaf Part part_of_vdev part_of_inner leaf
+
+pub part_inner : (inner : InnerVdev) → part_of (Inner inner) ≡ part_over inner.kind inner.guid (map part_of inner.children.items)
+unfolding part_of
+part_inner inner = fold_inner Part part_of_vdev part_of_inner inner
 
 -- the equations at a leaf and at an inner vdev
 pub ruleset at_vdev = (leaves_leaf, leaves_inner, state_leaf, state_inner, form_leaf, form_inner, guid_leaf, guid_inner, marks_at_leaf, marks_inner)

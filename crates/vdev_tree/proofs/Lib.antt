@@ -1,8 +1,12 @@
 pub mod Built
 pub mod Changed
 pub mod Copies
+pub mod Cut
+pub mod Edited
 pub mod Folds
 pub mod Forms
 pub mod Lists
+pub mod Seats
+pub mod Shapes
 pub mod Sizes
 pub mod Steps

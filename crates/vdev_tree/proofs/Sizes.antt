@@ -22,15 +22,15 @@ made vdev (F.Inner inner) is = inr (inner, is ∙ rolls-Inner inner)
 pub leaf_or_inner : (vdev : Vdev) → ((leaf : LeafVdev) × (vdev ≡ Leaf leaf)) ⊎ ((inner : InnerVdev) × (vdev ≡ Inner inner))
 leaf_or_inner vdev = made vdev (out-Vdev vdev) (sym (roll-out-Vdev vdev))
 
-first_of : (a b : Bool) → (a && b) ≡ true → a ≡ true
+pub first_of : (a b : Bool) → (a && b) ≡ true → a ≡ true
 first_of true b h = refl
 first_of false b h = h
 
-second_of : (a b : Bool) → (a && b) ≡ true → b ≡ true
+pub second_of : (a b : Bool) → (a && b) ≡ true → b ≡ true
 second_of true b h = h
 second_of false b h = absurd (false≢true h)
 
-either_of : (a b : Bool) → (a || b) ≡ true → (a ≡ true) ⊎ (b ≡ true)
+pub either_of : (a b : Bool) → (a || b) ≡ true → (a ≡ true) ⊎ (b ≡ true)
 either_of true b h = inl refl
 either_of false b h = inr h
 
@@ -69,7 +69,7 @@ spared_size vdev form = elim (either_of (is_leaf (form_of vdev)) (is_replacing (
   | inr r ↦ replacing_size vdev r
 ]
 
-below : (a b : ℕ) → nat_le a b ≡ true → a ≤ b
+pub below : (a b : ℕ) → nat_le a b ≡ true → a ≤ b
 below a b h = grind (arith, nat_tests)
 
 spares_size : (vdevs : List Vdev) → is_spare (form_of_spare (map form_of vdevs)) ≡ true → length (flat_map leaves vdevs) ≤ 4

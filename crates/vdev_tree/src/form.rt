@@ -18,7 +18,7 @@ impl Kind {
         self == Kind::Replacing
     }
 
-    fn is_spare(self) -> bool
+    pub(crate) fn is_spare(self) -> bool
         ensures { result ≡ is_spare_kind self }
     {
         self == Kind::Spare
@@ -27,7 +27,7 @@ impl Kind {
 
 #[tactic(auto, using(crate::proofs::Forms::forms))]
 impl Vdev {
-    fn is_leaf(&self) -> bool
+    pub(crate) fn is_leaf(&self) -> bool
         ensures { result ≡ is_leaf (form_of self.now) }
     {
         match self {

@@ -3,8 +3,13 @@
 
 mod changes;
 mod form;
+mod graft;
+mod prune;
+mod seat;
 mod top;
 mod vdev;
 
+pub use graft::GraftFault;
+pub use prune::PruneFault;
 pub use top::Top;
 pub use vdev::{Counts, InnerVdev, Kind, LeafVdev, State, Vdev};

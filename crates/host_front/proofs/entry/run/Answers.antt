@@ -32,12 +32,12 @@ pub returns-clause-ran : goal.returns-clause-ran
 returns-clause-ran g c = λ e.
     let sized = looked_up_sized _ _ _ _ _ host_devices c.in-Ok.table.items c.in-Ok.ensures.found in
     inl (ran_script c.runs_keep_each_pool.ensures.run c.runs_keep_each_pool.ensures.counts
-    (g.B.Bank.number_of c.find_devices.new.bank) (g.B.Bank.number_of c.script.new.bank)
-    (g.B.Bank.size c.find_devices.new.bank) (g.B.Bank.size c.script.new.bank) (g.B.Bank.names c.args.bank.now)
-    (g.B.Bank.lookup_faults c.args.bank.now) (g.B.Bank.lookup_faults c.find_devices.new.bank) (g.B.Bank.lookup_faults c.script.new.bank)
+    (g.B.Bank.view c.find_devices.new.bank).number_of (g.B.Bank.view c.script.new.bank).number_of
+    (g.B.Bank.view c.find_devices.new.bank).size (g.B.Bank.view c.script.new.bank).size (g.B.Bank.view c.args.bank.now).names
+    (g.B.Bank.view c.args.bank.now).lookup_faults (g.B.Bank.view c.find_devices.new.bank).lookup_faults (g.B.Bank.view c.script.new.bank).lookup_faults
     c.in-Ok.table.items c.in-Ok.ensures.found c.in-Ok.ensures.apart
-    (sized_still (g.B.Bank.size c.find_devices.new.bank) (g.B.Bank.size c.script.new.bank) c.in-Ok.table.items c.script.ensures.size sized) c.script.ensures.numbers c.script.ensures.size c.script.ensures.lookups
+    (sized_still (g.B.Bank.view c.find_devices.new.bank).size (g.B.Bank.view c.script.new.bank).size c.in-Ok.table.items c.script.ensures.size sized) c.script.ensures.numbers c.script.ensures.size c.script.ensures.lookups
     c.in-Ok.ensures.told c.in-Ok.ensures.faults
-    (λ records drawn. c.script.ensures.ran (started c.in-Ok.table.items (g.B.Bank.size c.script.new.bank) records)
-    (c.new-host.ensures.stands (g.B.Bank.size c.script.new.bank) (g.B.Bank.size c.find_devices.new.bank) records c.script.ensures.size
-    (sized_still (g.B.Bank.size c.find_devices.new.bank) (g.B.Bank.size c.script.new.bank) c.in-Ok.table.items c.script.ensures.size sized) c.in-Ok.ensures.apart drawn)))
+    (λ records drawn. c.script.ensures.ran (started c.in-Ok.table.items (g.B.Bank.view c.script.new.bank).size records)
+    (c.new-host.ensures.stands (g.B.Bank.view c.script.new.bank).size (g.B.Bank.view c.find_devices.new.bank).size records c.script.ensures.size
+    (sized_still (g.B.Bank.view c.find_devices.new.bank).size (g.B.Bank.view c.script.new.bank).size c.in-Ok.table.items c.script.ensures.size sized) c.in-Ok.ensures.apart drawn)))

@@ -21,8 +21,8 @@ returns-in-Err-clause-stops g c = λ h stands.
     let a = c.loop-b.invariant.feeds h stands in
     let b = c.in-Err.ensures.stops a.next a.stands in
     let first = take c.loop-b.b-index c.args.piece.now ++ get_or c.args.piece.now c.loop-b.b-index 0 ∷ [] in
-    subst (λ (piece : List ℕ). StopsBy c.in-Err.stop h c.args.waiting.now.items piece (g.B.Bank.told c.args.bank.now) (g.B.Bank.told c.take_byte.new.bank)
-    (g.B.Bank.faults c.args.bank.now) (g.B.Bank.faults c.take_byte.new.bank) (g.W.Sink.contents c.args.output.now) (g.W.Sink.contents c.take_byte.new.output)
+    subst (λ (piece : List ℕ). StopsBy c.in-Err.stop h c.args.waiting.now.items piece (g.B.Bank.view c.args.bank.now).told (g.B.Bank.view c.take_byte.new.bank).told
+    (g.B.Bank.view c.args.bank.now).faults (g.B.Bank.view c.take_byte.new.bank).faults (g.W.Sink.contents c.args.output.now) (g.W.Sink.contents c.take_byte.new.output)
     (g.C.Clock.gave c.args.clock.now) (g.C.Clock.gave c.take_byte.new.clock))
     (piece_split c.args.piece.now c.loop-b.b-index c.loop-b-test.true)
     (stops_within h _ _ _ _ _ _ _ _ c.args.waiting.now.items first (drop (c.loop-b.b-index + 1) c.args.piece.now) c.in-Err.stop

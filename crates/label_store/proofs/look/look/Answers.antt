@@ -28,9 +28,6 @@ loop-at-preserved g c =
     let pushed = pushed_two c.loop-at.parts.items c.push.new.self.items c.push-in-loop-at.new.self.items c.in_ok-read_part.field-0 c.in_ok-read_part-2.field-0
     c.in_ok-push.ensures.items c.in_ok-push-2.ensures.items in
     record {
-      size = λ d. c.read_part-in-loop-at.ensures.size d ∙ c.read_part.ensures.size d ∙ c.loop-at.invariant.size d;
-      numbers = λ name. c.read_part-in-loop-at.ensures.numbers name ∙ c.read_part.ensures.numbers name ∙ c.loop-at.invariant.numbers name;
-      lookups = c.read_part-in-loop-at.ensures.lookups ∙ c.read_part.ensures.lookups ∙ c.loop-at.invariant.lookups;
       count = pushed_count c.loop-at.parts.items c.push-in-loop-at.new.self.items c.in_ok-read_part.field-0 c.in_ok-read_part-2.field-0 c.loop-at.at-index pushed c.loop-at.invariant.count;
       looks = label_more c.args.dev c.labels_of-labels.result c.loop-at.at-index c.in_ok-read_part.field-0 c.in_ok-read_part-2.field-0 c.push-in-loop-at.new.self.items lt pushed
           c.loop-at.invariant.looks c.in_ok-read_part.ensures.read c.in_ok-read_part-2.ensures.read;
@@ -38,5 +35,5 @@ loop-at-preserved g c =
 
 pub returns-clause-looks : goal.returns-clause-looks
 returns-clause-looks g c =
-    looked c.args.dev (g.B.Bank.size c.args.bank.now c.args.dev) c.labels_of-labels.result c.loop-at.at-index (c.labels_of-labels.ensures ∙ ap labels_of c.sectors.ensures)
+    looked c.args.dev ((g.B.Bank.view c.args.bank.now).size c.args.dev) c.labels_of-labels.result c.loop-at.at-index (c.labels_of-labels.ensures ∙ ap labels_of c.sectors.ensures)
     (omega (arith, ap length c.labels_of-labels.ensures)) c.loop-at.invariant.looks

@@ -5,34 +5,30 @@ use Rattle.label_store.proofs.Reading.{so_far_reads, look_read, reads_more, on_e
 use Rattle.label_store.proofs.look.newest.Goals as goal
 
 pub loop-dev-init : goal.loop-dev-init
-loop-dev-init g c = record { size = λ d. refl; numbers = λ other. refl; lookups = refl; so_far = so_far_none }
+loop-dev-init g c = so_far_none
 
 pub look-requires : goal.look-requires
 look-requires g c = record {
-  device = subst (λ n. 320 ≤ n) (sym (c.loop-dev.invariant.size (get_or c.args.devs.now c.loop-dev.dev-index 0)))
+  device = subst (λ n. 320 ≤ n) (sym (c.loop-dev.invariant.calls.frame.sizes (get_or c.args.devs.now c.loop-dev.dev-index 0)))
       (c.requires.devices c.loop-dev.dev-index (get_or c.args.devs.now c.loop-dev.dev-index 0) (slice_get-get_or c.args.devs.now c.loop-dev.dev-index 0 c.loop-dev-test.true));
 }
 
 pub loop-dev-preserved : goal.loop-dev-preserved
-loop-dev-preserved g c = record {
-  size = λ d. c.look.ensures.size d ∙ c.loop-dev.invariant.size d;
-  numbers = λ other. c.look.ensures.numbers other ∙ c.loop-dev.invariant.numbers other;
-  lookups = c.look.ensures.lookups ∙ c.loop-dev.invariant.lookups;
-  so_far = so_far_more g.R.BlobRule.head_of (g.B.Bank.size c.args.bank.now) c.args.devs.now c.args.name.now c.loop-dev.dev-index
-      (get_or c.args.devs.now c.loop-dev.dev-index 0) c.in_ok-parts.parts.items c.loop-dev.best c.in_ok-best.best c.loop-dev-test.true refl
-      c.loop-dev.invariant.so_far (looks_same _ _ _ (c.loop-dev.invariant.size (get_or c.args.devs.now c.loop-dev.dev-index 0)) c.in_ok-parts.ensures.looks)
-      (λ looks n at b. c.in_ok-best.ensures looks n (at ∙ ap Some (sym c.deref.ensures.value)) b);
-}
+loop-dev-preserved g c =
+    so_far_more g.R.BlobRule.head_of (g.B.Bank.view c.args.bank.now).size c.args.devs.now c.args.name.now c.loop-dev.dev-index
+    (get_or c.args.devs.now c.loop-dev.dev-index 0) c.in_ok-parts.parts.items c.loop-dev.best c.in_ok-best.best c.loop-dev-test.true refl
+    c.loop-dev.invariant (looks_same _ _ _ (c.loop-dev.invariant.calls.frame.sizes (get_or c.args.devs.now c.loop-dev.dev-index 0)) c.in_ok-parts.ensures.looks)
+    (λ looks n at b. c.in_ok-best.ensures looks n (at ∙ ap Some (sym c.deref.ensures.value)) b)
 
 pub returns-clause-finds : goal.returns-clause-finds
 returns-clause-finds g c =
-    found_newest g.R.BlobRule.head_of (g.B.Bank.size c.args.bank.now) c.args.devs.now c.args.name.now c.loop-dev.dev-index c.loop-dev.best
-    (omega (arith, c.loop-dev-test.false, c.loop-dev.auto.dev-index-end)) c.loop-dev.invariant.so_far
+    found_newest g.R.BlobRule.head_of (g.B.Bank.view c.args.bank.now).size c.args.devs.now c.args.name.now c.loop-dev.dev-index c.loop-dev.best
+    (omega (arith, c.loop-dev-test.false, c.loop-dev.auto.dev-index-end)) c.loop-dev.invariant
 
 pub returns-in_err-parts-clause-reads : goal.returns-in_err-parts-clause-reads
-returns-in_err-parts-clause-reads g c = on_err c.from_residual.result (reads_more (so_far_reads c.loop-dev.invariant.so_far) c.in_err-parts.ensures.reads)
+returns-in_err-parts-clause-reads g c = on_err c.from_residual.result (reads_more (so_far_reads c.loop-dev.invariant) c.in_err-parts.ensures.reads)
 
 pub returns-in_err-best-clause-reads : goal.returns-in_err-best-clause-reads
 returns-in_err-best-clause-reads g c =
     let dev = get_or c.args.devs.now c.loop-dev.dev-index 0 in
-    on_err c.from_residual-in_err-best.result (reads_more (so_far_reads c.loop-dev.invariant.so_far) (look_read dev (g.B.Bank.size c.loop-dev.bank dev) c.in_ok-parts.ensures.looks))
+    on_err c.from_residual-in_err-best.result (reads_more (so_far_reads c.loop-dev.invariant) (look_read dev ((g.B.Bank.view c.loop-dev.bank).size dev) c.in_ok-parts.ensures.looks))

@@ -13,9 +13,9 @@ pub returns-in-Ok-clause-read : goal.returns-in-Ok-clause-read
 returns-in-Ok-clause-read g c =
     part_answered c.args.dev c.args.at c.args.sectors c.read.new.out c.read-in-Ok.result (omega (arith, c.read.auto.out, c.deref_mut.ensures.len, c.in_ok-bytes.ensures.len))
     (written_whole c.read-in-Ok.result c.read.new.out _ _ c.read-in-Ok.ensures (omega (arith, c.read.auto.out, c.deref_mut.ensures.len)))
-    c.in-Ok.ensures.still c.in-Ok.ensures.told
+    c.in-Ok.ensures
 
 pub returns-in-Err-clause-read : goal.returns-in-Err-clause-read
 returns-in-Err-clause-read g c =
     part_failed c.args.dev c.args.at c.args.sectors c.read.new.out c.in-Err.field-0 c.failed.result (omega (arith, c.read.auto.out, c.deref_mut.ensures.len, c.in_ok-bytes.ensures.len))
-    c.failed.ensures c.in-Err.ensures.counts c.in-Err.ensures.cause c.in-Err.ensures.others c.in-Err.ensures.told
+    c.failed.ensures c.in-Err.ensures

@@ -12,7 +12,7 @@ write_labels-requires-clause-inside g c =
     labels_inside c.labels_of-labels.result c.sectors.result _ 32 c.zero_ring-zeros.result 32
     c.labels_of-labels.ensures c.sectors.ensures c.requires.device (ring_sectors c.zero_ring-zeros.result c.zero_ring-zeros.ensures) (omega arith)
 
-pub returns-clause-part : goal.returns-clause-part
-returns-clause-part g c =
-    writes_as c.args.dev c.labels_of-labels.result (labels_of (g.B.Bank.size c.args.bank.now c.args.dev)) 32 c.zero_ring-zeros.result zero_ring
-    (c.labels_of-labels.ensures ∙ ap labels_of c.sectors.ensures) c.zero_ring-zeros.ensures c.write_labels.ensures.part
+pub returns : goal.returns
+returns g c =
+    writes_as c.args.dev c.labels_of-labels.result (labels_of ((g.B.Bank.view c.args.bank.now).size c.args.dev)) 32 c.zero_ring-zeros.result zero_ring
+    (c.labels_of-labels.ensures ∙ ap labels_of c.sectors.ensures) c.zero_ring-zeros.ensures c.write_labels.ensures

@@ -11,14 +11,14 @@ read-requires-clause-inside g c = block_inside c.args.out.now c.args.at _ c.requ
 
 pub returns-then-is_err-clause-copy : goal.returns-then-is_err-clause-copy
 returns-then-is_err-clause-copy g c =
-    tries_copy c.read.result (search rules) c.read.ensures.counts c.read.ensures.cause c.read.ensures.still c.read.ensures.others c.read.ensures.told (failed_copy c.read.result _ _ (sym c.if-is_err.ensures.value))
+    tries_copy c.read.result (search rules) c.read.ensures (failed_copy c.read.result _ _ (sym c.if-is_err.ensures.value))
 
 pub returns-then-ne-clause-copy : goal.returns-then-ne-clause-copy
 returns-then-ne-clause-copy g c =
-    tries_copy c.read.result (search rules) c.read.ensures.counts c.read.ensures.cause c.read.ensures.still c.read.ensures.others c.read.ensures.told (other_copy c.read.result _ _ (sym c.if-is_err.ensures.value)
+    tries_copy c.read.result (search rules) c.read.ensures (other_copy c.read.result _ _ (sym c.if-is_err.ensures.value)
     (differs _ _ (rw c.digest.ensures at c.if-ne.ensures)))
 
 pub returns-clause-copy : goal.returns-clause-copy
 returns-clause-copy g c =
-    tries_copy c.read.result (search rules) c.read.ensures.counts c.read.ensures.cause c.read.ensures.still c.read.ensures.others c.read.ensures.told (good_copy c.read.result _ _ (sym c.if-is_err.ensures.value)
+    tries_copy c.read.result (search rules) c.read.ensures (good_copy c.read.result _ _ (sym c.if-is_err.ensures.value)
     (same_sum _ _ (rw c.digest.ensures at c.if-ne.ensures)))

@@ -19,4 +19,4 @@ returns-clause-round g c =
     let fields = parts_fields c.args.parts.now in
     cut_round _ fields _ _
     (is_cut fields c.encode_into-length.new.out _ _ c.requires.valid c.encode_into-length.ensures.bytes c.encode_into-length.ensures.stop c.div_ceil-sectors.ensures)
-    c.commit_record.ensures.round
+    c.commit_record.ensures

@@ -5,9 +5,9 @@ use Rattle.pool_core.proofs.sync.flush_all.Given as goal
 
 abbrev pub invariant-loop-member : goal.invariant-loop-member
 invariant-loop-member g l = record {
-  size : (d : ℕ) → g.B.Bank.size l.bank d ≡ g.B.Bank.size l.initial.bank d;
-  numbers : (name : List ℕ) → g.B.Bank.number_of l.bank name ≡ g.B.Bank.number_of l.initial.bank name;
-  lookups : g.B.Bank.lookup_faults l.bank ≡ g.B.Bank.lookup_faults l.initial.bank;
+  size : (d : ℕ) → (g.B.Bank.view l.bank).size d ≡ (g.B.Bank.view l.initial.bank).size d;
+  numbers : (name : List ℕ) → (g.B.Bank.view l.bank).number_of name ≡ (g.B.Bank.view l.initial.bank).number_of name;
+  lookups : (g.B.Bank.view l.bank).lookup_faults ≡ (g.B.Bank.view l.initial.bank).lookup_faults;
   part : MakesPart (map (λ m. Flushes m.dev) (take l.member-index l.members))
-      (g.B.Bank.told l.initial.bank) (g.B.Bank.told l.bank) (g.B.Bank.faults l.initial.bank) (g.B.Bank.faults l.bank) None;
+      (g.B.Bank.view l.initial.bank).told (g.B.Bank.view l.bank).told (g.B.Bank.view l.initial.bank).faults (g.B.Bank.view l.bank).faults None;
 }

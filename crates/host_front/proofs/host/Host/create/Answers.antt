@@ -21,10 +21,10 @@ make_pool-requires-clause-two g c =
 
 pub returns-in-Ok-clause-answers : goal.returns-in-Ok-clause-answers
 returns-in-Ok-clause-answers g c = λ h stands.
-    answers_create (g.B.Bank.size c.args.bank.now) h c.args.name.now c.args.blocks c.args.first.now c.args.second.now c.in-Some.seats.0 c.in-Some.seats.1 c.args.time
+    answers_create (g.B.Bank.view c.args.bank.now).size h c.args.name.now c.args.blocks c.args.first.now c.args.second.now c.in-Some.seats.0 c.in-Some.seats.1 c.args.time
     stands.keeps (sym c.if-is_bad_size.ensures) (c.in-Some.ensures.is h _ stands.keeps)
     (parts_made c.in-Ok.copy c.args.name.now c.in-Ok.first c.in-Ok.second c.args.first.now c.args.second.now c.in-Some.seats.0 c.in-Some.seats.1 c.in-Ok.ensures
-    (g.B.Bank.size c.args.bank.now) h c.args.blocks c.args.time c.pool_number.result c.pool_number.ensures (c.make_pool.ensures.makes h stands.keeps))
+    (g.B.Bank.view c.args.bank.now).size h c.args.blocks c.args.time c.pool_number.result c.pool_number.ensures (c.make_pool.ensures.makes h stands.keeps))
 
 pub returns-in-Err-clause-answers : goal.returns-in-Err-clause-answers
 returns-in-Err-clause-answers g c = λ h stands.

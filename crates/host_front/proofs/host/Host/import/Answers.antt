@@ -7,15 +7,15 @@ open_found-requires-clause-seated g c = seated_on _ _ c.newest_config.ensures.si
 
 pub returns-in-Ok-Some-clause-answers : goal.returns-in-Ok-Some-clause-answers
 returns-in-Ok-Some-clause-answers g c = λ h second stands.
-    answers_found (g.B.Bank.size c.args.bank.now) h c.args.name.now second c.in-Ok-Some.config stands.keeps
+    answers_found (g.B.Bank.view c.args.bank.now).size h c.args.name.now second c.in-Ok-Some.config stands.keeps
     (rw c.in-Ok-Some.field-0-is at c.in-Ok-Some.ensures.seeks)
     (λ bytes is. c.open_found.ensures.opens h bytes (stands_on_still _ _ c.newest_config.ensures.size stands) is)
 
 pub returns-in-Ok-None-clause-answers : goal.returns-in-Ok-None-clause-answers
 returns-in-Ok-None-clause-answers g c = λ h second stands.
-    answers_no_record (g.B.Bank.size c.args.bank.now) h c.args.name.now second stands.keeps c.newest_config.ensures.size
+    answers_no_record (g.B.Bank.view c.args.bank.now).size h c.args.name.now second stands.keeps c.newest_config.ensures.size
     (rw c.in-Ok-None.field-0-is at c.in-Ok-None.ensures.seeks)
 
 pub returns-in-Err-clause-answers : goal.returns-in-Err-clause-answers
 returns-in-Err-clause-answers g c = λ h second stands.
-    answers_unlooked (g.B.Bank.size c.args.bank.now) h c.args.name.now second stands.keeps c.newest_config.ensures.size c.in-Err.ensures.reads
+    answers_unlooked (g.B.Bank.view c.args.bank.now).size h c.args.name.now second stands.keeps c.newest_config.ensures.size c.in-Err.ensures.reads

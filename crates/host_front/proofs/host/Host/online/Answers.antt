@@ -21,7 +21,7 @@ online_in-requires g c = record {
 
 pub returns-else-not-is_named-clause-answers : goal.returns-else-not-is_named-clause-answers
 returns-else-not-is_named-clause-answers g c = λ h second stands.
-    answers_online (g.B.Bank.size c.args.bank.now) h c.in-Some.pool c.online_in.new.pool c.args.name.now c.args.device.now second c.number_in-dev.result
+    answers_online (g.B.Bank.view c.args.bank.now).size h c.in-Some.pool c.online_in.new.pool c.args.name.now c.args.device.now second c.number_in-dev.result
     (named_some c.in-Some.pool h c.args.name.now (rw c.in-Some.is at stands.keeps.pool) c.if-not-is_named.ensures)
     (c.number_in-dev.ensures ∙ ap (number_in c.args.device.now) (c.deref.ensures.value ∙ sym stands.keeps.table))
     c.online_in.ensures.onlines stands.keeps.table stands.keeps.sizes c.online_in.ensures.size refl

@@ -31,6 +31,6 @@ returns-clause-numbers g c = λ name. c.open_on.ensures.numbers name ∙ c.find_
 
 pub returns-clause-opens : goal.returns-clause-opens
 returns-clause-opens g c = λ h bytes stands is.
-    found_there (g.B.Bank.size c.args.bank.now) h bytes (config_fields c.args.config) c.open_seats-seats.result c.find_members-found.result
+    found_there (g.B.Bank.view c.args.bank.now).size h bytes (config_fields c.args.config) c.open_seats-seats.result c.find_members-found.result
     (fresh_is c.args.config.number.0 c.if-number-ge-LAST_NUMBER.false) (none_is _ (sym c.is_some.ensures ∙ c.if-is_some.false)) (c.open_seats-seats.ensures.is h _ stands.keeps) stands.keeps
     c.find_members-found.ensures.identifies (c.open_on.ensures.opens h bytes (stands_on_still _ _ c.find_members-found.ensures.size stands) is)

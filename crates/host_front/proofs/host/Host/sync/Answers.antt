@@ -13,7 +13,7 @@ returns-then-not-is_named-clause-answers g c = λ h second stands.
 
 pub returns-in-Ok-clause-answers : goal.returns-in-Ok-clause-answers
 returns-in-Ok-clause-answers g c = λ h second stands.
-    answers_sync (g.B.Bank.size c.args.bank.now) h c.in-Some.pool c.sync.new.self c.args.name.now second
+    answers_sync (g.B.Bank.view c.args.bank.now).size h c.in-Some.pool c.sync.new.self c.args.name.now second
     (named_some c.in-Some.pool h c.args.name.now (rw c.in-Some.is at stands.keeps.pool) c.if-not-is_named.ensures)
     c.in-Ok.ensures.size stands.keeps.table stands.keeps.sizes c.in-Ok.group c.in-Ok.ensures.sync refl
 
@@ -25,7 +25,7 @@ returns-in-None-clause-answers g c = λ h second stands.
 pub returns-in-Err-clause-answers : goal.returns-in-Err-clause-answers
 returns-in-Err-clause-answers g c = λ h second stands.
     rw (c.refuse_sync.ensures.left, c.refuse_sync.ensures.is)
-    (answers_unless (g.B.Bank.size c.args.bank.now) h c.in-Some.pool c.sync.new.self c.args.name.now second
+    (answers_unless (g.B.Bank.view c.args.bank.now).size h c.in-Some.pool c.sync.new.self c.args.name.now second
     (named_some c.in-Some.pool h c.args.name.now (rw c.in-Some.is at stands.keeps.pool) c.if-not-is_named.ensures)
     c.in-Err.ensures.size stands.keeps.table stands.keeps.sizes c.in-Err.refusal c.in-Err.ensures.sync refl)
 

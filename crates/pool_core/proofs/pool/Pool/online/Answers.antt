@@ -79,7 +79,7 @@ returns-in-Ok-true-clause-online g c = λ s r.
     (sym c.is_away.ensures ∙ c.if-not-is_away.false)
     (c.state_of-state.ensures s n.leaf r (leaf_is_named c.args.self.now s c.args.name.now c.in-Some.at r n))
     (ap (λ sectors. sectors + 256) (c.sectors-need.ensures ∙ sym r.pair.sectors)) c.sectors-has.ensures (omega arith) r
-    (rw c.in-Ok-true.field-0-test at c.in-Ok-true.ensures.search)
+    (rw c.in-Ok-true.field-0-test at c.in-Ok-true.ensures)
     (ap (λ member. (with_leaf member (brought c.args.dev) s, Ok states.Online)) n.member)
     (changed_represents c.args.self.now _ s c.in-Some.at (brought c.args.dev) r
     (record { name = refl; pool_is = refl; blocks = refl; next_member = refl; number = refl; pointers = refl; writes = refl }) (c.bring.ensures s r.pair))
@@ -91,7 +91,7 @@ returns-in-Ok-false-clause-online g c = λ s r.
     (sym c.is_away.ensures ∙ c.if-not-is_away.false)
     (c.state_of-state.ensures s n.leaf r (leaf_is_named c.args.self.now s c.args.name.now c.in-Some.at r n))
     (ap (λ sectors. sectors + 256) (c.sectors-need.ensures ∙ sym r.pair.sectors)) c.sectors-has.ensures (omega arith) r
-    (rw c.in-Ok-false.field-0-test at c.in-Ok-false.ensures.search) (ap (λ member. (s, Err (refusals.WrongLabel member))) n.member) r
+    (rw c.in-Ok-false.field-0-test at c.in-Ok-false.ensures) (ap (λ member. (s, Err (refusals.WrongLabel member))) n.member) r
 
 pub returns-in-Err-clause-online : goal.returns-in-Err-clause-online
 returns-in-Err-clause-online g c = λ s r.
@@ -100,4 +100,4 @@ returns-in-Err-clause-online g c = λ s r.
     (sym c.is_away.ensures ∙ c.if-not-is_away.false)
     (c.state_of-state.ensures s n.leaf r (leaf_is_named c.args.self.now s c.args.name.now c.in-Some.at r n))
     (ap (λ sectors. sectors + 256) (c.sectors-need.ensures ∙ sym r.pair.sectors)) c.sectors-has.ensures (omega arith) r
-    c.in-Err.ensures.search (ap (λ member. (s, Err (refusals.DeviceFault member))) n.member) r
+    c.in-Err.ensures (ap (λ member. (s, Err (refusals.DeviceFault member))) n.member) r

@@ -48,7 +48,7 @@ pub end_commit-requires-clause-seated : goal.end_commit-requires-clause-seated
 end_commit-requires-clause-seated g c =
     let config = config_fields c.args.config in
     let rep = c.in-Ok.ensures (versions_of config) (versions_committed config c.requires.valid) in
-    let seated = found_seated (g.B.Bank.size c.args.bank.now) config (versions_of config) c.args.found.0 c.args.found.1 c.in-Ok.pool rep.pair c.requires.first_room c.requires.second_room in
+    let seated = found_seated (g.B.Bank.view c.args.bank.now).size config (versions_of config) c.args.found.0 c.args.found.1 c.in-Ok.pool rep.pair c.requires.first_room c.requires.second_room in
     drafted_seated _ _ c.in-Ok.pool c.draw_number.new.self c.in-Ok-draft.draft.pair (record { stands = c.in-Ok-draft.ensures.stands }) c.draw_number.ensures.pair
     c.flush_all-flushed.ensures.size seated
 
@@ -67,7 +67,7 @@ pub returns-clause-seated : goal.returns-clause-seated
 returns-clause-seated g c =
     let config = config_fields c.args.config in
     let rep = c.in-Ok.ensures (versions_of config) (versions_committed config c.requires.valid) in
-    let size = g.B.Bank.size c.args.bank.now in
+    let size = (g.B.Bank.view c.args.bank.now).size in
     let seated = found_seated size config (versions_of config) c.args.found.0 c.args.found.1 c.in-Ok.pool rep.pair c.requires.first_room c.requires.second_room in
     drafted_seated size size c.in-Ok.pool c.draw_number.new.self c.in-Ok-draft.draft.pair (record { stands = c.in-Ok-draft.ensures.stands }) c.draw_number.ensures.pair
     (λ d. refl) seated

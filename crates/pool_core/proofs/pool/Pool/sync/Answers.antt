@@ -29,7 +29,7 @@ end_commit-requires-clause-board g c =
 
 pub returns-clause-seated : goal.returns-clause-seated
 returns-clause-seated g c =
-    drafted_seated (g.B.Bank.size c.args.bank.now) (g.B.Bank.size c.args.bank.now) c.args.self.now c.commit.new.self c.in-Ok.draft.pair
+    drafted_seated (g.B.Bank.view c.args.bank.now).size (g.B.Bank.view c.args.bank.now).size c.args.self.now c.commit.new.self c.in-Ok.draft.pair
     (record { stands = c.in-Ok.ensures.stands }) c.commit.ensures.pair (λ d. refl) c.requires.seated
 
 pub returns-clause-sync : goal.returns-clause-sync

@@ -9,10 +9,10 @@ use Rattle.pool_core.proofs.pool.Pool.write_blocks.Given as goal
 
 abbrev pub invariant-loop-at : goal.invariant-loop-at
 invariant-loop-at g l = record {
-  size : (d : ℕ) → g.B.Bank.size l.bank d ≡ g.B.Bank.size l.initial.bank d;
-  numbers : (name : List ℕ) → g.B.Bank.number_of l.bank name ≡ g.B.Bank.number_of l.initial.bank name;
-  lookups : g.B.Bank.lookup_faults l.bank ≡ g.B.Bank.lookup_faults l.initial.bank;
-  seated : IsSeated (g.B.Bank.size l.bank) l.self;
+  size : (d : ℕ) → (g.B.Bank.view l.bank).size d ≡ (g.B.Bank.view l.initial.bank).size d;
+  numbers : (name : List ℕ) → (g.B.Bank.view l.bank).number_of name ≡ (g.B.Bank.view l.initial.bank).number_of name;
+  lookups : (g.B.Bank.view l.bank).lookup_faults ≡ (g.B.Bank.view l.initial.bank).lookup_faults;
+  seated : IsSeated (g.B.Bank.view l.bank).size l.self;
   part : (s : PoolState) → Represents l.self s → MakesPart (flat_map (writes_at s) (addresses l.at))
-      (g.B.Bank.told l.initial.bank) (g.B.Bank.told l.bank) (g.B.Bank.faults l.initial.bank) (g.B.Bank.faults l.bank) None;
+      (g.B.Bank.view l.initial.bank).told (g.B.Bank.view l.bank).told (g.B.Bank.view l.initial.bank).faults (g.B.Bank.view l.bank).faults None;
 }

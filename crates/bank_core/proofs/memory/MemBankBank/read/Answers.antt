@@ -1,0 +1,5 @@
+use Rattle.std.proofs.Common.{refl}
+use Rattle.bank_core.proofs.memory.MemBankBank.read.Goals as goal
+
+pub returns-in-Err : goal.returns-in-Err
+returns-in-Err c = c.lose.ensures.lost _ refl refl
