@@ -11,8 +11,6 @@ mod moment;
 mod noting;
 mod piece;
 mod plan;
-#[cfg(test)]
-mod tests;
 mod view;
 
 pub use bank::{Bank, Fault, FindFault, SECTOR_BYTES};

@@ -2,11 +2,15 @@
 #![tactic(auto)]
 
 #[cfg(test)]
+mod bank;
+#[cfg(test)]
 mod base;
 #[cfg(test)]
 mod built;
 #[cfg(test)]
 mod codec;
+#[cfg(test)]
+mod labels;
 #[cfg(test)]
 mod rules;
 #[cfg(test)]

@@ -8,6 +8,5 @@ pub mod Plans
 pub mod Records
 pub mod Rounds
 pub mod Seats
-pub mod TestBlobs
 pub mod Turns
 pub mod Uberblock

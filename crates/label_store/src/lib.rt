@@ -15,8 +15,6 @@ mod round;
 mod rule;
 mod search;
 mod stamping;
-#[cfg(test)]
-mod tests;
 mod uberblock;
 
 pub use commit::commit_record;

@@ -4,8 +4,8 @@ ghost use Rattle.bank_core.specs.MemBank.{bank_size};
 ghost use Rattle.label_store.specs.Seats.{AreSeated, AreApart};
 
 use super::blobs::{Blob, TestRule, is_headed, is_sealed};
-use crate::{Found, LEAST_SECTORS, Member, commit_record, identity, newest, stamp};
 use bank_core::{Bank, Fault, ImageChoice, MemBank};
+use label_store::{Found, LEAST_SECTORS, Member, commit_record, identity, newest, stamp};
 use mp_base::{Guid, Name};
 use std::alloc::Global;
 use std::process::Abort;

@@ -1,12 +1,12 @@
 //! What a bank in memory shows of its calls, of what was planned for them, and after a crash.
-use crate::bank::{Bank, Fault, SECTOR_BYTES};
-use crate::call::{CallKind, Damage};
-use crate::memory::{MOST_DEVICES, MemBank};
-use crate::moment::ImageChoice;
+use bank_core::{Bank, CallKind, Damage, Fault, ImageChoice, MemBank, SECTOR_BYTES};
 use mp_base::Name;
 use std::alloc::Global;
 use std::process::Abort;
 use std::test::Fail;
+
+/// A bank has at most so many devices.
+const MOST_DEVICES: usize = 64;
 
 const CHOICES: [ImageChoice; 5] = [
     ImageChoice::Old,
@@ -25,7 +25,7 @@ fn add(rt: &impl Abort, alloc: Global, bank: &mut MemBank, name: &[u8]) -> Resul
 }
 
 /// Writes one sector of this byte.
-#[tactic(auto, unfolding(crate::specs::Disk::sector_size))]
+#[tactic(auto, unfolding(bank_core::specs::Disk::sector_size))]
 fn write(
     rt: &impl Abort,
     alloc: Global,
@@ -40,7 +40,7 @@ fn write(
 }
 
 /// The byte that a read of one sector gives in all its places.
-#[tactic(auto, unfolding(crate::specs::Disk::sector_size))]
+#[tactic(auto, unfolding(bank_core::specs::Disk::sector_size))]
 fn read(rt: &impl Abort, alloc: Global, bank: &mut MemBank, dev: u32, at: u64) -> Result<u8, Fail> {
     let mut bytes = vec![in alloc; 0xee; SECTOR_BYTES]?;
     assert!(rt; at < bank.sectors(dev));
@@ -49,7 +49,7 @@ fn read(rt: &impl Abort, alloc: Global, bank: &mut MemBank, dev: u32, at: u64) -
 }
 
 /// The byte that a crash leaves of one sector in all its places.
-#[tactic(auto, unfolding(crate::specs::Disk::sector_size))]
+#[tactic(auto, unfolding(bank_core::specs::Disk::sector_size))]
 fn image(
     rt: &impl Abort,
     alloc: Global,

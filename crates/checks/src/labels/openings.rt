@@ -1,7 +1,7 @@
 //! Which record an opening finds.
 use super::blobs::Blob;
 use super::setting::{
-    MEMBERS, POOL, bank_with, blank_bank, commit, crashed, find, find_named, is_found, stamped_bank,
+    MEMBERS, bank_with, blank_bank, commit, crashed, find, find_named, is_found, stamped_bank,
 };
 use bank_core::{Fault, ImageChoice, MemBank};
 use std::alloc::Global;
@@ -26,8 +26,8 @@ fn bank_of_two(
 #[test]
 fn of_two_devices_with_one_number_the_first_is_taken(rt: HostRuntime) -> Result<(), Fail> {
     let alloc = rt.alloc();
-    let first = Blob::new(alloc, POOL, 5, b'a', 5000)?;
-    let second = Blob::new(alloc, POOL, 5, b'b', 80)?;
+    let first = Blob::new(alloc, 5, b'a', 5000)?;
+    let second = Blob::new(alloc, 5, b'b', 80)?;
     let mut bank = bank_of_two(&rt, alloc, &first, &second)?;
     let found = find(&rt, alloc, &mut bank, &[0, 1])?;
     assert!(rt; is_found(&found, &first));
@@ -39,8 +39,8 @@ fn of_two_devices_with_one_number_the_first_is_taken(rt: HostRuntime) -> Result<
 #[test]
 fn the_greatest_number_is_taken_of_the_devices_that_answer(rt: HostRuntime) -> Result<(), Fail> {
     let alloc = rt.alloc();
-    let lower = Blob::new(alloc, POOL, 31, b'a', 80)?;
-    let greater = Blob::new(alloc, POOL, 33, b'b', 80)?;
+    let lower = Blob::new(alloc, 31, b'a', 80)?;
+    let greater = Blob::new(alloc, 33, b'b', 80)?;
     let begun = bank_of_two(&rt, alloc, &lower, &greater)?;
     for devs in [[0, 1], [1, 0]] {
         let mut bank = crashed(&rt, alloc, &begun, 0, ImageChoice::Old)?;
@@ -70,7 +70,7 @@ fn nothing_is_found_where_no_record_of_the_name_is_read(rt: HostRuntime) -> Resu
     assert!(rt; find(&rt, alloc, &mut blank, &[0, 1])?.is_none());
     let mut stamped = stamped_bank(&rt, alloc)?;
     assert!(rt; find(&rt, alloc, &mut stamped, &[0, 1])?.is_none());
-    let mut bank = bank_with(&rt, alloc, &Blob::new(alloc, POOL, 1, b'o', 80)?)?;
+    let mut bank = bank_with(&rt, alloc, &Blob::new(alloc, 1, b'o', 80)?)?;
     assert!(rt; find_named(&rt, alloc, &mut bank, &[0, 1], b"tanks")?.is_none());
     assert!(rt; find(&rt, alloc, &mut bank, &[])?.is_none());
     assert!(rt; find(&rt, alloc, &mut bank, &[0])?.is_some());

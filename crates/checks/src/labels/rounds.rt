@@ -1,8 +1,8 @@
 //! Rounds that a crash or a failed call ends.
 use super::blobs::Blob;
-use super::setting::{CHOICES, MEMBERS, POOL, bank_with, commit, crashed, find, is_found};
-use crate::Found;
+use super::setting::{CHOICES, MEMBERS, bank_with, commit, crashed, find, is_found};
 use bank_core::{Fault, ImageChoice, MemBank};
+use label_store::Found;
 use std::alloc::Global;
 use std::process::Abort;
 use std::test::Fail;
@@ -25,8 +25,8 @@ const UBERBLOCK_CALLS: u64 = 5;
 /// Records of numbers 1 and 2 of one and of two sectors.
 fn old_and_new(alloc: Global) -> Result<(Blob, Blob), Fail> {
     Ok((
-        Blob::new(alloc, POOL, 1, b'o', 80)?,
-        Blob::new(alloc, POOL, 2, b'n', 5000)?,
+        Blob::new(alloc, 1, b'o', 80)?,
+        Blob::new(alloc, 2, b'n', 5000)?,
     ))
 }
 

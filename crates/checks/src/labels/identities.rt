@@ -1,8 +1,6 @@
 //! Identities and stamps over a bank in memory.
 use super::blobs::Blob;
-use super::setting::{
-    POOL, bank_with, blank_bank, crashed, find, identify, stamp_as, stamped_bank,
-};
+use super::setting::{bank_with, blank_bank, crashed, find, identify, stamp_as, stamped_bank};
 use bank_core::{Fault, ImageChoice};
 use mp_base::Guid;
 use std::test::Fail;
@@ -26,7 +24,7 @@ fn a_stamp_gives_an_identity_once_it_is_flushed(rt: HostRuntime) -> Result<(), F
 #[test]
 fn a_stamp_takes_every_record_from_the_device(rt: HostRuntime) -> Result<(), Fail> {
     let alloc = rt.alloc();
-    let mut bank = bank_with(&rt, alloc, &Blob::new(alloc, POOL, 1, b'o', 80)?)?;
+    let mut bank = bank_with(&rt, alloc, &Blob::new(alloc, 1, b'o', 80)?)?;
     stamp_as(&rt, &mut bank, 0, Guid(3))?;
     assert!(rt; find(&rt, alloc, &mut bank, &[0])?.is_none());
     assert!(rt; find(&rt, alloc, &mut bank, &[0, 1])?.is_some());

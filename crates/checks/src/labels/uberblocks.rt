@@ -1,8 +1,8 @@
 //! Uberblocks: their bytes against bytes from outside, and which sectors are none.
 use super::blobs::Blob;
 use super::setting::{POOL, blank_bank, find, identify, is_found};
-use crate::{Uberblock, read_uberblock, write_uberblock};
 use bank_core::{Bank, MemBank, SECTOR_BYTES};
+use label_store::{Uberblock, read_uberblock, write_uberblock};
 use mp_base::{Group, Guid};
 use sha2::{Digest, Sha256};
 use std::alloc::Global;
@@ -99,7 +99,7 @@ fn an_uberblock_with_a_field_out_of_range_is_not_correct(rt: HostRuntime) -> Res
         (1, 114_689, false),
         (0, 80, false),
     ] {
-        let blob = Blob::new(alloc, POOL, number, b'u', length)?;
+        let blob = Blob::new(alloc, number, b'u', length)?;
         let sector = sector_of(&naming(&blob));
         assert_eq!(rt;
             is_taken(&rt, alloc, &sector, &blob)?,
@@ -107,7 +107,7 @@ fn an_uberblock_with_a_field_out_of_range_is_not_correct(rt: HostRuntime) -> Res
             "number {number}, length {length}"
         );
     }
-    let blob = Blob::new(alloc, POOL, 3, b'u', 80)?;
+    let blob = Blob::new(alloc, 3, b'u', 80)?;
     for (length, sum) in [(80, [0; 32]), (0, [9; 32])] {
         let sector = sector_of(&Uberblock {
             number: Group(0),

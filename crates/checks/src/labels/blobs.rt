@@ -1,48 +1,50 @@
-//! The configurations of these tests: "testblob", the pool and the number in eight bytes each, the high
-//! one first, a name of four bytes, and then any bytes.
-ghost use Rattle.std.specs.Prelude.{◌≡◌, true, IfOk};
+//! The configurations of these tests: any bytes, which begin with the number in eight, the high one first.
+ghost use Rattle.std.specs.Prelude.{◌≡◌, true, ◌≤◌, length, IfOk};
 ghost use Rattle.mp_base.specs.Block.{zeros};
 ghost use Rattle.label_store.specs.Committing.{IsSealed};
 ghost use Rattle.label_store.specs.Records.{IsHeaded};
-ghost use Rattle.label_store.specs.TestBlobs.{is_tagged, test_head};
+ghost use Rattle.label_store.specs.Uberblock.{number_at};
+ghost use Rattle.checks.specs.Blobs.{test_head};
 
-use crate::bytes::{are_equal, number_at};
-use crate::{BlobRule, Head};
+use super::setting::POOL;
 use bank_core::SECTOR_BYTES;
-use mp_base::{Group, Guid, MemFault, Name, NameFault};
+use label_store::{BlobRule, Head};
+use mp_base::{Group, Guid, MemFault, Name};
 use std::alloc::Global;
 use std::test::Fail;
-
-const TAG: u64 = 0x7465_7374_626c_6f62;
 
 /// The rule of these configurations.
 pub(crate) struct TestRule;
 
 impl BlobRule for TestRule {
-    ghost use Rattle.label_store.specs.TestBlobs.{test_head};
+    ghost use Rattle.checks.specs.Blobs.{test_head};
 
     ghost head_of = { test_head };
 
     fn reads(alloc: Global, bytes: &[u8]) -> Result<Option<Head>, MemFault> {
-        if !is_tagged(bytes) {
+        if bytes.len() < 8 {
             return Ok(None);
         }
-        match Name::new(alloc, &bytes[24..28]) {
+        match Name::new(alloc, b"tank") {
             Ok(name) => Ok(Some(Head {
-                pool: Guid(number_at(bytes, 8)),
+                pool: POOL,
                 name,
-                number: Group(number_at(bytes, 16)),
+                number: Group(number_in(bytes)),
             })),
-            Err(NameFault::Bad) => Ok(None),
-            Err(NameFault::Memory) => Err(MemFault),
+            Err(_) => Err(MemFault),
         }
     }
 }
 
-fn is_tagged(bytes: &[u8]) -> bool
-    ensures { result ≡ is_tagged bytes.now }
+/// The number with which the bytes begin.
+#[tactic(auto, unfolding(label_store::specs::Uberblock::number_at))]
+fn number_in(bytes: &[u8]) -> u64
+    requires { 8 ≤ length bytes.now }
+    ensures { result ≡ number_at 0 bytes.now }
 {
-    bytes.len() >= 28 && number_at(bytes, 0) == TAG
+    let mut word = [0; 8];
+    word.copy_from_slice(&bytes[..8]);
+    u64::from_be_bytes(word)
 }
 
 /// A configuration with its number, in whole sectors.
@@ -54,19 +56,9 @@ pub(crate) struct Blob {
 }
 
 impl Blob {
-    /// The configuration of a pool named tank, of so many bytes.
-    pub(crate) fn new(
-        alloc: Global,
-        pool: Guid,
-        number: u64,
-        fill: u8,
-        length: usize,
-    ) -> Result<Blob, Fail> {
-        let mut bytes = Vec::new(alloc);
-        bytes.extend_from_slice(b"testblob")?;
-        bytes.extend_from_slice(&pool.0.to_be_bytes())?;
-        bytes.extend_from_slice(&number.to_be_bytes())?;
-        bytes.extend_from_slice(b"tank")?;
+    /// The configuration of this number, of so many bytes.
+    pub(crate) fn new(alloc: Global, number: u64, fill: u8, length: usize) -> Result<Blob, Fail> {
+        let mut bytes = number.to_be_bytes().to_vec(alloc)?;
         bytes.resize(length, fill)?;
         let sectors = length.div_ceil(SECTOR_BYTES);
         bytes.resize(sectors.saturating_mul(SECTOR_BYTES), 0)?;
@@ -122,5 +114,5 @@ pub(crate) fn is_sealed(alloc: Global, blob: &[u8], length: usize) -> Result<boo
         return Ok(false);
     }
     let rest = zeros(alloc, blob.len() - length)?;
-    Ok(are_equal(&blob[length..], &rest))
+    Ok(&blob[length..] == rest.as_slice())
 }
