@@ -164,5 +164,7 @@ fn calls_fail_and_sectors_are_damaged_as_planned(rt: HostRuntime) -> Result<(), 
     assert_eq!(rt; first.kind, CallKind::Write);
     assert_eq!(rt; first.fault, Some(Fault::Gone));
     assert_eq!(rt; bank.calls().len(), 8);
+    assert!(rt; bank.tells());
+    assert!(rt; again.tells());
     Ok(())
 }

@@ -5,3 +5,4 @@ mod openings;
 mod rounds;
 mod setting;
 mod uberblocks;
+mod wipes;

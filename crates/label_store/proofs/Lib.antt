@@ -1,4 +1,7 @@
+pub mod Bare
 pub mod Causing
+pub mod Clearing
+pub mod Fading
 pub mod Fields
 pub mod Keeping
 pub mod Looking
@@ -9,4 +12,5 @@ pub mod Places
 pub mod Reading
 pub mod Rounding
 pub mod Searching
+pub mod Unfound
 pub mod Writing

@@ -31,13 +31,13 @@ uncovered at n s m = uncovered_by at n s (nat_le at s) refl (nat_lt s (at + n)) 
 covered : (at n s : ℕ) → at ≤ s → s < at + n → covers at n s ≡ true
 covered at n s le lt = grind (arith, common_steps, nat_tests)
 
-spared : (dev at n d s : ℕ) → (at ≤ s → s < at + n → ⊥) → ((dev == d) && covers at n s) ≡ false
+pub spared : (dev at n d s : ℕ) → (at ≤ s → s < at + n → ⊥) → ((dev == d) && covers at n s) ≡ false
 spared dev at n d s m = ap (λ b. (dev == d) && b) (uncovered at n s m) ∙ and_false (dev == d)
 
 other_device : (dev d : ℕ) → dev ≢ d → (dev == d) ≡ false
 other_device dev d ne = grind (arith, nat_tests)
 
-elsewhere_one : (dev d : ℕ) (x : Bool) → dev ≢ d → ((dev == d) && x) ≡ false
+pub elsewhere_one : (dev d : ℕ) (x : Bool) → dev ≢ d → ((dev == d) && x) ≡ false
 elsewhere_one dev d x ne = rw (other_device dev d ne) refl
 
 -- a part of another device
@@ -64,7 +64,7 @@ label_is size (suc (suc (suc zero))) lt = inr (inr (inr refl))
 label_is size (suc (suc (suc (suc k)))) lt = absurd (omega arith)
 
 -- Two labels that lie near each other are one.
-labels_apart : (size a b : ℕ) → 320 ≤ size → IsOneOf size a → IsOneOf size b → a < b + 64 → b < a + 64 → a ≡ b
+pub labels_apart : (size a b : ℕ) → 320 ≤ size → IsOneOf size a → IsOneOf size b → a < b + 64 → b < a + 64 → a ≡ b
 unfolding IsOneOf
 labels_apart size a b big (inl p) (inl q) above below = omega arith
 labels_apart size a b big (inl p) (inr (inl q)) above below = omega arith

@@ -1,3 +1,4 @@
+pub mod Clearing
 pub mod Committing
 pub mod Identities
 pub mod Layout

@@ -31,3 +31,14 @@ zero_ring = zeros 131072
 abbrev pub stamp_plan : (dev size : ℕ) → (pool member : Guid) → List Ask
 stamp_plan dev size pool member =
     label_writes dev (labels_of size) ring_offset zero_ring ++ ring_plan dev size (blank_uberblock pool member)
+
+-- the mark of a spare: a stamp of no pool and no member
+abbrev pub no_guid : Guid
+no_guid = record { 0 = 0 }
+
+abbrev pub mark_plan : (dev size : ℕ) → List Ask
+mark_plan dev size = stamp_plan dev size no_guid no_guid
+
+-- a wipe: zeros over each ring, and a flush
+abbrev pub wipe_plan : (dev size : ℕ) → List Ask
+wipe_plan dev size = label_writes dev (labels_of size) ring_offset zero_ring ++ Flushes dev ∷ []

@@ -3,6 +3,7 @@
 #![tactic(auto)]
 
 mod bytes;
+mod cleared;
 mod commit;
 mod found;
 mod label;
@@ -17,6 +18,10 @@ mod search;
 mod stamping;
 mod uberblock;
 
+pub use cleared::{
+    cleared_rings_give_one_identity, cleared_rings_hold, cleared_rings_show_no_record,
+    half_cleared_rings_show_old_records,
+};
 pub use commit::commit_record;
 pub use found::Found;
 pub use layout::LEAST_SECTORS;
@@ -24,5 +29,5 @@ pub use look::newest;
 pub use member::Member;
 pub use rule::{BlobRule, Head};
 pub use search::identity;
-pub use stamping::stamp;
+pub use stamping::{mark_spare, stamp, wipe};
 pub use uberblock::{Uberblock, read_uberblock, write_uberblock};

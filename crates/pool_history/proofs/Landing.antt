@@ -10,7 +10,7 @@ use Rattle.bank_core.proofs.Blocks.{block_sectors}
 use Rattle.bank_core.proofs.Standing.{untouched_stands, part_spares, spares_more}
 use Rattle.pool_history.specs.Commits.{WritesLast, FlushesDevice, Brings}
 use Rattle.pool_history.proofs.RoundParts.{first_bytes}
-use Rattle.pool_history.proofs.Stamping.{lands}
+use Rattle.label_store.proofs.Clearing.{lands}
 
 no_fault : (fault : Fault) → None ≡ Some fault → ⊥
 no_fault fault e = cc

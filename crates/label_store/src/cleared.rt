@@ -1,0 +1,98 @@
+//! What a stamp, a mark and a wipe leave of a device's records.
+ghost use Rattle.std.specs.Prelude.{◌≡◌, ℕ, ◌+◌, ◌*◌, ◌^◌, ◌<◌, ◌≤◌, List, take, Option, Some, None, slice_get, slice_index};
+ghost use Rattle.mp_base.specs.declared.number.Guid.{Guid};
+ghost use Rattle.bank_core.specs.declared.bank.Fault.{Fault};
+ghost use Rattle.bank_core.specs.Asks.{IsPart};
+ghost use Rattle.bank_core.specs.Disk.{Sector, Sectors, Noted, run, sectors_in, IsImage, ShowsStable};
+ghost use Rattle.bank_core.specs.Memory.{zero_sector};
+ghost use Rattle.bank_core.specs.Standing.{Untouched};
+ghost use Rattle.label_store.specs.declared.rule.Head.{Head};
+ghost use Rattle.label_store.specs.declared.uberblock.Uberblock.{Uberblock};
+ghost use Rattle.label_store.specs.Clearing.{IsBare, RingsHold, RingShows, IsOffRings, AreAtRest, IsUnforged, stamp_sector};
+ghost use Rattle.label_store.specs.Identities.{HasIdentity};
+ghost use Rattle.label_store.specs.Layout.{labels_of};
+ghost use Rattle.label_store.specs.Newest.{Parts, IsVerifiedBy};
+ghost use Rattle.label_store.specs.Plans.{stamp_plan, wipe_plan};
+ghost use Rattle.label_store.specs.Records.{AreUnhurt, IsVerified, place_at};
+ghost use Rattle.label_store.specs.Uberblock.{IsUberblock};
+
+/// What the calls of a wipe, and of a stamp, leave of a device of 320 sectors or more. A mark of a spare is
+/// the stamp of pool 0 and member 0. It computes nothing: its clauses are the law.
+///
+/// `wiped`, `stamped`: where no call failed, each of the 128 places of uberblocks holds zeros, and behind a stamp
+/// the first one of each ring the uberblock of its identity, flushed. `stays`: further calls that put nothing
+/// there leave it so. `elsewhere_wiped`, `elsewhere_stamped`: however far they came, they put nothing on another
+/// sector: the configurations, the data and the other devices are as they were.
+pub fn cleared_rings_hold()
+    ensures wiped { (dev size : ℕ) (made : List Noted) (sectors : Sectors) → 320 ≤ size → IsPart (wipe_plan dev size) made None
+        → RingsHold size (run made sectors dev) (λ slot. zero_sector) }
+    ensures stamped { (dev size : ℕ) (pool member : Guid) (made : List Noted) (sectors : Sectors) → 320 ≤ size
+        → IsPart (stamp_plan dev size pool member) made None → RingsHold size (run made sectors dev) (stamp_sector pool member) }
+    ensures stays { (dev size : ℕ) (sectors : Sectors) (bytes : ℕ → List ℕ) (more : List Noted) → RingsHold size (sectors dev) bytes
+        → ((label slot : ℕ) → label < 4 → slot < 32 → Untouched more dev (slice_index (labels_of size) label + (32 + slot)))
+        → RingsHold size (run more sectors dev) bytes }
+    ensures elsewhere_wiped { (dev size : ℕ) (made : List Noted) (outcome : Option Fault) (d s : ℕ) → (d ≡ dev → IsOffRings size s)
+        → IsPart (wipe_plan dev size) made outcome → Untouched made d s }
+    ensures elsewhere_stamped { (dev size : ℕ) (pool member : Guid) (made : List Noted) (outcome : Option Fault) (d s : ℕ)
+        → (d ≡ dev → IsOffRings size s) → IsPart (stamp_plan dev size pool member) made outcome → Untouched made d s }
+{}
+
+/// On a device whose rings hold zeros, or what a stamp brought, no record is found. It computes nothing: its
+/// clauses are the law.
+///
+/// `zeros`, `blank`: neither is an uberblock of a record. `image`: so no image that a crash may leave verifies a
+/// record, as long as no label sector is damaged. `read`, `looked`: nor does an opening that reads the rings.
+pub fn cleared_rings_show_no_record()
+    ensures zeros { IsBare zero_sector }
+    ensures blank { (pool member : Guid) (slot : ℕ) → pool.0 < 2 ^ 64 → member.0 < 2 ^ 64 → IsBare (stamp_sector pool member slot) }
+    ensures image { (head_of : List ℕ → Option Head) (size : ℕ) (sectors : ℕ → Sector) (image : ℕ → List ℕ) (bytes : ℕ → List ℕ)
+        → ((slot : ℕ) → slot < 32 → IsBare (bytes slot)) → RingsHold size sectors bytes → AreUnhurt size sectors → IsImage sectors image
+        → (place : ℕ) (u : Uberblock) (config : List ℕ) → ¬ (IsVerified head_of size (λ s. Some (image s)) place u config) }
+    ensures read { (size : ℕ) (sectors : ℕ → Sector) (bytes : ℕ → List ℕ) (label : ℕ) (ring : List ℕ) → label < 4 → RingsHold size sectors bytes
+        → AreUnhurt size sectors → sectors_in ring ≡ 32 → ShowsStable sectors (slice_index (labels_of size) label + 32) ring → RingShows ring bytes }
+    ensures looked { (head_of : List ℕ → Option Head) (parts : Parts) (name : List ℕ) (bytes : ℕ → List ℕ)
+        → ((slot : ℕ) → slot < 32 → IsBare (bytes slot))
+        → ((label : ℕ) (ring : List ℕ) → label < 4 → slice_get parts (2 * label) ≡ Some (Some ring) → RingShows ring bytes)
+        → (place : ℕ) (u : Uberblock) (config : List ℕ) → place < 128 → ¬ (IsVerifiedBy head_of parts name place u config) }
+{}
+
+/// The identity that such a ring gives: none behind a wipe, and behind a stamp the one of the stamp and no
+/// other. It computes nothing: its clauses are the law.
+pub fn cleared_rings_give_one_identity()
+    ensures wiped { (pool member : Guid) (ring : List ℕ) → RingShows ring (λ slot. zero_sector) → ¬ (HasIdentity pool member ring) }
+    ensures stamped { (pool member : Guid) (ring : List ℕ) → pool.0 < 2 ^ 64 → member.0 < 2 ^ 64
+        → RingShows ring (stamp_sector pool member) → HasIdentity pool member ring }
+    ensures no_other { (pool member : Guid) (ring : List ℕ) (pool' member' : Guid) → pool.0 < 2 ^ 64 → member.0 < 2 ^ 64
+        → RingShows ring (stamp_sector pool member) → HasIdentity pool' member' ring → (pool' ≡ pool) × (member' ≡ member) }
+{}
+
+/// A stop in the middle of a wipe or a stamp, also behind a failed call, leaves no record that wasn't there: on
+/// each image of that moment that forges no uberblock. It computes nothing: its clauses are the law.
+///
+/// `wiped_stood`, `stamped_stood`: a record's uberblock that is shown at a place stood there before. `wiped`,
+/// `stamped`: a record that is verified, while no label sector is damaged, was verified before, by the uberblock
+/// at the same place.
+pub fn half_cleared_rings_show_old_records()
+    ensures wiped_stood { (dev size : ℕ) (made : List Noted) (outcome : Option Fault) (sectors : Sectors) (k : ℕ) (image : ℕ → List ℕ)
+        → IsPart (wipe_plan dev size) made outcome → AreAtRest size (sectors dev) → IsUnforged size (run (take k made) sectors dev) image
+        → (place : ℕ) (u : Uberblock) → place < 128 → IsUberblock u (image (place_at size place)) → 1 ≤ u.number.0
+        → image (place_at size place) ≡ (sectors dev (place_at size place)).stable }
+    ensures stamped_stood { (dev size : ℕ) (pool member : Guid) (made : List Noted) (outcome : Option Fault) (sectors : Sectors) (k : ℕ)
+        (image : ℕ → List ℕ) → pool.0 < 2 ^ 64 → member.0 < 2 ^ 64
+        → IsPart (stamp_plan dev size pool member) made outcome → AreAtRest size (sectors dev) → IsUnforged size (run (take k made) sectors dev) image
+        → (place : ℕ) (u : Uberblock) → place < 128 → IsUberblock u (image (place_at size place)) → 1 ≤ u.number.0
+        → image (place_at size place) ≡ (sectors dev (place_at size place)).stable }
+    ensures wiped { (head_of : List ℕ → Option Head) (dev size : ℕ) (made : List Noted) (outcome : Option Fault) (sectors : Sectors) (k : ℕ)
+        (image : ℕ → List ℕ) → 320 ≤ size → IsPart (wipe_plan dev size) made outcome → AreAtRest size (sectors dev)
+        → AreUnhurt size (run (take k made) sectors dev) → IsImage (run (take k made) sectors dev) image
+        → IsUnforged size (run (take k made) sectors dev) image
+        → (place : ℕ) (u : Uberblock) (config : List ℕ) → IsVerified head_of size (λ s. Some (image s)) place u config
+        → IsVerified head_of size (λ s. Some ((sectors dev s).stable)) place u config }
+    ensures stamped { (head_of : List ℕ → Option Head) (dev size : ℕ) (pool member : Guid) (made : List Noted) (outcome : Option Fault)
+        (sectors : Sectors) (k : ℕ) (image : ℕ → List ℕ) → 320 ≤ size → pool.0 < 2 ^ 64 → member.0 < 2 ^ 64
+        → IsPart (stamp_plan dev size pool member) made outcome → AreAtRest size (sectors dev)
+        → AreUnhurt size (run (take k made) sectors dev) → IsImage (run (take k made) sectors dev) image
+        → IsUnforged size (run (take k made) sectors dev) image
+        → (place : ℕ) (u : Uberblock) (config : List ℕ) → IsVerified head_of size (λ s. Some (image s)) place u config
+        → IsVerified head_of size (λ s. Some ((sectors dev s).stable)) place u config }
+{}
