@@ -26,9 +26,9 @@ stands_more old new at bytes done n rest front touches piece i less byte is =
     ⊎_elim {A = i < done} {B = done ≤ i}
     (λ before. front i before byte (sym (touches.before (at + i) (omega arith)).held ∙ is))
     (λ behind. let same : done + (i - done) ≡ i = omega arith in
-        let there : at + i ≡ at + done + (i - done) = omega arith in
-        piece (i - done) (omega arith) byte (subst (λ place. new.held place ≡ Some byte) there is)
-        ∙ get_or-drop done bytes (i - done) 0 ∙ ap (λ k. get_or bytes k 0) same)
+    let there : at + i ≡ at + done + (i - done) = omega arith in
+    piece (i - done) (omega arith) byte (subst (λ place. new.held place ≡ Some byte) there is)
+    ∙ get_or-drop done bytes (i - done) 0 ∙ ap (λ k. get_or bytes k 0) same)
     (cases_lt i done)
 
 -- a piece that is read behind those that were
@@ -38,9 +38,9 @@ reads_more told at out piece rest done n most bound front then i less byte is =
     let len = length-take-le done out most in
     ⊎_elim {A = i < done} {B = done ≤ i}
     (λ before. front i before byte is
-        ∙ sym (get_or_append_left (take done out) (piece ++ rest) 0 i (omega (arith, len)) ∙ get_or-take done out i 0 before))
+    ∙ sym (get_or_append_left (take done out) (piece ++ rest) 0 i (omega (arith, len)) ∙ get_or-take done out i 0 before))
     (λ behind. let there : at + i ≡ at + done + (i - done) = omega arith in
-        then (i - done) (omega arith) byte (subst (λ place. told.held place ≡ Some byte) there is)
-        ∙ sym (get_or-append_right (take done out) (piece ++ rest) done i 0 len behind
-        ∙ get_or_append_left piece rest 0 (i - done) (omega arith)))
+    then (i - done) (omega arith) byte (subst (λ place. told.held place ≡ Some byte) there is)
+    ∙ sym (get_or-append_right (take done out) (piece ++ rest) done i 0 len behind
+    ∙ get_or_append_left piece rest 0 (i - done) (omega arith)))
     (cases_lt i done)

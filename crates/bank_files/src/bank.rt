@@ -5,8 +5,7 @@ ghost use Rattle.bank_files.specs.Asked.{place_in};
 
 use crate::file::DeviceFile;
 use crate::files::DeviceFiles;
-use crate::opening;
-use crate::{Host, HostFile};
+use crate::{Host, HostFile, opening};
 use bank_core::{Bank, Fault, FindFault};
 use mp_base::{MemFault, Name};
 use std::alloc::Global;

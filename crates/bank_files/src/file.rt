@@ -3,8 +3,7 @@ ghost use Rattle.std.specs.Prelude.{◌≡◌, ◌*◌, ◌/◌, ◌+◌, ◌<�
 ghost use Rattle.bank_core.specs.Disk.{sector_size};
 ghost use Rattle.bank_files.specs.Told.{Stands, Touches, IsStable, HoldsSame};
 
-use crate::pieces;
-use crate::{FileId, HostFile};
+use crate::{FileId, HostFile, pieces};
 use bank_core::{Fault, MOST_SECTORS, SECTOR_BYTES};
 use std::io;
 
