@@ -4,8 +4,15 @@
 mod bank;
 mod file;
 mod files;
+mod host;
+mod host_file;
 mod opening;
+mod pieces;
+#[cfg(test)]
+mod planned;
 #[cfg(test)]
 mod tests;
 
 pub use bank::FileBank;
+pub use host::{Host, Unheld};
+pub use host_file::{FileId, HostFile};
