@@ -148,7 +148,8 @@ impl Pool {
 
 // A leaf as it is made: online, on its device, with an empty log.
 fn new_leaf(alloc: Global, guid: Guid, leaf: &NewLeaf) -> Result<LeafVdev, MemFault>
-    ensures { IfOk result (λ v. IsLeaf v (new_leaf guid.0 (leaf.now.name, leaf.now.dev))) }
+    ensures leaf { IfOk result (λ v. IsLeaf v (new_leaf guid.0 (leaf.now.name, leaf.now.dev))) }
+    ensures counts { IfOk result (λ v. v.counts ≡ record { reads = 0; writes = 0; mismatches = 0 }) }
 {
     Ok(LeafVdev {
         guid,

@@ -202,6 +202,7 @@ fn finds_nobody(config: &Config, found: (Option<u32>, Option<u32>)) -> bool
 fn leaf_on(alloc: Global, leaf: LeafConfig, dev: Option<u32>) -> Result<LeafVdev, MemFault>
     requires { Rises 1 (2 ^ 62) leaf.log }
     ensures leaf { IfOk result (λ v. IsLeaf v (leaf_on leaf dev)) }
+    ensures counts { IfOk result (λ v. v.counts ≡ record { reads = 0; writes = 0; mismatches = 0 }) }
 {
     Ok(LeafVdev {
         guid: leaf.member,

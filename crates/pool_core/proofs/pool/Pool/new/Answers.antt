@@ -24,7 +24,7 @@ invariant_of-result-2 g c =
     (subst (λ n. IsTrue (is_name n)) (sym c.name.view_is) c.spells_a_name.ensures) c.spells_a_name-2.ensures c.spells_a_name-3.ensures c.requires.two_names in
     let new = c.in_ok-new.ensures in
     let stands = found_stands config (λ a. None) (Some first.dev) (Some second.dev) pair _ _ new.mirror new.sectors new.first new.second
-    c.in_ok-one.ensures c.in_ok-other.ensures in
+    c.in_ok-one.ensures.leaf c.in_ok-other.ensures.leaf in
     record {
       valid = found_valid config (λ a. None) (Some first.dev) (Some second.dev) pair valid stands;
       paired = ap length c.in_ok-nothing-2.ensures ∙ length-replicate _ None ∙ sym (ap length c.in_ok-nothing.ensures ∙ length-replicate _ None);
@@ -44,7 +44,7 @@ returns-clause-state g c =
     let config = new_config c.name.inside.bytes.items c.args.pool c.args.blocks c.in_ok-nothing.field-0.items sectors first.name second.name in
     let new = c.in_ok-new.ensures in
     let stands = found_stands config (λ a. None) (Some first.dev) (Some second.dev) pair _ _ new.mirror new.sectors new.first new.second
-    c.in_ok-one.ensures c.in_ok-other.ensures in
+    c.in_ok-one.ensures.leaf c.in_ok-other.ensures.leaf in
     subst (Represents _)
     (ap₂ (λ n k. created n c.args.pool c.args.blocks k (first.name, first.dev) (second.name, second.dev)) c.name.view_is
     (c.top_sectors-sectors.ensures ∙ ap₂ top_sectors c.sectors.ensures c.sectors-2.ensures))
