@@ -5,12 +5,10 @@ ghost use Rattle.bank_files.specs.Asked.{place_in};
 
 use crate::file::DeviceFile;
 use crate::files::DeviceFiles;
-use crate::opening;
+use crate::{Host, HostFile, opening};
 use bank_core::{Bank, Fault, FindFault};
 use mp_base::{MemFault, Name};
 use std::alloc::Global;
-use std::fs::Files;
-use std::os::fd::AsRawFd;
 
 /// The most names that are asked for.
 const MOST_NAMES: usize = 64;
@@ -23,24 +21,24 @@ const MOST_NAMES: usize = 64;
 /// What a file holds isn't told. A call fails where one of the system's calls for it failed or ended
 /// early, and where the file has vanished or shrunk. Once a flush of a device failed, each later one does.
 #[derive(Drop)]
-pub struct FileBank<'r, R: Files> {
-    rt: &'r R,
+pub struct FileBank<'h, H: Host> {
+    host: &'h H,
     alloc: Global,
     folder: String,
     asked: Vec<Name>,
     sizes: [u32; 64],
-    files: DeviceFiles<R::File>,
+    files: DeviceFiles<H::File>,
     faults: [u64; 64],
     lookup_faults: u64,
     ghost few: { length asked.items ≤ 64 },
 }
 
-impl<'r, R: Files> FileBank<'r, R> {
+impl<'h, H: Host> FileBank<'h, H> {
     /// The bank of the devices in this folder, none of which is asked for yet.
-    pub fn new(rt: &'r R, alloc: Global, folder: String) -> Result<FileBank<'r, R>, MemFault> {
+    pub fn new(host: &'h H, alloc: Global, folder: String) -> Result<FileBank<'h, H>, MemFault> {
         let files = DeviceFiles::new(alloc, MOST_NAMES)?;
         Ok(FileBank {
-            rt,
+            host,
             alloc,
             folder,
             asked: Vec::new(alloc),
@@ -87,8 +85,22 @@ impl<'r, R: Files> FileBank<'r, R> {
         Ok(Some(place))
     }
 
+    /// The device of this name, where its file is there and is no other device's, and this program alone
+    /// holds it.
+    fn open(&self, name: &Name) -> Result<Option<DeviceFile<H::File>>, FindFault> {
+        let folder = self.folder.as_str();
+        let Some(file) = opening::open(self.host, self.alloc, folder, name)? else {
+            return Ok(None);
+        };
+        let id = opening::id_of(&file)?;
+        if self.files.have(id) {
+            return Ok(None);
+        }
+        Ok(Some(opening::hold(self.host, name, file, id)?))
+    }
+
     /// Puts a file at the place of its name.
-    fn keep(&mut self, place: usize, file: DeviceFile<R::File>)
+    fn keep(&mut self, place: usize, file: DeviceFile<H::File>)
         requires { place < 64 }
         ensures asked { self.new.asked ≡ self.old.asked }
         ensures size { slice_index self.new.sizes place ≡ file.sectors }
@@ -140,10 +152,7 @@ impl<'r, R: Files> FileBank<'r, R> {
     }
 }
 
-impl<'r, R: Files> Bank for FileBank<'r, R>
-where
-    R::File: AsRawFd,
-{
+impl<'h, H: Host> Bank for FileBank<'h, H> {
     ghost use Rattle.bank_files.specs.Asked.{view_of};
 
     ghost view = { λ bank. view_of bank.asked.items bank.sizes bank.faults bank.lookup_faults };
@@ -155,7 +164,7 @@ where
         if self.sizes[place] > 0 {
             return Ok(Some(place as u32));
         }
-        match opening::open(self.rt, self.alloc, self.folder.as_str(), name) {
+        match self.open(name) {
             Ok(Some(file)) if file.sectors() > 0 => {
                 self.keep(place, file);
                 Ok(Some(place as u32))

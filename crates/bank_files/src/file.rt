@@ -1,27 +1,28 @@
 //! The file of a device: a few calls of the system, and what their answers mean for a device.
-ghost use Rattle.std.specs.Prelude.{◌≡◌, ◌*◌, ◌/◌, ◌<◌, ◌^◌, min, Some, Err};
-ghost use Rattle.std.specs.Io.Seek.{MovesTo};
+ghost use Rattle.std.specs.Prelude.{◌≡◌, ◌*◌, ◌/◌, ◌+◌, ◌<◌, ◌^◌, min, length, Some, Err, IfOk, OnOk};
 ghost use Rattle.bank_core.specs.Disk.{sector_size};
+ghost use Rattle.bank_files.specs.Told.{Stands, Touches, IsStable, HoldsSame};
 
+use crate::{FileId, HostFile, pieces};
 use bank_core::{Fault, MOST_SECTORS, SECTOR_BYTES};
-use std::fs::OpenFile;
-use std::io::{self, ErrorKind, Read, Seek, SeekFrom, Write};
-use std::os::unix::fs::MetadataExt;
+use std::io;
 
 /// A device's file, open to read and to write.
 #[derive(Drop)]
 pub(crate) struct DeviceFile<F> {
     file: F,
+    id: FileId,
     sectors: u32,
     lost: Option<Fault>,
 }
 
-impl<F: Read + Write + Seek + OpenFile + Drop> DeviceFile<F> {
+impl<F: HostFile + Drop> DeviceFile<F> {
     /// The device in this file, which has so many sectors as fit into the file whole.
-    pub(crate) fn new(mut file: F) -> io::Result<DeviceFile<F>> {
-        let sectors = whole_sectors(file.seek(SeekFrom::End(0))?);
+    pub(crate) fn new(mut file: F, id: FileId) -> io::Result<DeviceFile<F>> {
+        let sectors = whole_sectors(file.end()?);
         Ok(DeviceFile {
             file,
+            id,
             sectors,
             lost: None,
         })
@@ -33,27 +34,38 @@ impl<F: Read + Write + Seek + OpenFile + Drop> DeviceFile<F> {
         self.sectors
     }
 
+    /// Which file it is.
+    pub(crate) fn id(&self) -> FileId {
+        self.id
+    }
+
     /// Reads all of `out` from a sector on. At `Err` its bytes mean nothing.
+    #[tactic(auto, unfolding(bank_core::specs::Disk::sector_size))]
     pub(crate) fn read(&mut self, at: u64, out: &mut [u8]) -> Result<(), Fault>
-        requires { at < 2 ^ 32 }
+        requires { at * sector_size + length out.old < 2 ^ 64 }
+        ensures given { OnOk result (Stands (F.told self.old.file) (at * sector_size) out.new (length out.new)) }
+        ensures same { F.told self.new.file ≡ F.told self.old.file }
     {
-        seek_sector(&mut self.file, at).map_err(fault_of)?;
-        self.file.read_exact(out).map_err(fault_of)
+        pieces::read_all(&mut self.file, at * SECTOR_BYTES as u64, out)
     }
 
     /// Writes all bytes from a sector on. At `Err` any of them may be written.
+    #[tactic(auto, unfolding(bank_core::specs::Disk::sector_size))]
     pub(crate) fn write(&mut self, at: u64, bytes: &[u8]) -> Result<(), Fault>
-        requires { at < 2 ^ 32 }
+        requires { at * sector_size + length bytes.now < 2 ^ 64 }
+        ensures taken { OnOk result (Stands (F.told self.new.file) (at * sector_size) bytes.now (length bytes.now)) }
+        ensures others { Touches (F.told self.old.file) (F.told self.new.file) (at * sector_size) (length bytes.now) }
     {
         // A file that has shrunk would take the bytes behind its end, and show zeros before them.
         self.is_long()?;
-        seek_sector(&mut self.file, at).map_err(fault_of)?;
-        self.file.write_all(bytes).map_err(fault_of)
+        pieces::write_all(&mut self.file, at * SECTOR_BYTES as u64, bytes)
     }
 
     /// Has the system bring to the device what it keeps of it. Once this failed, it fails for good: what
     /// could not be written may be forgotten, and the system's next sync would answer `Ok` without it.
     pub(crate) fn flush(&mut self) -> Result<(), Fault>
+        ensures stable { OnOk result (IsStable (F.told self.new.file)) }
+        ensures same { HoldsSame (F.told self.old.file) (F.told self.new.file) }
         ensures lasts { (fault : Fault) → self.old.lost ≡ Some fault → result ≡ Err fault }
         ensures lost { (fault : Fault) → result ≡ Err fault → self.new.lost ≡ Some fault }
     {
@@ -67,15 +79,20 @@ impl<F: Read + Write + Seek + OpenFile + Drop> DeviceFile<F> {
         outcome
     }
 
-    fn sync(&mut self) -> Result<(), Fault> {
+    fn sync(&mut self) -> Result<(), Fault>
+        ensures stable { OnOk result (IsStable (F.told self.new.file)) }
+        ensures same { HoldsSame (F.told self.old.file) (F.told self.new.file) }
+    {
         self.is_long()?;
         self.is_named()?;
-        self.file.sync_data().map_err(fault_of)
+        self.file.sync().map_err(|_| Fault::Failed)
     }
 
     /// `Ok` where the file still has all the device's sectors.
-    fn is_long(&mut self) -> Result<(), Fault> {
-        let bytes = self.file.seek(SeekFrom::End(0)).map_err(fault_of)?;
+    fn is_long(&mut self) -> Result<(), Fault>
+        ensures same { F.told self.new.file ≡ F.told self.old.file }
+    {
+        let bytes = self.file.end().map_err(|_| Fault::Failed)?;
         if whole_sectors(bytes) < self.sectors {
             return Err(Fault::Gone);
         }
@@ -84,8 +101,8 @@ impl<F: Read + Write + Seek + OpenFile + Drop> DeviceFile<F> {
 
     /// `Ok` where the file still has a name.
     fn is_named(&self) -> Result<(), Fault> {
-        let found = self.file.metadata().map_err(fault_of)?;
-        if found.nlink() == 0 {
+        let links = self.file.links().map_err(|_| Fault::Failed)?;
+        if links == 0 {
             return Err(Fault::Gone);
         }
         Ok(())
@@ -98,21 +115,4 @@ fn whole_sectors(bytes: u64) -> u32
     ensures { result ≡ min (bytes / sector_size) 1048576 }
 {
     (bytes / SECTOR_BYTES as u64).min(MOST_SECTORS) as u32
-}
-
-/// Goes to the first byte of a sector.
-#[tactic(auto, unfolding(bank_core::specs::Disk::sector_size))]
-fn seek_sector<F: Seek>(file: &mut F, at: u64) -> io::Result<u64>
-    requires { at < 2 ^ 32 }
-    ensures moves { MovesTo (F.stream_position file.old) (F.stream_position file.new) (at * sector_size) result }
-{
-    file.seek(SeekFrom::Start(at * SECTOR_BYTES as u64))
-}
-
-/// A file that ends early has lost its device's end.
-fn fault_of(error: io::Error) -> Fault {
-    match error.kind() {
-        ErrorKind::UnexpectedEof => Fault::Gone,
-        _ => Fault::Failed,
-    }
 }

@@ -1,12 +1,12 @@
 //! The files of a bank's devices, by their numbers.
-ghost use Rattle.std.specs.Prelude.{◌<◌, ◌^◌};
+ghost use Rattle.std.specs.Prelude.{◌<◌, ◌^◌, ◌*◌, ◌+◌, length};
+ghost use Rattle.bank_core.specs.Disk.{sector_size};
 
 use crate::file::DeviceFile;
+use crate::{FileId, HostFile};
 use bank_core::Fault;
 use mp_base::MemFault;
 use std::alloc::Global;
-use std::fs::OpenFile;
-use std::io::{Read, Seek, Write};
 
 /// The files, of which some are open. A call on another one fails.
 #[derive(Drop)]
@@ -14,7 +14,7 @@ pub(crate) struct DeviceFiles<F> {
     files: Vec<Option<DeviceFile<F>>>,
 }
 
-impl<F: Read + Write + Seek + OpenFile + Drop> DeviceFiles<F> {
+impl<F: HostFile + Drop> DeviceFiles<F> {
     /// So many files, none of which is open.
     pub(crate) fn new(alloc: Global, count: usize) -> Result<DeviceFiles<F>, MemFault> {
         let mut files = Vec::new(alloc);
@@ -24,6 +24,11 @@ impl<F: Read + Write + Seek + OpenFile + Drop> DeviceFiles<F> {
         Ok(DeviceFiles { files })
     }
 
+    /// Whether one of the open files is this one.
+    pub(crate) fn have(&self, id: FileId) -> bool {
+        self.files.iter().flatten().any(|file| file.id() == id)
+    }
+
     pub(crate) fn put(&mut self, place: usize, file: DeviceFile<F>) {
         if let Some(kept) = self.files.get_mut(place) {
             *kept = Some(file);
@@ -31,7 +36,7 @@ impl<F: Read + Write + Seek + OpenFile + Drop> DeviceFiles<F> {
     }
 
     pub(crate) fn read(&mut self, dev: u32, at: u64, out: &mut [u8]) -> Result<(), Fault>
-        requires { at < 2 ^ 32 }
+        requires { at * sector_size + length out.old < 2 ^ 64 }
     {
         match self.files.get_mut(dev as usize) {
             Some(Some(file)) => file.read(at, out),
@@ -40,7 +45,7 @@ impl<F: Read + Write + Seek + OpenFile + Drop> DeviceFiles<F> {
     }
 
     pub(crate) fn write(&mut self, dev: u32, at: u64, bytes: &[u8]) -> Result<(), Fault>
-        requires { at < 2 ^ 32 }
+        requires { at * sector_size + length bytes.now < 2 ^ 64 }
     {
         match self.files.get_mut(dev as usize) {
             Some(Some(file)) => file.write(at, bytes),

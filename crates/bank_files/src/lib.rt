@@ -4,8 +4,11 @@
 mod bank;
 mod file;
 mod files;
+mod host;
+mod host_file;
 mod opening;
-#[cfg(test)]
-mod tests;
+mod pieces;
 
 pub use bank::FileBank;
+pub use host::{Host, Unheld};
+pub use host_file::{FileId, HostFile};

@@ -32,7 +32,8 @@ fn serve(rt: &HostRuntime) -> Status {
         Ok(words) => words,
         Err(status) => return status,
     };
-    let Ok(mut bank) = devices::host_bank(rt, rt.alloc()) else {
+    let folder = devices::Folder::new(rt);
+    let Ok(mut bank) = folder.bank(rt.alloc()) else {
         return Status::Memory;
     };
     let mut input = stdio::Input::new(rt.stdin());

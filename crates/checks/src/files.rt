@@ -1,123 +1,47 @@
-//! What real files answer, and what a flush answers over a file that can't be synced.
-use crate::FileBank;
+//! What a bank answers over the system's files: how devices are found and held, and what becomes of a file that others
+//! change. No contract tells what such a file holds.
+use bank_files::{FileBank, Host, Unheld};
 use bank_core::{Bank, Fault, FindFault, MOST_SECTORS, SECTOR_BYTES};
 use mp_base::Name;
-use std::alloc::{Allocator, Global};
-use std::fs;
-use std::fs::{File, Files, Metadata, OpenFile, OpenOptions};
-use std::io::{self, Read, Seek, SeekFrom, Write};
-use std::os::fd::{AsRawFd, RawFd};
+use std::alloc::Global;
+use std::cell::Cell;
+use std::fs::{File, OpenOptions};
 use std::os::unix::fs::symlink;
 use std::process::Abort;
 use std::rt::HostRuntime;
 use std::test::Fail;
+use std::{fs, io};
 
-/// The most bytes that one of the short calls below moves.
-const SHORT: usize = 1000;
-
-/// The system's files, which read and write in pieces, and can't be synced.
+/// The system's files. It counts what a bank tells of devices that another program holds.
 #[derive(Drop)]
-struct Unsynced<'r> {
+struct System<'r> {
     rt: &'r HostRuntime,
+    held: Cell<u64>,
 }
 
-#[derive(Drop)]
-struct UnsyncedFile {
-    file: File,
-}
-
-impl Read for UnsyncedFile {
-    fn read(&mut self, buf: &mut [u8]) -> io::Result<usize> {
-        let most = buf.len().min(SHORT);
-        self.file.read(&mut buf[..most])
-    }
-}
-
-impl Write for UnsyncedFile {
-    fn write(&mut self, buf: &[u8]) -> io::Result<usize> {
-        self.file.write(&buf[..buf.len().min(SHORT)])
-    }
-
-    fn flush(&mut self) -> io::Result<()> {
-        self.file.flush()
+impl<'r> System<'r> {
+    fn new(rt: &'r HostRuntime) -> System<'r> {
+        System {
+            rt,
+            held: Cell::new(0),
+        }
     }
 }
 
-impl Seek for UnsyncedFile {
-    fn seek(&mut self, to: SeekFrom) -> io::Result<u64> {
-        self.file.seek(to)
-    }
-}
+impl<'r> Host for System<'r> {
+    type File = File;
 
-impl OpenFile for UnsyncedFile {
-    fn metadata(&self) -> io::Result<Metadata> {
-        self.file.metadata()
-    }
-
-    fn set_len(&self, size: u64) -> io::Result<()> {
-        self.file.set_len(size)
+    fn open(&self, path: &str) -> io::Result<File> {
+        OpenOptions::new()
+            .read(true)
+            .write(true)
+            .open(self.rt, path)
     }
 
-    fn sync_all(&self) -> io::Result<()> {
-        Err(io::ErrorKind::Other.into())
-    }
-
-    fn sync_data(&self) -> io::Result<()> {
-        Err(io::ErrorKind::Other.into())
-    }
-}
-
-impl AsRawFd for UnsyncedFile {
-    fn as_raw_fd(&self) -> RawFd {
-        self.file.as_raw_fd()
-    }
-}
-
-impl<'r> Files for Unsynced<'r> {
-    type File = UnsyncedFile;
-
-    type Dir = <HostRuntime as Files>::Dir;
-
-    fn open_file(&self, how: &OpenOptions, path: &str) -> io::Result<UnsyncedFile> {
-        Ok(UnsyncedFile {
-            file: self.rt.open_file(how, path)?,
-        })
-    }
-
-    fn open_dir(&self, path: &str) -> io::Result<<HostRuntime as Files>::Dir> {
-        self.rt.open_dir(path)
-    }
-
-    fn metadata(&self, path: &str) -> io::Result<Metadata> {
-        fs::metadata(self.rt, path)
-    }
-
-    fn symlink_metadata(&self, path: &str) -> io::Result<Metadata> {
-        fs::symlink_metadata(self.rt, path)
-    }
-
-    fn copy(&self, from: &str, to: &str) -> io::Result<u64> {
-        fs::copy(self.rt, from, to)
-    }
-
-    fn rename(&self, from: &str, to: &str) -> io::Result<()> {
-        fs::rename(self.rt, from, to)
-    }
-
-    fn remove_file(&self, path: &str) -> io::Result<()> {
-        fs::remove_file(self.rt, path)
-    }
-
-    fn create_dir(&self, path: &str) -> io::Result<()> {
-        fs::create_dir(self.rt, path)
-    }
-
-    fn remove_dir(&self, path: &str) -> io::Result<()> {
-        fs::remove_dir(self.rt, path)
-    }
-
-    fn remove_dir_all<B: Allocator>(&self, alloc: B, path: &str) -> io::Result<()> {
-        self.rt.remove_dir_all(alloc, path)
+    fn tell(&self, _name: &Name, why: &Unheld) {
+        if let Unheld::ByAnother = why {
+            self.held.set(self.held.get().saturating_add(1));
+        }
     }
 }
 
@@ -191,7 +115,8 @@ fn devices_are_found_in_their_folder(rt: HostRuntime) -> Result<(), Fail> {
     symlink(&rt, "real", "bank_files_found/link")?;
     fs::create_dir(&rt, "bank_files_found/dir")?;
     File::create(&rt, "bank_files_found/long")?.set_len((MOST_SECTORS + 1) * 4096)?;
-    let mut bank = FileBank::new(&rt, alloc, format!(in alloc; "{folder}")?)?;
+    let system = System::new(&rt);
+    let mut bank = FileBank::new(&system, alloc, format!(in alloc; "{folder}")?)?;
     for (word, found, sectors) in [
         ("a", Some(0u32), 3u64),
         ("late", None, 0),
@@ -229,7 +154,8 @@ fn a_file_that_shrinks_or_vanishes_is_gone(rt: HostRuntime) -> Result<(), Fail> 
     fs::create_dir(&rt, folder)?;
     make(&rt, "bank_files_gone/a", 4 * SECTOR_BYTES)?;
     make(&rt, "bank_files_gone/b", 4 * SECTOR_BYTES)?;
-    let mut bank = FileBank::new(&rt, alloc, format!(in alloc; "{folder}")?)?;
+    let system = System::new(&rt);
+    let mut bank = FileBank::new(&system, alloc, format!(in alloc; "{folder}")?)?;
     assert_eq!(rt; find(alloc, &mut bank, "a")?, Ok(Some(0)));
     assert_eq!(rt; find(alloc, &mut bank, "b")?, Ok(Some(1)));
     assert_eq!(rt; write(&rt, alloc, &mut bank, 0, 2, 7)?, Ok(()));
@@ -262,23 +188,41 @@ fn a_file_that_shrinks_or_vanishes_is_gone(rt: HostRuntime) -> Result<(), Fail> 
 }
 
 #[test]
-fn a_flush_whose_sync_fails_is_failed(rt: HostRuntime) -> Result<(), Fail> {
+fn a_device_is_held_by_one_bank_under_one_name(rt: HostRuntime) -> Result<(), Fail> {
     let alloc = rt.alloc();
-    let folder = "bank_files_unsynced";
+    let folder = "bank_files_held";
     let _ = fs::remove_dir_all(&rt, folder);
     fs::create_dir(&rt, folder)?;
-    make(&rt, "bank_files_unsynced/a", 2 * SECTOR_BYTES)?;
-    let files = Unsynced { rt: &rt };
-    let mut bank = FileBank::new(&files, alloc, format!(in alloc; "{folder}")?)?;
-    assert_eq!(rt; find(alloc, &mut bank, "a")?, Ok(Some(0)));
-    // whole sectors come and go in short pieces
-    assert_eq!(rt; write(&rt, alloc, &mut bank, 0, 1, 7)?, Ok(()));
-    assert_eq!(rt; read(&rt, alloc, &mut bank, 0, 1)?, Ok(7));
-    assert_eq!(rt; read(&rt, alloc, &mut bank, 0, 0)?, Ok(0));
-    for faults in 1..3u64 {
-        assert_eq!(rt; flush(&rt, &mut bank, 0), Err(Fault::Failed));
-        assert_eq!(rt; bank.fault_count(0), faults);
+    make(&rt, "bank_files_held/a", 2 * SECTOR_BYTES)?;
+    make(&rt, "bank_files_held/empty", 0)?;
+    symlink(&rt, "a", "bank_files_held/b")?;
+    fs::hard_link(&rt, "bank_files_held/a", "bank_files_held/c")?;
+    let system = System::new(&rt);
+    let failed = Err(FindFault::Fault(Fault::Failed));
+    let mut second = FileBank::new(&system, alloc, format!(in alloc; "{folder}")?)?;
+    {
+        let mut first = FileBank::new(&system, alloc, format!(in alloc; "{folder}")?)?;
+        // one file has one name; under another one it's missing, which is no fault
+        for (word, found) in [("b", Some(0u32)), ("a", None), ("c", None), ("empty", None)] {
+            assert_eq!(rt; find(alloc, &mut first, word)?, Ok(found), "{word}");
+        }
+        assert_eq!(rt; first.lookup_fault_count(), 0);
+        assert_eq!(rt; system.held.get(), 0);
+        // another bank is as another program: it finds nothing, which is told and counted
+        for (word, faults) in [("a", 1u64), ("c", 2)] {
+            assert_eq!(rt; find(alloc, &mut second, word)?, failed, "{word}");
+            assert_eq!(rt; second.lookup_fault_count(), faults);
+            assert_eq!(rt; system.held.get(), faults);
+        }
+        // a file that is no device isn't kept open
+        assert_eq!(rt; find(alloc, &mut second, "empty")?, Ok(None));
+        assert_eq!(rt; write(&rt, alloc, &mut first, 0, 1, 7)?, Ok(()));
     }
+    // the lock goes with the bank that had it
+    assert_eq!(rt; find(alloc, &mut second, "a")?, Ok(Some(0)));
+    assert_eq!(rt; read(&rt, alloc, &mut second, 0, 1)?, Ok(7));
+    assert_eq!(rt; find(alloc, &mut second, "c")?, Ok(None));
+    assert_eq!(rt; second.lookup_fault_count(), 2);
     fs::remove_dir_all(&rt, folder)?;
     Ok(())
 }
