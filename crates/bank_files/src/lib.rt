@@ -8,10 +8,6 @@ mod host;
 mod host_file;
 mod opening;
 mod pieces;
-#[cfg(test)]
-mod planned;
-#[cfg(test)]
-mod tests;
 
 pub use bank::FileBank;
 pub use host::{Host, Unheld};

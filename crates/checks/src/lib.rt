@@ -10,7 +10,11 @@ mod built;
 #[cfg(test)]
 mod codec;
 #[cfg(test)]
+mod files;
+#[cfg(test)]
 mod labels;
+#[cfg(test)]
+mod planned_files;
 #[cfg(test)]
 mod rules;
 #[cfg(test)]

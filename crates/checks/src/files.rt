@@ -1,6 +1,6 @@
-//! What real files answer: how devices are found and held, and what becomes of a file that others change. They stand here
-//! since no contract tells what a file of the system holds.
-use crate::{FileBank, Host, Unheld};
+//! What a bank answers over the system's files: how devices are found and held, and what becomes of a file that others
+//! change. No contract tells what such a file holds.
+use bank_files::{FileBank, Host, Unheld};
 use bank_core::{Bank, Fault, FindFault, MOST_SECTORS, SECTOR_BYTES};
 use mp_base::Name;
 use std::alloc::Global;
