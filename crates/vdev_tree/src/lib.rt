@@ -11,5 +11,6 @@ mod vdev;
 
 pub use graft::GraftFault;
 pub use prune::PruneFault;
+pub use seat::children_are_the_tree;
 pub use top::Top;
 pub use vdev::{Counts, InnerVdev, Kind, LeafVdev, State, Vdev};

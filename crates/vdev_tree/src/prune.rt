@@ -206,7 +206,7 @@ fn promoted(mut spare: InnerVdev) -> Vdev
     requires some { (s : LeafVdev) × (t : Option LeafVdev) × (spare.children.items ≡ spare_vdevs s t) }
     ensures { (s : LeafVdev) (t : Option LeafVdev) → spare.children.items ≡ spare_vdevs s t → IsChild result (promoted spare.guid s t) }
 {
-    if spare.children.len() == 1 {
+    if spare.children.len() <= 1 {
         spare.children.remove(0)
     } else {
         Vdev::Inner(spare)

@@ -1,18 +1,30 @@
 //! Where a leaf stands in a tree, and what may be done there.
-ghost use Rattle.std.specs.Prelude.{◌≡◌, ◌<◌, List, true, false, Some, None, length, get_or, cond, IfOk, IfErr, IfSome, OnOk, IfNone};
-ghost use Rattle.std.specs.List.{list_any, AllZip};
+ghost use Rattle.std.specs.Prelude.{◌≡◌, ◌<◌, ◌≤◌, ◌++◌, ◌∷◌, [], List, true, false, Some, None, length, get_or, cond, IfOk, IfErr, IfSome, OnOk, IfNone};
+ghost use Rattle.std.specs.List.{list_any, flat_map, AllZip};
 ghost use Rattle.mp_base.specs.declared.refusal.Refusal.TheVariants.{WrongPlace, NoVdev};
 ghost use Rattle.mp_base.specs.declared.refusal.PlaceRule.TheVariants.{Role};
 ghost use Rattle.vdev_tree.specs.declared.vdev.Vdev.TheVariants.{Leaf, Inner};
+ghost use Rattle.vdev_tree.specs.declared.vdev.Kind.TheVariants.{Mirror};
 ghost use Rattle.vdev_tree.specs.declared.vdev.LeafVdev.{LeafVdev};
 ghost use Rattle.vdev_tree.specs.declared.vdev.InnerVdev.{InnerVdev};
-ghost use Rattle.vdev_tree.specs.Tree.{leaves};
-ghost use Rattle.vdev_tree.specs.Children.{Child, children_of, IsChild};
+ghost use Rattle.vdev_tree.specs.Tree.{leaves, marks, guid_of, opening, closing};
+ghost use Rattle.vdev_tree.specs.Children.{Child, children_of, child_leaves, child_marks, IsChild};
 ghost use Rattle.vdev_tree.specs.Edits.{is_at, may_be_replaced, may_get_spare, allows, is_single, limit_of, mirror_limit, prune_limit, refusal_of};
 
 use crate::top::Top;
 use crate::vdev::{Kind, Vdev};
 use mp_base::{Guid, PlaceRule, Refusal};
+
+/// The children of a mirror are the whole tree of its top: they give its leaves in tree order and how it is
+/// built, and there are 1 to 8 of them.
+pub fn children_are_the_tree(top: &Top)
+    ensures leaves { leaves top.now.mirror ≡ flat_map child_leaves (children_of top.now.mirror) }
+    ensures built { marks top.now.mirror ≡ opening (guid_of top.now.mirror) Mirror ∷ (flat_map child_marks (children_of top.now.mirror) ++ closing ∷ []) }
+    ensures some { 1 ≤ length (children_of top.now.mirror) }
+    ensures few { length (children_of top.now.mirror) ≤ 8 }
+{
+    let _ = top;
+}
 
 /// What is done at a leaf of a tree.
 #[derive(Clone, Copy, Debug, PartialEq, Eq)]
