@@ -1,7 +1,7 @@
 //! What a bank answers over the system's files: how devices are found and held, and what becomes of a file that others
 //! change. No contract tells what such a file holds.
-use bank_files::{FileBank, Host, Unheld};
 use bank_core::{Bank, Fault, FindFault, MOST_SECTORS, SECTOR_BYTES};
+use bank_files::{FileBank, Host, Unheld};
 use mp_base::Name;
 use std::alloc::Global;
 use std::cell::Cell;

@@ -1,8 +1,8 @@
 //! What a bank answers where a call of the system on a device's file fails, ends early, is short or is interrupted: each
 //! call in turn. No file of the system tells what it holds, so contracts alone don't refuse a body that makes nothing of
 //! such an answer over those files.
-use bank_files::{FileBank, FileId, Host, HostFile, Unheld};
 use bank_core::{Bank, Fault, FindFault, SECTOR_BYTES};
+use bank_files::{FileBank, FileId, Host, HostFile, Unheld};
 use mp_base::Name;
 use std::alloc::Global;
 use std::cell::Cell;

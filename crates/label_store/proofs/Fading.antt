@@ -110,9 +110,9 @@ zeros_bring : (dev : ℕ) (labels : List ℕ) (d s : ℕ) → AllBringBare (labe
 zeros_bring dev [] d s = tt
 zeros_bring dev (at ∷ labels) d s = (
   λ c.
-    let c' : covers (at + 32) 32 s ≡ true = sym (ap (λ n. covers (at + 32) n s) (ring_sectors zero_ring refl)) ∙ c in
-    let in_ring = covered_below (at + 32) 32 s c' in
-    subst IsBare (sym (ring_sector (s - (at + 32)) (omega (arith, in_ring.0, in_ring.1)))) zeros_bare,
+      let c' : covers (at + 32) 32 s ≡ true = sym (ap (λ n. covers (at + 32) n s) (ring_sectors zero_ring refl)) ∙ c in
+      let in_ring = covered_below (at + 32) 32 s c' in
+      subst IsBare (sym (ring_sector (s - (at + 32)) (omega (arith, in_ring.0, in_ring.1)))) zeros_bare,
   zeros_bring dev labels d s,
 )
 

@@ -3,8 +3,6 @@
 
 #[cfg(test)]
 mod away;
-#[cfg(test)]
-mod broad;
 mod clock;
 mod devices;
 mod stdio;
