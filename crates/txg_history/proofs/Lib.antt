@@ -1,0 +1,13 @@
+pub mod DevicesSurvive
+pub mod Folding
+pub mod GroupsSurvive
+pub mod Holding
+pub mod Keeping
+pub mod Listing
+pub mod Logging
+pub mod Moving
+pub mod Placing
+pub mod RoundsSurvive
+pub mod ScansSurvive
+pub mod Stamping
+pub mod Treeing
