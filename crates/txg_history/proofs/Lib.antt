@@ -10,4 +10,5 @@ pub mod Placing
 pub mod RoundsSurvive
 pub mod ScansSurvive
 pub mod Stamping
+pub mod Surviving
 pub mod Treeing
