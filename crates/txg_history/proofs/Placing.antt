@@ -17,7 +17,7 @@ use Rattle.txg_history.specs.Events.{Event, Calls, Accepts, Freezes, Wrote, Flus
 use Rattle.txg_history.specs.Groups.{Logs, same_key, at_device, between, grown, cleared, off}
 use Rattle.txg_history.specs.Labels.{Status, Odd, Even, Lost, begun}
 use Rattle.txg_history.specs.Moves.{IsSparing, MayFreeze, MayWrite, MayFlush, AreWidened, IsLeafOf, IsDrawnUp, MayStand, MayAck, MayJoin, MayScan, MayPass, MayClear, MayStop, May, puts}
-use Rattle.txg_history.specs.Needs.{Held, Keeps, Landed, Copied, IsPut, IsAt, NeedsLabel, NeedsCell, NeedsRead, NeedsGroup, NeedsPut, NeedsScan}
+use Rattle.txg_history.specs.Needs.{Held, Keeps, Landed, Copied, IsPut, IsAt, NeedsLabel, NeedsCell, NeedsRead, NeedsGroup, NeedsPut, NeedsScan, NeedsSoft}
 use Rattle.txg_history.specs.Pages.{Codec, IsTree}
 use Rattle.txg_history.specs.Places.{HaveNone, AllHaveNone, IsFree}
 use Rattle.txg_history.specs.Pools.{Pool, drawn, seat, after, noted_since, other_than, whole_log, kept_in}
@@ -62,3 +62,44 @@ taken_self cells k cell is = record { k = k; there = cell; is_there = is; at_one
 -- two cells of one key are one
 pub one_of : (cells : Cells) (j k : Key) (a b : Cell) → j ≡ k → cells j ≡ Some a → cells k ≡ Some b → AreOne j k a b
 one_of cells j k a b same at bt = (same, same_cell a b (sym at ∙ (ap cells same ∙ bt)))
+
+-- A place of a top lies between the labels of each of the top's leaves.
+pub place_between : (c : Codec) (p : Pool) (d : ℕ) (cell : Cell) → Survives c p → p.member d ≡ true → IsMapped p.room cell → (cell.top ≡ 0) ⊎ (cell.top ≡ p.home d)
+    → data_start + cell.sector + 128 < p.size d
+place_between c p d cell sv is m (inl none) = let some = top_some p.room cell sv.roomy.no_top m in absurd (omega (arith, some, none))
+place_between c p d cell sv is m (inr home) =
+    let inside : cell.sector < p.room (p.home d) = subst (λ t. cell.sector < p.room t) home m.inside in
+    let room = sv.roomy.rooms d is in omega (arith, inside, room)
+
+-- All that is needed of a member but for its labels lies between them, and so does the place of each live record's key
+-- under its top.
+pub record AreBetween (p : Pool) : Type 0 where
+  pub put : (d s : ℕ) (bytes : List ℕ) → p.member d ≡ true → NeedsPut p d s bytes → (128 ≤ s) × (s + 128 < p.size d)
+  pub soft : (d s : ℕ) (bytes : List ℕ) → p.member d ≡ true → NeedsSoft p d s bytes → (128 ≤ s) × (s + 128 < p.size d)
+  pub live : (r : Rec) (d : ℕ) (k : Key) (cell : Cell) → IsIn r p.live → p.member d ≡ true → r.cells k ≡ Some cell → p.in_top d ≡ cell.top
+      → data_start + cell.sector + 128 < p.size d
+
+pub all_between : (c : Codec) (p : Pool) → Survives c p → AreBetween p
+all_between c p sv = record {
+  put = λ d s bytes is n. of d s bytes n.cell is n.at (sv.one_key.group_mapped n.is_frozen n.k n.cell n.cell_is) (by_tree d n.cell is n.top_is);
+  soft = λ d s bytes is n. by_need d s bytes is n;
+  live = λ r d k cell i is at top. place_between c p d cell sv is (sv.one_key.mapped r k cell i at) (by_tree d cell is top);
+}
+  where
+    by_tree : (d : ℕ) (cell : Cell) → p.member d ≡ true → p.in_top d ≡ cell.top → (cell.top ≡ 0) ⊎ (cell.top ≡ p.home d)
+    by_tree d cell is top = ⊎_elim (λ none. inl (sym top ∙ none)) (λ home. inr (sym top ∙ home)) (sv.placed.in_tree d is)
+
+    of : (d s : ℕ) (bytes : List ℕ) (cell : Cell) → p.member d ≡ true → IsAt cell s bytes → IsMapped p.room cell → (cell.top ≡ 0) ⊎ (cell.top ≡ p.home d)
+        → (128 ≤ s) × (s + 128 < p.size d)
+    of d s bytes cell is at m top = let high = place_between c p d cell sv is m top in
+        (omega (arith, at.sector_is), omega (arith, at.sector_is, high))
+
+    reads : IsIn p.reads p.live
+    reads = sv.order.reads_live
+
+    by_need : (d s : ℕ) (bytes : List ℕ) → p.member d ≡ true
+        → NeedsCell p.live (p.guid d) s bytes ⊎ (NeedsRead p.reads p.in_top p.owes d s bytes ⊎ NeedsScan p.scan p.reads p.in_top d s bytes) → (128 ≤ s) × (s + 128 < p.size d)
+    by_need d s bytes is (inl n) = of d s bytes n.cell is n.at (sv.one_key.mapped n.r n.k n.cell n.is_live n.cell_is)
+        (⊎_elim (λ none. inl (sym n.in_top ∙ none)) (λ home. inr (sym n.in_top ∙ home)) (sv.placed.in_records n.r d n.is_live is))
+    by_need d s bytes is (inr (inl n)) = of d s bytes n.cell is n.at (sv.one_key.mapped p.reads n.k n.cell reads n.cell_is) (by_tree d n.cell is n.top_is)
+    by_need d s bytes is (inr (inr n)) = of d s bytes n.cell is n.at (sv.one_key.mapped p.reads n.k n.cell reads n.cell_is) (by_tree d n.cell is n.top_is)

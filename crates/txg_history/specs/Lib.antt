@@ -15,6 +15,7 @@ pub mod Records
 pub mod Rounds
 pub mod Scans
 pub mod Sound
+pub mod Sparing
 pub mod Stamps
 pub mod Survival
 pub mod Tracking
