@@ -19,3 +19,4 @@ pub mod Stamping
 pub mod Surviving
 pub mod Thirds
 pub mod Treeing
+pub mod Writing

@@ -124,7 +124,7 @@ unfolding sector_size
 first_bytes k bytes long none = ap (λ i. take 4096 (drop (i * 4096) bytes)) none ∙ take_all 4096 bytes (omega arith)
 
 -- a write of one sector that aims there puts it there
-one_there : (dev at d s : ℕ) (bytes : List ℕ) → length bytes ≡ 4096 → sectors_in bytes ≡ 1 → ((dev == d) && covers at (sectors_in bytes) s) ≡ true
+pub one_there : (dev at d s : ℕ) (bytes : List ℕ) → length bytes ≡ 4096 → sectors_in bytes ≡ 1 → ((dev == d) && covers at (sectors_in bytes) s) ≡ true
     → sector_of (s - at) bytes ≡ bytes
 one_there dev at d s bytes long one is =
     let c = and_parts (nat_le at s) (nat_lt s (at + sectors_in bytes)) (and_parts (dev == d) (covers at (sectors_in bytes) s) is).1 in
