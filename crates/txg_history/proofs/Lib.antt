@@ -3,6 +3,7 @@ pub mod Folding
 pub mod GroupsSurvive
 pub mod Holding
 pub mod Keeping
+pub mod Landing
 pub mod Leaving
 pub mod Listing
 pub mod Logging
@@ -19,4 +20,5 @@ pub mod Stamping
 pub mod Surviving
 pub mod Thirds
 pub mod Treeing
+pub mod Turning
 pub mod Writing
