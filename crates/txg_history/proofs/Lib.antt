@@ -15,6 +15,7 @@ pub mod RoundPlaces
 pub mod RoundShapes
 pub mod RoundsSurvive
 pub mod ScansSurvive
+pub mod Showing
 pub mod Sparing
 pub mod Stamping
 pub mod Surviving

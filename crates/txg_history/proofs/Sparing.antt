@@ -15,7 +15,7 @@ use Rattle.txg_history.specs.Moves.{IsPlain, puts, IsSparing, Mays}
 use Rattle.txg_history.specs.Pages.{Codec}
 use Rattle.txg_history.specs.Pools.{Pool, after, drawn, seat}
 use Rattle.txg_history.specs.Records.{data_start}
-use Rattle.txg_history.specs.Sparing.{ArePlain, lays, LayJust, AreSparing, AreElsewhere}
+use Rattle.txg_history.specs.Sparing.{ArePlain, lays, LayJust, AreSparing, AreElsewhere, WriteNothing}
 use Rattle.txg_history.specs.Survival.{IsKnownUber}
 use Rattle.txg_history.proofs.Folding.{events_more, with_calls, mays_calls}
 
@@ -144,3 +144,15 @@ sparing_more p first second a b = record {
   true_to = λ r d k cell i member at top. lay_more (λ bytes. bytes ≡ cell.block) d (data_start + cell.sector) first second (a.true_to r d k cell i member at top) (b.true_to r d k cell i member at top);
   known = λ d place member inside. lay_more (IsKnownUber (drawn p) p.pool (seat p d)) d (place_at (p.size d) place) first second (a.known d place member inside) (b.known d place member inside);
 }
+
+writes_nothing : (asks : List Ask) → WriteNothing asks → ArePlain asks × ((d s : ℕ) → Spares asks d s)
+writes_nothing [] w = (tt, λ d s. tt)
+writes_nothing (Reads dev at sectors ∷ asks) w = let more = writes_nothing asks w in (more.0, λ d s. (refl, more.1 d s))
+writes_nothing (Writes dev at bytes ∷ asks) w = absurd w
+writes_nothing (Flushes dev ∷ asks) w = let more = writes_nothing asks w in (more.0, λ d s. (refl, more.1 d s))
+writes_nothing (Admits dev ∷ asks) w = absurd w
+writes_nothing (Ejects dev ∷ asks) w = absurd w
+
+-- So do reads and flushes.
+pub reading_sparing : (p : Pool) (asks : List Ask) → WriteNothing asks → AreSparing p asks
+reading_sparing p asks w = let both = writes_nothing asks w in elsewhere_sparing p asks (both.0, λ d s member. both.1 d s)

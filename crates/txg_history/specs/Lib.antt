@@ -11,6 +11,7 @@ pub mod Pages
 pub mod Places
 pub mod Pools
 pub mod Premises
+pub mod Reads
 pub mod Records
 pub mod Rounds
 pub mod Scans

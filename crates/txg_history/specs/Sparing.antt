@@ -45,3 +45,10 @@ pub record AreSparing (p : Pool) (asks : List Ask) : Type 0 where
 -- they aim at no sector of a member
 abbrev pub AreElsewhere : Pool → List Ask → Type 0
 AreElsewhere p asks = ArePlain asks × ((d s : ℕ) → p.member d ≡ true → Spares asks d s)
+
+-- they read and flush alone
+abbrev pub WriteNothing : List Ask → Type 0
+WriteNothing [] = Unit {0}
+WriteNothing (Reads dev at sectors ∷ asks) = WriteNothing asks
+WriteNothing (Flushes dev ∷ asks) = WriteNothing asks
+WriteNothing (ask ∷ asks) = ⊥

@@ -3,5 +3,11 @@
 #![tactic(auto)]
 
 mod moves;
+mod rounds;
+mod turns;
+mod writes;
 
 pub use moves::{histories_keep_their_records, stamped_pools_survive};
+pub use rounds::rounds_may_be_made;
+pub use turns::{flush_turns_may_be_made, write_turns_may_be_made};
+pub use writes::{keys_may_be_written_again, plans_may_be_made, reads_show_the_block};
