@@ -1,3 +1,5 @@
+pub mod Calming
+pub mod DeviceSectors
 pub mod DevicesSurvive
 pub mod Folding
 pub mod GroupsSurvive
@@ -7,6 +9,9 @@ pub mod Landing
 pub mod Leaving
 pub mod Listing
 pub mod Logging
+pub mod LookedParts
+pub mod LooksFound
+pub mod LooksShow
 pub mod Moving
 pub mod Placing
 pub mod RoundMoves
@@ -20,6 +25,9 @@ pub mod Sparing
 pub mod Stamping
 pub mod Surviving
 pub mod Thirds
+pub mod Tracked
 pub mod Treeing
 pub mod Turning
+pub mod Verified
 pub mod Writing
+pub mod Yields
