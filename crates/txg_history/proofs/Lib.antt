@@ -13,6 +13,7 @@ pub mod LookedParts
 pub mod LooksFound
 pub mod LooksShow
 pub mod Moving
+pub mod Nearing
 pub mod Placing
 pub mod RoundMoves
 pub mod RoundParts

@@ -133,6 +133,8 @@ front_ready : (codec : Codec) (p : Pool) (q : Rec) (ms : List Member) (results :
     → (r : IsRoundEvents p.size q ms results vs) → AreReady codec (front q r.first r.second p) q ms r.in_second
 front_ready codec p q ms results vs st r = record {
   is_live = inl refl;
+  number_is = st.drawn_up.number_is;
+  taken = refl;
   fits = st.drawn_up.fits;
   seated = λ j m e is. seated_front p m q r.first r.second (seated_of codec p q ms st j m e is);
   between = let b = begun_between codec p q ms st in record { put = b.put; soft = b.soft; live = b.live };

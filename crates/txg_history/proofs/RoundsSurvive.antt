@@ -16,7 +16,7 @@ use Rattle.label_store.specs.Uberblock.{IsUberblock}
 use Rattle.txg_history.specs.Events.{Event, Calls, Accepts, Freezes, Wrote, Flushed, Draws, Leaves, Grows, Burns, Begins, Third, Ends, Acks, Looks, Opens, Joins, Loses, Scans, Passes, Drops, Clears, Rests, Stops}
 use Rattle.txg_history.specs.Groups.{Logs, same_key, at_device, between, grown, cleared, off}
 use Rattle.txg_history.specs.Labels.{Status, Odd, Even, Lost, begun}
-use Rattle.txg_history.specs.Moves.{IsSparing, MayFreeze, MayWrite, MayFlush, AreWidened, IsLeafOf, IsDrawnUp, MayStand, MayAck, MayJoin, MayScan, MayPass, MayClear, MayStop, May, puts}
+use Rattle.txg_history.specs.Moves.{IsSparing, MayFreeze, MayWrite, MayFlush, AreWidened, IsLeafOf, IsDrawnUp, MayStand, MayEnd, MayAck, MayJoin, MayScan, MayPass, MayClear, MayStop, May, puts}
 use Rattle.txg_history.specs.Needs.{Held, Keeps, Landed, Copied, IsPut, IsAt, NeedsLabel, NeedsCell, NeedsRead, NeedsGroup, NeedsPut, NeedsScan}
 use Rattle.txg_history.specs.Pages.{Codec, IsTree}
 use Rattle.txg_history.specs.Places.{HaveNone, AllHaveNone, IsFree}
@@ -289,16 +289,17 @@ at_live p status d e here away is = by_bool (d == e)
     (λ other. subst (IsOf p.live (p.guid e)) (sym (at_away d e status p.status other)) away)
 
 -- a status that the labels of a member have come to
-stands_survive : (c : Codec) (p : Pool) (q : Rec) (d : ℕ) (status : Status) → Survives c p → (p.member d ≡ true → MayStand p q d status)
-    → (IsIn q p.live → takes_part q (p.guid d) ≡ true → IsOf p.live (p.guid d) status) → Survives c (record p { status = at_device d status p.status })
-stands_survive c p q d status sv m of = record {
-  labels = λ e s bytes is n. at_held p status d e s bytes (λ member. (m member).held s bytes) (λ n. sv.labels e s bytes is n) is n;
+stands_survive : (c : Codec) (p : Pool) (d : ℕ) (status : Status) → Survives c p
+    → (p.member d ≡ true → (s : ℕ) (bytes : List ℕ) → NeedsLabel (seat p d) status s bytes → Held (p.sectors d s) bytes)
+    → (p.member d ≡ true → IsOf p.live (p.guid d) status) → Survives c (record p { status = at_device d status p.status })
+stands_survive c p d status sv held of = record {
+  labels = λ e s bytes is n. at_held p status d e s bytes (λ member. held member s bytes) (λ n. sv.labels e s bytes is n) is n;
   puts = sv.puts;
   cells = sv.cells;
   current = sv.current;
   scanned = sv.scanned;
   rings = sv.rings;
-  status_live = λ e is. at_live p status d e (λ member. of (m member).is_live (m member).takes) (sv.status_live e is) is;
+  status_live = λ e is. at_live p status d e of (sv.status_live e is) is;
   roomy = sv.roomy;
   placed = sv.placed;
   one_key = sv.one_key;
@@ -314,11 +315,13 @@ stands_survive c p q d status sv m of = record {
   in_range = sv.in_range;
 }
 
-pub third_survives : (c : Codec) (p : Pool) (q : Rec) (d : ℕ) → Survives c p → (p.member d ≡ true → MayStand p q d (Even q)) → Survives c (after (Third q d) p)
-third_survives c p q d sv m = stands_survive c p q d (Even q) sv m (λ i takes. (i, takes))
+pub third_survives : (c : Codec) (p : Pool) (q : Rec) (d : ℕ) → Survives c p → (p.member d ≡ true → MayStand p q d) → Survives c (after (Third q d) p)
+third_survives c p q d sv m = stands_survive c p d (Even q) sv (λ member. (m member).held) (λ member. ((m member).is_live, (m member).takes))
 
-pub ends_survives : (c : Codec) (p : Pool) (q : Rec) (d : ℕ) → Survives c p → (p.member d ≡ true → MayStand p q d (Odd q)) → Survives c (after (Ends q d) p)
-ends_survives c p q d sv m = stands_survive c p q d (Odd q) sv m (λ i takes. (i, takes))
+pub ends_survives : (c : Codec) (p : Pool) (q : Rec) (d : ℕ) → Survives c p → (p.member d ≡ true → MayEnd p q d) → Survives c (after (Ends q d) p)
+ends_survives c p q d sv m = stands_survive c p d (Odd q) sv
+    (λ member s bytes n. ⊎_elim (λ ring. sv.labels d s bytes member (subst (λ st. NeedsLabel (seat p d) st s bytes) (sym (m member).began) (inl ring))) (λ part. (m member).held s bytes part) n)
+    (λ member. subst (IsOf p.live (p.guid d)) (m member).began (sv.status_live d member))
 
 -- A round is acknowledged.
 pub acks_survive : (c : Codec) (p : Pool) (q : Rec) → Survives c p → MayAck p q → Survives c (after (Acks q) p)

@@ -16,8 +16,8 @@ use Rattle.label_store.proofs.Keeping.{same_member, no_member, others, turn_spar
 use Rattle.label_store.proofs.Places.{label_is, config_elsewhere_odd, odd_spares_ring, odd_lands}
 use Rattle.txg_history.specs.Events.{Event, Calls, Third, Ends, calls_of, as_events}
 use Rattle.txg_history.specs.Labels.{Status, Odd, Even}
-use Rattle.txg_history.specs.Moves.{MayStand, Mays}
-use Rattle.txg_history.specs.Needs.{Held, NeedsLabel}
+use Rattle.txg_history.specs.Moves.{MayStand, MayEnd, Mays}
+use Rattle.txg_history.specs.Needs.{Held, InPart, odd_part, NeedsLabel}
 use Rattle.txg_history.specs.Pools.{Pool, after, pool_after, seat}
 use Rattle.txg_history.specs.Groups.{at_device}
 use Rattle.txg_history.proofs.Placing.{AreBetween}
@@ -34,6 +34,8 @@ stands_held st = record { still = st.still; stands = inl st.stable }
 -- Before the third phase of these members: the even labels of those that are in it hold the new record.
 pub record AreReady (codec : Codec) (p : Pool) (q : Rec) (ms : List Member) (was : List Bool) : Type 0 where
   pub is_live : IsIn q p.live
+  pub number_is : number_of q ≡ p.highest
+  pub taken : p.group.fresh ≡ false
   pub fits : Fits codec p.name p.pool q
   pub seated : (j : ℕ) (m : Member) → slice_get ms j ≡ Some m → p.member m.dev ≡ true → IsSeated p q m
   pub between : AreBetween p
@@ -60,6 +62,8 @@ ready_rest : (codec : Codec) (p : Pool) (q : Rec) (m : Member) (ms : List Member
     → AreReady codec (turned made status p) q ms was
 ready_rest codec p q m ms b c was made status turn r = record {
   is_live = r.is_live;
+  number_is = r.number_is;
+  taken = r.taken;
   fits = r.fits;
   seated = λ j n e is. seated_turned p q n made status (r.seated (suc j) n e is);
   between = between_turned p made status r.between;
@@ -75,6 +79,8 @@ ready_off : (codec : Codec) (p : Pool) (q : Rec) (m : Member) (ms : List Member)
     → AreReady codec p q (m ∷ ms) (b ∷ was) → AreReady codec p q ms was
 ready_off codec p q m ms b was r = record {
   is_live = r.is_live;
+  number_is = r.number_is;
+  taken = r.taken;
   fits = r.fits;
   seated = λ j n e. r.seated (suc j) n e;
   between = r.between;
@@ -83,9 +89,11 @@ ready_off codec p q m ms b was r = record {
 }
 
 even_stands : (codec : Codec) (p : Pool) (q : Rec) (m : Member) (ms : List Member) (was : List Bool) → AreReady codec p q (m ∷ ms) (true ∷ was)
-    → p.member m.dev ≡ true → MayStand p q m.dev (Even q)
+    → p.member m.dev ≡ true → MayStand p q m.dev
 even_stands codec p q m ms was r is = record {
   is_live = r.is_live;
+  number_is = r.number_is;
+  taken = r.taken;
   takes = (r.seated zero m refl is).takes;
   held = λ s bytes needs. stands_held (r.stands zero m refl refl is s bytes needs);
 }
@@ -103,11 +111,10 @@ part_sparing codec p q m ms c was made turn r =
 -- A whole turn: the odd labels hold the new record too.
 odd_stands : (codec : Codec) (p : Pool) (q : Rec) (m : Member) (ms : List Member) (was : List Bool) (made : List Noted)
     → IsTurn (third_plan p.size q.commit m) true true made → AreReady codec p q (m ∷ ms) (true ∷ was)
-    → p.member m.dev ≡ true → MayStand (with_calls made (after (Third q m.dev) p)) q m.dev (Odd q)
+    → p.member m.dev ≡ true → MayEnd (with_calls made (after (Third q m.dev) p)) q m.dev
 odd_stands codec p q m ms was made turn r is = record {
-  is_live = r.is_live;
-  takes = seated.takes;
-  held = λ s bytes needs. stands_held (by_part s bytes needs);
+  began = ap (λ t. cond t (Even q) (p.status m.dev)) (eq-eqb m.dev m.dev refl);
+  held = λ s bytes part. stands_held (by_part s bytes part);
 }
   where
     seated : IsSeated p q m
@@ -116,13 +123,8 @@ odd_stands codec p q m ms was made turn r is = record {
     few : sectors_in q.commit.blob ≤ 28
     few = few_of codec p.name p.pool q r.fits
 
-    by_part : (s : ℕ) (bytes : List ℕ) → NeedsLabel (seat p m.dev) (Odd q) s bytes → Stands (replay made m.dev s (p.sectors m.dev s)) bytes
-    by_part s bytes (inl (e, b)) = untouched_stands made m.dev s (p.sectors m.dev s) bytes
-        (turn_spares (third_plan p.size q.commit m) true true made m.dev s
-        (λ was. subst (Spares (third_plan p.size q.commit m) m.dev) (omega (arith, e))
-        (odd_spares_ring m.dev (p.size m.dev) q.commit.blob m.dev 0 (slot_of (number_of q)) seated.big few (label_is (p.size m.dev) 0 (omega arith)) (omega arith))) turn)
-        (r.stands zero m refl refl is s bytes (inl (e, b)))
-    by_part s bytes (inr (i, lt, e, b)) =
+    by_part : (s : ℕ) (bytes : List ℕ) → InPart odd_part q s bytes → Stands (replay made m.dev s (p.sectors m.dev s)) bytes
+    by_part s bytes (i, lt, e, b) =
         subst (λ t. Stands (replay made m.dev t (p.sectors m.dev t)) bytes) (sym e)
         (subst (Stands (replay made m.dev (68 + i) (p.sectors m.dev (68 + i)))) (sym b)
         (odd_lands m.dev (p.size m.dev) q.commit.blob i made _ seated.big few lt

@@ -159,15 +159,4 @@ promise_holds c p d sv has = of has.status_is
 -- A third phase that was cut is made good where label 1 holds the configuration after all.
 pub cut_phase_ends : (c : Codec) (p : Pool) (q : Rec) (d : ℕ) → Survives c p → p.status d ≡ Even q
     → ((s : ℕ) (bytes : List ℕ) → InPart odd_part q s bytes → Held (p.sectors d s) bytes) → May c p (Ends q d)
-cut_phase_ends c p q d sv e odd is = record {
-  is_live = of.0;
-  takes = of.1;
-  held = λ s bytes n. by_need s bytes n;
-}
-  where
-    of : IsOf p.live (p.guid d) (Even q)
-    of = subst (IsOf p.live (p.guid d)) e (sv.status_live d is)
-
-    by_need : (s : ℕ) (bytes : List ℕ) → NeedsLabel (seat p d) (Odd q) s bytes → Held (p.sectors d s) bytes
-    by_need s bytes (inl ring) = sv.labels d s bytes is (subst (λ st. NeedsLabel (seat p d) st s bytes) (sym e) (inl ring))
-    by_need s bytes (inr part) = odd s bytes part
+cut_phase_ends c p q d sv e odd is = record { began = e; held = odd }

@@ -10,7 +10,7 @@ use Rattle.label_store.specs.Uberblock.{IsUberblock}
 use Rattle.txg_history.specs.Events.{Event, Known, Calls, Accepts, Freezes, Wrote, Flushed, Draws, Leaves, Grows, Burns, Begins, Third, Ends, Acks, Looks, Opens, Joins, Loses, Scans, Passes, Drops, Clears, Rests, Stops}
 use Rattle.txg_history.specs.Groups.{Logs}
 use Rattle.txg_history.specs.Labels.{Status, Odd, Even}
-use Rattle.txg_history.specs.Needs.{Held, Keeps, Landed, Copied, NeedsLabel, NeedsPut, NeedsScan, NeedsFirm, NeedsSoft}
+use Rattle.txg_history.specs.Needs.{Held, Keeps, Landed, Copied, InPart, odd_part, NeedsLabel, NeedsPut, NeedsScan, NeedsFirm, NeedsSoft}
 use Rattle.txg_history.specs.Pages.{Codec, AreDirty}
 use Rattle.txg_history.specs.Places.{IsFree}
 use Rattle.txg_history.specs.Pools.{Pool, after, seat, drawn}
@@ -102,11 +102,19 @@ pub record IsDrawnUp (c : Codec) (p : Pool) (q : Rec) : Type 0 where
   pub cells_are : (k : Key) → q.cells k ≡ laid_over p.group.cells p.reads.cells k
   pub leaves : (d : ℕ) → p.member d ≡ true → IsLeafOf p q d ⊎ (IsNoLeaf q (p.guid d) × (p.group.board d ≡ false))
 
--- The labels of a member that takes part in a live record's round have come to hold this.
-pub record MayStand (p : Pool) (q : Rec) (d : ℕ) (status : Status) : Type 0 where
+-- The third phase of a live record may begin on a member that takes part in it: the last number drawn is its own, and the
+-- member's even labels hold it.
+pub record MayStand (p : Pool) (q : Rec) (d : ℕ) : Type 0 where
   pub is_live : IsIn q p.live
+  pub number_is : number_of q ≡ p.highest
+  pub taken : p.group.fresh ≡ false
   pub takes : takes_part q (p.guid d) ≡ true
-  pub held : (s : ℕ) (bytes : List ℕ) → NeedsLabel (seat p d) status s bytes → Held (p.sectors d s) bytes
+  pub held : (s : ℕ) (bytes : List ℕ) → NeedsLabel (seat p d) (Even q) s bytes → Held (p.sectors d s) bytes
+
+-- The third phase that began last on a member may have ended: the odd labels hold the record too.
+pub record MayEnd (p : Pool) (q : Rec) (d : ℕ) : Type 0 where
+  pub began : p.status d ≡ Even q
+  pub held : (s : ℕ) (bytes : List ℕ) → InPart odd_part q s bytes → Held (p.sectors d s) bytes
 
 -- The record may be acknowledged: it is the newest, its round was the last one, the labels of each member that takes part
 -- hold it, and no leaf of it lost a group from its log since.
@@ -184,8 +192,8 @@ May c p (Leaves d) = p.group.frozen ≡ true
 May c p (Grows owes) = AreWidened p.owes owes
 May c p Burns = p.group.frozen ≡ true
 May c p (Begins q) = IsDrawnUp c p q
-May c p (Third q d) = p.member d ≡ true → MayStand p q d (Even q)
-May c p (Ends q d) = p.member d ≡ true → MayStand p q d (Odd q)
+May c p (Third q d) = p.member d ≡ true → MayStand p q d
+May c p (Ends q d) = p.member d ≡ true → MayEnd p q d
 May c p (Acks q) = MayAck p q
 May c p (Looks known) = ReadsTrue p.sectors known
 May c p (Opens r) = IsIn r p.live
