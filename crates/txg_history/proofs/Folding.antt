@@ -3,7 +3,7 @@ use Rattle.std.proofs.Common.{◌≡◌, ◌⊎◌, ℕ, ◌==◌, Bool, true, f
 use Rattle.std.proofs.lemmas.Bool.Decides.{nat_tests}
 use Rattle.mp_base.specs.declared.number.Guid.{Guid}
 use Rattle.bank_core.specs.Disk.{Noted, run}
-use Rattle.txg_history.specs.Events.{Event, Calls, Joins, Loses, Stops, calls_of, as_events, IsOneRun}
+use Rattle.txg_history.specs.Events.{Event, Calls, Joins, Loses, Stops, calls_of, as_events, IsOneRun, Brings, BringsIn}
 use Rattle.txg_history.specs.Moves.{Mays}
 use Rattle.txg_history.specs.Pages.{Codec}
 use Rattle.txg_history.specs.Pools.{Pool, noted_since, other_than, after, pool_after}
@@ -158,16 +158,6 @@ taken_false d e f is = by_test (d == e) is
     by_test : (t : Bool) → cond t false (f e) ≡ true → f e ≡ true
     by_test true is = absurd (cc)
     by_test false is = is
-
--- a device that is brought in
-abbrev pub Brings : Event → (d : ℕ) → Type 0
-Brings (Joins e m top) d = e ≡ d
-Brings v d = ⊥
-
--- one of these events brings it in
-abbrev pub BringsIn : List Event → (d : ℕ) → Type 0
-BringsIn [] d = ⊥
-BringsIn (v ∷ vs) d = Brings v d ⊎ BringsIn vs d
 
 pub member_before : (v : Event) (p : Pool) (d : ℕ) → (after v p).member d ≡ true → (p.member d ≡ true) ⊎ Brings v d
 member_before (Joins e m top) p d is = by_test (e == d) refl is

@@ -1,4 +1,5 @@
 pub mod Calming
+pub mod Containing
 pub mod DeviceSectors
 pub mod DevicesSurvive
 pub mod Folding
@@ -14,7 +15,9 @@ pub mod LooksFound
 pub mod LooksShow
 pub mod Moving
 pub mod Nearing
+pub mod Paging
 pub mod Placing
+pub mod ReadingBack
 pub mod RoundMoves
 pub mod RoundParts
 pub mod RoundPlaces
@@ -24,6 +27,7 @@ pub mod ScansSurvive
 pub mod Showing
 pub mod Sparing
 pub mod Stamping
+pub mod Straying
 pub mod Surviving
 pub mod Thirds
 pub mod Tracked

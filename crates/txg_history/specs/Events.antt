@@ -1,6 +1,6 @@
 -- The history of a pool: a flat list of what happened, each device call among it. Each front of the list
 -- is a moment, and what happened in several runs is one list with a stop between any two.
-use Rattle.std.specs.Prelude.{ℕ, Bool, List, [], ◌∷◌, Option}
+use Rattle.std.specs.Prelude.{◌≡◌, ◌⊎◌, ℕ, Bool, List, [], ◌∷◌, Option}
 use Rattle.mp_base.specs.declared.number.Guid.{Guid}
 use Rattle.mp_base.specs.declared.place.Key.{Key}
 use Rattle.bank_core.specs.Disk.{Noted, Sectors}
@@ -76,3 +76,13 @@ abbrev pub IsOneRun : List Event → Type 0
 IsOneRun [] = Unit {0}
 IsOneRun (Stops sectors size ∷ vs) = ⊥
 IsOneRun (v ∷ vs) = IsOneRun vs
+
+-- the event brings this device in
+abbrev pub Brings : Event → (d : ℕ) → Type 0
+Brings (Joins e m top) d = e ≡ d
+Brings v d = ⊥
+
+-- one of these events does
+abbrev pub BringsIn : List Event → (d : ℕ) → Type 0
+BringsIn [] d = ⊥
+BringsIn (v ∷ vs) d = Brings v d ⊎ BringsIn vs d

@@ -1,5 +1,5 @@
 -- What is assumed at an opening, and nowhere else.
-use Rattle.std.specs.Prelude.{◌≡◌, ◌⊎◌, ℕ, ◌+◌, ◌<◌, ◌≤◌, true, false, List, [], ◌∷◌, Option, Some}
+use Rattle.std.specs.Prelude.{◌≡◌, ◌⊎◌, ℕ, ◌+◌, ◌<◌, ◌≤◌, Bool, true, false, List, [], ◌∷◌, ◌++◌, Option, Some}
 use Rattle.sha2.specs.Sha256.{sha256}
 use Rattle.mp_base.specs.declared.number.Guid.{Guid}
 use Rattle.label_store.specs.declared.rule.Head.{Head}
@@ -7,10 +7,10 @@ use Rattle.label_store.specs.declared.uberblock.Uberblock.{Uberblock}
 use Rattle.label_store.specs.Records.{AreUnhurt, place_at}
 use Rattle.label_store.specs.Rounds.{config_of}
 use Rattle.label_store.specs.Uberblock.{IsUberblock}
-use Rattle.txg_history.specs.Events.{Event, Known, Looks}
+use Rattle.txg_history.specs.Events.{Event, Known, Looks, Opens}
 use Rattle.txg_history.specs.Needs.{Held, InRing, InPart, even_part, odd_part}
 use Rattle.txg_history.specs.Openings.{IsVerifiedOn, IsReadWhole, IsDrawnRecord}
-use Rattle.txg_history.specs.Pools.{Pool, after, drawn, seat}
+use Rattle.txg_history.specs.Pools.{Pool, after, pool_after, drawn, seat}
 use Rattle.txg_history.specs.Records.{Rec, Cell, IsIn, number_of, takes_part, key, data_start}
 use Rattle.txg_history.specs.Survival.{IsAmong}
 
@@ -39,6 +39,15 @@ pub record WasAcked (p : Pool) (r : Rec) : Type 0 where
   pub twin : Rec
   pub acked : IsIn twin p.acks
   pub are : AreTwins r twin
+
+-- An opening among these events read a record with a lower number while this one was live.
+pub record WasMissed (p : Pool) (vs : List Event) (r : Rec) : Type 0 where
+  pub before : List Event
+  pub opened : Rec
+  pub later : List Event
+  pub all : vs ≡ before ++ (Opens opened ∷ later)
+  pub was_live : IsIn r (pool_after before p).live
+  pub lower : number_of opened < number_of r
 
 -- No stray: no record of the name on a device that isn't a member's but those of this pool; and none that
 -- was given up though an opening missed it, with a number not below the acknowledged one's, but where a live record is the very same.
@@ -74,22 +83,22 @@ pub record Premises (head_of : List ℕ → Option Head) (p : Pool) (known : Kno
 
 -- A leaf of the cell's top has its block: its log in the record lacks the birth, the sector is undamaged, and its reads
 -- don't fail.
-pub record HasGoodLeaf (p : Pool) (r : Rec) (cell : Cell) (Answers : (d : ℕ) → Type 0) : Type 0 where
+pub record HasGoodLeaf (p : Pool) (r : Rec) (cell : Cell) (answering : ℕ → Bool) : Type 0 where
   pub d : ℕ
   pub is_member : p.member d ≡ true
   pub top_is : r.tops (p.guid d) ≡ cell.top
   pub has : r.owes (p.guid d) cell.birth ≡ false
   pub unhurt : (p.sectors d (data_start + cell.sector)).damaged ≡ false
-  pub answers : Answers d
+  pub answers : answering d ≡ true
 
 -- The premise of reading the found record's pages back: so it is of each of them.
-abbrev pub HasGoodPages : Pool → Rec → (Answers : (d : ℕ) → Type 0) → Type 0
-HasGoodPages p r Answers = (level index : ℕ) (cell : Cell) → 1 ≤ level → level ≤ 3 → r.cells (key level index) ≡ Some cell → HasGoodLeaf p r cell Answers
+abbrev pub HasGoodPages : Pool → Rec → (answering : ℕ → Bool) → Type 0
+HasGoodPages p r answering = (level index : ℕ) (cell : Cell) → 1 ≤ level → level ≤ 3 → r.cells (key level index) ≡ Some cell → HasGoodLeaf p r cell answering
 
 -- No twin: each device that is handed in under the name of a leaf of the found record, and has that leaf's identity,
 -- is the one that the history has there.
-abbrev pub HasNoTwin : Pool → Rec → (Claims : (d : ℕ) → Guid → Type 0) → Type 0
-HasNoTwin p r Claims = (d : ℕ) (m : Guid) → Claims d m → 1 ≤ r.tops m → (p.member d ≡ true) × (p.guid d ≡ m)
+abbrev pub HasNoTwin : Pool → Rec → (claims : ℕ → Guid → Bool) → Type 0
+HasNoTwin p r claims = (d : ℕ) (m : Guid) → claims d m ≡ true → 1 ≤ r.tops m → (p.member d ≡ true) × (p.guid d ≡ m)
 
 -- the premises hold at each look among these events
 abbrev pub AreGood : (List ℕ → Option Head) → Pool → List Event → Type 0

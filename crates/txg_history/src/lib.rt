@@ -2,12 +2,23 @@
 //! pool").
 #![tactic(auto)]
 
+mod contents;
+mod labels;
 mod moves;
+mod openings;
+mod pages;
 mod rounds;
 mod turns;
 mod writes;
 
+pub use contents::{members_are_brought_in, records_have_what_was_accepted};
+pub use labels::labels_stay_sound;
 pub use moves::{histories_keep_their_records, stamped_pools_survive};
+pub use openings::{
+    identities_are_the_members, looks_show_the_labels, openings_find_a_live_record,
+    premises_can_be_met, strays_were_never_acknowledged,
+};
+pub use pages::pages_are_read_back;
 pub use rounds::rounds_may_be_made;
 pub use turns::{flush_turns_may_be_made, write_turns_may_be_made};
 pub use writes::{keys_may_be_written_again, plans_may_be_made, reads_show_the_block};
