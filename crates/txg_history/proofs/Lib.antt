@@ -18,6 +18,7 @@ pub mod Nearing
 pub mod Paging
 pub mod Placing
 pub mod ReadingBack
+pub mod Refusing
 pub mod RoundMoves
 pub mod RoundParts
 pub mod RoundPlaces

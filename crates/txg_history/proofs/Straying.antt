@@ -1,7 +1,7 @@
 -- What a stray is, told by the history: live when an opening read a lower record, and never acknowledged.
 use Rattle.std.proofs.Common.{◌≡◌, ◌⊎◌, ℕ, ◌<◌, ◌≤◌, nat_lt, Bool, true, false, cond, List, [], ◌∷◌, ◌++◌, refl, sym, ap, ◌∙◌, subst, arith, inl, inr, ⊎_elim}
 use Rattle.std.proofs.lemmas.Bool.Decides.{nat_tests}
-use Rattle.txg_history.specs.Events.{Event, Calls, Opens}
+use Rattle.txg_history.specs.Events.{Event, Begins, Acks, Opens}
 use Rattle.txg_history.specs.Pages.{Codec}
 use Rattle.txg_history.specs.Pools.{Pool, after, pool_after}
 use Rattle.txg_history.specs.Premises.{AreTwins, HasTwin, WasAcked, WasMissed}
@@ -19,6 +19,10 @@ acked_below c p r sv w = of (sv.order.acks_below w.twin w.acked)
     of : (w.twin ≡ p.acked) ⊎ (number_of w.twin < number_of p.acked) → (number_of r < number_of p.acked) ⊎ HasTwin p r
     of (inl e) = inr (record { twin = w.twin; is_live = subst (λ x. IsIn x p.live) (sym e) sv.order.acked_live; are = w.are })
     of (inr lt) = inl (subst (λ n. n < number_of p.acked) same_number lt)
+
+-- A record that is drawn again, the very same, is live.
+pub drawn_again : (p : Pool) (q r : Rec) → AreTwins r q → HasTwin (after (Begins q) p) r × HasTwin (after (Acks q) p) r
+drawn_again p q r are = (record { twin = q; is_live = inl refl; are = are }, record { twin = q; is_live = inl refl; are = are })
 
 above_in : (n : ℕ) (r : Rec) (rs : List Rec) → IsIn r (above n rs) → IsIn r rs × (n < number_of r)
 above_in n r [] i = absurd i

@@ -7,6 +7,7 @@ mod labels;
 mod moves;
 mod openings;
 mod pages;
+mod refusals;
 mod rounds;
 mod turns;
 mod writes;
@@ -19,6 +20,7 @@ pub use openings::{
     premises_can_be_met, strays_were_never_acknowledged,
 };
 pub use pages::pages_are_read_back;
+pub use refusals::wrong_moves_are_refused;
 pub use rounds::rounds_may_be_made;
 pub use turns::{flush_turns_may_be_made, write_turns_may_be_made};
 pub use writes::{keys_may_be_written_again, plans_may_be_made, reads_show_the_block};
