@@ -1,7 +1,7 @@
 -- What a live record contains: what a read answered at the last freeze before its round.
-use Rattle.std.proofs.Common.{◌≡◌, ◌⊎◌, ℕ, List, [], ◌∷◌, ◌++◌, refl, sym, ap, ◌∙◌, subst, inl, inr, ⊎_elim}
+use Rattle.std.proofs.Common.{◌≡◌, ◌⊎◌, ℕ, List, [], ◌∷◌, refl, sym, ap, ◌∙◌, subst, inl, inr, ⊎_elim}
 use Rattle.txg_history.specs.Contents.{frozen_of, BegunAt}
-use Rattle.txg_history.specs.Events.{Event, Calls, Accepts, Freezes, Begins, Acks, Opens, Known}
+use Rattle.txg_history.specs.Events.{Event, Begins, Acks, Known}
 use Rattle.txg_history.specs.Moves.{IsDrawnUp, Mays, ReadsTrue}
 use Rattle.txg_history.specs.Openings.{IsYield, FindsLive}
 use Rattle.txg_history.specs.Pages.{Codec}

@@ -1,35 +1,24 @@
 -- Calls, accepted writes, and the moves of a group keep the invariant.
-use Rattle.std.proofs.Common.{◌≡◌, ◌≢◌, ◌⊎◌, ℕ, zero, suc, ◌+◌, ◌-◌, ◌≤◌, ◌<◌, ◌^◌, ◌==◌, ◌&&◌, nat_le, nat_lt, Bool, true, false, not, cond, List, [], ◌∷◌, ◌++◌, length, Option, Some, None, refl, sym, ap, ◌∙◌, subst, inl, inr, arith, ⊎_elim}
-use Rattle.std.proofs.lemmas.Bool.{and_parts}
+use Rattle.std.proofs.Common.{◌≡◌, ◌⊎◌, ℕ, ◌+◌, ◌≤◌, ◌<◌, ◌==◌, nat_le, Bool, true, false, not, cond, List, ◌∷◌, Some, refl, sym, ap, ◌∙◌, subst, inl, inr, arith, ⊎_elim}
 use Rattle.std.proofs.lemmas.Bool.Decides.{nat_tests}
-use Rattle.mp_base.specs.declared.number.Guid.{Guid}
 use Rattle.mp_base.specs.declared.place.Key.{Key}
-use Rattle.bank_core.specs.Disk.{Sector, Sectors, Noted, Nothing, Written, after_call, IsClean}
+use Rattle.bank_core.specs.Disk.{Sector, Noted, after_call}
 use Rattle.bank_core.specs.Standing.{touches}
-use Rattle.label_store.specs.declared.member.Member.{Member}
-use Rattle.label_store.specs.declared.uberblock.Uberblock.{Uberblock}
-use Rattle.label_store.specs.Layout.{slot_of}
-use Rattle.label_store.specs.Plans.{blank_uberblock}
 use Rattle.label_store.specs.Records.{place_at}
-use Rattle.label_store.specs.Rounds.{uberblock_of}
-use Rattle.label_store.specs.Uberblock.{IsUberblock}
-use Rattle.txg_history.specs.Events.{Event, Calls, Accepts, Freezes, Wrote, Flushed, Draws, Leaves, Grows, Burns, Begins, Third, Ends, Acks, Looks, Opens, Joins, Loses, Scans, Passes, Drops, Clears, Rests, Stops}
-use Rattle.txg_history.specs.Groups.{Logs, same_key, at_device, between, grown, cleared, off}
-use Rattle.txg_history.specs.Labels.{Status, Odd, Even, Lost, begun}
-use Rattle.txg_history.specs.Moves.{IsSparing, MayFreeze, MayWrite, MayFlush, AreWidened, IsLeafOf, IsDrawnUp, MayStand, MayAck, MayJoin, MayScan, MayPass, MayClear, MayStop, May, puts}
-use Rattle.txg_history.specs.Needs.{Held, Keeps, Landed, Copied, IsPut, IsAt, NeedsLabel, NeedsCell, NeedsRead, NeedsGroup, NeedsPut, NeedsScan}
-use Rattle.txg_history.specs.Pages.{Codec, IsTree}
-use Rattle.txg_history.specs.Places.{HaveNone, AllHaveNone, IsFree}
-use Rattle.txg_history.specs.Pools.{Pool, drawn, seat, after, noted_since, other_than, whole_log, kept_in}
-use Rattle.txg_history.specs.Records.{Rec, Cell, Cells, IsIn, IsNoLeaf, AreAtOne, AreOne, number_of, takes_part, data_start, above, rest_of, laid_over, nothing}
-use Rattle.txg_history.specs.Scans.{Scan, up_to, scanned_log}
-use Rattle.txg_history.specs.Stamps.{IsBlank}
-use Rattle.txg_history.specs.Survival.{Survives, Fits, IsFit, IsOf, IsAmong, IsKnownUber, IsNoted, IsKnownRing, AreRoomy, ArePlaced, IsMapped, HaveOneKey, IsTaken, IsPinned, AreCovered, AreInOrder, HasComeTo, AreBoarded, IsLog, AreLogs, AreUnbroken, IsInBounds}
-use Rattle.txg_history.proofs.Holding.{AreAll, noted_all}
-use Rattle.txg_history.proofs.Keeping.{noted_keeps, noted_held, noted_put, noted_copied, stop_keeps, held_keeps}
-use Rattle.txg_history.proofs.Listing.{same_head, same_rest, in_append, in_first, in_second, only_one, new_or, above_or, one_key, same_cell, laid_of}
-use Rattle.txg_history.proofs.Logging.{by_bool, true_not_false, not_true, at_here, at_away, same_device, is_between, of_between, grown_more, grown_false, grown_in, grown_out, grown_of, cleared_of, cleared_both, cleared_false}
-use Rattle.txg_history.proofs.Placing.{place_safe, one_of, taken_self}
+use Rattle.txg_history.specs.Events.{Calls, Accepts, Freezes, Wrote, Flushed, Draws, Leaves, Grows, Burns}
+use Rattle.txg_history.specs.Groups.{Logs, same_key, at_device, grown, off}
+use Rattle.txg_history.specs.Moves.{IsSparing, MayFreeze, MayWrite, MayFlush, AreWidened, puts}
+use Rattle.txg_history.specs.Needs.{Landed, IsPut, IsAt, NeedsRead, NeedsPut}
+use Rattle.txg_history.specs.Pages.{Codec}
+use Rattle.txg_history.specs.Places.{IsFree}
+use Rattle.txg_history.specs.Pools.{Pool, drawn, seat, after, noted_since}
+use Rattle.txg_history.specs.Records.{Cell, Cells, AreAtOne, number_of, data_start}
+use Rattle.txg_history.specs.Survival.{Survives, IsKnownUber, IsKnownRing, IsTaken, IsPinned, AreInOrder, AreLogs, AreUnbroken}
+use Rattle.txg_history.proofs.Holding.{noted_all}
+use Rattle.txg_history.proofs.Keeping.{noted_keeps, noted_held, noted_put, noted_copied}
+use Rattle.txg_history.proofs.Listing.{one_key}
+use Rattle.txg_history.proofs.Logging.{by_bool, true_not_false, not_true, at_here, at_away, grown_more, grown_false, grown_in, grown_out, grown_of, cleared_of, cleared_both, cleared_false}
+use Rattle.txg_history.proofs.Placing.{place_safe, one_of}
 use Rattle.txg_history.proofs.Treeing.{freeze_tree}
 
 -- A call that may come.

@@ -1,10 +1,10 @@
 -- The members of a turn or a round that failed leave the board.
-use Rattle.std.proofs.Common.{◌≡◌, ℕ, zero, suc, ◌==◌, Bool, true, false, cond, List, [], ◌∷◌, ◌++◌, Some, refl, sym, ap, ◌∙◌, subst, arith}
+use Rattle.std.proofs.Common.{◌≡◌, ℕ, zero, suc, ◌==◌, Bool, true, false, List, [], ◌∷◌, Some, refl, sym, ap, ◌∙◌}
 use Rattle.std.specs.Prelude.{slice_get}
 use Rattle.label_store.specs.declared.member.Member.{Member}
 use Rattle.label_store.proofs.Keeping.{same_member, no_member}
 use Rattle.std.proofs.lemmas.Bool.{eq-eqb}
-use Rattle.txg_history.specs.Events.{Event, Leaves, calls_of}
+use Rattle.txg_history.specs.Events.{Leaves, calls_of}
 use Rattle.txg_history.specs.Groups.{Logs, at_device, grown}
 use Rattle.txg_history.specs.Moves.{Mays}
 use Rattle.txg_history.specs.Pages.{Codec}

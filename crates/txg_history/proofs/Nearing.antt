@@ -1,19 +1,19 @@
 -- The rule by numbers gives the rule by slots.
-use Rattle.std.proofs.Common.{◌≡◌, ◌≢◌, ◌⊎◌, ℕ, ◌+◌, ◌%◌, ◌<◌, ◌≤◌, ◌==◌, Bool, true, false, cond, List, [], ◌∷◌, refl, sym, ap, ◌∙◌, subst, arith, inl, inr}
+use Rattle.std.proofs.Common.{◌≡◌, ◌≢◌, ℕ, ◌+◌, ◌%◌, ◌<◌, ◌≤◌, ◌==◌, Bool, true, false, cond, List, [], ◌∷◌, refl, sym, ap, ◌∙◌, subst, arith, inl, inr}
 use Rattle.std.proofs.lemmas.Bool.Decides.{nat_tests}
 use Rattle.mp_base.specs.declared.number.Guid.{Guid}
 use Rattle.label_store.specs.Layout.{slot_of}
-use Rattle.txg_history.specs.Events.{Event, Calls, Freezes, Draws, Burns, Begins, Third, Ends, Acks, Looks, Opens, Joins, Loses, Stops}
+use Rattle.txg_history.specs.Events.{Event, Freezes, Draws, Burns, Begins, Third, Ends, Acks, Opens, Joins, Loses, Stops}
 use Rattle.txg_history.specs.Groups.{at_device}
 use Rattle.txg_history.specs.Labels.{Status, Odd, Even, Lost, begun}
-use Rattle.txg_history.specs.Moves.{IsDrawnUp, MayStand, MayEnd, MayAck, Mays, May}
+use Rattle.txg_history.specs.Moves.{IsDrawnUp, MayStand, MayEnd, MayAck, Mays}
 use Rattle.txg_history.specs.Pages.{Codec}
-use Rattle.txg_history.specs.Pools.{Pool, after, pool_after, other_than}
+use Rattle.txg_history.specs.Pools.{Pool, after, other_than}
 use Rattle.txg_history.specs.Records.{Rec, IsIn, number_of, takes_part}
 use Rattle.txg_history.specs.Survival.{Survives}
 use Rattle.txg_history.specs.Tracking.{MayBegin, Keeps, KeepsLabels, MayBeginNear, IsNotBelow, KeepsNear}
 use Rattle.txg_history.proofs.Listing.{only_one, new_or}
-use Rattle.txg_history.proofs.Logging.{by_bool, true_not_false, at_away, same_device}
+use Rattle.txg_history.proofs.Logging.{true_not_false, at_away, same_device}
 use Rattle.txg_history.proofs.Moving.{event_survives}
 
 -- two numbers less than 32 apart have two slots

@@ -1,9 +1,9 @@
 -- A good leaf of a page has it, and says so where it is read.
-use Rattle.std.proofs.Common.{◌≡◌, ℕ, ◌+◌, Bool, List, refl, inl}
+use Rattle.std.proofs.Common.{◌≡◌, ℕ, ◌+◌, Bool, refl, inl}
 use Rattle.txg_history.specs.Pools.{Pool}
 use Rattle.txg_history.specs.Premises.{HasGoodLeaf}
 use Rattle.txg_history.specs.Reads.{IsKeptAt}
-use Rattle.txg_history.specs.Records.{Rec, Cell, Cells, IsIn, data_start}
+use Rattle.txg_history.specs.Records.{Rec, Cell, IsIn, data_start}
 use Rattle.mp_base.specs.declared.place.Key.{Key}
 use Rattle.std.specs.Prelude.{Some}
 

@@ -4,7 +4,7 @@ use Rattle.std.proofs.lemmas.Bool.{cases_eq}
 use Rattle.sha2.specs.Sha256.{sha256}
 use Rattle.mp_base.specs.declared.place.Key.{Key}
 use Rattle.label_store.specs.Rounds.{config_of}
-use Rattle.txg_history.specs.Pages.{Sum, sum_of, Codec, IsTree, IsReadBack, width, IsClash, ClashesAt}
+use Rattle.txg_history.specs.Pages.{Sum, sum_of, Codec, IsTree, IsReadBack, width, ClashesAt}
 use Rattle.txg_history.specs.Pools.{Pool}
 use Rattle.txg_history.specs.Records.{Rec, Cell, Cells, IsIn, key, number_of, nothing}
 use Rattle.txg_history.specs.Survival.{Fits, Survives}

@@ -1,29 +1,29 @@
 -- Moves that would lose data are refused.
-use Rattle.std.proofs.Common.{◌≡◌, ◌≢◌, ◌⊎◌, ℕ, ◌+◌, ◌-◌, ◌≤◌, ◌<◌, ◌==◌, ◌&&◌, nat_le, nat_lt, Bool, true, false, cond, List, [], ◌∷◌, length, Option, Some, None, refl, sym, ap, ◌∙◌, subst, inl, inr, arith, ⊎_elim}
+use Rattle.std.proofs.Common.{◌≡◌, ◌≢◌, ◌⊎◌, ℕ, ◌+◌, ◌-◌, ◌≤◌, ◌<◌, ◌==◌, ◌&&◌, nat_le, nat_lt, Bool, true, false, cond, List, [], ◌∷◌, length, Some, None, refl, sym, ap, ◌∙◌, subst, inl, inr, arith}
 use Rattle.std.proofs.lemmas.Bool.Decides.{nat_tests}
 use Rattle.mp_base.specs.declared.place.Key.{Key}
-use Rattle.bank_core.specs.Disk.{Sector, Nothing, Written, Call, Write, Noted, covers, sectors_in, sector_of, hurt, effect}
+use Rattle.bank_core.specs.Disk.{Sector, Nothing, Written, Write, Noted, covers, sectors_in, sector_of, hurt, effect}
 use Rattle.bank_core.specs.Standing.{touches}
 use Rattle.bank_core.proofs.Blocks.{block_sectors}
 use Rattle.label_store.specs.declared.uberblock.Uberblock.{Uberblock}
 use Rattle.label_store.specs.Records.{place_at}
 use Rattle.label_store.specs.Rounds.{uberblock_of}
 use Rattle.label_store.specs.Plans.{blank_uberblock}
-use Rattle.label_store.specs.Uberblock.{IsInRange, IsUberblock, uberblock_bytes}
+use Rattle.label_store.specs.Uberblock.{IsInRange, uberblock_bytes}
 use Rattle.label_store.proofs.Places.{length-uberblock, uberblock_sectors}
-use Rattle.txg_history.specs.Events.{Event, Calls, Freezes, Begins, Passes, Clears}
+use Rattle.txg_history.specs.Events.{Calls, Freezes, Begins, Passes, Clears}
 use Rattle.txg_history.specs.Groups.{Logs}
 use Rattle.txg_history.specs.Moves.{Mays, puts}
-use Rattle.txg_history.specs.Needs.{Keeps, Copied, IsAt, NeedsScan}
+use Rattle.txg_history.specs.Needs.{Keeps, Copied}
 use Rattle.txg_history.specs.Pages.{Codec}
 use Rattle.txg_history.specs.Places.{IsFree}
-use Rattle.txg_history.specs.Pools.{Pool, after, drawn, seat}
+use Rattle.txg_history.specs.Pools.{Pool, drawn, seat}
 use Rattle.txg_history.specs.Records.{Rec, Cell, Cells, IsIn, AreAtOne, number_of, data_start}
 use Rattle.txg_history.specs.Survival.{Survives}
 use Rattle.txg_history.proofs.Listing.{same_cell}
 use Rattle.txg_history.proofs.Logging.{true_not_false}
 use Rattle.txg_history.proofs.Placing.{place_safe}
-use Rattle.txg_history.proofs.RoundParts.{one_there, first_bytes}
+use Rattle.txg_history.proofs.RoundParts.{one_there}
 
 -- A place of a live record isn't given to another key.
 pub no_reuse : (c : Codec) (p : Pool) (cells : Cells) (board : ℕ → Bool) (r : Rec) (j k : Key) (a b : Cell) → Survives c p → IsIn r p.live → r.cells j ≡ Some a → cells k ≡ Some b

@@ -1,5 +1,5 @@
 -- A round of a record that is drawn up is allowed, event by event, and what it leaves of the pool.
-use Rattle.std.proofs.Common.{◌≡◌, ℕ, ◌⊎◌, ◌+◌, ◌^◌, ◌<◌, ◌≤◌, not, zero, suc, Bool, true, false, List, [], ◌∷◌, ◌++◌, map, Option, Some, None, refl, sym, ap, ◌∙◌, subst, arith, inl, inr, append-nil}
+use Rattle.std.proofs.Common.{◌≡◌, ℕ, ◌⊎◌, ◌+◌, ◌^◌, ◌<◌, ◌≤◌, not, zero, suc, Bool, true, false, List, [], ◌∷◌, ◌++◌, map, Some, None, refl, sym, ap, ◌∙◌, subst, arith, inl, inr, append-nil}
 use Rattle.std.specs.Prelude.{slice_get}
 use Rattle.std.proofs.lemmas.Bool.{and_parts}
 use Rattle.bank_core.specs.Disk.{Sectors, Noted, run, sectors_in}
@@ -23,7 +23,7 @@ use Rattle.txg_history.specs.Pools.{Pool, after, pool_after, seat}
 use Rattle.txg_history.specs.Records.{Rec, IsNoLeaf, number_of, takes_part}
 use Rattle.txg_history.specs.Rounds.{all_true, acks_or, IsRoundEvents, RoundEnds}
 use Rattle.txg_history.specs.Turns.{AreJust, OnBoard}
-use Rattle.txg_history.specs.Survival.{Fits, Survives}
+use Rattle.txg_history.specs.Survival.{Survives}
 use Rattle.txg_history.proofs.Folding.{since_after, with_calls, pool_more, calls_then, mays_more, mays_calls, calls_more, calls_are}
 use Rattle.txg_history.proofs.Leaving.{leavers_may, leavers_pool, board_behind}
 use Rattle.txg_history.proofs.Logging.{by_bool, true_not_false}

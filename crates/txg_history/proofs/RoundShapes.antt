@@ -8,7 +8,6 @@ use Rattle.label_store.specs.Rounds.{IsRound, third_plan}
 use Rattle.txg_history.specs.Events.{Event, Begins, Third, calls_of, as_events}
 use Rattle.txg_history.specs.Records.{Rec}
 use Rattle.txg_history.specs.Rounds.{ends_if, IsThirds, all_true, acks_or, IsRoundEvents}
-use Rattle.txg_history.specs.Turns.{leavers}
 use Rattle.txg_history.proofs.Leaving.{leavers_no_call}
 use Rattle.txg_history.proofs.Folding.{calls_more, calls_are}
 

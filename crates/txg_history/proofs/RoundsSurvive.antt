@@ -1,35 +1,23 @@
 -- The moves of a round keep the invariant: it begins, a third phase begins and ends, and it is acknowledged.
-use Rattle.std.proofs.Common.{◌≡◌, ◌≢◌, ◌⊎◌, ℕ, zero, suc, ◌+◌, ◌-◌, ◌≤◌, ◌<◌, ◌^◌, ◌==◌, ◌&&◌, nat_le, nat_lt, Bool, true, false, not, cond, List, [], ◌∷◌, ◌++◌, length, Option, Some, None, refl, sym, ap, ◌∙◌, subst, inl, inr, arith, ⊎_elim}
-use Rattle.std.proofs.lemmas.Bool.{and_parts}
-use Rattle.std.proofs.lemmas.Bool.Decides.{nat_tests}
+use Rattle.std.proofs.Common.{◌≡◌, ◌⊎◌, ℕ, ◌+◌, ◌≤◌, ◌<◌, ◌==◌, Bool, true, false, cond, List, [], ◌∷◌, ◌++◌, Some, None, refl, sym, ap, ◌∙◌, subst, inl, inr, arith, ⊎_elim}
 use Rattle.mp_base.specs.declared.number.Guid.{Guid}
 use Rattle.mp_base.specs.declared.place.Key.{Key}
-use Rattle.bank_core.specs.Disk.{Sector, Sectors, Noted, Nothing, Written, after_call, IsClean}
-use Rattle.bank_core.specs.Standing.{touches}
+use Rattle.bank_core.specs.Disk.{Sector}
 use Rattle.label_store.specs.declared.member.Member.{Member}
-use Rattle.label_store.specs.declared.uberblock.Uberblock.{Uberblock}
 use Rattle.label_store.specs.Layout.{slot_of}
-use Rattle.label_store.specs.Plans.{blank_uberblock}
-use Rattle.label_store.specs.Records.{place_at}
-use Rattle.label_store.specs.Rounds.{uberblock_of}
-use Rattle.label_store.specs.Uberblock.{IsUberblock}
-use Rattle.txg_history.specs.Events.{Event, Calls, Accepts, Freezes, Wrote, Flushed, Draws, Leaves, Grows, Burns, Begins, Third, Ends, Acks, Looks, Opens, Joins, Loses, Scans, Passes, Drops, Clears, Rests, Stops}
-use Rattle.txg_history.specs.Groups.{Logs, same_key, at_device, between, grown, cleared, off}
+use Rattle.txg_history.specs.Events.{Begins, Third, Ends, Acks}
+use Rattle.txg_history.specs.Groups.{at_device}
 use Rattle.txg_history.specs.Labels.{Status, Odd, Even, Lost, begun}
-use Rattle.txg_history.specs.Moves.{IsSparing, MayFreeze, MayWrite, MayFlush, AreWidened, IsLeafOf, IsDrawnUp, MayStand, MayEnd, MayAck, MayJoin, MayScan, MayPass, MayClear, MayStop, May, puts}
-use Rattle.txg_history.specs.Needs.{Held, Keeps, Landed, Copied, IsPut, IsAt, NeedsLabel, NeedsCell, NeedsRead, NeedsGroup, NeedsPut, NeedsScan}
-use Rattle.txg_history.specs.Pages.{Codec, IsTree}
-use Rattle.txg_history.specs.Places.{HaveNone, AllHaveNone, IsFree}
-use Rattle.txg_history.specs.Pools.{Pool, drawn, seat, after, noted_since, other_than, whole_log, kept_in}
-use Rattle.txg_history.specs.Records.{Rec, Cell, Cells, IsIn, IsNoLeaf, AreAtOne, AreOne, number_of, takes_part, data_start, above, rest_of, laid_over, nothing}
-use Rattle.txg_history.specs.Scans.{Scan, up_to, scanned_log}
-use Rattle.txg_history.specs.Stamps.{IsBlank}
-use Rattle.txg_history.specs.Survival.{Survives, Fits, IsFit, IsOf, IsAmong, IsKnownUber, IsNoted, IsKnownRing, AreRoomy, ArePlaced, IsMapped, HaveOneKey, IsTaken, IsPinned, AreCovered, AreInOrder, HasComeTo, AreBoarded, IsLog, AreLogs, AreUnbroken, IsInBounds}
-use Rattle.txg_history.proofs.Holding.{AreAll, noted_all}
-use Rattle.txg_history.proofs.Keeping.{noted_keeps, noted_held, noted_put, noted_copied, stop_keeps, held_keeps}
-use Rattle.txg_history.proofs.Listing.{same_head, same_rest, in_append, in_first, in_second, only_one, new_or, above_or, one_key, same_cell, laid_of}
-use Rattle.txg_history.proofs.Logging.{by_bool, true_not_false, not_true, at_here, at_away, same_device, is_between, of_between, grown_more, grown_false, grown_in, grown_out, grown_of, cleared_of, cleared_both, cleared_false}
-use Rattle.txg_history.proofs.Placing.{one_of, taken_self, top_some}
+use Rattle.txg_history.specs.Moves.{IsLeafOf, IsDrawnUp, MayStand, MayEnd, MayAck}
+use Rattle.txg_history.specs.Needs.{Held, Keeps, IsPut, IsAt, NeedsLabel, NeedsCell}
+use Rattle.txg_history.specs.Pages.{Codec}
+use Rattle.txg_history.specs.Pools.{Pool, drawn, seat, after}
+use Rattle.txg_history.specs.Records.{Rec, Cell, IsIn, IsNoLeaf, AreAtOne, AreOne, number_of, takes_part, data_start, rest_of, laid_over}
+use Rattle.txg_history.specs.Survival.{Survives, IsFit, IsOf, IsKnownUber, IsKnownRing, IsMapped, HaveOneKey, IsTaken, IsPinned, IsLog}
+use Rattle.txg_history.proofs.Keeping.{held_keeps}
+use Rattle.txg_history.proofs.Listing.{same_head, same_rest, in_append, only_one, new_or, laid_of}
+use Rattle.txg_history.proofs.Logging.{by_bool, true_not_false, not_true, at_here, at_away, same_device}
+use Rattle.txg_history.proofs.Placing.{taken_self, top_some}
 use Rattle.txg_history.proofs.Treeing.{tree_same}
 
 -- what a status promised before a round, where it still does
@@ -144,9 +132,12 @@ drawn_one_key c p q sv m = record {
   group_mapped = sv.one_key.group_mapped;
   group_births = sv.one_key.group_births;
   group_apart = sv.one_key.group_apart;
-  group_one = λ f r j k a b i at bt one. (refl, new_or (λ r. r.cells j ≡ Some a → AreOne j k a b) q r p.live
-      (λ at. ⊎_elim (λ new. sv.one_key.group_apart f j k a b new bt one) (λ old. (sv.one_key.group_one f p.reads j k a b reads old bt one).1) (drawn_laid c p q j a m at))
-      (λ i at. (sv.one_key.group_one f r j k a b i at bt one).1) i at);
+  group_one = λ f r j k a b i at bt one. (
+    refl,
+    new_or (λ r. r.cells j ≡ Some a → AreOne j k a b) q r p.live
+        (λ at. ⊎_elim (λ new. sv.one_key.group_apart f j k a b new bt one) (λ old. (sv.one_key.group_one f p.reads j k a b reads old bt one).1) (drawn_laid c p q j a m at))
+        (λ i at. (sv.one_key.group_one f r j k a b i at bt one).1) i at,
+  );
 }
   where
     reads : IsIn p.reads p.live

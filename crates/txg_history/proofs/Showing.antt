@@ -1,21 +1,20 @@
 -- A read of a block that a leaf has to have gives it, or the sector is damaged.
-use Rattle.std.proofs.Common.{◌≡◌, ◌≢◌, ◌⊎◌, ℕ, ◌+◌, ◌-◌, ◌<◌, ◌≤◌, ◌==◌, ◌&&◌, Bool, true, false, cond, List, [], ◌∷◌, length, Option, Some, None, is_none, refl, sym, ap, ◌∙◌, subst, inl, inr, arith}
-use Rattle.bank_core.specs.declared.bank.Fault.{Fault}
+use Rattle.std.proofs.Common.{◌≡◌, ◌≢◌, ℕ, ◌+◌, ◌-◌, ◌≤◌, ◌==◌, ◌&&◌, Bool, true, false, cond, List, [], ◌∷◌, length, Some, None, is_none, refl, sym, ap, ◌∙◌, subst, inl, inr, arith}
 use Rattle.bank_core.specs.Asks.{Flushes, ask_of}
 use Rattle.bank_core.specs.Calls.{fault_of}
-use Rattle.bank_core.specs.Disk.{Sector, Sectors, Pending, Nothing, Written, Failing, Call, Read, Write, Flush, Admit, Eject, Noted, Answers, IsClean, as_found, hurt, effect, after_call, after_flush, replay, run, sectors_in, sector_of, covers}
+use Rattle.bank_core.specs.Disk.{Sector, Sectors, Nothing, Call, Read, Write, Flush, Admit, Eject, Noted, Answers, IsClean, as_found, hurt, effect, after_call, after_flush, replay, run, sectors_in, sector_of, covers}
 use Rattle.bank_core.specs.Standing.{Untouched}
 use Rattle.bank_core.proofs.Blocks.{block_sectors}
 use Rattle.txg_history.specs.Events.{Calls, Clears}
-use Rattle.txg_history.specs.Moves.{MayClear, Mays}
-use Rattle.txg_history.specs.Needs.{Held, Keeps, Landed, Copied, IsOnTheWay, NeedsScan}
+use Rattle.txg_history.specs.Moves.{Mays}
+use Rattle.txg_history.specs.Needs.{Keeps, Landed, Copied}
 use Rattle.txg_history.specs.Pages.{Codec}
 use Rattle.txg_history.specs.Pools.{Pool, after}
-use Rattle.txg_history.specs.Records.{Cell, data_start}
+use Rattle.txg_history.specs.Records.{Cell}
 use Rattle.mp_base.specs.declared.place.Key.{Key}
 use Rattle.txg_history.specs.Reads.{IsKeptAt, heals, NoneHeals}
 use Rattle.txg_history.specs.Survival.{Survives}
-use Rattle.txg_history.proofs.Keeping.{held_keeps, noted_keeps, noted_copied}
+use Rattle.txg_history.proofs.Keeping.{held_keeps, noted_keeps}
 use Rattle.txg_history.proofs.Landing.{untouched_landed, write_lands, flush_holds}
 use Rattle.txg_history.proofs.Logging.{by_bool, true_not_false}
 use Rattle.txg_history.proofs.RoundParts.{first_bytes}

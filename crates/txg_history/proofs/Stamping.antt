@@ -4,7 +4,7 @@ use Rattle.std.proofs.lemmas.Bool.Decides.{nat_tests}
 use Rattle.std.proofs.lemmas.Grind.{common_steps}
 use Rattle.std.proofs.lemmas.List.{take-replicate, drop-replicate, length-replicate, take_all}
 use Rattle.std.specs.Prelude.{slice_index}
-use Rattle.std.specs.Int.{from_be_bytes, to_be_bytes, w64}
+use Rattle.std.specs.Int.{from_be_bytes, w64}
 use Rattle.mp_base.specs.Block.{zeros}
 use Rattle.mp_base.specs.declared.number.Guid.{Guid}
 use Rattle.bank_core.specs.declared.bank.Fault.{Fault}
@@ -13,7 +13,6 @@ use Rattle.bank_core.specs.Disk.{Sector, Sectors, Noted, covers, sectors_in, sec
 use Rattle.bank_core.specs.Memory.{zero_sector}
 use Rattle.bank_core.specs.Standing.{Stands, Spares, Untouched}
 use Rattle.bank_core.proofs.Standing.{part_lands, part_spares, spares_more, untouched_stands}
-use Rattle.label_store.specs.declared.rule.Head.{Head}
 use Rattle.label_store.specs.declared.uberblock.Uberblock.{Uberblock}
 use Rattle.label_store.specs.Layout.{labels_of}
 use Rattle.label_store.specs.Plans.{label_writes, blank_uberblock, zero_ring, stamp_plan}

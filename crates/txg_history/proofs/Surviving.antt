@@ -1,6 +1,5 @@
 -- A history keeps the invariant, and the invariant is more than soundness.
-use Rattle.std.proofs.Common.{◌≡◌, ℕ, ◌+◌, Bool, true, false, List, [], ◌∷◌, take, zero, suc, Option, Some, refl, sym, ap, ◌∙◌, subst}
-use Rattle.mp_base.specs.declared.place.Key.{Key}
+use Rattle.std.proofs.Common.{◌≡◌, ℕ, ◌+◌, Bool, true, false, List, [], ◌∷◌, take, zero, suc, Some, refl, sym, ap, ◌∙◌, subst}
 use Rattle.bank_core.specs.Disk.{Sector, Noted, CrashImages, after_crash}
 use Rattle.txg_history.specs.Events.{Event, Calls}
 use Rattle.txg_history.specs.Moves.{AreUnforged, IsTrueTo, MayStop, May, Mays}

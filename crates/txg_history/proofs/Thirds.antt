@@ -1,19 +1,18 @@
 -- The third phase of a round: its moves are allowed, and each member that ends it holds the new record.
-use Rattle.std.proofs.Common.{◌≡◌, ◌≢◌, ℕ, ◌+◌, ◌≤◌, zero, suc, cond, Bool, true, false, List, [], ◌∷◌, ◌++◌, Option, Some, refl, sym, ap, ◌∙◌, subst, arith, inl, inr}
+use Rattle.std.proofs.Common.{◌≡◌, ◌≢◌, ℕ, ◌+◌, ◌≤◌, zero, suc, cond, Bool, true, false, List, [], ◌∷◌, ◌++◌, Some, refl, sym, ap, ◌∙◌, subst, arith, inl}
 use Rattle.std.specs.Prelude.{slice_get}
 use Rattle.std.proofs.lemmas.Bool.{ne_eqb, eq-eqb}
 use Rattle.bank_core.specs.Asks.{Ask}
 use Rattle.bank_core.specs.Disk.{Sector, Noted, run, replay, sectors_in}
-use Rattle.bank_core.specs.Standing.{Stands, Spares}
+use Rattle.bank_core.specs.Standing.{Stands}
 use Rattle.bank_core.proofs.Standing.{untouched_stands}
 use Rattle.label_store.specs.declared.member.Member.{Member}
 use Rattle.txg_history.specs.Pages.{Codec}
-use Rattle.label_store.specs.Layout.{slot_of}
 use Rattle.label_store.specs.Phases.{IsTurn}
 use Rattle.label_store.specs.Rounds.{third_plan}
 use Rattle.label_store.specs.Seats.{AreApart}
 use Rattle.label_store.proofs.Keeping.{same_member, no_member, others, turn_spares, whole_part}
-use Rattle.label_store.proofs.Places.{label_is, config_elsewhere_odd, odd_spares_ring, odd_lands}
+use Rattle.label_store.proofs.Places.{config_elsewhere_odd, odd_lands}
 use Rattle.txg_history.specs.Events.{Event, Calls, Third, Ends, calls_of, as_events}
 use Rattle.txg_history.specs.Labels.{Status, Odd, Even}
 use Rattle.txg_history.specs.Moves.{MayStand, MayEnd, Mays}

@@ -1,9 +1,9 @@
 -- The labels of a member go on promising a record.
-use Rattle.std.proofs.Common.{◌≡◌, ◌≢◌, ◌⊎◌, ℕ, ◌+◌, ◌%◌, ◌<◌, ◌≤◌, ◌==◌, Bool, true, false, cond, List, [], ◌∷◌, refl, sym, ap, ◌∙◌, subst, arith, inl, inr}
+use Rattle.std.proofs.Common.{◌≡◌, ◌≢◌, ◌⊎◌, ℕ, ◌==◌, Bool, true, false, cond, List, [], ◌∷◌, refl, sym, ap, ◌∙◌, subst, arith, inl, inr}
 use Rattle.std.proofs.lemmas.Bool.Decides.{nat_tests}
 use Rattle.mp_base.specs.declared.number.Guid.{Guid}
 use Rattle.label_store.specs.Layout.{slot_of}
-use Rattle.txg_history.specs.Events.{Event, Calls, Accepts, Freezes, Wrote, Flushed, Draws, Leaves, Grows, Burns, Begins, Third, Ends, Acks, Looks, Opens, Joins, Loses, Scans, Passes, Drops, Clears, Rests, Stops}
+use Rattle.txg_history.specs.Events.{Event, Begins, Third, Ends, Acks, Joins, Loses}
 use Rattle.txg_history.specs.Groups.{at_device}
 use Rattle.txg_history.specs.Labels.{Status, Odd, Even, Lost, begun}
 use Rattle.txg_history.specs.Moves.{Mays, MayAck}
@@ -11,11 +11,11 @@ use Rattle.txg_history.specs.Needs.{Held, NeedsLabel, InPart, odd_part}
 use Rattle.txg_history.specs.Pages.{Codec}
 use Rattle.txg_history.specs.Pools.{Pool, after, pool_after, other_than, seat}
 use Rattle.txg_history.specs.Premises.{HoldsLabels}
-use Rattle.txg_history.specs.Records.{Rec, IsIn, number_of, takes_part}
+use Rattle.txg_history.specs.Records.{Rec, number_of, takes_part}
 use Rattle.txg_history.specs.Moves.{May}
 use Rattle.txg_history.specs.Survival.{Survives, IsOf}
 use Rattle.txg_history.specs.Tracking.{MayBegin, Keeps, KeepsLabels, HasPromise}
-use Rattle.txg_history.proofs.Logging.{by_bool, true_not_false, at_here, at_away, same_device}
+use Rattle.txg_history.proofs.Logging.{at_away}
 
 -- the labels hold some record
 abbrev IsSome : Status → Type 0

@@ -1,5 +1,5 @@
 -- A freeze keeps the tree of pages.
-use Rattle.std.proofs.Common.{◌≡◌, ◌⊎◌, ℕ, ◌+◌, ◌*◌, ◌<◌, suc, Option, Some, None, refl, sym, ap, ◌∙◌, subst, inl, inr}
+use Rattle.std.proofs.Common.{◌≡◌, ◌⊎◌, ℕ, ◌+◌, ◌*◌, ◌<◌, suc, Option, Some, None, refl, sym, ap, ◌∙◌, inl, inr}
 use Rattle.mp_base.specs.declared.place.Key.{Key}
 use Rattle.txg_history.specs.Pages.{Codec, IsPageOf, IsTree, AreDirty, sum_of}
 use Rattle.txg_history.specs.Records.{Cell, Cells, key, cell_over, laid_over}

@@ -1,20 +1,19 @@
 -- A write turn and the flush turn are allowed, whichever of their calls fail, and what they leave.
-use Rattle.std.proofs.Common.{◌≡◌, ◌≢◌, ◌⊎◌, ℕ, zero, suc, ◌+◌, ◌-◌, ◌==◌, ◌&&◌, Bool, true, false, cond, List, [], ◌∷◌, ◌++◌, map, length, Option, Some, None, refl, sym, ap, ◌∙◌, subst, inl, inr, arith, append-nil}
+use Rattle.std.proofs.Common.{◌≡◌, ◌≢◌, ℕ, zero, suc, ◌+◌, ◌-◌, ◌==◌, ◌&&◌, Bool, true, false, cond, List, [], ◌∷◌, ◌++◌, map, length, Some, refl, sym, ap, ◌∙◌, subst, inr, arith, append-nil}
 use Rattle.std.specs.Prelude.{slice_get}
 use Rattle.std.proofs.lemmas.Bool.{and_left, ne_eqb}
 use Rattle.mp_base.specs.declared.place.Key.{Key}
-use Rattle.bank_core.specs.Asks.{Ask, Writes, Flushes}
-use Rattle.bank_core.specs.Disk.{Sector, Noted, run, replay, covers, sectors_in, sector_of}
-use Rattle.bank_core.specs.Standing.{Spares}
+use Rattle.bank_core.specs.Asks.{Ask, Flushes}
+use Rattle.bank_core.specs.Disk.{Sector, Noted, run, covers, sectors_in, sector_of}
 use Rattle.bank_core.proofs.Blocks.{block_sectors}
 use Rattle.label_store.specs.declared.member.Member.{Member}
-use Rattle.label_store.specs.Phases.{IsTurn, IsPhase}
+use Rattle.label_store.specs.Phases.{IsPhase}
 use Rattle.label_store.specs.Seats.{AreApart}
 use Rattle.label_store.proofs.Keeping.{no_member, others, turn_spares}
 use Rattle.txg_history.specs.Events.{Event, Wrote, Flushed, calls_of, as_events}
 use Rattle.txg_history.specs.Groups.{same_key}
-use Rattle.txg_history.specs.Moves.{MayWrite, MayFlush, May, Mays}
-use Rattle.txg_history.specs.Needs.{Held, Landed, IsPut, IsAt, NeedsPut}
+use Rattle.txg_history.specs.Moves.{May, Mays}
+use Rattle.txg_history.specs.Needs.{Held, Landed, IsPut, NeedsPut}
 use Rattle.txg_history.specs.Pages.{Codec}
 use Rattle.txg_history.specs.Pools.{Pool, after, pool_after, seat, drawn}
 use Rattle.txg_history.specs.Records.{Cell, data_start}
@@ -25,7 +24,6 @@ use Rattle.txg_history.proofs.Folding.{with_calls, pool_more, calls_then, calls_
 use Rattle.txg_history.proofs.Landing.{untouched_landed, untouched_held, phase_brings, write_lands, flush_holds}
 use Rattle.txg_history.proofs.Leaving.{leavers_no_call, leavers_pool, leavers_may, without, left_before, left_good, board_behind}
 use Rattle.txg_history.proofs.Listing.{same_cell}
-use Rattle.txg_history.proofs.Logging.{true_not_false}
 use Rattle.txg_history.proofs.RoundParts.{first_bytes}
 use Rattle.txg_history.proofs.Sparing.{spared_lay, phase_may}
 use Rattle.txg_history.proofs.Writing.{fresh_sparing}

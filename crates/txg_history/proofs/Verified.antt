@@ -1,5 +1,5 @@
 -- The record that a member's sound labels promise is verified there.
-use Rattle.std.proofs.Common.{◌≡◌, ◌⊎◌, ℕ, ◌+◌, ◌%◌, ◌/◌, ◌<◌, ◌≤◌, true, false, List, Option, Some, refl, sym, ap, ◌∙◌, subst, arith, inl, inr, get_or}
+use Rattle.std.proofs.Common.{◌≡◌, ◌⊎◌, ℕ, ◌+◌, ◌%◌, ◌/◌, ◌<◌, ◌≤◌, true, false, List, Some, refl, sym, ap, ◌∙◌, subst, arith, inl, inr, get_or}
 use Rattle.bank_core.specs.Disk.{Sector, Sectors, sectors_in, sector_of}
 use Rattle.label_store.specs.Layout.{labels_of, slot_of}
 use Rattle.label_store.specs.Records.{AreUnhurt, IsRecord, config_at, place_at}
@@ -12,7 +12,7 @@ use Rattle.txg_history.specs.Needs.{Held, InPart, odd_part, even_part}
 use Rattle.txg_history.specs.Openings.{IsVerifiedOn, IsReadWhole}
 use Rattle.txg_history.specs.Pools.{Pool, seat}
 use Rattle.txg_history.specs.Premises.{HoldsLabels, HasSoundLabels}
-use Rattle.txg_history.specs.Records.{Rec, IsIn, number_of}
+use Rattle.txg_history.specs.Records.{Rec, number_of}
 use Rattle.txg_history.specs.Survival.{Fits, Survives}
 use Rattle.txg_history.proofs.RoundParts.{taken_fits}
 

@@ -1,26 +1,24 @@
 -- Which blocks a pool may write at a place: fresh ones of the frozen group, and those of its keys again.
-use Rattle.std.proofs.Common.{◌≡◌, ◌≢◌, ◌⊎◌, ℕ, zero, suc, ◌+◌, ◌-◌, ◌*◌, ◌/◌, ◌%◌, ◌<◌, ◌≤◌, ◌==◌, ◌&&◌, nat_le, nat_lt, Bool, true, false, cond, List, [], ◌∷◌, length, take, drop, Option, Some, None, refl, sym, ap, ◌∙◌, subst, inl, inr, arith, ⊎_elim}
+use Rattle.std.proofs.Common.{◌≡◌, ◌≢◌, ◌⊎◌, ℕ, zero, suc, ◌+◌, ◌-◌, ◌/◌, ◌%◌, ◌<◌, ◌≤◌, ◌==◌, ◌&&◌, nat_le, nat_lt, Bool, true, false, List, [], ◌∷◌, length, Option, Some, refl, sym, ap, ◌∙◌, subst, inl, inr, arith, ⊎_elim}
 use Rattle.std.specs.Prelude.{slice_index}
-use Rattle.std.proofs.lemmas.Bool.{and_left, and_right, and_parts, cases_eq, leb-true, ltb-true, ne_eqb}
+use Rattle.std.proofs.lemmas.Bool.{and_left, and_parts, cases_eq, leb-true, ltb-true, ne_eqb}
 use Rattle.std.proofs.lemmas.Bool.Decides.{nat_tests}
-use Rattle.mp_base.specs.declared.number.Guid.{Guid}
 use Rattle.mp_base.specs.declared.place.Key.{Key}
 use Rattle.bank_core.specs.declared.bank.Fault.{Fault}
-use Rattle.bank_core.specs.Asks.{Ask, Writes}
+use Rattle.bank_core.specs.Asks.{Writes}
 use Rattle.bank_core.specs.Disk.{Call, Write, covers, sectors_in, sector_of}
 use Rattle.bank_core.specs.Standing.{touches, Spares}
 use Rattle.bank_core.proofs.Blocks.{block_sectors}
-use Rattle.label_store.specs.Layout.{labels_of, slot_of}
+use Rattle.label_store.specs.Layout.{labels_of}
 use Rattle.label_store.specs.Records.{place_at}
 use Rattle.txg_history.specs.Labels.{Status, Odd, Even, Lost}
 use Rattle.txg_history.specs.Moves.{IsSparing}
-use Rattle.txg_history.specs.Needs.{IsAt, NeedsLabel, NeedsCell, NeedsRead, NeedsPut, NeedsScan, NeedsFirm, NeedsSoft}
+use Rattle.txg_history.specs.Needs.{NeedsLabel, NeedsCell, NeedsRead, NeedsPut, NeedsScan, NeedsFirm, NeedsSoft}
 use Rattle.txg_history.specs.Pages.{Codec}
 use Rattle.txg_history.specs.Pools.{Pool, drawn, seat}
-use Rattle.txg_history.specs.Records.{Rec, Cell, IsIn, AreAtOne, AreOne, number_of, data_start}
-use Rattle.txg_history.specs.Sparing.{AreSparing, LayJust}
+use Rattle.txg_history.specs.Records.{Rec, Cell, IsIn, AreAtOne, AreOne, data_start}
+use Rattle.txg_history.specs.Sparing.{AreSparing}
 use Rattle.txg_history.specs.Survival.{Survives, IsOf, IsMapped, IsKnownUber}
-use Rattle.txg_history.proofs.Listing.{same_cell}
 use Rattle.txg_history.proofs.Logging.{true_not_false}
 use Rattle.txg_history.proofs.Placing.{place_between, top_some}
 use Rattle.txg_history.proofs.RoundParts.{by_device, few_of, taken_fits, ring_of, slot_below, one_there}
@@ -101,8 +99,11 @@ write_spares c p dev at block sv long b no_soft = record {
   soft = λ d. by_device (λ e. (s : ℕ) (bytes : List ℕ) → p.member e ≡ true → NeedsSoft p e s bytes → Spares (Writes dev at block ∷ []) e s) dev d
       (λ s bytes is n. (outside_one dev at dev s block one (off_one at s (λ e. no_soft is bytes (subst (λ s. NeedsSoft p dev s bytes) (sym e) n))), tt))
       (λ ne s bytes is n. (away_from dev at d s block ne, tt));
-  true_to = λ r d k cell i is at_cell top. (λ aimed. one_there dev at d (data_start + cell.sector) block long one aimed
-      ∙ true_of r d k cell i is at_cell top (there_is dev at d (data_start + cell.sector) block one aimed), tt);
+  true_to = λ r d k cell i is at_cell top. (
+    λ aimed. one_there dev at d (data_start + cell.sector) block long one aimed
+        ∙ true_of r d k cell i is at_cell top (there_is dev at d (data_start + cell.sector) block one aimed),
+    tt,
+  );
   known = λ d place is inside. spared_lay (IsKnownUber (drawn p) p.pool (seat p d)) (Writes dev at block ∷ []) d (place_at (p.size d) place)
       (by_device (λ e. p.member e ≡ true → Spares (Writes dev at block ∷ []) e (place_at (p.size e) place)) dev d
       (λ is. (off_ring p dev at place block one inside (b is), tt)) (λ ne is. (away_from dev at d (place_at (p.size d) place) block ne, tt)) is);

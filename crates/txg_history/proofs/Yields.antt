@@ -1,6 +1,5 @@
 -- What an opening takes is a live record.
-use Rattle.std.proofs.Common.{◌≡◌, ◌⊎◌, ℕ, ◌<◌, ◌≤◌, ◌^◌, Bool, true, false, List, Some, refl, sym, ap, ◌∙◌, subst, arith, inl, inr, ⊎_elim}
-use Rattle.sha2.specs.Sha256.{sha256}
+use Rattle.std.proofs.Common.{◌≡◌, ◌⊎◌, ℕ, ◌<◌, ◌≤◌, Bool, true, false, List, Some, refl, sym, ap, ◌∙◌, subst, arith, inl, inr}
 use Rattle.mp_base.specs.declared.number.Guid.{Guid}
 use Rattle.label_store.specs.declared.member.Member.{Member}
 use Rattle.label_store.specs.declared.uberblock.Uberblock.{Uberblock}

@@ -9,7 +9,7 @@ use Rattle.label_store.specs.Records.{place_at}
 use Rattle.label_store.specs.Uberblock.{IsUberblock}
 use Rattle.txg_history.specs.Events.{Event, Known, Calls, Accepts, Freezes, Wrote, Flushed, Draws, Leaves, Grows, Burns, Begins, Third, Ends, Acks, Looks, Opens, Joins, Loses, Scans, Passes, Drops, Clears, Rests, Stops}
 use Rattle.txg_history.specs.Groups.{Logs}
-use Rattle.txg_history.specs.Labels.{Status, Odd, Even}
+use Rattle.txg_history.specs.Labels.{Odd, Even}
 use Rattle.txg_history.specs.Needs.{Held, Keeps, Landed, Copied, InPart, odd_part, NeedsLabel, NeedsPut, NeedsScan, NeedsFirm, NeedsSoft}
 use Rattle.txg_history.specs.Pages.{Codec, AreDirty}
 use Rattle.txg_history.specs.Places.{IsFree}

@@ -1,11 +1,9 @@
 -- Plans whose calls a pool may make, whatever they answer.
-use Rattle.std.specs.Prelude.{◌≡◌, ℕ, ◌+◌, ◌-◌, ◌<◌, true, false, List, [], ◌∷◌, Some}
-use Rattle.mp_base.specs.declared.number.Guid.{Guid}
+use Rattle.std.specs.Prelude.{◌≡◌, ℕ, ◌+◌, ◌-◌, ◌<◌, true, List, [], ◌∷◌, Some}
 use Rattle.mp_base.specs.declared.place.Key.{Key}
 use Rattle.bank_core.specs.Asks.{Ask, Reads, Writes, Flushes, Admits, Ejects}
 use Rattle.bank_core.specs.Disk.{sector_of}
 use Rattle.bank_core.specs.Standing.{aims, Spares}
-use Rattle.label_store.specs.declared.member.Member.{Member}
 use Rattle.label_store.specs.Records.{place_at}
 use Rattle.txg_history.specs.Needs.{NeedsFirm, NeedsSoft}
 use Rattle.txg_history.specs.Pools.{Pool, drawn, seat}
