@@ -19,6 +19,7 @@ pub mod Paging
 pub mod Placing
 pub mod ReadingBack
 pub mod Refusing
+pub mod Resilvering
 pub mod RoundMoves
 pub mod RoundParts
 pub mod RoundPlaces
@@ -30,6 +31,7 @@ pub mod Sparing
 pub mod Stamping
 pub mod Straying
 pub mod Surviving
+pub mod Suspending
 pub mod Thirds
 pub mod Tracked
 pub mod Treeing

@@ -21,3 +21,4 @@ pub mod Stamps
 pub mod Survival
 pub mod Tracking
 pub mod Turns
+pub mod Weeks

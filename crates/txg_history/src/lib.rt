@@ -3,6 +3,7 @@
 #![tactic(auto)]
 
 mod contents;
+mod histories;
 mod labels;
 mod moves;
 mod openings;
@@ -13,6 +14,7 @@ mod turns;
 mod writes;
 
 pub use contents::{members_are_brought_in, records_have_what_was_accepted};
+pub use histories::small_histories_are_allowed;
 pub use labels::labels_stay_sound;
 pub use moves::{histories_keep_their_records, stamped_pools_survive};
 pub use openings::{
