@@ -1,9 +1,10 @@
 -- The fold over a history's events: over two lists of events, over calls alone, and what stays the same.
 use Rattle.std.proofs.Common.{◌≡◌, ◌⊎◌, ℕ, ◌==◌, Bool, true, false, cond, List, [], ◌∷◌, ◌++◌, take, zero, suc, refl, sym, ap, ◌∙◌, subst, inl, inr, arith}
 use Rattle.std.proofs.lemmas.Bool.Decides.{nat_tests}
+use Rattle.std.specs.List.{AllByRecursion}
 use Rattle.mp_base.specs.declared.number.Guid.{Guid}
 use Rattle.bank_core.specs.Disk.{Noted, run}
-use Rattle.txg_history.specs.Events.{Event, Calls, Joins, Loses, Stops, calls_of, as_events, IsOneRun, Brings, BringsIn}
+use Rattle.txg_history.specs.Events.{Event, Calls, Joins, Loses, Stops, calls_of, as_events, NeverStops, IsOneRun, TakesNone, Brings, BringsIn}
 use Rattle.txg_history.specs.Moves.{Mays}
 use Rattle.txg_history.specs.Pages.{Codec}
 use Rattle.txg_history.specs.Pools.{Pool, noted_since, other_than, after, pool_after}
@@ -70,80 +71,75 @@ pub mays_calls : (c : Codec) (made : List Noted) (vs : List Event) (p : Pool)
     → Mays c p (as_events made) → Mays c (with_calls made p) vs → Mays c p (as_events made ++ vs)
 mays_calls c made vs p a b = mays_more c (as_events made) vs p a (subst (λ q. Mays c q vs) (sym (calls_after made p)) b)
 
+-- What each event of a kind leaves, all events of that kind leave.
+pub kept_along : {A : Type 0} (f : Pool → A) (Kind : Event → Type 0) → ((v : Event) (p : Pool) → Kind v → f (after v p) ≡ f p) → (vs : List Event) (p : Pool)
+    → AllByRecursion Kind vs → f (pool_after vs p) ≡ f p
+kept_along f Kind same [] p all = refl
+kept_along f Kind same (v ∷ vs) p all = kept_along f Kind same vs (after v p) all.1 ∙ same v p all.0
+
+pub all_more : (Kind : Event → Type 0) (first second : List Event) → AllByRecursion Kind first → AllByRecursion Kind second → AllByRecursion Kind (first ++ second)
+all_more Kind [] second a b = b
+all_more Kind (v ∷ first) second a b = (a.0, all_more Kind first second a.1 b)
+
+pub all_calls : (Kind : Event → Type 0) → ((noted : Noted) → Kind (Calls noted)) → (made : List Noted) → AllByRecursion Kind (as_events made)
+all_calls Kind is [] = tt
+all_calls Kind is (noted ∷ made) = (is noted, all_calls Kind is made)
+
+-- any event
+abbrev pub IsAny : Event → Type 0
+IsAny v = Unit {0}
+
+any_all : (vs : List Event) → AllByRecursion IsAny vs
+any_all [] = tt
+any_all (v ∷ vs) = (tt, any_all vs)
+
 -- No event changes a pool's name, its number, or its tops' rooms.
-pub name_same : (v : Event) (p : Pool) → (after v p).name ≡ p.name
-name_same (Calls noted) p = refl
-name_same v p = refl
+name_same : (v : Event) (p : Pool) → IsAny v → (after v p).name ≡ p.name
+name_same (Calls noted) p is = refl
+name_same v p is = refl
 
-pub pool_same : (v : Event) (p : Pool) → (after v p).pool ≡ p.pool
-pool_same (Calls noted) p = refl
-pool_same v p = refl
+pub name_kept : (vs : List Event) (p : Pool) → (pool_after vs p).name ≡ p.name
+name_kept vs p = kept_along (λ p. p.name) IsAny name_same vs p (any_all vs)
 
-pub room_same : (v : Event) (p : Pool) → (after v p).room ≡ p.room
-room_same (Calls noted) p = refl
-room_same v p = refl
+pool_same : (v : Event) (p : Pool) → IsAny v → (after v p).pool ≡ p.pool
+pool_same (Calls noted) p is = refl
+pool_same v p is = refl
+
+pub pool_kept : (vs : List Event) (p : Pool) → (pool_after vs p).pool ≡ p.pool
+pool_kept vs p = kept_along (λ p. p.pool) IsAny pool_same vs p (any_all vs)
+
+room_same : (v : Event) (p : Pool) → IsAny v → (after v p).room ≡ p.room
+room_same (Calls noted) p is = refl
+room_same v p is = refl
+
+pub room_kept : (vs : List Event) (p : Pool) → (pool_after vs p).room ≡ p.room
+room_kept vs p = kept_along (λ p. p.room) IsAny room_same vs p (any_all vs)
 
 -- within a run no device changes its size
-pub size_same : (v : Event) (p : Pool) → IsOneRun (v ∷ []) → (after v p).size ≡ p.size
+size_same : (v : Event) (p : Pool) → NeverStops v → (after v p).size ≡ p.size
 size_same (Calls noted) p one = refl
 size_same (Stops sectors size) p one = absurd one
 size_same v p one = refl
 
-one_first : (v : Event) (vs : List Event) → IsOneRun (v ∷ vs) → IsOneRun (v ∷ [])
-one_first (Calls noted) vs one = tt
-one_first (Stops sectors size) vs one = one
-one_first v vs one = tt
-
-one_rest : (v : Event) (vs : List Event) → IsOneRun (v ∷ vs) → IsOneRun vs
-one_rest (Calls noted) vs one = one
-one_rest (Stops sectors size) vs one = absurd one
-one_rest v vs one = one
-
-pub name_kept : (vs : List Event) (p : Pool) → (pool_after vs p).name ≡ p.name
-name_kept [] p = refl
-name_kept (v ∷ vs) p = name_kept vs (after v p) ∙ name_same v p
-
-pub pool_kept : (vs : List Event) (p : Pool) → (pool_after vs p).pool ≡ p.pool
-pool_kept [] p = refl
-pool_kept (v ∷ vs) p = pool_kept vs (after v p) ∙ pool_same v p
-
-pub room_kept : (vs : List Event) (p : Pool) → (pool_after vs p).room ≡ p.room
-room_kept [] p = refl
-room_kept (v ∷ vs) p = room_kept vs (after v p) ∙ room_same v p
-
 pub size_kept : (vs : List Event) (p : Pool) → IsOneRun vs → (pool_after vs p).size ≡ p.size
-size_kept [] p one = refl
-size_kept (v ∷ vs) p one = size_kept vs (after v p) (one_rest v vs one) ∙ size_same v p (one_first v vs one)
+size_kept vs p one = kept_along (λ p. p.size) NeverStops size_same vs p one
 
--- no device comes to the pool, and none goes
-abbrev pub TakesNone : List Event → Type 0
-TakesNone [] = Unit {0}
-TakesNone (Joins d m top ∷ vs) = ⊥
-TakesNone (Loses d ∷ vs) = ⊥
-TakesNone (v ∷ vs) = TakesNone vs
+-- Where no device comes or goes the members stay, with their numbers.
+member_same : (v : Event) (p : Pool) → TakesNone v → (after v p).member ≡ p.member
+member_same (Joins d m top) p none = absurd none
+member_same (Loses d) p none = absurd none
+member_same v p none = refl
 
-pub takes_none_more : (first second : List Event) → TakesNone first → TakesNone second → TakesNone (first ++ second)
-takes_none_more [] second a b = b
-takes_none_more (Joins d m top ∷ first) second a b = absurd a
-takes_none_more (Loses d ∷ first) second a b = absurd a
-takes_none_more (v ∷ first) second a b = takes_none_more first second a b
+pub member_kept : (vs : List Event) (p : Pool) → AllByRecursion TakesNone vs → (pool_after vs p).member ≡ p.member
+member_kept vs p none = kept_along (λ p. p.member) TakesNone member_same vs p none
 
-pub calls_take_none : (made : List Noted) → TakesNone (as_events made)
-calls_take_none [] = tt
-calls_take_none (noted ∷ made) = calls_take_none made
+guid_same : (v : Event) (p : Pool) → TakesNone v → (after v p).guid ≡ p.guid
+guid_same (Joins d m top) p none = absurd none
+guid_same (Loses d) p none = absurd none
+guid_same v p none = refl
 
--- so its members stay, with their numbers and tops
-pub member_kept : (vs : List Event) (p : Pool) → TakesNone vs → (pool_after vs p).member ≡ p.member
-member_kept [] p none = refl
-member_kept (Joins d m top ∷ vs) p none = absurd none
-member_kept (Loses d ∷ vs) p none = absurd none
-member_kept (v ∷ vs) p none = member_kept vs (after v p) none
-
-pub guid_kept : (vs : List Event) (p : Pool) → TakesNone vs → (pool_after vs p).guid ≡ p.guid
-guid_kept [] p none = refl
-guid_kept (Joins d m top ∷ vs) p none = absurd none
-guid_kept (Loses d ∷ vs) p none = absurd none
-guid_kept (v ∷ vs) p none = guid_kept vs (after v p) none
+pub guid_kept : (vs : List Event) (p : Pool) → AllByRecursion TakesNone vs → (pool_after vs p).guid ≡ p.guid
+guid_kept vs p none = kept_along (λ p. p.guid) TakesNone guid_same vs p none
 
 pub other_was : (m : Guid) (guid : ℕ → Guid) (member : ℕ → Bool) (e : ℕ) → other_than m guid member e ≡ true → member e ≡ true
 other_was m guid member e is = by_test ((guid e).0 == m.0) is
@@ -191,15 +187,6 @@ moment_of (v ∷ vs) (suc k) = let m = moment_of vs (suc k) in (suc m.0, m.1)
 -- within one run the devices are as its calls leave them
 pub run_sectors : (vs : List Event) (p : Pool) → IsOneRun vs → (pool_after vs p).sectors ≡ run (calls_of vs) p.sectors
 run_sectors [] p one = refl
-run_sectors (Calls noted ∷ vs) p one = run_sectors vs (after (Calls noted) p) one
-run_sectors (Stops sectors size ∷ vs) p one = absurd one
-run_sectors (v ∷ vs) p one = run_sectors vs (after v p) one
-
-pub stops_never_more : (first second : List Event) → IsOneRun first → IsOneRun second → IsOneRun (first ++ second)
-stops_never_more [] second a b = b
-stops_never_more (Stops sectors size ∷ first) second a b = absurd a
-stops_never_more (v ∷ first) second a b = stops_never_more first second a b
-
-pub calls_never_stop : (made : List Noted) → IsOneRun (as_events made)
-calls_never_stop [] = tt
-calls_never_stop (noted ∷ made) = calls_never_stop made
+run_sectors (Calls noted ∷ vs) p one = run_sectors vs (after (Calls noted) p) one.1
+run_sectors (Stops sectors size ∷ vs) p one = absurd one.0
+run_sectors (v ∷ vs) p one = run_sectors vs (after v p) one.1

@@ -3,6 +3,7 @@ pub mod Containing
 pub mod DeviceSectors
 pub mod DevicesSurvive
 pub mod Folding
+pub mod Freezing
 pub mod GroupsSurvive
 pub mod Holding
 pub mod Keeping

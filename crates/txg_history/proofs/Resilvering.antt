@@ -1,9 +1,8 @@
 -- A disk's week: a leaf is away from a commit, comes back, and a resilver brings it what it missed.
-use Rattle.std.proofs.Common.{◌≡◌, ◌≢◌, ◌⊎◌, ℕ, zero, suc, ◌+◌, ◌*◌, ◌≤◌, ◌<◌, ◌==◌, ◌&&◌, nat_le, nat_lt, Bool, true, false, cond, List, [], ◌∷◌, ◌++◌, length, Option, Some, None, refl, sym, ap, ◌∙◌, subst, inl, inr, arith, ⊎_elim}
+use Rattle.std.proofs.Common.{◌≡◌, ℕ, zero, suc, ◌+◌, ◌*◌, ◌≤◌, ◌<◌, ◌==◌, nat_le, Bool, true, false, cond, List, [], ◌∷◌, ◌++◌, length, Option, Some, None, refl, sym, ap, ◌∙◌, subst, inl, inr, arith, ⊎_elim}
 use Rattle.std.specs.Prelude.{slice_get}
 use Rattle.std.proofs.lemmas.Bool.Decides.{nat_tests}
 use Rattle.mp_base.specs.declared.place.Key.{Key}
-use Rattle.bank_core.specs.Disk.{Noted, run}
 use Rattle.label_store.specs.declared.member.Member.{Member}
 use Rattle.label_store.specs.Seats.{AreApart}
 use Rattle.label_store.proofs.Keeping.{same_member, no_member}
@@ -12,17 +11,17 @@ use Rattle.txg_history.specs.Groups.{same_key, no_log, at_device}
 use Rattle.txg_history.specs.Moves.{IsSparing, IsLeafOf, IsDrawnUp, MayFreeze, MayScan, MayPass, Mays}
 use Rattle.txg_history.specs.Places.{IsFree}
 use Rattle.txg_history.specs.Needs.{Copied}
-use Rattle.txg_history.specs.Pages.{Codec, AreDirty, sum_of}
+use Rattle.txg_history.specs.Pages.{Codec, sum_of}
 use Rattle.txg_history.specs.Pools.{Pool, seat, after, pool_after}
-use Rattle.txg_history.specs.Records.{Rec, Cell, Cells, AreAtOne, key, cell_over, block_in, block_of, laid_over, number_of, data_start}
+use Rattle.txg_history.specs.Records.{Rec, Cell, key, cell_over, block_of, laid_over, number_of, data_start}
 use Rattle.txg_history.specs.Rounds.{IsRoundEvents, RoundEnds}
 use Rattle.txg_history.specs.Scans.{up_to}
 use Rattle.txg_history.specs.Survival.{Survives}
-use Rattle.txg_history.specs.Turns.{AreJust, OnBoard, OnTop, IsWriteTurn, IsFlushTurn}
+use Rattle.txg_history.specs.Turns.{AreJust, OnBoard, OnTop}
 use Rattle.txg_history.specs.Weeks.{root_key, only_root, writes_well, flushes_well, IsWeek, until_round, resilver}
 use Rattle.txg_history.proofs.Folding.{mays_more, pool_more}
 use Rattle.txg_history.proofs.Listing.{one_key, same_cell, laid_of}
-use Rattle.txg_history.proofs.Logging.{by_bool, true_not_false, at_here, same_device}
+use Rattle.txg_history.proofs.Logging.{true_not_false, at_here, same_device}
 use Rattle.txg_history.proofs.Moving.{event_survives}
 use Rattle.txg_history.proofs.RoundMoves.{round_may, round_ends}
 use Rattle.txg_history.proofs.Showing.{copy_lands, clear_may}

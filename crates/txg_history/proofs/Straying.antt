@@ -1,10 +1,12 @@
 -- What a stray is, told by the history: live when an opening read a lower record, and never acknowledged.
-use Rattle.std.proofs.Common.{◌≡◌, ◌⊎◌, ℕ, ◌<◌, nat_lt, Bool, true, false, cond, List, [], ◌∷◌, ◌++◌, refl, sym, ap, subst, arith, inl, inr}
+use Rattle.std.proofs.Common.{◌≡◌, ◌⊎◌, ℕ, ◌≤◌, ◌<◌, nat_lt, Bool, true, false, cond, List, [], ◌∷◌, ◌++◌, refl, sym, ap, subst, arith, inl, inr}
 use Rattle.std.proofs.lemmas.Bool.Decides.{nat_tests}
-use Rattle.txg_history.specs.Events.{Event, Begins, Acks, Opens}
+use Rattle.txg_history.specs.Events.{Event, Known, Begins, Acks, Opens}
+use Rattle.label_store.specs.declared.uberblock.Uberblock.{Uberblock}
+use Rattle.txg_history.specs.Openings.{IsVerifiedOn, IsDrawnRecord}
 use Rattle.txg_history.specs.Pages.{Codec}
 use Rattle.txg_history.specs.Pools.{Pool, after, pool_after}
-use Rattle.txg_history.specs.Premises.{AreTwins, HasTwin, WasAcked, WasMissed}
+use Rattle.txg_history.specs.Premises.{AreTwins, HasNoStray, HasTwin, WasAcked, WasMissed}
 use Rattle.txg_history.specs.Records.{Rec, IsIn, number_of, above}
 use Rattle.txg_history.specs.Survival.{Survives}
 use Rattle.txg_history.proofs.Listing.{in_append}
@@ -55,3 +57,18 @@ missed_by (Opens q ∷ vs) p r i = of (missed_by vs (after (Opens q) p) r i)
     of (inl i) = now (in_append r (above (number_of q) p.live) p.missed i)
     of (inr w) = inr (later_missed (Opens q) vs p r w)
 missed_by (v ∷ vs) p r i = more_missed v vs p r (missed_by vs (after v p) r i)
+
+-- Where each missed record that is found, and isn't below the acknowledged one, was acknowledged, there is no stray.
+pub no_stray : (c : Codec) (p : Pool) (known : Known) → Survives c p
+    → ((d : ℕ) (u : Uberblock) (config : List ℕ) → p.member d ≡ false → IsVerifiedOn c.head_of p.size known p.name d u config → (r : Rec) × IsDrawnRecord p u config r)
+    → ((d : ℕ) (u : Uberblock) (config : List ℕ) (r : Rec) → IsVerifiedOn c.head_of p.size known p.name d u config → IsDrawnRecord p u config r → IsIn r p.missed
+    → number_of p.acked ≤ number_of r → WasAcked p r) → HasNoStray c.head_of p known
+no_stray c p known sv others were = record {
+  others = others;
+  passed = λ d u config r v is given missed. by_number (nat_lt (number_of r) (number_of p.acked)) refl (λ above. acked_below c p r sv (were d u config r v is missed above));
+}
+  where
+    by_number : {r : Rec} (t : Bool) → nat_lt (number_of r) (number_of p.acked) ≡ t → (number_of p.acked ≤ number_of r → (number_of r < number_of p.acked) ⊎ HasTwin p r)
+        → (number_of r < number_of p.acked) ⊎ HasTwin p r
+    by_number {r} true is above = inl (let lt : number_of r < number_of p.acked = grind (arith, nat_tests) in lt)
+    by_number {r} false is above = above (let le : number_of p.acked ≤ number_of r = grind (arith, nat_tests) in le)

@@ -1,20 +1,19 @@
 -- A suspended group leaves the logs as they were, and a further round goes on without the leaf that failed.
-use Rattle.std.proofs.Common.{◌≡◌, ◌≢◌, ◌⊎◌, ℕ, suc, ◌+◌, ◌≤◌, ◌<◌, ◌==◌, Bool, true, false, cond, List, [], ◌∷◌, ◌++◌, refl, sym, ap, ◌∙◌, subst, inl, inr, arith, ⊎_elim}
+use Rattle.std.proofs.Common.{◌≡◌, ◌⊎◌, ℕ, ◌+◌, ◌≤◌, ◌==◌, Bool, true, false, cond, List, [], ◌∷◌, ◌++◌, refl, sym, ap, ◌∙◌, inl, inr, arith}
 use Rattle.label_store.specs.declared.member.Member.{Member}
 use Rattle.label_store.specs.Seats.{AreApart}
-use Rattle.txg_history.specs.Events.{Event, Freezes, Draws, Leaves, Burns, calls_of}
-use Rattle.txg_history.specs.Groups.{Logs, between, grown, cleared, off}
+use Rattle.txg_history.specs.Events.{Event, Freezes, Draws, Leaves, calls_of}
+use Rattle.txg_history.specs.Groups.{Logs, between, grown, off}
 use Rattle.txg_history.specs.Moves.{MayFreeze, IsDrawnUp, Mays}
 use Rattle.txg_history.specs.Pages.{Codec}
-use Rattle.txg_history.specs.Pools.{Pool, after, pool_after}
+use Rattle.txg_history.specs.Pools.{Pool, pool_after}
 use Rattle.txg_history.specs.Records.{Rec, Cells}
 use Rattle.txg_history.specs.Rounds.{all_true, IsRoundEvents, RoundEnds}
 use Rattle.txg_history.specs.Survival.{Survives}
 use Rattle.txg_history.specs.Turns.{AreJust, OnBoard}
 use Rattle.txg_history.specs.Weeks.{suspended}
-use Rattle.txg_history.proofs.Folding.{mays_more, pool_more}
-use Rattle.txg_history.proofs.Logging.{by_bool, true_not_false, not_true, is_between, of_between, grown_of, grown_more}
-use Rattle.txg_history.proofs.Moving.{event_survives}
+use Rattle.txg_history.proofs.Folding.{mays_more}
+use Rattle.txg_history.proofs.Logging.{true_not_false, not_true, is_between, of_between, grown_of, grown_more}
 use Rattle.txg_history.proofs.RoundMoves.{round_may, round_ends}
 use Rattle.txg_history.proofs.Surviving.{history_survives}
 

@@ -1,6 +1,7 @@
 -- The third phase of a round: its moves are allowed, and each member that ends it holds the new record.
 use Rattle.std.proofs.Common.{◌≡◌, ◌≢◌, ℕ, ◌+◌, ◌≤◌, zero, suc, cond, Bool, true, false, List, [], ◌∷◌, ◌++◌, Some, refl, sym, ap, ◌∙◌, subst, arith, inl}
 use Rattle.std.specs.Prelude.{slice_get}
+use Rattle.std.specs.List.{AllByRecursion}
 use Rattle.std.proofs.lemmas.Bool.{ne_eqb, eq-eqb}
 use Rattle.bank_core.specs.Asks.{Ask}
 use Rattle.bank_core.specs.Disk.{Sector, Noted, run, replay, sectors_in}
@@ -23,7 +24,7 @@ use Rattle.txg_history.proofs.Placing.{AreBetween}
 use Rattle.txg_history.specs.Records.{Rec, IsIn, number_of}
 use Rattle.txg_history.specs.Rounds.{ends_if, IsThirds}
 use Rattle.txg_history.specs.Survival.{Fits}
-use Rattle.txg_history.proofs.Folding.{since_after, with_calls, calls_then, mays_calls}
+use Rattle.txg_history.proofs.Folding.{all_more, all_calls, since_after, with_calls, calls_then, mays_calls}
 use Rattle.txg_history.proofs.RoundParts.{IsSeated, few_of, third_sparing}
 use Rattle.txg_history.proofs.Sparing.{turn_may}
 
@@ -156,38 +157,33 @@ thirds_may codec q (m ∷ ms) (true ∷ was) (false ∷ is) vs p r t =
 thirds_may codec q (m ∷ ms) (false ∷ was) (c ∷ is) vs p r t =
     thirds_may codec q ms was is vs p (ready_off codec p q m ms false was r) t.1
 
--- events of turns: calls, and their marks
-abbrev pub AreTurns : List Event → Type 0
-AreTurns [] = Unit {0}
-AreTurns (Calls noted ∷ vs) = AreTurns vs
-AreTurns (Third q d ∷ vs) = AreTurns vs
-AreTurns (Ends q d ∷ vs) = AreTurns vs
-AreTurns (v ∷ vs) = ⊥
+-- an event of a turn: a call, or a mark
+abbrev pub IsOfTurn : Event → Type 0
+IsOfTurn (Calls noted) = Unit {0}
+IsOfTurn (Third q d) = Unit {0}
+IsOfTurn (Ends q d) = Unit {0}
+IsOfTurn v = ⊥
 
 -- They change the sectors by their calls, and the labels' statuses, and no more.
-pub turns_pool : (vs : List Event) (p : Pool) → AreTurns vs → pool_after vs p ≡ turned (calls_of vs) (pool_after vs p).status p
+pub turns_pool : (vs : List Event) (p : Pool) → AllByRecursion IsOfTurn vs → pool_after vs p ≡ turned (calls_of vs) (pool_after vs p).status p
 turns_pool [] p t = refl
-turns_pool (Calls noted ∷ vs) p t = turns_pool vs (after (Calls noted) p) t
-turns_pool (Third q d ∷ vs) p t = turns_pool vs (after (Third q d) p) t
-turns_pool (Ends q d ∷ vs) p t = turns_pool vs (after (Ends q d) p) t
-turns_pool (v ∷ vs) p t = absurd t
+turns_pool (Calls noted ∷ vs) p t = turns_pool vs (after (Calls noted) p) t.1
+turns_pool (Third q d ∷ vs) p t = turns_pool vs (after (Third q d) p) t.1
+turns_pool (Ends q d ∷ vs) p t = turns_pool vs (after (Ends q d) p) t.1
+turns_pool (v ∷ vs) p t = absurd t.0
 
-turns_more : (made : List Noted) (vs : List Event) → AreTurns vs → AreTurns (as_events made ++ vs)
-turns_more [] vs t = t
-turns_more (noted ∷ made) vs t = turns_more made vs t
-
-turns_ends : (c : Bool) (q : Rec) (d : ℕ) (vs : List Event) → AreTurns vs → AreTurns (ends_if c q d ++ vs)
-turns_ends true q d vs t = t
+turns_ends : (c : Bool) (q : Rec) (d : ℕ) (vs : List Event) → AllByRecursion IsOfTurn vs → AllByRecursion IsOfTurn (ends_if c q d ++ vs)
+turns_ends true q d vs t = (tt, t)
 turns_ends false q d vs t = t
 
-pub thirds_turns : (plan : Member → List Ask) (q : Rec) (ms : List Member) (was is : List Bool) (vs : List Event) → IsThirds plan q ms was is vs → AreTurns vs
-thirds_turns plan q [] [] [] vs t = subst AreTurns (sym t) tt
+pub thirds_turns : (plan : Member → List Ask) (q : Rec) (ms : List Member) (was is : List Bool) (vs : List Event) → IsThirds plan q ms was is vs → AllByRecursion IsOfTurn vs
+thirds_turns plan q [] [] [] vs t = subst (AllByRecursion IsOfTurn) (sym t) tt
 thirds_turns plan q [] [] (c ∷ is) vs t = absurd t
 thirds_turns plan q [] (b ∷ was) is vs t = absurd t
 thirds_turns plan q (m ∷ ms) [] is vs t = absurd t
 thirds_turns plan q (m ∷ ms) (b ∷ was) [] vs t = absurd t
-thirds_turns plan q (m ∷ ms) (true ∷ was) (c ∷ is) vs t =
-    subst AreTurns (sym t.2) (turns_more t.0 _ (turns_ends c q m.dev t.1 (thirds_turns plan q ms was is t.1 t.4)))
+thirds_turns plan q (m ∷ ms) (true ∷ was) (c ∷ is) vs t = subst (AllByRecursion IsOfTurn) (sym t.2)
+    (tt, all_more IsOfTurn (as_events t.0) (ends_if c q m.dev ++ t.1) (all_calls IsOfTurn (λ noted. tt) t.0) (turns_ends c q m.dev t.1 (thirds_turns plan q ms was is t.1 t.4)))
 thirds_turns plan q (m ∷ ms) (false ∷ was) (c ∷ is) vs t = thirds_turns plan q ms was is vs t.1
 
 -- each member has a result

@@ -1,6 +1,7 @@
 -- The history of a pool: a flat list of what happened, each device call among it. Each front of the list
 -- is a moment, and what happened in several runs is one list with a stop between any two.
 use Rattle.std.specs.Prelude.{◌≡◌, ◌⊎◌, ℕ, Bool, List, [], ◌∷◌, Option}
+use Rattle.std.specs.List.{AllByRecursion}
 use Rattle.mp_base.specs.declared.number.Guid.{Guid}
 use Rattle.mp_base.specs.declared.place.Key.{Key}
 use Rattle.bank_core.specs.Disk.{Noted, Sectors}
@@ -72,10 +73,18 @@ as_events [] = []
 as_events (noted ∷ more) = Calls noted ∷ as_events more
 
 -- no stop is among these events
+abbrev pub NeverStops : Event → Type 0
+NeverStops (Stops sectors size) = ⊥
+NeverStops v = Unit {0}
+
 abbrev pub IsOneRun : List Event → Type 0
-IsOneRun [] = Unit {0}
-IsOneRun (Stops sectors size ∷ vs) = ⊥
-IsOneRun (v ∷ vs) = IsOneRun vs
+IsOneRun vs = AllByRecursion NeverStops vs
+
+-- no device comes to the pool, and none goes
+abbrev pub TakesNone : Event → Type 0
+TakesNone (Joins d m top) = ⊥
+TakesNone (Loses d) = ⊥
+TakesNone v = Unit {0}
 
 -- the event brings this device in
 abbrev pub Brings : Event → (d : ℕ) → Type 0

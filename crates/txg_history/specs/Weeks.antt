@@ -1,6 +1,6 @@
 -- Small histories. A leaf is away from one commit, comes back and is resilvered. The commit has one key, the root page of a
 -- map without any block.
-use Rattle.std.specs.Prelude.{◌≡◌, ◌≢◌, ◌⊎◌, ℕ, ◌+◌, ◌<◌, ◌==◌, Bool, true, false, cond, List, [], ◌∷◌, ◌++◌, length, Option, Some, None}
+use Rattle.std.specs.Prelude.{◌≡◌, ◌≢◌, ℕ, ◌+◌, ◌<◌, ◌==◌, Bool, true, false, cond, List, [], ◌∷◌, length, Some, None}
 use Rattle.mp_base.specs.declared.place.Key.{Key}
 use Rattle.bank_core.specs.Disk.{Write, Flush, Noted}
 use Rattle.txg_history.specs.Events.{Event, Calls, Freezes, Wrote, Flushed, Draws, Leaves, Burns, Scans, Passes, Clears}

@@ -24,5 +24,5 @@ pub use openings::{
 pub use pages::pages_are_read_back;
 pub use refusals::wrong_moves_are_refused;
 pub use rounds::rounds_may_be_made;
-pub use turns::{flush_turns_may_be_made, write_turns_may_be_made};
+pub use turns::{empty_groups_may_be_frozen, flush_turns_may_be_made, write_turns_may_be_made};
 pub use writes::{keys_may_be_written_again, plans_may_be_made, reads_show_the_block};

@@ -14,10 +14,10 @@ ghost use Rattle.txg_history.specs.Contents.{BegunAt};
 ghost use Rattle.txg_history.specs.Events.{Event, Known, Begins, Acks};
 ghost use Rattle.txg_history.specs.Looks.{known_by, AreDistinct, HaveRoom, NoneFailed};
 ghost use Rattle.txg_history.specs.Moves.{Mays, ReadsTrue};
-ghost use Rattle.txg_history.specs.Openings.{IsVerifiedOn, IsYield, IsReadWhole, FindsLive};
+ghost use Rattle.txg_history.specs.Openings.{IsVerifiedOn, IsYield, IsReadWhole, IsDrawnRecord, FindsLive};
 ghost use Rattle.txg_history.specs.Pages.{Codec};
 ghost use Rattle.txg_history.specs.Pools.{Pool, drawn, after, pool_after};
-ghost use Rattle.txg_history.specs.Premises.{AreTwins, HasNoClash, HasTwin, HoldsLabels, Premises, WasAcked, WasMissed};
+ghost use Rattle.txg_history.specs.Premises.{AreTwins, HasNoClash, HasNoStray, HasTwin, HoldsLabels, Premises, WasAcked, WasMissed};
 ghost use Rattle.txg_history.specs.Records.{Rec, IsIn, number_of};
 ghost use Rattle.txg_history.specs.Survival.{Survives};
 
@@ -79,11 +79,17 @@ pub fn premises_can_be_met()
 ///
 /// `missed`: a record counts as missed only where an opening read a record of a lower number while it was live. `acked`: one
 /// that was acknowledged, told by its bytes, is below the acknowledged record, or a live one is the very same;
-/// so it is no stray. `again`: a record that is drawn a second time, the very same, is live from its round's beginning on. So
+/// so it is no stray. `premise`: the premise of openings holds where no other pool's record of the name is found, and each
+/// missed record that is found, and isn't below the acknowledged one, was acknowledged. `again`: a record that is drawn a second time, the very same, is live from its round's beginning on. So
 /// an opening that is stopped before any of its uberblocks, and is followed by one that draws the same record, leaves no stray.
 pub fn strays_were_never_acknowledged()
     ensures missed { (vs : List Event) (p : Pool) (r : Rec) → IsIn r (pool_after vs p).missed → IsIn r p.missed ⊎ WasMissed p vs r }
     ensures acked { (c : Codec) (p : Pool) (r : Rec) → Survives c p → WasAcked p r → (number_of r < number_of p.acked) ⊎ HasTwin p r }
+    ensures premise { (c : Codec) (p : Pool) (known : Known) → Survives c p
+        → ((d : ℕ) (u : Uberblock) (config : List ℕ) → p.member d ≡ false → IsVerifiedOn c.head_of p.size known p.name d u config → (r : Rec) × IsDrawnRecord p u config r)
+        → ((d : ℕ) (u : Uberblock) (config : List ℕ) (r : Rec) → IsVerifiedOn c.head_of p.size known p.name d u config → IsDrawnRecord p u config r → IsIn r p.missed
+        → number_of p.acked ≤ number_of r → WasAcked p r)
+        → HasNoStray c.head_of p known }
     ensures again { (p : Pool) (q r : Rec) → AreTwins r q → HasTwin (after (Begins q) p) r × HasTwin (after (Acks q) p) r }
 {}
 

@@ -1,5 +1,5 @@
 //! Which write turns and flush turns a frozen group may make, and what they leave (docs/MODEL.md, "The history of a pool").
-ghost use Rattle.std.specs.Prelude.{◌≡◌, ℕ, Bool, true, false, cond, List, map, Option, Some};
+ghost use Rattle.std.specs.Prelude.{◌≡◌, ℕ, Bool, true, false, cond, List, map, Option, Some, None, ◌≤◌};
 ghost use Rattle.mp_base.specs.declared.place.Key.{Key};
 ghost use Rattle.bank_core.specs.Disk.{Noted};
 ghost use Rattle.label_store.specs.declared.member.Member.{Member};
@@ -7,10 +7,10 @@ ghost use Rattle.label_store.specs.Phases.{IsPhase};
 ghost use Rattle.label_store.specs.Seats.{AreApart};
 ghost use Rattle.txg_history.specs.Events.{Event, calls_of};
 ghost use Rattle.txg_history.specs.Groups.{same_key};
-ghost use Rattle.txg_history.specs.Moves.{Mays};
+ghost use Rattle.txg_history.specs.Moves.{MayFreeze, Mays};
 ghost use Rattle.txg_history.specs.Pages.{Codec};
 ghost use Rattle.txg_history.specs.Pools.{Pool, pool_after};
-ghost use Rattle.txg_history.specs.Records.{Cell};
+ghost use Rattle.txg_history.specs.Records.{Cell, block_at};
 ghost use Rattle.txg_history.specs.Survival.{Survives};
 ghost use Rattle.txg_history.specs.Turns.{AreJust, OnBoard, OnTop, write_plan, flush_plan, IsWriteTurn, IsFlushTurn, TurnEnds};
 
@@ -45,4 +45,11 @@ pub fn flush_turns_may_be_made()
         → AreJust p (OnBoard p) members → AreApart members → IsFlushTurn members results vs → Mays c p vs }
     ensures ends { (p : Pool) (members : List Member) (results : List Bool) (vs : List Event) → IsFlushTurn members results vs
         → TurnEnds p (pool_after vs p) members results p.group.done true (calls_of vs) }
+{}
+
+/// A group without keys may be frozen where none is frozen and a read answers what the pool's record has, as at a create
+/// and behind an opening. It computes nothing: its clause is the law.
+pub fn empty_groups_may_be_frozen()
+    ensures { (c : Codec) (p : Pool) (board : ℕ → Bool) → p.group.frozen ≡ false → ((a : ℕ) → block_at p.reads a ≡ p.written a)
+        → ((d : ℕ) → p.member d ≡ true → board d ≡ true → 1 ≤ p.in_top d) → MayFreeze c p (λ k. None) board }
 {}
