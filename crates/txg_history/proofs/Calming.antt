@@ -1,0 +1,53 @@
+-- The premises of an opening can be met.
+use Rattle.std.proofs.Common.{◌≡◌, ℕ, Bool, true, false, cond, List, [], Option, Some, None, refl, subst, inl}
+use Rattle.sha2.specs.Sha256.{sha256}
+use Rattle.label_store.specs.declared.rule.Head.{Head}
+use Rattle.label_store.specs.declared.uberblock.Uberblock.{Uberblock}
+use Rattle.label_store.specs.Records.{AreUnhurt}
+use Rattle.label_store.specs.Rounds.{config_of}
+use Rattle.label_store.specs.Uberblock.{uberblock_bytes}
+use Rattle.txg_history.specs.Calm.{stable_of}
+use Rattle.txg_history.specs.Moves.{ReadsTrue}
+use Rattle.txg_history.specs.Openings.{IsVerifiedOn}
+use Rattle.txg_history.specs.Pools.{Pool, drawn}
+use Rattle.txg_history.specs.Premises.{HoldsLabels, Premises}
+use Rattle.txg_history.specs.Records.{Rec, IsIn}
+
+shows_stable : (t : Bool) (stable bytes : List ℕ) → cond t (Some stable) None ≡ Some bytes → bytes ≡ stable
+shows_stable true stable bytes e = cc
+shows_stable false stable bytes e = absurd (cc)
+
+shows_none : (t : Bool) (stable bytes : List ℕ) → t ≡ false → cond t (Some stable) None ≡ Some bytes → ⊥
+shows_none true stable bytes f e = absurd (cc)
+shows_none false stable bytes f e = absurd (cc)
+
+shows_some : (t : Bool) (stable : List ℕ) → t ≡ true → cond t (Some stable) None ≡ Some stable
+shows_some t stable e = rw e refl
+
+-- what stands there is true to what stands there
+pub stable_true : (p : Pool) → ReadsTrue p.sectors (stable_of p)
+stable_true p d s bytes e clean = shows_stable (p.member d) (p.sectors d s).stable bytes e
+
+-- A member's undamaged labels with a record, and nothing that an opening missed.
+pub premises_met : (head_of : List ℕ → Option Head) (p : Pool) (d : ℕ) (r : Rec) → HoldsLabels p d r → p.member d ≡ true → AreUnhurt (p.size d) (p.sectors d) → p.missed ≡ []
+    → ((r : Rec) (e : ℕ) (u : Uberblock) (config : List ℕ) → IsIn r (drawn p) → IsVerifiedOn head_of p.size (stable_of p) p.name e u config
+    → sha256 config ≡ sha256 (config_of r.commit) → config ≡ config_of r.commit)
+    → Premises head_of p (stable_of p)
+premises_met head_of p d r holds member unhurt none sums = record {
+  no_clash = record {
+    sums = sums;
+    rings = λ e place bytes u member inside is correct. inl (shows_stable (p.member e) _ bytes is);
+  };
+  no_stray = record {
+    others = λ e u config non v. absurd (shows_none (p.member e) _ (uberblock_bytes u) non v.verified.uberblock);
+    passed = λ e u config r v is given missed. absurd (subst (IsIn r) none missed);
+  };
+  good = d;
+  sound_labels = record {
+    is_member = member;
+    promised = r;
+    holds = holds;
+    unhurt = unhurt;
+    is_read = λ label s lt lo hi. (_, shows_some (p.member d) _ member);
+  };
+}

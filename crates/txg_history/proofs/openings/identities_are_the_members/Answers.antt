@@ -1,0 +1,5 @@
+use Rattle.txg_history.proofs.Yields.{identity_is}
+use Rattle.txg_history.proofs.openings.identities_are_the_members.Goals as goal
+
+pub returns : goal.returns
+returns c = identity_is

@@ -1,0 +1,81 @@
+-- The tree of a record's pages: each page has the pointers of the keys below it, and the configuration has the root's.
+use Rattle.std.specs.Prelude.{◌≡◌, ◌≢◌, ℕ, zero, suc, ◌+◌, ◌*◌, ◌<◌, Bool, List, Option, Some, None}
+use Rattle.sha2.specs.Sha256.{sha256}
+use Rattle.mp_base.specs.declared.number.Guid.{Guid}
+use Rattle.mp_base.specs.declared.place.Key.{Key}
+use Rattle.label_store.specs.declared.rule.Head.{Head}
+use Rattle.label_store.specs.Rounds.{config_of}
+use Rattle.txg_history.specs.Records.{Cell, Cells, Rec, key, laid_over}
+
+-- What is kept of a key apart from its bytes: their sum stands for them.
+pub record Sum : Type 0 where
+  pub birth : ℕ
+  pub top : ℕ
+  pub sector : ℕ
+  pub sum : List ℕ
+
+abbrev pub sum_of : Option Cell → Option Sum
+sum_of None = None
+sum_of (Some cell) = Some (record { birth = cell.birth; top = cell.top; sector = cell.sector; sum = sha256 cell.block })
+
+-- How bytes are read: of a configuration its head, the root's pointer, the top and the log of each member number; of a
+-- page its 64 pointers. None is a hole.
+pub record Codec : Type 0 where
+  pub head_of : List ℕ → Option Head
+  pub root : List ℕ → Option Sum
+  pub tops : List ℕ → Guid → ℕ
+  pub owes : List ℕ → Guid → ℕ → Bool
+  pub pointer : List ℕ → ℕ → Option Sum
+
+-- the bytes of a page have the pointers of the 64 keys below it
+abbrev pub IsPageOf : Codec → (block : List ℕ) → Cells → (level index : ℕ) → Type 0
+IsPageOf c block cells level index = (j : ℕ) → j < 64 → c.pointer block j ≡ sum_of (cells (key level (64 * index + j)))
+
+-- Each page has the pointers of the keys below it, and below a hole are holes.
+pub record IsTree (c : Codec) (cells : Cells) : Type 0 where
+  pub pages : (level index : ℕ) (cell : Cell) → level < 3 → cells (key (suc level) index) ≡ Some cell → IsPageOf c cell.block cells level index
+  pub holes : (level index j : ℕ) → level < 3 → j < 64 → cells (key (suc level) index) ≡ None → cells (key level (64 * index + j)) ≡ None
+
+-- What the configuration of a record says of the rest of it.
+pub record IsConfigOf (c : Codec) (r : Rec) : Type 0 where
+  pub root : c.root (config_of r.commit) ≡ sum_of (r.cells (key 3 0))
+  pub tops : c.tops (config_of r.commit) ≡ r.tops
+  pub owes : c.owes (config_of r.commit) ≡ r.owes
+
+-- Keys that a freeze lays over others: the page above each of them is among them, and each page among them has the
+-- pointers of what then is below it.
+pub record AreDirty (c : Codec) (new old : Cells) : Type 0 where
+  pub up : (level index j : ℕ) (cell : Cell) → level < 3 → j < 64 → new (key level (64 * index + j)) ≡ Some cell
+      → (page : Cell) × (new (key (suc level) index) ≡ Some page)
+  pub pages : (level index : ℕ) (cell : Cell) → level < 3 → new (key (suc level) index) ≡ Some cell
+      → IsPageOf c cell.block (laid_over new old) level index
+
+-- What an opening gets by reading the pages back from the root's pointer on, where it found these bytes of each page: they
+-- have the sum that the pointer names, and give the pointers below.
+pub record IsReadBack (c : Codec) (config : List ℕ) (found : Key → Option (List ℕ)) (got : Key → Option Sum) : Type 0 where
+  pub root : got (key 3 0) ≡ c.root config
+  pub holes : (level index j : ℕ) → level < 3 → j < 64 → got (key (suc level) index) ≡ None → got (key level (64 * index + j)) ≡ None
+  pub pages : (level index : ℕ) (sum : Sum) → level < 3 → got (key (suc level) index) ≡ Some sum
+      → (bytes : List ℕ) × (found (key (suc level) index) ≡ Some bytes) × (sha256 bytes ≡ sum.sum)
+      × ((j : ℕ) → j < 64 → got (key level (64 * index + j)) ≡ c.pointer bytes j)
+
+-- how many keys a level has
+abbrev pub width : ℕ → ℕ
+width zero = 262144
+width (suc zero) = 4096
+width (suc (suc zero)) = 64
+width (suc (suc (suc level))) = 1
+
+-- two byte strings with one sum
+pub record IsClash (right wrong : List ℕ) : Type 0 where
+  pub other : wrong ≢ right
+  pub same_sum : sha256 wrong ≡ sha256 right
+
+-- the bytes found of this page are others than the record's, with the same sum
+pub record ClashesAt (cells : Cells) (found : Key → Option (List ℕ)) : Type 0 where
+  pub page : Key
+  pub cell : Cell
+  pub cell_is : cells page ≡ Some cell
+  pub bytes : List ℕ
+  pub bytes_are : found page ≡ Some bytes
+  pub clash : IsClash cell.block bytes

@@ -1,0 +1,107 @@
+-- What is assumed at an opening, and nowhere else.
+use Rattle.std.specs.Prelude.{◌≡◌, ◌⊎◌, ℕ, ◌+◌, ◌<◌, ◌≤◌, Bool, true, false, List, [], ◌∷◌, ◌++◌, Option, Some}
+use Rattle.sha2.specs.Sha256.{sha256}
+use Rattle.mp_base.specs.declared.number.Guid.{Guid}
+use Rattle.label_store.specs.declared.rule.Head.{Head}
+use Rattle.label_store.specs.declared.uberblock.Uberblock.{Uberblock}
+use Rattle.label_store.specs.Records.{AreUnhurt, place_at}
+use Rattle.label_store.specs.Rounds.{config_of}
+use Rattle.label_store.specs.Uberblock.{IsUberblock}
+use Rattle.txg_history.specs.Events.{Event, Known, Looks, Opens}
+use Rattle.txg_history.specs.Needs.{Held, InRing, InPart, even_part, odd_part}
+use Rattle.txg_history.specs.Openings.{IsVerifiedOn, IsReadWhole, IsDrawnRecord}
+use Rattle.txg_history.specs.Pools.{Pool, after, pool_after, drawn, seat}
+use Rattle.txg_history.specs.Records.{Rec, Cell, IsIn, number_of, takes_part, key, data_start}
+use Rattle.txg_history.specs.Survival.{IsAmong}
+
+-- No clash: no configuration that was found has the sum of another that was drawn, and no ring sector that
+-- was found holds a correct uberblock that neither stood there nor was written there in this run.
+pub record HasNoClash (head_of : List ℕ → Option Head) (p : Pool) (known : Known) : Type 0 where
+  pub sums : (r : Rec) (d : ℕ) (u : Uberblock) (config : List ℕ) → IsIn r (drawn p) → IsVerifiedOn head_of p.size known p.name d u config
+      → sha256 config ≡ sha256 (config_of r.commit) → config ≡ config_of r.commit
+  pub rings : (d place : ℕ) (bytes : List ℕ) (u : Uberblock) → p.member d ≡ true → place < 128 → known d (place_at (p.size d) place) ≡ Some bytes
+      → IsUberblock u bytes
+      → (bytes ≡ (p.sectors d (place_at (p.size d) place)).stable) ⊎ IsAmong bytes (p.since d (place_at (p.size d) place))
+
+-- two records that no reader tells apart: one configuration and one number
+pub record AreTwins (r s : Rec) : Type 0 where
+  pub config_is : config_of s.commit ≡ config_of r.commit
+  pub number_is : s.commit.number ≡ r.commit.number
+
+-- some live record is the very same
+pub record HasTwin (p : Pool) (r : Rec) : Type 0 where
+  pub twin : Rec
+  pub is_live : IsIn twin p.live
+  pub are : AreTwins r twin
+
+-- or one that was acknowledged is
+pub record WasAcked (p : Pool) (r : Rec) : Type 0 where
+  pub twin : Rec
+  pub acked : IsIn twin p.acks
+  pub are : AreTwins r twin
+
+-- An opening among these events read a record with a lower number while this one was live.
+pub record WasMissed (p : Pool) (vs : List Event) (r : Rec) : Type 0 where
+  pub before : List Event
+  pub opened : Rec
+  pub later : List Event
+  pub all : vs ≡ before ++ (Opens opened ∷ later)
+  pub was_live : IsIn r (pool_after before p).live
+  pub lower : number_of opened < number_of r
+
+-- No stray: no record of the name on a device that isn't a member's but those of this pool; and none that
+-- was given up though an opening missed it, with a number not below the acknowledged one's, but where a live record is the very same.
+pub record HasNoStray (head_of : List ℕ → Option Head) (p : Pool) (known : Known) : Type 0 where
+  pub others : (d : ℕ) (u : Uberblock) (config : List ℕ) → p.member d ≡ false → IsVerifiedOn head_of p.size known p.name d u config
+      → (r : Rec) × IsDrawnRecord p u config r
+  pub passed : (d : ℕ) (u : Uberblock) (config : List ℕ) (r : Rec) → IsVerifiedOn head_of p.size known p.name d u config → IsDrawnRecord p u config r
+      → IsIn r p.given → IsIn r p.missed → (number_of r < number_of p.acked) ⊎ HasTwin p r
+
+-- The labels of a member hold a live record in which it takes part: its uberblock in its slot, and its configuration in
+-- label 0 or 1.
+pub record HoldsLabels (p : Pool) (d : ℕ) (r : Rec) : Type 0 where
+  pub is_live : IsIn r p.live
+  pub takes : takes_part r (p.guid d) ≡ true
+  pub ring : (s : ℕ) (bytes : List ℕ) → InRing (seat p d) r s bytes → Held (p.sectors d s) bytes
+  pub part : ((s : ℕ) (bytes : List ℕ) → InPart odd_part r s bytes → Held (p.sectors d s) bytes)
+      ⊎ ((s : ℕ) (bytes : List ℕ) → InPart even_part r s bytes → Held (p.sectors d s) bytes)
+
+-- A member with sound labels: they hold a record, none of their sectors is damaged, and each was read.
+pub record HasSoundLabels (p : Pool) (known : Known) (d : ℕ) : Type 0 where
+  pub is_member : p.member d ≡ true
+  pub promised : Rec
+  pub holds : HoldsLabels p d promised
+  pub unhurt : AreUnhurt (p.size d) (p.sectors d)
+  pub is_read : IsReadWhole (p.size d) (known d)
+
+-- The premises of finding a record.
+pub record Premises (head_of : List ℕ → Option Head) (p : Pool) (known : Known) : Type 0 where
+  pub no_clash : HasNoClash head_of p known
+  pub no_stray : HasNoStray head_of p known
+  pub good : ℕ
+  pub sound_labels : HasSoundLabels p known good
+
+-- A leaf of the cell's top has its block: its log in the record lacks the birth, the sector is undamaged, and its reads
+-- don't fail.
+pub record HasGoodLeaf (p : Pool) (r : Rec) (cell : Cell) (answering : ℕ → Bool) : Type 0 where
+  pub d : ℕ
+  pub is_member : p.member d ≡ true
+  pub top_is : r.tops (p.guid d) ≡ cell.top
+  pub has : r.owes (p.guid d) cell.birth ≡ false
+  pub unhurt : (p.sectors d (data_start + cell.sector)).damaged ≡ false
+  pub answers : answering d ≡ true
+
+-- The premise of reading the found record's pages back: so it is of each of them.
+abbrev pub HasGoodPages : Pool → Rec → (answering : ℕ → Bool) → Type 0
+HasGoodPages p r answering = (level index : ℕ) (cell : Cell) → 1 ≤ level → level ≤ 3 → r.cells (key level index) ≡ Some cell → HasGoodLeaf p r cell answering
+
+-- No twin: each device that is handed in under the name of a leaf of the found record, and has that leaf's identity,
+-- is the one that the history has there.
+abbrev pub HasNoTwin : Pool → Rec → (claims : ℕ → Guid → Bool) → Type 0
+HasNoTwin p r claims = (d : ℕ) (m : Guid) → claims d m ≡ true → 1 ≤ r.tops m → (p.member d ≡ true) × (p.guid d ≡ m)
+
+-- the premises hold at each look among these events
+abbrev pub AreGood : (List ℕ → Option Head) → Pool → List Event → Type 0
+AreGood head_of p [] = Unit {0}
+AreGood head_of p (Looks known ∷ vs) = Premises head_of p known × AreGood head_of p vs
+AreGood head_of p (v ∷ vs) = AreGood head_of (after v p) vs
