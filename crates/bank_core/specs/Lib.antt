@@ -8,6 +8,7 @@ pub mod Left
 pub mod MemBank
 pub mod Memory
 pub mod Parts
+pub mod Phases
 pub mod Standing
 pub mod Story
 pub mod View

@@ -4,7 +4,7 @@ pub mod Identities
 pub mod Layout
 pub mod Newest
 pub mod Opening
-pub mod Phases
+pub use Rattle.bank_core.specs.Phases
 pub mod Plans
 pub mod Records
 pub mod Rounds

@@ -1,0 +1,12 @@
+pub mod Answering
+pub mod Causing
+pub mod Finding
+pub mod Healing
+pub mod Missing
+pub mod Reading
+pub mod Rewriting
+pub mod Serving
+pub mod Showing
+pub mod Trying
+pub mod Wrong
+pub mod Writing
