@@ -16,6 +16,7 @@ pub mod LooksFound
 pub mod LooksShow
 pub mod Moving
 pub mod Nearing
+pub mod Numbering
 pub mod Paging
 pub mod Placing
 pub mod ReadingBack

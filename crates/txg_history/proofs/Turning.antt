@@ -10,13 +10,14 @@ use Rattle.label_store.specs.declared.member.Member.{Member}
 use Rattle.label_store.specs.Phases.{IsPhase}
 use Rattle.label_store.specs.Seats.{AreApart}
 use Rattle.label_store.proofs.Keeping.{no_member, others, turn_spares}
-use Rattle.txg_history.specs.Events.{Event, Wrote, Flushed, calls_of, as_events}
+use Rattle.txg_history.specs.Events.{Event, Wrote, Flushed, Ends, calls_of, as_events}
 use Rattle.txg_history.specs.Groups.{same_key}
 use Rattle.txg_history.specs.Moves.{May, Mays}
-use Rattle.txg_history.specs.Needs.{Held, Landed, IsPut, NeedsPut}
+use Rattle.txg_history.specs.Needs.{Held, Landed, IsPut, InPart, odd_part, NeedsPut}
 use Rattle.txg_history.specs.Pages.{Codec}
 use Rattle.txg_history.specs.Pools.{Pool, after, pool_after, seat, drawn}
-use Rattle.txg_history.specs.Records.{Cell, data_start}
+use Rattle.txg_history.specs.Records.{Rec, Cell, data_start}
+use Rattle.txg_history.specs.Labels.{Even}
 use Rattle.txg_history.specs.Sparing.{AreSparing}
 use Rattle.txg_history.specs.Survival.{Survives, IsKnownUber}
 use Rattle.txg_history.specs.Turns.{AreJust, OnBoard, OnTop, write_plan, flush_plan, leavers, IsTurnEvents, IsWriteTurn, IsFlushTurn, TurnEnds}
@@ -218,3 +219,17 @@ flush_turn_ends p members results vs t =
     subst (λ q. TurnEnds p q members results p.group.done true (calls_of vs)) (sym (turn_pool flush_plan Flushed members results vs p t))
     (subst (TurnEnds p (after Flushed (turned t.made members results p)) members results p.group.done true)
     (sym (turn_calls flush_plan Flushed members results vs refl t)) (turn_leaves p Flushed t.made members results _ _ refl))
+
+-- A flush turn makes good a third phase that a failed call had cut, where label 1's configuration had been written.
+pub flush_mends : (c : Codec) (p : Pool) (members : List Member) (results : List Bool) (vs : List Event) (i d : ℕ) (q : Rec) → IsFlushTurn members results vs
+    → slice_get members i ≡ Some (seat p d) → slice_get results i ≡ Some true → p.status d ≡ Even q
+    → ((s : ℕ) (bytes : List ℕ) → InPart odd_part q s bytes → Landed (p.sectors d s) bytes) → May c (pool_after vs p) (Ends q d)
+flush_mends c p members results vs i d q t at on even landed =
+    subst (λ x. May c x (Ends q d)) (sym (turn_pool flush_plan Flushed members results vs p t)) (λ is. record { began = even; held = holds })
+  where
+    holds : (s : ℕ) (bytes : List ℕ) → InPart odd_part q s bytes → Held (run t.made p.sectors d s) bytes
+    holds s bytes part =
+        phase_brings flush_plan (λ y. Landed y bytes) (λ y. Held y bytes) members (map (λ m. true) members) results t.made i (seat p d) d s (p.sectors d s) at on
+        (λ j m e ne b r mine y turn l. untouched_landed mine d s y bytes (turn_spares (flush_plan m) b r mine d s (λ on. (refl, tt)) turn) l)
+        (λ j m e ne b r mine y turn h. untouched_held mine d s y bytes (turn_spares (flush_plan m) b r mine d s (λ on. (refl, tt)) turn) h)
+        (λ mine y whole l. flush_holds d s bytes mine y whole l) t.phase (landed s bytes part)

@@ -6,6 +6,7 @@ pub mod Labels
 pub mod Looks
 pub mod Moves
 pub mod Needs
+pub mod Numbering
 pub mod Openings
 pub mod Pages
 pub mod Places

@@ -16,7 +16,9 @@ mod writes;
 pub use contents::{members_are_brought_in, records_have_what_was_accepted};
 pub use histories::small_histories_are_allowed;
 pub use labels::labels_stay_sound;
-pub use moves::{histories_keep_their_records, stamped_pools_survive};
+pub use moves::{
+    devices_may_be_numbered_anew, histories_keep_their_records, stamped_pools_survive,
+};
 pub use openings::{
     identities_are_the_members, looks_show_the_labels, openings_find_a_live_record,
     premises_can_be_met, strays_were_never_acknowledged,

@@ -7,6 +7,7 @@ ghost use Rattle.label_store.specs.Plans.{stamp_plan};
 ghost use Rattle.label_store.specs.Records.{place_at};
 ghost use Rattle.txg_history.specs.Events.{Event, Calls};
 ghost use Rattle.txg_history.specs.Moves.{AreUnforged, IsTrueTo, MayStop, Mays};
+ghost use Rattle.txg_history.specs.Numbering.{renumbered};
 ghost use Rattle.txg_history.specs.Pages.{Codec};
 ghost use Rattle.txg_history.specs.Pools.{Pool, pool_after, stamped};
 ghost use Rattle.txg_history.specs.Sound.{IsSound};
@@ -42,4 +43,11 @@ pub fn stamped_pools_survive()
         → AreStamped pool member guid size room home sectors → Survives c (stamped name pool member guid size room home sectors) }
     ensures stamps { (dev size : ℕ) (pool member : Guid) (made : List Noted) (sectors : Sectors) → 320 ≤ size → IsPart (stamp_plan dev size pool member) made None
         → (place : ℕ) → place < 128 → IsBlank (run made sectors dev (place_at size place)) pool member }
+{}
+
+/// The invariant of a pool doesn't depend on the numbers of its devices. It computes nothing: its clause is the law.
+///
+/// So the next run may have the devices under other numbers: device d then has what device `was d` had.
+pub fn devices_may_be_numbered_anew()
+    ensures { (c : Codec) (p : Pool) (was : ℕ → ℕ) → Survives c p → Survives c (renumbered was p) }
 {}
