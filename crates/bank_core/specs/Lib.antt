@@ -8,7 +8,6 @@ pub mod Left
 pub mod MemBank
 pub mod Memory
 pub mod Parts
-pub mod Phases
 pub mod Standing
 pub mod Story
 pub mod View

@@ -4,7 +4,7 @@ pub mod Identities
 pub mod Layout
 pub mod Newest
 pub mod Opening
-pub use Rattle.bank_core.specs.Phases
+pub mod Phases
 pub mod Plans
 pub mod Records
 pub mod Rounds

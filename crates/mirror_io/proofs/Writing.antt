@@ -8,7 +8,7 @@ use Rattle.bank_core.specs.Asks.{Ask, Writes, ask_of, IsPart}
 use Rattle.bank_core.specs.BankView.{BankView}
 use Rattle.bank_core.specs.Calls.{AllCaused, Called, IsCaused, device_of, fault_of}
 use Rattle.bank_core.specs.Disk.{Write, Noted}
-use Rattle.bank_core.specs.Phases.{IsTurn, IsPhase}
+use Rattle.label_store.specs.Phases.{IsTurn, IsPhase}
 use Rattle.bank_core.specs.Story.{fault_in}
 use Rattle.bank_core.proofs.Composing.{caused_counts, caused_split}
 use Rattle.bank_core.proofs.Framing.{makes_none, makes_more, makes_one}

@@ -5,7 +5,7 @@ use Rattle.bank_core.specs.Asks.{Ask, Writes, asks_of}
 use Rattle.bank_core.specs.BankView.{BankView}
 use Rattle.bank_core.specs.Calls.{Makes}
 use Rattle.bank_core.specs.Disk.{Noted}
-use Rattle.bank_core.specs.Phases.{IsPhase}
+use Rattle.label_store.specs.Phases.{IsPhase}
 use Rattle.mirror_io.specs.declared.copies.CopyOf.{CopyOf}
 use Rattle.mirror_io.specs.declared.copies.CopySeen.{CopySeen}
 use Rattle.mirror_io.specs.Copies.{tries}
