@@ -114,5 +114,11 @@ pub(crate) fn is_sealed(alloc: Global, blob: &[u8], length: usize) -> Result<boo
         return Ok(false);
     }
     let rest = zeros(alloc, blob.len() - length)?;
-    Ok(&blob[length..] == rest.as_slice())
+    Ok(are_equal(&blob[length..], &rest))
+}
+
+fn are_equal(first: &[u8], second: &[u8]) -> bool
+    ensures yes { result ≡ true → first.now ≡ second.now }
+{
+    first == second
 }
