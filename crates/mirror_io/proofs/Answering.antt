@@ -1,12 +1,11 @@
 -- A read of a block, and what is said of each copy.
-use Rattle.std.proofs.Common.{true≢false, ◌≡◌, ◌≢◌, ℕ, ◌+◌, ◌<◌, ◌≤◌, ◌==◌, ◌&&◌, Bool, true, false, cond, List, [], ◌∷◌, ◌++◌, map, length, take, get_or, set, Contains, Option, Some, None, refl, sym, ap, ap₂, ◌∙◌, subst, inl, inr, ◌⊎◌, arith, append-nil}
-use Rattle.std.specs.Prelude.{is_some}
-use Rattle.std.specs.List.{AllByRecursion, AllZip, filter}
+use Rattle.std.proofs.Common.{true≢false, ◌≡◌, ◌≢◌, ℕ, ◌+◌, ◌<◌, Bool, true, false, List, [], ◌∷◌, ◌++◌, map, length, take, get_or, set, Contains, Some, None, refl, sym, ap, ◌∙◌, subst, arith, append-nil}
+use Rattle.std.specs.List.{AllZip, filter}
 use Rattle.std.proofs.lemmas.List.{take_more, take_more_set, map-append}
 use Rattle.mp_base.specs.Outside.{Rose}
 use Rattle.bank_core.specs.Asks.{asks_of}
 use Rattle.bank_core.specs.BankView.{BankView}
-use Rattle.bank_core.specs.Calls.{AllCaused, Makes}
+use Rattle.bank_core.specs.Calls.{Makes}
 use Rattle.bank_core.specs.Disk.{Noted}
 use Rattle.bank_core.proofs.Composing.{caused_counts, caused_split}
 use Rattle.bank_core.proofs.Framing.{makes_more}
@@ -14,16 +13,16 @@ use Rattle.mirror_io.specs.declared.copies.CopyOf.{CopyOf}
 use Rattle.mirror_io.specs.declared.copies.CopySeen.{CopySeen}
 use Rattle.mirror_io.specs.declared.copies.CopySeen.TheVariants as seen
 use Rattle.mirror_io.specs.Causes.{IsCause}
-use Rattle.mirror_io.specs.Copies.{is_due, tries, AreApart}
+use Rattle.mirror_io.specs.Copies.{tries, AreApart}
 use Rattle.mirror_io.specs.Healing.{Heals, is_rewritten}
 use Rattle.mirror_io.specs.Mirror.{ReadsBlock}
 use Rattle.mirror_io.specs.Reading.{MirrorBlock, Tries}
-use Rattle.mirror_io.specs.Reads.{IsReads, heals, rewrites}
-use Rattle.mirror_io.specs.Seen.{seen_after, copy_seen, unread, is_mismatch}
-use Rattle.mirror_io.proofs.Causing.{all_readable, all_by, all_filtered, all_both, all_zipped, failed_rose, seen_readable, rose_from}
+use Rattle.mirror_io.specs.Reads.{rewrites}
+use Rattle.mirror_io.specs.Seen.{seen_after, copy_seen, unread}
+use Rattle.mirror_io.proofs.Causing.{all_readable, all_by, all_filtered, all_zipped, failed_rose, seen_readable, rose_from}
 use Rattle.mirror_io.proofs.Missing.{is_spent, all_spent}
 use Rattle.mirror_io.proofs.Rewriting.{seen-unwritten, was_mismatch, all_rose}
-use Rattle.mirror_io.proofs.Serving.{SomeOf, some_by, some_good, some_readable, some_contained}
+use Rattle.mirror_io.proofs.Serving.{some_by, some_good, some_readable, some_contained}
 use Rattle.mirror_io.proofs.Showing.{seen-more}
 use Rattle.mirror_io.proofs.Wrong.{Away, wrong_rewritten}
 

@@ -1,23 +1,17 @@
 -- The causes of what is said of each copy.
-use Rattle.std.proofs.Common.{true≢false, ◌≡◌, ◌≢◌, ℕ, ◌+◌, ◌-◌, ◌^◌, ◌<◌, ◌≤◌, ◌==◌, ◌&&◌, min, Bool, true, false, List, [], ◌∷◌, ◌++◌, map, Option, Some, None, refl, sym, ap, ◌∙◌, subst, cond, inl, inr, ◌⊎◌, arith}
-use Rattle.std.specs.Prelude.{not, is_some}
+use Rattle.std.proofs.Common.{true≢false, ◌≡◌, ◌≢◌, ℕ, ◌≤◌, ◌==◌, Bool, true, false, List, [], ◌∷◌, ◌++◌, map, Some, None, refl, sym, ◌∙◌, subst, cond, inl, inr, ◌⊎◌, arith}
 use Rattle.std.specs.List.{AllByRecursion, AllZip, filter}
 use Rattle.std.specs.Str.{bytes_eq}
 use Rattle.sha2.specs.Sha256.{sha256}
 use Rattle.mp_base.specs.Outside.{Rose}
 use Rattle.bank_core.specs.declared.bank.Fault.{Fault}
-use Rattle.bank_core.specs.Asks.{Ask, Writes, asks_of, ask_of}
 use Rattle.bank_core.specs.Calls.{AllCaused, IsCaused, device_of, fault_of}
 use Rattle.bank_core.specs.Disk.{Call, Read, Write, Flush, Admit, Eject, Noted}
-use Rattle.bank_core.proofs.Composing.{caused_counts, caused_split}
 use Rattle.mirror_io.specs.declared.copies.CopyOf.{CopyOf}
 use Rattle.mirror_io.specs.declared.copies.CopySeen.{CopySeen}
 use Rattle.mirror_io.specs.declared.copies.CopySeen.TheVariants as seen
-use Rattle.mirror_io.specs.Causes.{IsCause}
 use Rattle.mirror_io.specs.Copies.{is_due, tries}
-use Rattle.mirror_io.specs.Reads.{Fails, Differs, Serves, IsReads, rewrites}
-use Rattle.mirror_io.specs.Seen.{sees, seen_after, copy_seen}
-use Rattle.mirror_io.proofs.Showing.{same_device}
+use Rattle.mirror_io.specs.Seen.{sees, seen_after}
 
 -- Each of a list.
 pub all_by : (P Q : CopyOf → Type 0) (xs : List CopyOf) → ((x : CopyOf) → P x → Q x) → AllByRecursion P xs → AllByRecursion Q xs

@@ -1,5 +1,5 @@
 -- A read gives the block, or is exhausted where no copy was good.
-use Rattle.std.proofs.Common.{true≢false, ◌≡◌, ◌≢◌, ℕ, zero, suc, ◌+◌, ◌*◌, ◌<◌, ◌≤◌, ◌%◌, ◌/◌, Bool, true, false, cond, List, [], ◌∷◌, ◌++◌, length, take, drop, get_or, Contains, Option, Some, None, refl, sym, ap, ◌∙◌, subst, inl, inr, ◌⊎◌, arith, append-nil}
+use Rattle.std.proofs.Common.{true≢false, ◌≡◌, ℕ, zero, suc, ◌+◌, ◌<◌, Bool, true, false, cond, List, [], ◌∷◌, ◌++◌, length, get_or, Contains, Option, Some, None, refl, sym, ap, ◌∙◌, subst, inl, inr, ◌⊎◌, arith, append-nil}
 use Rattle.std.specs.Str.{bytes_eq}
 use Rattle.std.specs.List.{AllByRecursion}
 use Rattle.std.proofs.lemmas.List.{take_all}
@@ -9,17 +9,17 @@ use Rattle.mp_base.specs.Outside.{Rose}
 use Rattle.bank_core.specs.declared.bank.Fault.{Fault}
 use Rattle.bank_core.specs.BankView.{BankView}
 use Rattle.bank_core.specs.Calls.{AllCaused, device_of, fault_of}
-use Rattle.bank_core.specs.Disk.{Sector, Sectors, Call, Read, Noted, IsClean, Answers, AllAnswer, after_call, hurt, as_found, replay, run, sector_size, sector_of, sectors_in}
+use Rattle.bank_core.specs.Disk.{Sector, Sectors, Read, Noted, IsClean, Answers, AllAnswer, after_call, hurt, as_found, replay, run, sector_size, sector_of}
 use Rattle.bank_core.specs.Story.{Story, now}
 use Rattle.bank_core.proofs.Blocks.{block_sectors}
 use Rattle.bank_core.proofs.Composing.{caused_counts, run_more}
 use Rattle.mirror_io.specs.declared.copies.CopyOf.{CopyOf}
 use Rattle.mirror_io.specs.declared.copies.CopySeen.{CopySeen}
-use Rattle.mirror_io.specs.Clash.{Gave, IsFound, Clashes}
+use Rattle.mirror_io.specs.Clash.{IsFound, Clashes}
 use Rattle.mirror_io.specs.Copies.{tries}
 use Rattle.mirror_io.specs.Mirror.{ReadsBlock}
 use Rattle.mirror_io.specs.Reading.{MirrorBlock}
-use Rattle.mirror_io.specs.Reads.{Gives, Fails, Differs, Serves, IsReads}
+use Rattle.mirror_io.specs.Reads.{IsReads}
 use Rattle.mirror_io.proofs.Causing.{all_by, all_readable, rose_from}
 use Rattle.mirror_io.proofs.Missing.{next_rest}
 use Rattle.mirror_io.proofs.Reading.{Next, no_block}

@@ -1,5 +1,5 @@
 -- Copies that are rewritten, one after another.
-use Rattle.std.proofs.Common.{true≢false, ◌≡◌, ℕ, ◌+◌, ◌<◌, ◌==◌, Bool, true, false, List, [], ◌∷◌, ◌++◌, map, length, take, drop, get_or, set, Option, Some, None, refl, sym, ap, ap₂, ◌∙◌, subst, arith}
+use Rattle.std.proofs.Common.{true≢false, ◌≡◌, ℕ, ◌+◌, ◌<◌, Bool, true, false, List, [], ◌∷◌, ◌++◌, length, take, drop, get_or, set, Option, Some, None, refl, sym, ap, ap₂, ◌∙◌, arith}
 use Rattle.std.specs.List.{filter}
 use Rattle.std.proofs.lemmas.List.{take_more, map-append, get_or-drop, drop-set-lt, drop-drop}
 use Rattle.std.proofs.lemmas.List.Elements.{filter-append}
@@ -16,7 +16,7 @@ use Rattle.mirror_io.specs.declared.copies.CopySeen.TheVariants as seen
 use Rattle.mirror_io.specs.Copies.{is_due, AreApart}
 use Rattle.mirror_io.specs.Healing.{HealsCopy, Heals, is_rewritten}
 use Rattle.mirror_io.specs.Reads.{rewrites}
-use Rattle.mirror_io.specs.Seen.{sees, seen_after, copy_seen, is_mismatch}
+use Rattle.mirror_io.specs.Seen.{sees, copy_seen, is_mismatch}
 use Rattle.mirror_io.proofs.Showing.{shows_none, shows_more, shows_at, got_there, not_readable, same_device}
 
 mismatch_is : (s : CopySeen) → is_mismatch s ≡ true → s ≡ seen.Mismatch

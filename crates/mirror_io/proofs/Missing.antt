@@ -1,5 +1,5 @@
 -- Reads of which none was good: each copy failed, or gave other bytes.
-use Rattle.std.proofs.Common.{true≢false, ◌≡◌, ◌≢◌, ℕ, ◌==◌, Bool, true, false, cond, List, [], ◌∷◌, Option, Some, None, refl, sym, ap, ◌∙◌, inl, inr, ◌⊎◌}
+use Rattle.std.proofs.Common.{◌≡◌, ℕ, ◌==◌, Bool, true, false, cond, List, [], ◌∷◌, None, refl, inl, inr}
 use Rattle.std.specs.List.{AllByRecursion}
 use Rattle.sha2.specs.Sha256.{sha256}
 use Rattle.bank_core.specs.Calls.{device_of}
@@ -7,7 +7,7 @@ use Rattle.bank_core.specs.Disk.{Noted}
 use Rattle.mirror_io.specs.declared.copies.CopyOf.{CopyOf}
 use Rattle.mirror_io.specs.declared.copies.CopySeen.{CopySeen}
 use Rattle.mirror_io.specs.declared.copies.CopySeen.TheVariants as seen
-use Rattle.mirror_io.specs.Reads.{Fails, Differs, Serves, IsReads}
+use Rattle.mirror_io.specs.Reads.{IsReads}
 use Rattle.mirror_io.specs.Seen.{sees, seen_after}
 use Rattle.mirror_io.proofs.Causing.{all_by}
 use Rattle.mirror_io.proofs.Reading.{Next, next_on, not_equal, no_block}

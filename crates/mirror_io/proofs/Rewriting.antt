@@ -1,10 +1,10 @@
 -- Rewritten copies: what the writes show of them, and their causes.
-use Rattle.std.proofs.Common.{true≢false, ◌≡◌, ◌≢◌, ℕ, ◌<◌, ◌≤◌, ◌==◌, ◌&&◌, Bool, true, false, cond, List, [], ◌∷◌, map, Option, Some, None, refl, sym, ap, ◌∙◌, subst, inl, inr, ◌⊎◌, arith}
-use Rattle.std.specs.List.{AllByRecursion, filter}
+use Rattle.std.proofs.Common.{◌≡◌, ℕ, ◌==◌, Bool, true, false, cond, List, [], ◌∷◌, Option, Some, None, refl, sym, ap, ◌∙◌, subst, arith}
+use Rattle.std.specs.List.{AllByRecursion}
 use Rattle.mp_base.specs.Outside.{Rose}
 use Rattle.bank_core.specs.declared.bank.Fault.{Fault}
-use Rattle.bank_core.specs.Asks.{Ask, Reads, Writes, Flushes, Admits, Ejects, asks_of, ask_of}
-use Rattle.bank_core.specs.Calls.{AllCaused, IsCaused, device_of, fault_of}
+use Rattle.bank_core.specs.Asks.{Ask, Writes, asks_of, ask_of}
+use Rattle.bank_core.specs.Calls.{AllCaused, device_of, fault_of}
 use Rattle.bank_core.specs.Disk.{Call, Read, Write, Flush, Admit, Eject, Noted}
 use Rattle.bank_core.proofs.Composing.{caused_counts}
 use Rattle.mirror_io.specs.declared.copies.CopyOf.{CopyOf}

@@ -1,6 +1,5 @@
 -- The copy that was good.
-use Rattle.std.proofs.Common.{true≢false, ◌≡◌, ◌≢◌, ℕ, zero, suc, ◌+◌, ◌<◌, ◌==◌, ◌&&◌, Bool, true, false, cond, List, [], ◌∷◌, ◌++◌, map, length, get_or, Contains, Option, Some, None, refl, sym, ap, ◌∙◌, subst, inl, inr, ◌⊎◌, arith}
-use Rattle.std.specs.Str.{bytes_eq}
+use Rattle.std.proofs.Common.{◌≡◌, ℕ, zero, suc, ◌==◌, Bool, true, false, cond, List, [], ◌∷◌, ◌++◌, map, Contains, Some, refl, sym, ap, ◌∙◌, inl, inr, ◌⊎◌, arith}
 use Rattle.std.specs.List.{filter}
 use Rattle.std.proofs.lemmas.Slice.Eq.{bytes_eq-Decides}
 use Rattle.sha2.specs.Sha256.{sha256}
@@ -10,7 +9,7 @@ use Rattle.mirror_io.specs.declared.copies.CopyOf.{CopyOf}
 use Rattle.mirror_io.specs.declared.copies.CopySeen.{CopySeen}
 use Rattle.mirror_io.specs.declared.copies.CopySeen.TheVariants as seen
 use Rattle.mirror_io.specs.Copies.{is_due, tries}
-use Rattle.mirror_io.specs.Reads.{Fails, Differs, Serves, IsReads}
+use Rattle.mirror_io.specs.Reads.{IsReads}
 use Rattle.mirror_io.specs.Seen.{sees, seen_after}
 use Rattle.mirror_io.proofs.Reading.{Next, next_on, no_block}
 use Rattle.mirror_io.proofs.Showing.{same_device, due_readable}

@@ -1,5 +1,5 @@
 -- What calls, one after another, show of the copies.
-use Rattle.std.proofs.Common.{true≢false, ◌≡◌, ◌≢◌, ℕ, zero, suc, ◌+◌, ◌<◌, ◌==◌, Bool, true, false, List, [], ◌∷◌, ◌++◌, map, length, get_or, set, refl, sym, ap, ap₂, ◌∙◌, subst, arith, append_assoc, append-nil, inl, inr, ◌⊎◌}
+use Rattle.std.proofs.Common.{true≢false, ◌≡◌, ◌≢◌, ℕ, zero, suc, ◌<◌, ◌==◌, Bool, true, false, List, [], ◌∷◌, ◌++◌, map, length, get_or, set, refl, sym, ap, ap₂, ◌∙◌, arith, append_assoc, append-nil, inl, inr, ◌⊎◌}
 use Rattle.std.proofs.Math.ListN.{get_or-map}
 use Rattle.bank_core.specs.Calls.{device_of}
 use Rattle.bank_core.specs.Disk.{Noted}
@@ -8,7 +8,7 @@ use Rattle.mirror_io.specs.declared.copies.CopySeen.{CopySeen}
 use Rattle.mirror_io.specs.declared.copies.CopySeen.TheVariants as seen
 use Rattle.mirror_io.specs.Copies.{AreApart, is_due}
 use Rattle.mirror_io.specs.Reading.{AreOn, Shows}
-use Rattle.mirror_io.specs.Seen.{sees, seen_after, copy_seen}
+use Rattle.mirror_io.specs.Seen.{seen_after, copy_seen}
 
 pub seen-more : (sum : List ℕ) (dev : ℕ) (first second : List Noted) (before : CopySeen)
     → seen_after sum dev before (first ++ second) ≡ seen_after sum dev (seen_after sum dev before first) second

@@ -1,16 +1,16 @@
 -- Copies that are tried, one after another.
-use Rattle.std.proofs.Common.{true≢false, ◌≡◌, ◌≢◌, ℕ, ◌+◌, ◌<◌, ◌≤◌, ◌==◌, Bool, true, false, List, [], ◌∷◌, ◌++◌, map, length, take, drop, get_or, set, Option, Some, None, Result, Ok, Err, is_err, refl, sym, ap, ◌∙◌, subst, inl, inr, ◌⊎◌, arith}
+use Rattle.std.proofs.Common.{true≢false, ◌≡◌, ◌≢◌, ℕ, ◌+◌, ◌<◌, Bool, true, false, List, [], ◌∷◌, ◌++◌, length, take, drop, get_or, set, Option, Some, None, Result, Ok, Err, is_err, refl, sym, ap, ◌∙◌, subst, inl, inr, arith}
 use Rattle.std.specs.Prelude.{not}
 use Rattle.std.specs.Str.{bytes_eq}
 use Rattle.std.specs.List.{filter}
-use Rattle.std.proofs.lemmas.List.{take_more, take_all, take-append-drop, append-nil}
+use Rattle.std.proofs.lemmas.List.{take_more, take-append-drop}
 use Rattle.std.proofs.lemmas.List.Elements.{filter-append}
 use Rattle.std.proofs.lemmas.Slice.Eq.{bytes_eq-Decides}
 use Rattle.sha2.specs.Sha256.{sha256}
 use Rattle.bank_core.specs.declared.bank.Fault.{Fault}
 use Rattle.bank_core.specs.BankView.{BankView}
 use Rattle.bank_core.specs.Calls.{Called}
-use Rattle.bank_core.specs.Disk.{Read, Noted}
+use Rattle.bank_core.specs.Disk.{Read}
 use Rattle.bank_core.specs.Story.{fault_in}
 use Rattle.mirror_io.specs.declared.copies.CopyOf.{CopyOf}
 use Rattle.mirror_io.specs.declared.copies.CopySeen.{CopySeen}
@@ -18,7 +18,7 @@ use Rattle.mirror_io.specs.declared.copies.CopySeen.TheVariants as seen
 use Rattle.mirror_io.specs.Copies.{is_due, AreApart}
 use Rattle.mirror_io.specs.Reads.{Gives, IsReads}
 use Rattle.mirror_io.specs.Reading.{MirrorBlock, ReadsCopy, TriesCopy, Tries, outcome_of}
-use Rattle.mirror_io.specs.Seen.{sees, seen_after, is_good}
+use Rattle.mirror_io.specs.Seen.{sees, is_good}
 use Rattle.bank_core.proofs.Framing.{makes_none, makes_more, makes_one}
 use Rattle.mirror_io.proofs.Reading.{reads_more, reads_stop, not_equal}
 use Rattle.mirror_io.proofs.Showing.{shows_none, shows_more, shows_at, not_readable, same_device}

@@ -4,9 +4,9 @@ use Rattle.std.specs.List.{AllZip}
 use Rattle.std.proofs.lemmas.List.{take_all, take_more, take_more_set, map-append}
 use Rattle.mp_base.specs.Outside.{Rose}
 use Rattle.bank_core.specs.declared.bank.Fault.{Fault}
-use Rattle.bank_core.specs.Asks.{Ask, Writes, ask_of, IsPart}
+use Rattle.bank_core.specs.Asks.{Ask, IsPart}
 use Rattle.bank_core.specs.BankView.{BankView}
-use Rattle.bank_core.specs.Calls.{AllCaused, Called, IsCaused, device_of, fault_of}
+use Rattle.bank_core.specs.Calls.{AllCaused, Called, device_of, fault_of}
 use Rattle.bank_core.specs.Disk.{Write, Noted}
 use Rattle.label_store.specs.Phases.{IsTurn, IsPhase}
 use Rattle.bank_core.specs.Story.{fault_in}

@@ -1,19 +1,18 @@
 -- Which copies were wrong, by what the calls of a read show of them.
-use Rattle.std.proofs.Common.{true≢false, ◌≡◌, ◌≢◌, ℕ, zero, suc, ◌<◌, ◌==◌, ◌&&◌, Bool, true, false, List, [], ◌∷◌, ◌++◌, map, length, get_or, Option, Some, None, refl, sym, ap, ap₂, ◌∙◌, append-nil, inl, inr, ◌⊎◌, arith}
+use Rattle.std.proofs.Common.{true≢false, ◌≡◌, ◌≢◌, ℕ, zero, suc, ◌<◌, ◌&&◌, Bool, true, false, List, [], ◌∷◌, ◌++◌, length, get_or, Option, refl, sym, ap, ap₂, ◌∙◌, append-nil, inl, inr, arith}
 use Rattle.std.specs.Prelude.{not}
 use Rattle.std.specs.List.{AllByRecursion, filter}
-use Rattle.std.specs.Str.{bytes_eq}
 use Rattle.std.proofs.lemmas.List.Elements.{filter-append}
 use Rattle.std.proofs.lemmas.Slice.Eq.{bytes_eq-Decides}
 use Rattle.sha2.specs.Sha256.{sha256}
 use Rattle.bank_core.specs.Calls.{device_of}
-use Rattle.bank_core.specs.Disk.{Read, Noted, Call}
+use Rattle.bank_core.specs.Disk.{Noted}
 use Rattle.mirror_io.specs.declared.copies.CopyOf.{CopyOf}
 use Rattle.mirror_io.specs.declared.copies.CopySeen.{CopySeen}
 use Rattle.mirror_io.specs.declared.copies.CopySeen.TheVariants as seen
 use Rattle.mirror_io.specs.Copies.{is_due, tries, AreApart}
 use Rattle.mirror_io.specs.Healing.{is_rewritten}
-use Rattle.mirror_io.specs.Reads.{Gives, Fails, Differs, Serves, IsReads}
+use Rattle.mirror_io.specs.Reads.{IsReads}
 use Rattle.mirror_io.specs.Seen.{sees, seen_after, copy_seen, is_mismatch}
 use Rattle.mirror_io.proofs.Reading.{Next, next_on, not_equal}
 use Rattle.mirror_io.proofs.Showing.{other_device, due_readable, same_device}

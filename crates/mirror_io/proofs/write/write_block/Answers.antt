@@ -1,4 +1,4 @@
-use Rattle.std.proofs.Common.{arith, rules, sym, ◌∙◌, subst, ◌<◌, get_or}
+use Rattle.std.proofs.Common.{arith, sym, subst, ◌<◌, get_or}
 use Rattle.bank_core.proofs.Blocks.{block_whole, block_inside}
 use Rattle.mirror_io.proofs.Writing.{writes_next, all_excused, all_written}
 use Rattle.mirror_io.proofs.write.write_block.Goals as goal
