@@ -1,5 +1,5 @@
 -- What a file tells of its bytes, and what a call may change of it.
-use Rattle.std.specs.Prelude.{◌≡◌, ℕ, ◌+◌, ◌<◌, ◌≤◌, List, Option, Some, None, slice_index}
+use Rattle.std.specs.Prelude.{◌≡◌, ℕ, ◌+◌, ◌<◌, ◌≤◌, List, Option, Some, None, slice_index, slice_index_or}
 
 -- The byte that a file holds at each place, and the one that a crash leaves there, where it tells them.
 pub record Told : Type 0 where
@@ -31,3 +31,9 @@ IsStable told = (place byte : ℕ) → told.held place ≡ Some byte → told.st
 -- A sync changes nothing that the file holds.
 abbrev pub HoldsSame : Told → Told → Type 0
 HoldsSame old new = (place : ℕ) → new.held place ≡ old.held place
+
+-- Under this number a file is open, and so it is with it.
+pub record IsOpen {D : Type 0} (files : List (Option D)) (dev : ℕ) (P : D → Type 0) : Type 0 where
+  pub file : D
+  pub there : slice_index_or files dev None ≡ Some file
+  pub so : P file

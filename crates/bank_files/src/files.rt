@@ -1,6 +1,7 @@
 //! The files of a bank's devices, by their numbers.
-ghost use Rattle.std.specs.Prelude.{◌<◌, ◌^◌, ◌*◌, ◌+◌, length};
+ghost use Rattle.std.specs.Prelude.{◌<◌, ◌^◌, ◌*◌, ◌+◌, length, OnOk};
 ghost use Rattle.bank_core.specs.Disk.{sector_size};
+ghost use Rattle.bank_files.specs.Told.{IsOpen, IsStable, Stands};
 
 use crate::file::DeviceFile;
 use crate::{FileId, HostFile};
@@ -37,26 +38,42 @@ impl<F: HostFile + Drop> DeviceFiles<F> {
 
     pub(crate) fn read(&mut self, dev: u32, at: u64, out: &mut [u8]) -> Result<(), Fault>
         requires { at * sector_size + length out.old < 2 ^ 64 }
+        ensures given { OnOk result (IsOpen self.new.files.items dev (λ file. Stands (F.told file.file) (at * sector_size) out.new (length out.new))) }
     {
-        match self.files.get_mut(dev as usize) {
-            Some(Some(file)) => file.read(at, out),
-            _ => Err(Fault::Failed),
+        let place = dev as usize;
+        if place >= self.files.len() {
+            return Err(Fault::Failed);
+        }
+        match &mut self.files[place] {
+            Some(file) => file.read(at, out),
+            None => Err(Fault::Failed),
         }
     }
 
     pub(crate) fn write(&mut self, dev: u32, at: u64, bytes: &[u8]) -> Result<(), Fault>
         requires { at * sector_size + length bytes.now < 2 ^ 64 }
+        ensures taken { OnOk result (IsOpen self.new.files.items dev (λ file. Stands (F.told file.file) (at * sector_size) bytes.now (length bytes.now))) }
     {
-        match self.files.get_mut(dev as usize) {
-            Some(Some(file)) => file.write(at, bytes),
-            _ => Err(Fault::Failed),
+        let place = dev as usize;
+        if place >= self.files.len() {
+            return Err(Fault::Failed);
+        }
+        match &mut self.files[place] {
+            Some(file) => file.write(at, bytes),
+            None => Err(Fault::Failed),
         }
     }
 
-    pub(crate) fn flush(&mut self, dev: u32) -> Result<(), Fault> {
-        match self.files.get_mut(dev as usize) {
-            Some(Some(file)) => file.flush(),
-            _ => Err(Fault::Failed),
+    pub(crate) fn flush(&mut self, dev: u32) -> Result<(), Fault>
+        ensures stable { OnOk result (IsOpen self.new.files.items dev (λ file. IsStable (F.told file.file))) }
+    {
+        let place = dev as usize;
+        if place >= self.files.len() {
+            return Err(Fault::Failed);
+        }
+        match &mut self.files[place] {
+            Some(file) => file.flush(),
+            None => Err(Fault::Failed),
         }
     }
 }
