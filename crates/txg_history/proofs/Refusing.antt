@@ -35,6 +35,13 @@ no_reuse c p cells board r j k a b sv i at bt one mays = place_safe c p sv r j a
 pub no_early_round : (c : Codec) (p : Pool) (q : Rec) → p.group.flushed ≡ false → Mays c p (Begins q ∷ []) → ⊥
 no_early_round c p q unflushed mays = true_not_false p.group.flushed mays.0.flushed unflushed
 
+-- Nor does one where a top has no leaf on the board, so that its keys would be acknowledged and stand nowhere.
+pub no_empty_board : (c : Codec) (p : Pool) (q : Rec) (d : ℕ) → p.member d ≡ true → 1 ≤ p.in_top d
+    → ((e : ℕ) → p.member e ≡ true → p.in_top e ≡ p.in_top d → p.group.board e ≡ false) → Mays c p (Begins q ∷ []) → ⊥
+no_empty_board c p q d is leaf none mays =
+    let on = mays.0.boards d is leaf in
+    true_not_false (p.group.board on.d) on.on_board (none on.d on.is_member on.top_is)
+
 -- Nor is an uberblock written whose record no round began.
 pub no_early_uberblock : (c : Codec) (p : Pool) (d place : ℕ) (u : Uberblock) (noted : Noted) → p.member d ≡ true → place < 128 → IsInRange u → 1 ≤ u.number.0
     → ((r : Rec) → IsIn r (drawn p) → number_of r ≢ u.number.0) → noted.call ≡ Write d (place_at (p.size d) place) (uberblock_bytes u) None → Mays c p (Calls noted ∷ []) → ⊥

@@ -91,8 +91,16 @@ pub record IsLeafOf (p : Pool) (q : Rec) (d : ℕ) : Type 0 where
   pub top_is : q.tops (p.guid d) ≡ p.in_top d
   pub log_is : (g : ℕ) → q.owes (p.guid d) g ≡ p.owes d g
 
+-- a leaf of this top is on the board
+pub record HasBoard (p : Pool) (top : ℕ) : Type 0 where
+  pub d : ℕ
+  pub is_member : p.member d ≡ true
+  pub on_board : p.group.board d ≡ true
+  pub top_is : p.in_top d ≡ top
+
 -- A record that may be drawn up now, behind the flush turn, under a number that was drawn for it: its keys are the group's
--- over those that the pool reads, and it has each member as it is now, or not at all, where it is off the board.
+-- over those that the pool reads, and it has each member as it is now, or not at all, where it is off the board. Each top has a
+-- leaf on the board: else the group is suspended.
 pub record IsDrawnUp (c : Codec) (p : Pool) (q : Rec) : Type 0 where
   pub frozen : p.group.frozen ≡ true
   pub flushed : p.group.flushed ≡ true
@@ -101,6 +109,7 @@ pub record IsDrawnUp (c : Codec) (p : Pool) (q : Rec) : Type 0 where
   pub number_is : number_of q ≡ p.highest
   pub cells_are : (k : Key) → q.cells k ≡ laid_over p.group.cells p.reads.cells k
   pub leaves : (d : ℕ) → p.member d ≡ true → IsLeafOf p q d ⊎ (IsNoLeaf q (p.guid d) × (p.group.board d ≡ false))
+  pub boards : (d : ℕ) → p.member d ≡ true → 1 ≤ p.in_top d → HasBoard p (p.in_top d)
 
 -- The third phase of a live record may begin on a member that takes part in it: the last number drawn is its own, and the
 -- member's even labels hold it.

@@ -1,7 +1,8 @@
 -- What is assumed at an opening, and nowhere else.
-use Rattle.std.specs.Prelude.{◌≡◌, ◌⊎◌, ℕ, ◌+◌, ◌<◌, ◌≤◌, Bool, true, false, List, [], ◌∷◌, ◌++◌, Option, Some}
+use Rattle.std.specs.Prelude.{◌≡◌, ◌≢◌, ◌⊎◌, ℕ, ◌+◌, ◌<◌, ◌≤◌, Bool, true, false, List, [], ◌∷◌, ◌++◌, Option, Some, None}
 use Rattle.sha2.specs.Sha256.{sha256}
 use Rattle.mp_base.specs.declared.number.Guid.{Guid}
+use Rattle.mp_base.specs.declared.place.Key.{Key}
 use Rattle.label_store.specs.declared.rule.Head.{Head}
 use Rattle.label_store.specs.declared.uberblock.Uberblock.{Uberblock}
 use Rattle.label_store.specs.Records.{AreUnhurt, place_at}
@@ -94,6 +95,13 @@ pub record HasGoodLeaf (p : Pool) (r : Rec) (cell : Cell) (answering : ℕ → B
 -- The premise of reading the found record's pages back: so it is of each of them.
 abbrev pub HasGoodPages : Pool → Rec → (answering : ℕ → Bool) → Type 0
 HasGoodPages p r answering = (level index : ℕ) (cell : Cell) → 1 ≤ level → level ≤ 3 → r.cells (key level index) ≡ Some cell → HasGoodLeaf p r cell answering
+
+-- What an opening found of the pages of a record, where it read these sectors: of a page only bytes with the page's sum, and
+-- none only where each leaf of its top missed it, since its reads don't answer, or gave bytes of another sum there.
+pub record IsSearched (p : Pool) (r : Rec) (answering : ℕ → Bool) (known : Known) (found : Key → Option (List ℕ)) : Type 0 where
+  pub summed : (k : Key) (cell : Cell) (bytes : List ℕ) → r.cells k ≡ Some cell → found k ≡ Some bytes → sha256 bytes ≡ sha256 cell.block
+  pub missed : (k : Key) (cell : Cell) (d : ℕ) → r.cells k ≡ Some cell → found k ≡ None → p.member d ≡ true → r.tops (p.guid d) ≡ cell.top
+      → (answering d ≡ false) ⊎ ((bytes : List ℕ) × (known d (data_start + cell.sector) ≡ Some bytes) × (sha256 bytes ≢ sha256 cell.block))
 
 -- No twin: each device that is handed in under the name of a leaf of the found record, and has that leaf's identity,
 -- is the one that the history has there.
