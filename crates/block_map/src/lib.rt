@@ -1,0 +1,6 @@
+//! The map of a volume: where the bytes of each block and each page of the map stand, which places of the tops
+//! are free, and which are pinned; and the pages as bytes.
+#![tactic(auto)]
+
+mod bits;
+mod number_set;
