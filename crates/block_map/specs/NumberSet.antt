@@ -33,10 +33,21 @@ pub record HasLess (old new : Numbers) (at : ℕ) : Type 0 where
   pub count : new.count + 1 ≡ old.count
   pub room : room new ≡ room old
 
+-- a test as a number
+abbrev pub one_if : Bool → ℕ
+one_if test = if test then 1 else 0
+
+-- the new set has this number or not, and the others as before
+pub record HasNow (there : Bool) (old new : Numbers) (at : ℕ) : Type 0 where
+  pub now : has new at ≡ there
+  pub others : (i : ℕ) → i ≢ at → has new i ≡ has old i
+  pub count : new.count + one_if (has old at) ≡ old.count + one_if there
+  pub room : room new ≡ room old
+
 -- how many of the numbers below `n` pass
 abbrev pub count_below : (ℕ → Bool) → ℕ → ℕ
 count_below test zero = 0
-count_below test (suc n) = (if test n then 1 else 0) + count_below test n
+count_below test (suc n) = one_if (test n) + count_below test n
 
 -- How a set is kept: `words` has the words that have a number, none of them is below 64 times `low`, and `count`
 -- is how many numbers there are.

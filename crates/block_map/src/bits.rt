@@ -25,11 +25,10 @@ impl Bits {
     pub(crate) fn new(alloc: Global, room: usize) -> Result<Bits, MemFault>
         ensures none { IfOk result (λ bits. (at : ℕ) → holds bits at ≡ false) }
         ensures words { IfOk result (λ bits. (w : ℕ) → slice_index bits w ≡ 0) }
-        ensures room { IfOk result (λ bits. room ≤ 64 * length bits) }
-        ensures size { IfOk result (λ bits. 64 * length bits ≤ room + 63) }
+        ensures size { IfOk result (λ bits. length bits ≡ room / 64 + 1) }
     {
         Ok(Bits {
-            words: vec![in alloc; 0; room.div_ceil(64)]?,
+            words: vec![in alloc; 0; room / 64 + 1]?,
         })
     }
 

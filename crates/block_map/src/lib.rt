@@ -3,4 +3,6 @@
 #![tactic(auto)]
 
 mod bits;
+mod map;
 mod number_set;
+mod numbers;

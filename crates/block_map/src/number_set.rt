@@ -2,9 +2,9 @@
 //!
 //! Where only few numbers are left, most words of the bitmap have none. So a second bitmap has the words that
 //! have some, and no word of that one below `low` has any.
-ghost use Rattle.std.specs.Prelude.{◌≡◌, ◌≢◌, ℕ, ◌+◌, ◌*◌, ◌^◌, ◌<◌, ◌≤◌, true, false, length, IfOk, IfSome, IfNone};
+ghost use Rattle.std.specs.Prelude.{◌≡◌, ◌≢◌, ℕ, ◌+◌, ◌*◌, ◌/◌, ◌^◌, ◌<◌, ◌≤◌, true, false, length, IfOk, IfSome, IfNone};
 ghost use Rattle.block_map.specs.Bits.{holds, holds_some};
-ghost use Rattle.block_map.specs.NumberSet.{has, room, IsLeast, HasMore, HasLess};
+ghost use Rattle.block_map.specs.NumberSet.{has, room, IsLeast, HasMore, HasLess, HasNow};
 
 use crate::bits::Bits;
 use mp_base::MemFault;
@@ -37,7 +37,7 @@ impl NumberSet {
         requires { most ≤ 2 ^ 32 }
         ensures none { IfOk result (λ set. (at : ℕ) → has set at ≡ false) }
         ensures count { IfOk result (λ set. set.count ≡ 0) }
-        ensures room { IfOk result (λ set. most ≤ room set) }
+        ensures room { IfOk result (λ set. length set.members ≡ most / 64 + 1) }
     {
         let members = Bits::new(alloc, most)?;
         let words = Bits::new(alloc, most / 64 + 1)?;
@@ -77,6 +77,21 @@ impl NumberSet {
         self.members.remove(at);
         drop_if_empty(&mut self.words, &self.members, at / 64);
         self.count -= 1;
+    }
+
+    /// Has the number from now on, or has it no more.
+    pub(crate) fn set(&mut self, at: usize, there: bool)
+        requires { at < room self.old }
+        ensures { HasNow there self.old self.new at }
+    {
+        if self.members.contains(at) == there {
+            return;
+        }
+        if there {
+            self.insert(at);
+            return;
+        }
+        self.remove(at);
     }
 
     /// The least number, which it takes out.

@@ -1,0 +1,139 @@
+//! The map of a volume.
+ghost use Rattle.std.specs.Prelude.{◌≡◌, ℕ, ◌*◌, ◌<◌, ◌&&◌, not, true, false, length, IfOk, IfSome, IfNone};
+ghost use Rattle.std.specs.List.{All};
+ghost use Rattle.block_map.specs.Bits.{holds};
+ghost use Rattle.block_map.specs.NumberSet.{HasNow, room};
+ghost use Rattle.mp_base.specs.declared.place.Place.{Place};
+ghost use Rattle.block_map.specs.Keys.{IsVolume, IsKey, IsPage, IsBehind};
+ghost use Rattle.block_map.specs.Places.{IsPlace};
+ghost use Rattle.block_map.specs.Pointers.{IsPointer, written, born_within};
+ghost use Rattle.block_map.specs.Numbers.{place_number};
+ghost use Rattle.block_map.specs.Map.{pointer_at, is_free, is_pinned, is_open, IsEmpty, FreeIs, PinnedIs, PointerIs, IsLeastOpen, IsNextKey, children};
+
+use crate::bits::Bits;
+use crate::number_set::NumberSet;
+use crate::numbers::{FANOUT, key_at, key_number, place_at, place_number, slots};
+use mp_base::{Group, Key, MemFault, Place, Pointer};
+use std::alloc::Global;
+use std::marker::Model;
+
+/// Which pointer each key of a volume has; and of the places on the tops of its pool, which are free, and which are
+/// pinned. A place may be given out where it is free and not pinned.
+///
+/// Nothing but `new` takes memory: for the largest volume on the most and largest tops 18 MB.
+#[derive(Drop)]
+pub struct BlockMap {
+    blocks: u64,
+    sectors: Vec<u64>,
+    pointers: Vec<Pointer>,
+    free: Bits,
+    pinned: Bits,
+    opened: NumberSet,
+}
+
+impl Model for BlockMap {
+    ghost use Rattle.block_map.specs.Map.{Map, IsKept};
+
+    ghost Value = { Map };
+
+    ghost view = { λ map. record { blocks = map.blocks; sectors = map.sectors.items; pointers = map.pointers.items; free = map.free; pinned = map.pinned; count = map.opened.count } };
+
+    ghost invariant = { λ map. IsKept map.blocks map.sectors.items map.pointers.items map.free map.pinned map.opened };
+}
+
+impl BlockMap {
+    /// The number of a place, by which the bitmaps go.
+    fn number(&self, place: Place) -> usize
+        requires { IsPlace self.now.sectors place }
+        ensures value { result ≡ place_number (length self.now.sectors) place }
+        ensures inside { result < 64 * length self.now.free }
+    {
+        place_number(self.sectors.len(), place)
+    }
+
+    /// The pointer of a key; None exactly where it is a hole.
+    pub fn get(&self, key: Key) -> Option<Pointer>
+        requires { IsKey self.now.blocks key }
+        ensures { result ≡ written (pointer_at self.now key) }
+    {
+        let pointer = self.pointers[key_number(self.blocks, key)];
+        if pointer.is_hole() {
+            None
+        } else {
+            Some(pointer)
+        }
+    }
+
+    /// Gives a key this pointer; with a hole, it has none any more.
+    pub fn set(&mut self, key: Key, pointer: Pointer)
+        requires key { IsKey self.old.blocks key }
+        requires pointer { IsPointer self.old.sectors pointer }
+        ensures { PointerIs self.old self.new key pointer }
+    {
+        let at = key_number(self.blocks, key);
+        self.pointers[at] = pointer;
+    }
+
+    /// Whether the place may be given out, after its bit in one of the bitmaps changed.
+    fn reopen(opened: &mut NumberSet, free: &Bits, pinned: &Bits, at: usize)
+        requires free { at < 64 * length free.now }
+        requires pinned { at < 64 * length pinned.now }
+        requires room { at < room opened.old }
+        ensures { HasNow (holds free.now at && not (holds pinned.now at)) opened.old opened.new at }
+    {
+        opened.set(at, free.contains(at) && !pinned.contains(at));
+    }
+
+    /// Takes the least place that is free and not pinned, by sector and then by top; None exactly where there is none.
+    pub fn alloc(&mut self) -> Option<Place>
+        ensures least { IfSome result (λ place. IsLeastOpen self.old place) }
+        ensures taken { IfSome result (λ place. FreeIs false self.old self.new place) }
+        ensures none { IfNone result ((place : Place) → is_open self.old place ≡ false) }
+        ensures empty { IfNone result (self.old.count ≡ 0) }
+        ensures unchanged { IfNone result (self.new ≡ self.old) }
+    {
+        let at = self.opened.take_least()?;
+        self.free.remove(at);
+        Some(place_at(self.sectors.len(), at))
+    }
+
+    /// Makes a place one that is not free.
+    pub fn take_place(&mut self, place: Place)
+        requires { IsPlace self.old.sectors place }
+        ensures { FreeIs false self.old self.new place }
+    {
+        let at = self.number(place);
+        self.free.remove(at);
+        Self::reopen(&mut self.opened, &self.free, &self.pinned, at);
+    }
+
+    /// Makes a place free.
+    pub fn give_place(&mut self, place: Place)
+        requires { IsPlace self.old.sectors place }
+        ensures { FreeIs true self.old self.new place }
+    {
+        let at = self.number(place);
+        self.free.insert(at);
+        Self::reopen(&mut self.opened, &self.free, &self.pinned, at);
+    }
+
+    /// Keeps a place from being given out.
+    pub fn pin(&mut self, place: Place)
+        requires { IsPlace self.old.sectors place }
+        ensures { PinnedIs true self.old self.new place }
+    {
+        let at = self.number(place);
+        self.pinned.insert(at);
+        Self::reopen(&mut self.opened, &self.free, &self.pinned, at);
+    }
+
+    /// Lets a place be given out again, where it is free.
+    pub fn unpin(&mut self, place: Place)
+        requires { IsPlace self.old.sectors place }
+        ensures { PinnedIs false self.old self.new place }
+    {
+        let at = self.number(place);
+        self.pinned.remove(at);
+        Self::reopen(&mut self.opened, &self.free, &self.pinned, at);
+    }
+}
