@@ -143,3 +143,42 @@ module _ (blocks : ℕ) (some : 1 ≤ blocks) (most : blocks ≤ 262144) where
 pub above_zero : (blocks level number : ℕ) → number < start blocks level → 1 ≤ level
 above_zero blocks zero number less = let e = start-zero blocks in absurd (omega arith)
 above_zero blocks (suc level) number less = omega arith
+
+pub slots_small : (blocks : ℕ) → blocks ≤ 262144 → slots blocks ≤ 50331649
+unfolding slots
+slots_small blocks most = let fits = start_fits blocks 3 most (omega arith) in omega arith
+
+-- a page's first pointer is that of a key
+pub first_is_key : (blocks : ℕ) (page : Key) → IsKey blocks page → 1 ≤ page.level → IsKey blocks (child page 0)
+first_is_key blocks page k level =
+    let e = keys_at-next blocks (page.level - 1) in
+    let is : page.level - 1 + 1 ≡ page.level = omega arith in
+    let e' : keys_at blocks page.level ≡ (keys_at blocks (page.level - 1) + 63) / 64 = rw is at e in
+    record { level = omega (arith, k.level); index = omega (arith, e', k.index) }
+
+pub child_number : (blocks : ℕ) (page : Key) (j : ℕ) → key_number blocks (child page j) ≡ key_number blocks (child page 0) + j
+unfolding key_number
+child_number blocks page j = omega arith
+
+pub page_inside : (blocks : ℕ) → 1 ≤ blocks → blocks ≤ 262144 → (page : Key) → IsKey blocks page → 1 ≤ page.level
+    → key_number blocks (child page 0) + 64 ≤ slots blocks
+page_inside blocks some most page k level =
+    let below = below_page blocks some most page 63 k level (omega arith) in
+    let inside = number_inside blocks some most page k in
+    let is = child_number blocks page 63 in
+    omega arith
+
+-- a page's pointers lie in the part of the level below
+pub child_before : (blocks : ℕ) (page : Key) (j : ℕ) → IsKey blocks page → 1 ≤ page.level → j < 64
+    → start blocks (page.level - 1) + (64 * page.index + j) < start blocks (page.level - 1 + 1)
+child_before blocks page j k level less =
+    let e = start-next blocks (page.level - 1) in
+    let is : page.level - 1 + 1 ≡ page.level = omega arith in
+    let keys : keys_at blocks (page.level - 1 + 1) ≡ keys_at blocks page.level = ap (keys_at blocks) is in
+    omega (arith, k.index)
+
+pub child_lower : (blocks : ℕ) (page : Key) → IsKey blocks page → 1 ≤ page.level → page.level - 1 < 3
+child_lower blocks page k level = omega (arith, k.level)
+
+pub child_level : (blocks : ℕ) (page : Key) → IsKey blocks page → page.level - 1 ≤ 3
+child_level blocks page k = omega (arith, k.level)

@@ -4,3 +4,7 @@ pub mod KeyNumbers
 pub mod PlaceNumbers
 pub mod PlacesChanged
 pub mod PointersChanged
+pub mod FreeNumbers
+pub mod BornKeys
+pub mod Children
+pub mod NewMaps

@@ -70,8 +70,6 @@ module _ (blocks : ℕ) (sectors : List ℕ) (pointers : List Pointer) (free pin
     kept_now = record {
       volume = kept.volume;
       tops = kept.tops;
-      most_tops = kept.most_tops;
-      most_sectors = kept.most_sectors;
       slots = kept.slots;
       well_formed = kept.well_formed;
       fill = kept.fill;
@@ -150,7 +148,7 @@ module _ (blocks : ℕ) (sectors : List ℕ) (pointers : List Pointer) (free pin
     pub least_is_place : IsPlace sectors (place_at (length sectors) at)
     least_is_place =
         let (there, rest) = and_parts _ _ open_there in
-        place_inside sectors at kept.tops (kept.inside at there)
+        place_inside sectors at kept.tops.some (kept.inside at there)
 
     pub least_open : IsLeastOpen (map_of blocks sectors pointers free pinned opened.count) (place_at (length sectors) at)
     least_open = record {

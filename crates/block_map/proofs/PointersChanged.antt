@@ -60,8 +60,6 @@ module _ (blocks : ℕ) (sectors : List ℕ) (pointers : List Pointer) (free pin
   set_kept = record {
     volume = kept.volume;
     tops = kept.tops;
-    most_tops = kept.most_tops;
-    most_sectors = kept.most_sectors;
     slots = length-set pointers at pointer ∙ kept.slots;
     well_formed = All-set (IsPointer sectors) pointers at pointer fits kept.well_formed;
     fill = λ l i level past before.

@@ -5,3 +5,4 @@ pub mod Places
 pub mod Numbers
 pub mod Pointers
 pub mod Map
+pub mod Pages

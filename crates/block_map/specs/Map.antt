@@ -1,6 +1,6 @@
 -- The map of a volume as its callers see it: which pointer each key has, which places are free, and which are
 -- pinned. They never speak of how these are kept.
-use Rattle.std.specs.Prelude.{◌≡◌, ◌≢◌, ℕ, ◌+◌, ◌*◌, ◌/◌, ◌%◌, ◌<◌, ◌≤◌, Bool, true, false, ◌&&◌, not, List, length, map, AllPairs, Contains, slice_index, slice_index_or, Option, if◌then◌else◌}
+use Rattle.std.specs.Prelude.{◌≡◌, ◌≢◌, ℕ, ◌+◌, ◌*◌, ◌/◌, ◌%◌, ◌<◌, ◌≤◌, Bool, true, false, ◌&&◌, not, nat_lt, List, length, map, AllPairs, Contains, slice_index, slice_index_or, Option, if◌then◌else◌}
 use Rattle.std.specs.List.{range_with_len, All}
 use Rattle.mp_base.specs.declared.place.Key.{Key}
 use Rattle.mp_base.specs.declared.place.Place.{Place}
@@ -8,7 +8,7 @@ use Rattle.mp_base.specs.declared.place.Pointer.{Pointer}
 use Rattle.block_map.specs.Bits.{holds}
 use Rattle.block_map.specs.NumberSet.{Numbers, has, one_if}
 use Rattle.block_map.specs.Keys.{IsVolume, IsKey, is_key, IsPage, IsBefore, IsBehind, child, keys_at}
-use Rattle.block_map.specs.Places.{IsPlace, is_place, IsPlaceBefore}
+use Rattle.block_map.specs.Places.{IsPlace, AreTops, is_place, IsPlaceBefore}
 use Rattle.block_map.specs.Pointers.{hole, IsPointer, born_within}
 use Rattle.block_map.specs.Numbers.{start, slots, key_number, place_number}
 
@@ -103,12 +103,25 @@ pub record IsNextKey (map : Map) (after : Option Key) (hi : ℕ) (key : Key) : T
 abbrev pub children : (Key → Pointer) → Key → List Pointer
 children at page = map (λ j. at (child page j)) (range_with_len 0 64)
 
+-- the first number from there on whose pointer is born in a group up to `hi`
+pub record IsNextBorn (pointers : List Pointer) (from hi at : ℕ) : Type 0 where
+  pub inside : at < length pointers
+  pub behind : from ≤ at
+  pub born : born_within hi (slice_index_or pointers at hole) ≡ true
+  pub first : (i : ℕ) → from ≤ i → i < at → born_within hi (slice_index_or pointers i hole) ≡ false
+
+-- the number is that of a place of the tops
+unfoldable pub is_number : List ℕ → ℕ → Bool
+is_number sectors at = nat_lt (at / length sectors) (slice_index sectors (at % length sectors))
+
+-- the same of the numbers below `n`
+unfoldable pub is_freed : List ℕ → ℕ → ℕ → Bool
+is_freed sectors n at = nat_lt at n && is_number sectors at
+
 -- How a map is kept: `opened` are the free places that aren't pinned, and a number without a key has a hole.
 pub record IsKept (blocks : ℕ) (sectors : List ℕ) (pointers : List Pointer) (free pinned : List ℕ) (opened : Numbers) : Type 0 where
   pub volume : IsVolume blocks
-  pub tops : 1 ≤ length sectors
-  pub most_tops : length sectors ≤ 8
-  pub most_sectors : All (λ s. s ≤ 1048320) sectors
+  pub tops : AreTops sectors
   pub slots : length pointers ≡ slots blocks
   pub well_formed : All (IsPointer sectors) pointers
   pub fill : (l i : ℕ) → l < 3 → keys_at blocks l ≤ i → start blocks l + i < start blocks (l + 1) → slice_index_or pointers (start blocks l + i) hole ≡ hole

@@ -1,5 +1,5 @@
 -- How the code numbers keys and places. No public clause speaks of these numbers.
-use Rattle.std.specs.Prelude.{ℕ, suc, zero, ◌+◌, ◌*◌, ◌/◌, ◌%◌}
+use Rattle.std.specs.Prelude.{ℕ, Option, Some, None, suc, zero, ◌+◌, ◌*◌, ◌/◌, ◌%◌}
 use Rattle.mp_base.specs.declared.place.Key.{Key}
 use Rattle.mp_base.specs.declared.place.Place.{Place}
 use Rattle.block_map.specs.Keys.{keys_at}
@@ -21,3 +21,8 @@ place_number tops place = place.sector * tops + place.top
 
 unfoldable pub place_at : ℕ → ℕ → Place
 place_at tops number = record { top = number % tops; sector = number / tops }
+
+-- the first number behind a key's, or of all
+abbrev pub number_behind : ℕ → Option Key → ℕ
+number_behind blocks None = 0
+number_behind blocks (Some key) = key_number blocks key + 1

@@ -3,6 +3,12 @@
 #![tactic(auto)]
 
 mod bits;
+mod freed;
 mod map;
+mod next;
 mod number_set;
 mod numbers;
+mod page;
+
+pub use map::BlockMap;
+pub use page::{read_page, write_page};

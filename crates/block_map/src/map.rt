@@ -1,18 +1,20 @@
 //! The map of a volume.
-ghost use Rattle.std.specs.Prelude.{◌≡◌, ℕ, ◌*◌, ◌<◌, ◌&&◌, not, true, false, length, IfOk, IfSome, IfNone};
-ghost use Rattle.std.specs.List.{All};
+ghost use Rattle.std.specs.Prelude.{◌≡◌, ℕ, ◌+◌, ◌*◌, ◌<◌, ◌≤◌, ◌&&◌, not, true, false, length, take, drop, IfOk, IfSome, IfNone};
 ghost use Rattle.block_map.specs.Bits.{holds};
-ghost use Rattle.block_map.specs.NumberSet.{HasNow, room};
+ghost use Rattle.block_map.specs.NumberSet.{HasNow, has, room};
 ghost use Rattle.mp_base.specs.declared.place.Place.{Place};
+ghost use Rattle.mp_base.specs.declared.place.Key.{Key};
 ghost use Rattle.block_map.specs.Keys.{IsVolume, IsKey, IsPage, IsBehind};
-ghost use Rattle.block_map.specs.Places.{IsPlace};
+ghost use Rattle.block_map.specs.Places.{IsPlace, AreTops};
 ghost use Rattle.block_map.specs.Pointers.{IsPointer, written, born_within};
 ghost use Rattle.block_map.specs.Numbers.{place_number};
 ghost use Rattle.block_map.specs.Map.{pointer_at, is_free, is_pinned, is_open, IsEmpty, FreeIs, PinnedIs, PointerIs, IsLeastOpen, IsNextKey, children};
 
 use crate::bits::Bits;
+use crate::freed::{free_all, places};
+use crate::next::{next_born, number_behind};
 use crate::number_set::NumberSet;
-use crate::numbers::{FANOUT, key_at, key_number, place_at, place_number, slots};
+use crate::numbers::{first_child, key_at, key_number, place_at, place_number, slots};
 use mp_base::{Group, Key, MemFault, Place, Pointer};
 use std::alloc::Global;
 use std::marker::Model;
@@ -42,6 +44,30 @@ impl Model for BlockMap {
 }
 
 impl BlockMap {
+    /// A map without a key, for a volume of so many blocks over tops with so many sectors each. Every place is free, and
+    /// none is pinned.
+    pub fn new(alloc: Global, blocks: u64, sectors: &[u64]) -> Result<BlockMap, MemFault>
+        requires blocks { IsVolume blocks }
+        requires tops { AreTops sectors.now }
+        ensures { IfOk result (λ map. IsEmpty blocks sectors.now map) }
+    {
+        let room = places(sectors);
+        let mut free = Bits::new(alloc, room)?;
+        let mut opened = NumberSet::new(alloc, room)?;
+        free_all(sectors, room, &mut free, &mut opened);
+        let pinned = Bits::new(alloc, room)?;
+        let pointers = vec![in alloc; Pointer::HOLE; slots(blocks)]?;
+        let sectors = Vec::from_slice(alloc, sectors)?;
+        Ok(BlockMap {
+            blocks,
+            sectors,
+            pointers,
+            free,
+            pinned,
+            opened,
+        })
+    }
+
     /// The number of a place, by which the bitmaps go.
     fn number(&self, place: Place) -> usize
         requires { IsPlace self.now.sectors place }
@@ -136,4 +162,39 @@ impl BlockMap {
         self.pinned.remove(at);
         Self::reopen(&mut self.opened, &self.free, &self.pinned, at);
     }
+
+    /// How many places are free and not pinned.
+    pub fn free_count(&self) -> u64
+        ensures { result ≡ self.now.count }
+    {
+        self.opened.count() as u64
+    }
+
+    /// The first key behind the cursor, by level and then by index, that has a pointer born in a group up to `hi`. None
+    /// exactly where there is none.
+    pub fn next_key(&self, after: Option<Key>, hi: Group) -> Option<Key>
+        requires { IfSome after (λ key. IsKey self.now.blocks key) }
+        ensures next { IfSome result (λ key. IsNextKey self.now after hi.0 key) }
+        ensures none { IfNone result ((key : Key) → IsBehind after key → born_within hi.0 (pointer_at self.now key) ≡ false) }
+    {
+        let from = number_behind(self.blocks, after);
+        let at = next_born(&self.pointers, from, hi)?;
+        Some(key_at(self.blocks, at))
+    }
+
+    /// The pointers of a page, one for each of its 64 keys.
+    pub fn children(&self, page: Key) -> &[Pointer]
+        requires { IsPage self.now.blocks page }
+        ensures pointers { result.now ≡ children (pointer_at self.now) page }
+        ensures length { length result.now ≡ 64 }
+    {
+        page_at(&self.pointers, key_number(self.blocks, first_child(page)))
+    }
+}
+
+fn page_at(pointers: &[Pointer], first: usize) -> &[Pointer]
+    requires { first + 64 ≤ length pointers.now }
+    ensures { result.now ≡ take 64 (drop first pointers.now) }
+{
+    &pointers[first..first + 64]
 }

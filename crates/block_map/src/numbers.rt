@@ -1,7 +1,7 @@
 //! The numbers of keys and places, by which lists and bitmaps are reached. The order of keys is the order of their
 //! numbers, and the order of places too: by sector, and then by top.
 ghost use Rattle.std.specs.Prelude.{◌≡◌, ℕ, suc, ◌+◌, ◌*◌, ◌^◌, ◌<◌, ◌≤◌};
-ghost use Rattle.block_map.specs.Keys.{keys_at, IsVolume, IsKey};
+ghost use Rattle.block_map.specs.Keys.{keys_at, IsVolume, IsKey, child};
 ghost use Rattle.block_map.specs.Numbers.{start, slots, key_number, place_number, place_at};
 
 use mp_base::{Key, Place};
@@ -52,8 +52,21 @@ pub(crate) fn key_number(blocks: u64, key: Key) -> usize
     requires key { IsKey blocks key }
     ensures value { result ≡ key_number blocks key }
     ensures inside { result < slots blocks }
+    ensures small { result < 2 ^ 29 }
 {
     (start(blocks, key.level) + key.index) as usize
+}
+
+/// The key of a page's first pointer.
+pub(crate) fn first_child(page: Key) -> Key
+    requires level { 1 ≤ page.level }
+    requires index { page.index < 2 ^ 32 }
+    ensures { result ≡ child page 0 }
+{
+    Key {
+        level: page.level - 1,
+        index: FANOUT * page.index,
+    }
 }
 
 /// The level in whose part a number lies, and its place in that part.
