@@ -8,3 +8,6 @@ pub mod FreeNumbers
 pub mod BornKeys
 pub mod Children
 pub mod NewMaps
+pub mod PageBytes
+pub mod DirtyPages
+pub mod ReadPages

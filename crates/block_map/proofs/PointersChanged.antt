@@ -40,6 +40,14 @@ pub got : (map : Map) (key : Key) (n : ℕ) (pointer : Pointer) → IsKey map.bl
     → pointer ≡ get_or map.pointers n pointer → written pointer ≡ written (pointer_at map key)
 got map key n pointer k is lt read = ap written (read_is map key n pointer k is lt read)
 
+-- what has no birth is a hole
+pub no_birth : (map : Map) (opened : Numbers) → IsKept map.blocks map.sectors map.pointers map.free map.pinned opened → (key : Key) → IsKey map.blocks key
+    → (pointer_at map key).birth.0 ≡ 0 → pointer_at map key ≡ hole
+no_birth map opened kept key k none =
+    let inside : key_number map.blocks key < length map.pointers = rw kept.slots (number_inside map.blocks kept.volume.some kept.volume.most key k) in
+    let is = pointer_is map key k in
+    is ∙ (kept.well_formed (key_number map.blocks key) hole inside).hole (ap (λ p. p.birth.0) (sym is) ∙ none)
+
 -- a number that fills up a level is no key's
 pub filling : (blocks l i : ℕ) (key : Key) → IsKey blocks key → keys_at blocks l ≤ i → start blocks l + i < start blocks (l + 1)
     → start blocks l + i ≢ key_number blocks key

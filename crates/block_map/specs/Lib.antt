@@ -6,3 +6,5 @@ pub mod Numbers
 pub mod Pointers
 pub mod Map
 pub mod Pages
+pub mod Dirty
+pub mod Reading

@@ -3,12 +3,17 @@
 #![tactic(auto)]
 
 mod bits;
+mod dirty;
 mod freed;
 mod map;
 mod next;
+mod next_page;
 mod number_set;
 mod numbers;
 mod page;
+mod reader;
 
+pub use dirty::pages_above;
 pub use map::BlockMap;
 pub use page::{read_page, write_page};
+pub use reader::MapReader;

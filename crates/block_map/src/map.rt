@@ -5,12 +5,14 @@ ghost use Rattle.block_map.specs.NumberSet.{HasNow, has, room};
 ghost use Rattle.mp_base.specs.declared.place.Place.{Place};
 ghost use Rattle.mp_base.specs.declared.place.Key.{Key};
 ghost use Rattle.block_map.specs.Keys.{IsVolume, IsKey, IsPage, IsBehind};
-ghost use Rattle.block_map.specs.Places.{IsPlace, AreTops};
-ghost use Rattle.block_map.specs.Pointers.{IsPointer, written, born_within};
+ghost use Rattle.block_map.specs.Places.{IsPlace, AreTops, is_place};
+ghost use Rattle.block_map.specs.Pointers.{hole, IsPointer, written, born_within};
+ghost use Rattle.block_map.specs.Dirty.{dirty_pages};
 ghost use Rattle.block_map.specs.Numbers.{place_number};
 ghost use Rattle.block_map.specs.Map.{pointer_at, is_free, is_pinned, is_open, IsEmpty, FreeIs, PinnedIs, PointerIs, IsLeastOpen, IsNextKey, children};
 
 use crate::bits::Bits;
+use crate::dirty::count_above;
 use crate::freed::{free_all, places};
 use crate::next::{next_born, number_behind};
 use crate::number_set::NumberSet;
@@ -77,10 +79,29 @@ impl BlockMap {
         place_number(self.sectors.len(), place)
     }
 
+    /// How many blocks the volume has.
+    pub fn blocks(&self) -> u64
+        ensures blocks { result ≡ self.now.blocks }
+        ensures volume { IsVolume result }
+    {
+        self.blocks
+    }
+
+    /// Whether the place is one of the tops and free.
+    pub fn is_free(&self, place: Place) -> bool
+        ensures { result ≡ is_free self.now place }
+    {
+        if !has_place(&self.sectors, place) {
+            return false;
+        }
+        self.free.contains(self.number(place))
+    }
+
     /// The pointer of a key; None exactly where it is a hole.
     pub fn get(&self, key: Key) -> Option<Pointer>
         requires { IsKey self.now.blocks key }
-        ensures { result ≡ written (pointer_at self.now key) }
+        ensures pointer { result ≡ written (pointer_at self.now key) }
+        ensures hole { IfNone result (pointer_at self.now key ≡ hole) }
     {
         let pointer = self.pointers[key_number(self.blocks, key)];
         if pointer.is_hole() {
@@ -182,6 +203,15 @@ impl BlockMap {
         Some(key_at(self.blocks, at))
     }
 
+    /// How many pages of the map a commit writes besides where the blocks of these addresses, which rise, are dirty: those
+    /// above them, on each of the three levels.
+    pub fn dirty_pages(&self, addrs: &[u64]) -> u64
+        requires { length addrs.now ≤ 262144 }
+        ensures { result ≡ dirty_pages addrs.now }
+    {
+        count_above(1, addrs) + count_above(2, addrs) + count_above(3, addrs)
+    }
+
     /// The pointers of a page, one for each of its 64 keys.
     pub fn children(&self, page: Key) -> &[Pointer]
         requires { IsPage self.now.blocks page }
@@ -190,6 +220,18 @@ impl BlockMap {
     {
         page_at(&self.pointers, key_number(self.blocks, first_child(page)))
     }
+}
+
+/// Whether there is this top, and the sector is below the number of its sectors.
+#[tactic(auto, unfolding(crate::specs::Places::is_place))]
+fn has_place(sectors: &[u64], place: Place) -> bool
+    ensures { result ≡ is_place sectors.now place }
+{
+    let top = place.top as usize;
+    if top >= sectors.len() {
+        return false;
+    }
+    place.sector < sectors[top]
 }
 
 fn page_at(pointers: &[Pointer], first: usize) -> &[Pointer]

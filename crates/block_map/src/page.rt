@@ -13,12 +13,15 @@
 ghost use Rattle.std.specs.Prelude.{◌≡◌, ℕ, ◌+◌, ◌*◌, ◌<◌, ◌≤◌, ◌++◌, true, List, length, take, drop};
 ghost use Rattle.mp_base.specs.Block.{zeros};
 ghost use Rattle.mp_base.specs.declared.place.Pointer.{Pointer};
-ghost use Rattle.block_map.specs.Pages.{be4, be8, pointer_bytes, page_bytes, long_in, short_in, pointer_in, pointers_in, AreInForm};
+ghost use Rattle.block_map.specs.Pages.{be4, be8, pointer_bytes, page_bytes, long_in, short_in, pointer_in, pointers_in, IsInForm, AreInForm};
 
 use mp_base::{BLOCK_BYTES, Group, Place, Pointer};
 
 /// The bytes of a pointer.
 const POINTER_BYTES: usize = 52;
+
+/// The zeros behind the pointers.
+const PADDING: usize = 768;
 
 /// Puts the bytes at `at`, and answers where they end.
 fn put(out: &mut [u8], at: usize, bytes: &[u8]) -> usize
@@ -49,6 +52,17 @@ fn put_short(out: &mut [u8], at: usize, number: u32) -> usize
     put(out, at, &number.to_be_bytes())
 }
 
+/// Puts so many zeros.
+fn put_zeros(out: &mut [u8], at: usize, count: usize) -> usize
+    requires { at + count ≤ length out.old }
+    ensures front { take (at + count) out.new ≡ take at out.old ++ zeros count }
+    ensures end { result ≡ at + count }
+{
+    let end = at + count;
+    out[at..end].fill(0);
+    end
+}
+
 fn put_pointer(out: &mut [u8], at: usize, pointer: &Pointer) -> usize
     requires { at + 52 ≤ length out.old }
     ensures front { take (at + 52) out.new ≡ take at out.old ++ pointer_bytes pointer.now }
@@ -70,7 +84,7 @@ pub fn write_page(pointers: &[Pointer], out: &mut [u8])
     for pointer in pointers {
         at = put_pointer(out, at, pointer);
     }
-    out[at..].fill(0);
+    put_zeros(out, at, PADDING);
 }
 
 /// Reads the pointers of a page. False exactly where the bytes are no page of pointers in their form.
@@ -90,7 +104,8 @@ pub fn read_page(bytes: &[u8], out: &mut [Pointer]) -> bool
 fn read_pointers(bytes: &[u8], out: &mut [Pointer])
     requires bytes { length bytes.now ≡ 4096 }
     requires room { length out.old ≡ 64 }
-    ensures { out.new ≡ pointers_in bytes.now }
+    ensures value { out.new ≡ pointers_in bytes.now }
+    ensures form { AreInForm out.new }
 {
     for (j, pointer) in out.iter_mut().enumerate() {
         *pointer = pointer_in(bytes, POINTER_BYTES * j);
@@ -100,7 +115,8 @@ fn read_pointers(bytes: &[u8], out: &mut [Pointer])
 /// The pointer whose bytes stand at `at`.
 fn pointer_in(bytes: &[u8], at: usize) -> Pointer
     requires { at + 52 ≤ length bytes.now }
-    ensures { result ≡ pointer_in at bytes.now }
+    ensures value { result ≡ pointer_in at bytes.now }
+    ensures form { IsInForm result }
 {
     let mut sum = [0; 32];
     sum.copy_from_slice(&bytes[at + 20..at + 52]);
