@@ -4,10 +4,10 @@ use Rattle.std.specs.List.{All}
 use Rattle.mp_base.specs.declared.place.Key.{Key}
 use Rattle.mp_base.specs.declared.place.Place.{Place}
 use Rattle.mp_base.specs.declared.place.Pointer.{Pointer}
-use Rattle.block_map.specs.Keys.{IsKey, IsPage, root, child}
+use Rattle.block_map.specs.Keys.{IsVolume, IsKey, IsPage, root, child}
 use Rattle.block_map.specs.Places.{IsPlace}
 use Rattle.block_map.specs.Pointers.{hole, IsPointer}
-use Rattle.block_map.specs.Pages.{page_bytes}
+use Rattle.block_map.specs.Pages.{page_bytes, AreInForm}
 use Rattle.block_map.specs.Map.{Map, pointer_at, is_free, is_pinned, SameVolume}
 
 -- the map as far as it is read, the number of the record, and the page to read next
@@ -81,14 +81,16 @@ pub record NamesPlaces (map : Map) : Type 0 where
 
 -- a map that is being read: what lies below pages that weren't read yet are holes
 pub record IsReading (map : Map) (number : ℕ) (next : Option Key) : Type 0 where
+  pub volume : IsVolume map.blocks
   pub places : NamesPlaces map
   pub born : (key : Key) → (pointer_at map key).birth.0 ≤ number
   pub page : IfSome next (λ page. IsPage map.blocks page × IsWritten (pointer_at map page))
-  pub unread : (page : Key) (j : ℕ) → IsUnread next page → j < 64 → pointer_at map (child page j) ≡ hole
+  pub unread : (page : Key) (j : ℕ) → 1 ≤ page.level → IsUnread next page → j < 64 → pointer_at map (child page j) ≡ hole
 
 -- a page was read: its bytes are those of its pointers
 pub record IsRead (old new : Reading) (page : Key) (bytes : List ℕ) : Type 0 where
   pub pointers : List Pointer
+  pub form : AreInForm pointers
   pub bytes_are : bytes ≡ page_bytes pointers
   pub may : MayBeRead old.map old.number page pointers
   pub read : AreRead old.map new.map page pointers 64

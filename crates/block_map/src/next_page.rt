@@ -1,6 +1,6 @@
 //! The page that an opening reads next.
 ghost use Rattle.std.specs.Prelude.{◌≡◌, ℕ, ◌<◌, ◌≤◌, IfSome, IfNone};
-ghost use Rattle.block_map.specs.Keys.{IsPage};
+ghost use Rattle.block_map.specs.Keys.{IsVolume, IsPage};
 ghost use Rattle.block_map.specs.Pointers.{hole};
 ghost use Rattle.block_map.specs.Map.{pointer_at};
 ghost use Rattle.block_map.specs.Reading.{NextPage, IsFirstStored, NoneStored};
@@ -11,7 +11,8 @@ use mp_base::Key;
 
 /// The page behind this one in the order of reading, the first that is no hole.
 pub(crate) fn next_page(map: &BlockMap, after: Key) -> Option<Key>
-    requires { IsPage map.now.blocks after }
+    requires volume { IsVolume map.now.blocks }
+    requires page { IsPage map.now.blocks after }
     ensures { NextPage map.now after result }
 {
     if let Some(page) = first_stored(map, after.level, after.index + 1) {

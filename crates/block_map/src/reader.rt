@@ -1,5 +1,5 @@
 //! The reading of a whole map, page by page.
-ghost use Rattle.std.specs.Prelude.{◌≡◌, ◌≢◌, ℕ, ◌^◌, ◌<◌, ◌≤◌, true, false, List, length, slice_index_or, Some, None, IfOk, IfSome, IsSome};
+ghost use Rattle.std.specs.Prelude.{◌≡◌, ◌≢◌, ℕ, ◌^◌, ◌<◌, ◌≤◌, true, false, List, length, slice_index_or, Some, None, IfOk, IfSome, IsSome, ◌==◌, if◌then◌else◌};
 ghost use Rattle.mp_base.specs.declared.place.Key.{Key};
 ghost use Rattle.mp_base.specs.declared.place.Place.{Place};
 ghost use Rattle.mp_base.specs.declared.place.Pointer.{Pointer};
@@ -59,8 +59,11 @@ impl MapReader {
     {
         let mut map = BlockMap::new(alloc, blocks, sectors)?;
         put(&mut map, ROOT, root);
-        let next = if root.is_hole() { None } else { Some(ROOT) };
-        Ok(MapReader { map, number, next })
+        Ok(MapReader {
+            map,
+            number,
+            next: first_page(&root),
+        })
     }
 
     /// The page to read next, with its pointer. None where every page is read.
@@ -109,6 +112,13 @@ impl MapReader {
     }
 }
 
+/// The page that is read first, where the root has this pointer.
+fn first_page(pointer: &Pointer) -> Option<Key>
+    ensures { result ≡ (if pointer.now.birth.0 == 0 then None else Some root) }
+{
+    if pointer.is_hole() { None } else { Some(ROOT) }
+}
+
 /// Gives a key that is a hole this pointer, and uses its place.
 fn put(map: &mut BlockMap, key: Key, pointer: Pointer)
     requires pointer { IsPointer map.old.sectors pointer }
@@ -126,6 +136,7 @@ fn put(map: &mut BlockMap, key: Key, pointer: Pointer)
 /// Puts the pointers of a page whose keys are holes.
 fn put_all(map: &mut BlockMap, page: Key, pointers: &[Pointer])
     requires pointers { length pointers.now ≡ 64 }
+    requires volume { IsVolume map.old.blocks }
     requires page { IsPage map.old.blocks page }
     requires each { (j : ℕ) → j < 64 → IsPointer map.old.sectors (slice_index_or pointers.now j hole) }
     requires keys { (j : ℕ) → j < 64 → IsWritten (slice_index_or pointers.now j hole) → IsKey map.old.blocks (child page j) }
@@ -153,6 +164,7 @@ fn child(page: Key, j: usize) -> Key
 /// Whether these are the pointers of a page that may be read now.
 fn may_be_read(map: &BlockMap, number: Group, page: Key, pointers: &[Pointer]) -> bool
     requires pointers { length pointers.now ≡ 64 }
+    requires volume { IsVolume map.now.blocks }
     requires page { IsPage map.now.blocks page }
     ensures yes { result ≡ true → MayBeRead map.now number.0 page pointers.now }
     ensures no { MayBeRead map.now number.0 page pointers.now → result ≡ true }
@@ -170,6 +182,7 @@ fn may_be_read(map: &BlockMap, number: Group, page: Key, pointers: &[Pointer]) -
 /// Whether a page's pointer of this number may stand there.
 fn may_stand(map: &BlockMap, number: Group, page: Key, pointers: &[Pointer], j: usize) -> bool
     requires pointers { length pointers.now ≡ 64 }
+    requires volume { IsVolume map.now.blocks }
     requires page { IsPage map.now.blocks page }
     requires number { j < 64 }
     ensures yes { result ≡ true → MayStand map.now number.0 page pointers.now j }
@@ -177,7 +190,7 @@ fn may_stand(map: &BlockMap, number: Group, page: Key, pointers: &[Pointer], j: 
 {
     let pointer = pointers[j];
     if pointer.is_hole() {
-        return pointer == Pointer::HOLE;
+        return is_blank(&pointer);
     }
     if pointer.birth.0 > number.0 {
         return false;
@@ -187,6 +200,14 @@ fn may_stand(map: &BlockMap, number: Group, page: Key, pointers: &[Pointer], j: 
         return false;
     }
     map.is_free(pointer.place) && is_named_first(pointers, j)
+}
+
+/// Whether a pointer is a hole and has zeros alone.
+fn is_blank(pointer: &Pointer) -> bool
+    ensures yes { result ≡ true → pointer.now ≡ hole }
+    ensures no { pointer.now ≡ hole → result ≡ true }
+{
+    *pointer == Pointer::HOLE
 }
 
 /// Whether no earlier pointer names the place of this one.
