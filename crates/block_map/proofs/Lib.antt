@@ -11,3 +11,4 @@ pub mod NewMaps
 pub mod PageBytes
 pub mod DirtyPages
 pub mod ReadPages
+pub mod CountedPlaces

@@ -34,7 +34,7 @@ map_of blocks sectors pointers free pinned count =
 abbrev open_at : List ℕ → List ℕ → ℕ → Bool
 open_at free pinned at = holds free at && not (holds pinned at)
 
-is_open_at : (map : Map) (place : Place) → IsPlace map.sectors place → is_open map place ≡ open_at map.free map.pinned (place_number (length map.sectors) place)
+pub is_open_at : (map : Map) (place : Place) → IsPlace map.sectors place → is_open map place ≡ open_at map.free map.pinned (place_number (length map.sectors) place)
 is_open_at map place p = rw (is_free_at map place p, is_pinned_at map place p) refl
 
 not_open : (map : Map) (place : Place) → is_place map.sectors place ≡ false → is_open map place ≡ false

@@ -5,6 +5,7 @@
 mod bits;
 mod dirty;
 mod freed;
+mod laws;
 mod map;
 mod next;
 mod next_page;
@@ -14,6 +15,7 @@ mod page;
 mod reader;
 
 pub use dirty::pages_above;
+pub use laws::{children_come_before_their_page, pages_above_are_exact, pages_are_spelled_once};
 pub use map::BlockMap;
 pub use page::{read_page, write_page};
 pub use reader::MapReader;

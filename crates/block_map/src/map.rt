@@ -9,14 +9,16 @@ ghost use Rattle.block_map.specs.Places.{IsPlace, AreTops, is_place};
 ghost use Rattle.block_map.specs.Pointers.{hole, IsPointer, written, born_within};
 ghost use Rattle.block_map.specs.Dirty.{dirty_pages};
 ghost use Rattle.block_map.specs.Numbers.{place_number};
-ghost use Rattle.block_map.specs.Map.{pointer_at, is_free, is_pinned, is_open, IsEmpty, FreeIs, PinnedIs, PointerIs, IsLeastOpen, IsNextKey, children};
+ghost use Rattle.block_map.specs.Map.{pointer_at, is_free, is_pinned, is_open, IsEmpty, FreeIs, PinnedIs, PointerIs, IsLeastOpen, IsNextKey, CountsPlaces, children};
 
 use crate::bits::Bits;
 use crate::dirty::count_above;
 use crate::freed::{free_all, places};
 use crate::next::{next_born, number_behind};
 use crate::number_set::NumberSet;
-use crate::numbers::{first_child, key_at, key_number, place_at, place_number, slots};
+use crate::numbers::{
+    LEVELS, first_child, key_at, key_number, keys_at, place_at, place_number, slots,
+};
 use mp_base::{Group, Key, MemFault, Place, Pointer};
 use std::alloc::Global;
 use std::marker::Model;
@@ -87,11 +89,30 @@ impl BlockMap {
         self.blocks
     }
 
+    /// Whether the key is one of the volume.
+    pub fn has_key(&self, key: Key) -> bool
+        ensures yes { result ≡ true → IsKey self.now.blocks key }
+        ensures no { IsKey self.now.blocks key → result ≡ true }
+    {
+        if key.level > LEVELS {
+            return false;
+        }
+        key.index < keys_at(self.blocks, key.level)
+    }
+
+    /// Whether the place is one of the tops.
+    pub fn has_place(&self, place: Place) -> bool
+        ensures yes { result ≡ true → IsPlace self.now.sectors place }
+        ensures no { IsPlace self.now.sectors place → result ≡ true }
+    {
+        is_place(&self.sectors, place)
+    }
+
     /// Whether the place is one of the tops and free.
     pub fn is_free(&self, place: Place) -> bool
         ensures { result ≡ is_free self.now place }
     {
-        if !has_place(&self.sectors, place) {
+        if !is_place(&self.sectors, place) {
             return false;
         }
         self.free.contains(self.number(place))
@@ -186,7 +207,8 @@ impl BlockMap {
 
     /// How many places are free and not pinned.
     pub fn free_count(&self) -> u64
-        ensures { result ≡ self.now.count }
+        ensures count { result ≡ self.now.count }
+        ensures places { CountsPlaces (is_open self.now) result }
     {
         self.opened.count() as u64
     }
@@ -224,7 +246,7 @@ impl BlockMap {
 
 /// Whether there is this top, and the sector is below the number of its sectors.
 #[tactic(auto, unfolding(crate::specs::Places::is_place))]
-fn has_place(sectors: &[u64], place: Place) -> bool
+fn is_place(sectors: &[u64], place: Place) -> bool
     ensures { result ≡ is_place sectors.now place }
 {
     let top = place.top as usize;

@@ -4,7 +4,7 @@
 //! have some, and no word of that one below `low` has any.
 ghost use Rattle.std.specs.Prelude.{◌≡◌, ◌≢◌, ℕ, ◌+◌, ◌*◌, ◌/◌, ◌^◌, ◌<◌, ◌≤◌, true, false, length, IfOk, IfSome, IfNone};
 ghost use Rattle.block_map.specs.Bits.{holds, holds_some};
-ghost use Rattle.block_map.specs.NumberSet.{has, room, IsLeast, HasMore, HasLess, HasNow};
+ghost use Rattle.block_map.specs.NumberSet.{has, room, IsLeast, HasMore, HasLess, HasNow, count_below};
 
 use crate::bits::Bits;
 use mp_base::MemFault;
@@ -51,7 +51,8 @@ impl NumberSet {
 
     /// How many numbers it has.
     pub(crate) fn count(&self) -> usize
-        ensures { result ≡ self.now.count }
+        ensures count { result ≡ self.now.count }
+        ensures counted { result ≡ count_below (has self.now) (room self.now) }
     {
         self.count
     }
