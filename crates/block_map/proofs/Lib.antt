@@ -1,0 +1,14 @@
+pub mod Bitmaps
+pub mod Counted
+pub mod KeyNumbers
+pub mod PlaceNumbers
+pub mod PlacesChanged
+pub mod PointersChanged
+pub mod FreeNumbers
+pub mod BornKeys
+pub mod Children
+pub mod NewMaps
+pub mod PageBytes
+pub mod DirtyPages
+pub mod ReadPages
+pub mod CountedPlaces

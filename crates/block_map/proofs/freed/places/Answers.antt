@@ -1,0 +1,8 @@
+use Rattle.std.proofs.Common.{arith, ◌≡◌, ◌≤◌, ◌*◌, length, get_or, sym, subst}
+use Rattle.std.proofs.lemmas.List.{get_or_default}
+use Rattle.block_map.proofs.FreeNumbers.{rooms_of}
+use Rattle.block_map.proofs.freed.places.Goals as goal
+
+pub returns-clause-room : goal.returns-clause-room
+returns-clause-room c =
+    rooms_of c.args.sectors.now c.loop-count.most (λ i lt. c.loop-count.invariant.0 i (omega arith))
