@@ -201,7 +201,8 @@ fn make(rt: &HostRuntime, path: &str) -> Result<(), Fail> {
 
 /// Whether all bytes of each sector are these.
 fn holds(bytes: &[u8], sectors: &[u8]) -> bool {
-    bytes.len() == sectors.len() * SECTOR_BYTES
+    bytes.len() % SECTOR_BYTES == 0
+        && bytes.len() / SECTOR_BYTES == sectors.len()
         && bytes
             .iter()
             .enumerate()
