@@ -1,0 +1,17 @@
+pub mod Bounds
+pub mod Checking
+pub mod Deciding
+pub mod Gathering
+pub mod Growing
+pub mod Lists
+pub mod Placing
+pub mod Returning
+pub mod Rooms
+pub mod Shaping
+pub mod Suffixes
+pub mod Taking
+pub mod TakingLeaves
+pub mod TakingTrees
+pub mod TakingWhole
+pub mod Testing
+pub mod Walking

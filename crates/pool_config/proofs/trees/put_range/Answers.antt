@@ -1,0 +1,7 @@
+use Rattle.pool_config.specs.Spelling.{range_bytes}
+use Rattle.pool_config.proofs.Placing.{puts_next}
+use Rattle.pool_config.proofs.trees.put_range.Goals as goal
+
+pub returns-clause-piece : goal.returns-clause-piece
+unfolding range_bytes
+returns-clause-piece c = puts_next c.put_u64-at.ensures.piece c.put_u64.ensures.piece

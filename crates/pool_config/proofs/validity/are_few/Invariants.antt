@@ -1,0 +1,6 @@
+use Rattle.std.proofs.Common.{◌≡◌, ◌+◌, take}
+use Rattle.std.specs.Prelude.{sum}
+use Rattle.pool_config.proofs.validity.are_few.Given as goal
+
+abbrev pub invariant-loop-length : goal.invariant-loop-length
+invariant-loop-length l = sum (take l.length-index l.lengths) + l.left ≡ 4096

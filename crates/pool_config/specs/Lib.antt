@@ -1,0 +1,10 @@
+pub mod Faults
+pub mod Flags
+pub mod Members
+pub mod Pieces
+pub mod Reading
+pub mod Seen
+pub mod Spelling
+pub mod Taken
+pub mod Trees
+pub mod Validity
