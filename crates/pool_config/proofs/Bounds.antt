@@ -180,13 +180,13 @@ few_trees (top ∷ tops) all =
     let rest = few_trees tops (All-tail IsTop top tops all) in
     record {
       few = omega (
-            arith,
-            first.few,
-            rest.few,
-            inners-append top.vdevs (flat_map top_vdevs tops),
-            ap length (leaves-append top.vdevs (flat_map top_vdevs tops)),
-            length-append (leaves_among top.vdevs) (leaves_among (flat_map top_vdevs tops)),
-          );
+        arith,
+        first.few,
+        rest.few,
+        inners-append top.vdevs (flat_map top_vdevs tops),
+        ap length (leaves-append top.vdevs (flat_map top_vdevs tops)),
+        length-append (leaves_among top.vdevs) (leaves_among (flat_map top_vdevs tops)),
+      );
       counted = list_all-append is_counted top.vdevs (flat_map top_vdevs tops) ∙ and_from _ _ first.counted rest.counted;
     }
 

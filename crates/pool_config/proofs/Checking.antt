@@ -23,11 +23,11 @@ sum_more xs i x inside is =
 pub sum_over : (xs : List ℕ) (i x left : ℕ) → i < length xs → x ≡ get_or xs i x → sum (take i xs) + left ≡ 4096 → left < x → false ≡ nat_le (sum xs) 4096
 sum_over xs i x left inside is so_far over =
     sym (lt-leb (sum xs) 4096 (omega (
-          arith,
-          ap sum (take-append-drop (i + 1) xs),
-          sum-append (take (i + 1) xs) (drop (i + 1) xs),
-          sum_more xs i x inside is,
-        )))
+      arith,
+      ap sum (take-append-drop (i + 1) xs),
+      sum-append (take (i + 1) xs) (drop (i + 1) xs),
+      sum_more xs i x inside is,
+    )))
 
 pub sum_within : (xs : List ℕ) (i left : ℕ) → length xs ≤ i → sum (take i xs) + left ≡ 4096 → true ≡ nat_le (sum xs) 4096
 sum_within xs i left all so_far = sym (le-leb (sum xs) 4096 (omega (arith, ap sum (take_all i xs all))))

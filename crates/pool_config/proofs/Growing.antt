@@ -238,9 +238,9 @@ reads_tree (suc levels) (inner_vdev guid kind count ∷ vdevs) f fs is at few ke
     elim (inner_forms (nat_le count (length (forms vdevs))) (form_over kind (take count (forms vdevs))) f (drop count (forms vdevs)) fs is) [
       | inl none ↦ absurd (no_spare (suc levels) few (sym (ap (within (suc levels)) none) ∙ at))
       | inr some ↦ inner_grows levels guid kind count vdevs fs kept.0
-        (subst (GrowMany levels count vdevs) some.1.1
-        (many_grow levels (reads_tree levels) (omega (arith, few)) count vdevs (forms vdevs) refl (leb-true _ _ some.0)
-        (one_less kind (take count (forms vdevs)) levels few (ap (within (suc levels)) some.1.0 ∙ at)) kept.1))
+          (subst (GrowMany levels count vdevs) some.1.1
+          (many_grow levels (reads_tree levels) (omega (arith, few)) count vdevs (forms vdevs) refl (leb-true _ _ some.0)
+          (one_less kind (take count (forms vdevs)) levels few (ap (within (suc levels)) some.1.0 ∙ at)) kept.1))
     ]
 
 -- ---- the tree of a top

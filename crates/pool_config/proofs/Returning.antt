@@ -23,9 +23,10 @@ unfolding leaves_among
 kept_vdevs number next [] last end drawn leaves = tt
 kept_vdevs number next (leaf_vdev leaf ∷ vdevs) last end drawn leaves =
     let is = All-head (IsLeaf number) leaf (leaves_among vdevs) leaves in
-    let guid = All-head (IsDrawn next) leaf.guid.0 (map number_of_vdev vdevs) drawn in
-    (record { guid = omega (arith, guid.1, end); state = is.state; few = is.few; most = number.0; last = omega (arith, last); rise = is.log },
-    kept_vdevs number next vdevs last end (All-tail (IsDrawn next) leaf.guid.0 (map number_of_vdev vdevs) drawn) (All-tail (IsLeaf number) leaf (leaves_among vdevs) leaves))
+    let guid = All-head (IsDrawn next) leaf.guid.0 (map number_of_vdev vdevs) drawn in (
+      record { guid = omega (arith, guid.1, end); state = is.state; few = is.few; most = number.0; last = omega (arith, last); rise = is.log },
+      kept_vdevs number next vdevs last end (All-tail (IsDrawn next) leaf.guid.0 (map number_of_vdev vdevs) drawn) (All-tail (IsLeaf number) leaf (leaves_among vdevs) leaves),
+    )
 kept_vdevs number next (inner_vdev guid kind count ∷ vdevs) last end drawn leaves =
     let is = All-head (IsDrawn next) guid.0 (map number_of_vdev vdevs) drawn in
     (omega (arith, is.1, end), kept_vdevs number next vdevs last end (All-tail (IsDrawn next) guid.0 (map number_of_vdev vdevs) drawn) leaves)

@@ -41,9 +41,12 @@ quiet set from low some gap none (suc g) late lt =
 rises_push : (least from low high : ℕ) (ranges : List GroupRange) → Rises least (from - 2) ranges → 1 ≤ least → least ≤ low → from ≤ low → low ≤ high
     → Rises least high (ranges ++ range low high ∷ [])
 rises_push least from low high [] rises some a b c = (a, c, omega arith, tt)
-rises_push least from low high (r ∷ ranges) rises some a b c =
-    (rises.0, rises.1, omega (arith, rises.0, rises.1, rises.2),
-    rises_push (r.high.0 + 2) from low high ranges rises.3 (omega arith) (omega (arith, rises.0, rises.1, rises.2)) b c)
+rises_push least from low high (r ∷ ranges) rises some a b c = (
+  rises.0,
+  rises.1,
+  omega (arith, rises.0, rises.1, rises.2),
+  rises_push (r.high.0 + 2) from low high ranges rises.3 (omega arith) (omega (arith, rises.0, rises.1, rises.2)) b c,
+)
 
 here_below : (n low high g : ℕ) (b : Bool) → 1 ≤ g → g ≤ n → n < low → ((between 1 n g && b) || (in_range (range low high) g || false)) ≡ b
 here_below n low high g b some at below = grind (arith, nat_tests)
@@ -203,12 +206,13 @@ pub lie_within : (set : Groups) (from : ℕ) (first behind : Option Group) → f
     → IfSome first (λ g. (h : ℕ) → h < g.0 → holds set h ≡ false) → IfSome first (λ g. (1 ≤ g.0) × (g.0 ≤ 2 ^ 62)) → IfNone first ((h : ℕ) → holds set h ≡ false)
     → IfSome behind (λ g. from ≤ g.0) → IfSome behind (λ g. (1 ≤ g.0) × (g.0 ≤ 2 ^ 62)) → IfNone behind ((h : ℕ) → from ≤ h → holds set h ≡ false)
     → (g : ℕ) → holds set g ≡ true → (1 ≤ g) × (g ≤ 2 ^ 62)
-lie_within set from first behind is least one none late two past g has =
-    (elim (cases_lt 0 g) [
-      | inl some ↦ some
-      | inr low ↦ absurd (false≢true (sym (zero_is_none set first least one none) ∙ ap (holds set) (let e : 0 ≡ g = omega arith in e) ∙ has))
-    ],
-    elim (cases_lt g from) [
-      | inl below ↦ omega (arith, is)
-      | inr above ↦ absurd (false≢true (sym (none_past set from behind (omega (arith, is)) late two past g above) ∙ has))
-    ])
+lie_within set from first behind is least one none late two past g has = (
+  elim (cases_lt 0 g) [
+    | inl some ↦ some
+    | inr low ↦ absurd (false≢true (sym (zero_is_none set first least one none) ∙ ap (holds set) (let e : 0 ≡ g = omega arith in e) ∙ has))
+  ],
+  elim (cases_lt g from) [
+    | inl below ↦ omega (arith, is)
+    | inr above ↦ absurd (false≢true (sym (none_past set from behind (omega (arith, is)) late two past g above) ∙ has))
+  ],
+)

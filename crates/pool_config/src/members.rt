@@ -33,7 +33,13 @@ impl Members {
         }
     }
 
-    pub(crate) fn add_leaf(&mut self, alloc: Global, guid: Guid, name: &Name, ranges: usize) -> Result<(), MemFault>
+    pub(crate) fn add_leaf(
+        &mut self,
+        alloc: Global,
+        guid: Guid,
+        name: &Name,
+        ranges: usize,
+    ) -> Result<(), MemFault>
         ensures { OnOk result (self.new ≡ with_leaf self.old guid.0 name.now ranges) }
     {
         self.numbers.push(guid.0)?;

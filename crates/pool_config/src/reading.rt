@@ -73,7 +73,12 @@ pub(crate) fn read_tops(
     Ok(tops)
 }
 
-fn read_top(alloc: Global, cursor: &mut Cursor, number: Group, members: &mut Members) -> Result<Top, Unread>
+fn read_top(
+    alloc: Global,
+    cursor: &mut Cursor,
+    number: Group,
+    members: &mut Members,
+) -> Result<Top, Unread>
     requires { number.0 ≤ 2 ^ 62 }
     ensures taken { IfOk result (IsTakenTop number (top_in cursor.old) cursor.new members.old members.new) }
     ensures none { IsErrOf result NoConfig → is_top_of number (top_in cursor.old).value ≡ false }
@@ -144,7 +149,12 @@ fn kind_in(byte: u8) -> Kind
     }
 }
 
-fn read_leaf(alloc: Global, cursor: &mut Cursor, number: Group, members: &mut Members) -> Result<LeafVdev, Unread>
+fn read_leaf(
+    alloc: Global,
+    cursor: &mut Cursor,
+    number: Group,
+    members: &mut Members,
+) -> Result<LeafVdev, Unread>
     requires { number.0 ≤ 2 ^ 62 }
     ensures taken { IfOk result (IsTakenLeaf number (leaf_in cursor.old) cursor.new members.old members.new) }
     ensures none { IsErrOf result NoConfig → is_leaf_of number (leaf_in cursor.old).value ≡ false }

@@ -1,6 +1,5 @@
 use Rattle.std.proofs.Common.{◌-◌, ◌+◌, ap, refl, ◌∙◌, arith, Err}
 use Rattle.mp_base.specs.Name.{is_name}
-
 use Rattle.pool_config.specs.Reading.{spare_in}
 use Rattle.pool_config.proofs.Taking.{bad_name, none_read}
 use Rattle.pool_config.proofs.TakingWhole.{true_otherwise, no_err, one_spare, spares_taken, spares_bad}

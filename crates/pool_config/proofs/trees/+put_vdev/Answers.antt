@@ -49,11 +49,11 @@ pub loop-child-preserved : goal.loop-child-preserved
 loop-child-preserved t c = record {
   piece = puts_child c.deref-child-items.result.now c.loop-child.child-index c.child-item.result (omega arith) c.child-item.is c.loop-child.invariant.piece c.put_vdev-stop.ensures.piece;
   stop = omega (
-        arith,
-        c.loop-child.invariant.stop,
-        c.put_vdev-stop.ensures.stop,
-        room_more vdevs_of c.deref-child-items.result.now c.loop-child.child-index c.child-item.result (omega arith) c.child-item.is,
-      );
+    arith,
+    c.loop-child.invariant.stop,
+    c.put_vdev-stop.ensures.stop,
+    room_more vdevs_of c.deref-child-items.result.now c.loop-child.child-index c.child-item.result (omega arith) c.child-item.is,
+  );
 }
 
 pub returns-in-Leaf-clause-piece : goal.returns-in-Leaf-clause-piece

@@ -10,15 +10,15 @@ put_range-stop-requires c =
     omega (
       arith,
       run_fits c.args.log.now c.args.out.now c.loop-low.out c.args.at c.loop-low.stop c.loop-low.from.0 c.in-Some.low.0 c.in-Some.high.0 (length c.args.out.now) c.loop-low.invariant
-      (record {
-        late = c.in-Some.ensures.from;
-        order = c.in-Some.ensures.run.some;
-        last = c.in-Some.ensures.in_range.1;
-        first = c.in-Some.ensures.first;
-        inside = c.in-Some.ensures.run.inside;
-        behind = c.in-Some.ensures.run.behind;
-      })
-      c.requires,
+          (record {
+            late = c.in-Some.ensures.from;
+            order = c.in-Some.ensures.run.some;
+            last = c.in-Some.ensures.in_range.1;
+            first = c.in-Some.ensures.first;
+            inside = c.in-Some.ensures.run.inside;
+            behind = c.in-Some.ensures.run.behind;
+          })
+          c.requires,
     )
 
 pub loop-low-preserved : goal.loop-low-preserved

@@ -26,11 +26,11 @@ pub loop-top-preserved : goal.loop-top-preserved
 loop-top-preserved c = record {
   piece = puts_item (λ top. top_bytes (top_seen top)) c.args.tops.now c.loop-top.top-index c.top-item.result (omega arith) c.top-item.is c.loop-top.invariant.piece c.put_top-stop.ensures.piece;
   stop = omega (
-        arith,
-        c.loop-top.invariant.stop,
-        c.put_top-stop.ensures.stop,
-        room_more mirror_vdevs c.args.tops.now c.loop-top.top-index c.top-item.result (omega arith) c.top-item.is,
-      );
+    arith,
+    c.loop-top.invariant.stop,
+    c.put_top-stop.ensures.stop,
+    room_more mirror_vdevs c.args.tops.now c.loop-top.top-index c.top-item.result (omega arith) c.top-item.is,
+  );
 }
 
 pub returns-clause-piece : goal.returns-clause-piece
