@@ -8,6 +8,4 @@ mod built;
 #[cfg(test)]
 mod files;
 #[cfg(test)]
-mod sets;
-#[cfg(test)]
 mod trees;
