@@ -1,16 +1,13 @@
--- While rings are cleared, a sector holds what it held or bytes without a record, and only such are on the way.
-use Rattle.std.proofs.Common.{◌≡◌, ◌≢◌, ◌⊎◌, ℕ, zero, suc, ◌+◌, ◌-◌, ◌*◌, ◌/◌, ◌%◌, ◌^◌, ◌<◌, ◌≤◌, ◌==◌, ◌&&◌, Bool, true, false, cond, List, [], ◌∷◌, ◌++◌, take, Option, Some, None, is_none, refl, sym, ap, ◌∙◌, subst, inl, inr, arith, ⊎_elim}
-use Rattle.std.specs.Prelude.{slice_index}
-use Rattle.std.proofs.lemmas.Bool.{cases_lt}
+-- While rings are cleared, what stands on a sector or is on the way was so before, or is no record.
+use Rattle.std.proofs.Common.{◌≡◌, ◌⊎◌, ℕ, zero, suc, ◌+◌, ◌-◌, ◌^◌, ◌<◌, ◌≤◌, ◌==◌, ◌&&◌, Bool, true, false, cond, List, [], ◌∷◌, ◌++◌, take, Option, Some, None, is_none, refl, sym, ap, ◌∙◌, subst, inl, inr, arith, ⊎_elim}
 use Rattle.std.proofs.lemmas.Bool.Decides.{nat_tests}
 use Rattle.std.proofs.lemmas.Grind.{common_steps}
 use Rattle.mp_base.specs.declared.number.Guid.{Guid}
 use Rattle.bank_core.specs.declared.bank.Fault.{Fault}
 use Rattle.bank_core.specs.Asks.{Ask, Reads, Writes, Flushes, Admits, Ejects, ask_of, IsPart}
-use Rattle.bank_core.specs.Disk.{Sector, Sectors, Pending, Nothing, Written, Failing, Call, Read, Write, Flush, Admit, Eject, Noted, covers, sectors_in, sector_of, hurt, after_write, after_flush, effect, replay, run, IsImage, IsClean}
-use Rattle.bank_core.specs.Memory.{zero_sector}
+use Rattle.bank_core.specs.Disk.{Sector, Pending, Nothing, Written, Failing, Call, Read, Write, Flush, Admit, Eject, Noted, covers, sectors_in, sector_of, hurt, after_write, after_flush, effect, replay}
 use Rattle.label_store.specs.declared.uberblock.Uberblock.{Uberblock}
-use Rattle.label_store.specs.Clearing.{IsBare, IsOnTheWay, IsUnforged}
+use Rattle.label_store.specs.Clearing.{IsBare, IsOnTheWay, IsHeld}
 use Rattle.label_store.specs.Layout.{labels_of}
 use Rattle.label_store.specs.Plans.{label_writes, blank_uberblock, zero_ring, stamp_plan, wipe_plan}
 use Rattle.label_store.specs.Uberblock.{IsUberblock, uberblock_bytes}
@@ -24,9 +21,9 @@ AreBare Nothing = Unit {0}
 AreBare (Written bytes) = IsBare bytes
 AreBare (Failing bytes) = IsBare bytes
 
-pub record IsFading (old : List ℕ) (x : Sector) : Type 0 where
-  pub stable : (x.stable ≡ old) ⊎ IsBare x.stable
-  pub pending : AreBare x.pending
+pub record IsFading (old x : Sector) : Type 0 where
+  pub stable : IsHeld old x.stable ⊎ IsBare x.stable
+  pub pending : (x.pending ≡ old.pending) ⊎ AreBare x.pending
 
 -- the ask brings nothing but bytes without a record there
 abbrev pub BringsBare : Ask → ℕ → ℕ → Type 0
@@ -40,7 +37,7 @@ abbrev pub AllBringBare : List Ask → ℕ → ℕ → Type 0
 AllBringBare [] d s = Unit {0}
 AllBringBare (ask ∷ asks) d s = BringsBare ask d s × AllBringBare asks d s
 
-hurt_fades : (damage : Bool) (old : List ℕ) (x : Sector) → IsFading old x → IsFading old (hurt damage x)
+hurt_fades : (damage : Bool) (old x : Sector) → IsFading old x → IsFading old (hurt damage x)
 hurt_fades damage old x f = record { stable = f.stable; pending = f.pending }
 
 written_bare : (fault : Option Fault) (bytes : List ℕ) → IsBare bytes → AreBare (after_write fault bytes)
@@ -51,18 +48,28 @@ and_true : (a b : Bool) → (a && b) ≡ true → b ≡ true
 and_true true b e = e
 and_true false b e = absurd (cc)
 
-write_fades : (test : Bool) (fault : Option Fault) (bytes old : List ℕ) (x : Sector) → (test ≡ true → IsBare bytes) → IsFading old x
+write_fades : (test : Bool) (fault : Option Fault) (bytes : List ℕ) (old x : Sector) → (test ≡ true → IsBare bytes)
+    → IsFading old x
     → IsFading old (cond test (record { stable = x.stable; pending = after_write fault bytes; damaged = x.damaged }) x)
-write_fades true fault bytes old x bare f = record { stable = f.stable; pending = written_bare fault bytes (bare refl) }
+write_fades true fault bytes old x bare f = record {
+  stable = f.stable;
+  pending = inr (written_bare fault bytes (bare refl));
+}
 write_fades false fault bytes old x bare f = f
 
-flush_fades : (test : Bool) (p : Pending) (old : List ℕ) (x : Sector) → AreBare p → IsFading old x → IsFading old (cond test (after_flush p x) x)
+flush_fades : (test : Bool) (p : Pending) (old x : Sector) → (p ≡ old.pending) ⊎ AreBare p → IsFading old x
+    → IsFading old (cond test (after_flush p x) x)
 flush_fades true Nothing old x b f = f
-flush_fades true (Written bytes) old x b f = record { stable = inr b; pending = tt }
+flush_fades true (Written bytes) old x (inl same) f = record {
+  stable = inl (inr (subst (λ p. IsOnTheWay p bytes) same refl));
+  pending = inr tt;
+}
+flush_fades true (Written bytes) old x (inr b) f = record { stable = inr b; pending = inr tt }
 flush_fades true (Failing bytes) old x b f = f
 flush_fades false p old x b f = f
 
-call_fades : (call : Call) (d s : ℕ) (old : List ℕ) (x : Sector) → BringsBare (ask_of call) d s → IsFading old x → IsFading old (effect call d s x)
+call_fades : (call : Call) (d s : ℕ) (old x : Sector) → BringsBare (ask_of call) d s → IsFading old x
+    → IsFading old (effect call d s x)
 call_fades (Read dev at bytes fault) d s old x b f = f
 call_fades (Write dev at bytes fault) d s old x b f =
     write_fades ((dev == d) && covers at (sectors_in bytes) s) fault (sector_of (s - at) bytes) old x (λ e. b (and_true (dev == d) _ e)) f
@@ -71,7 +78,8 @@ call_fades (Admit dev holds) d s old x b f = absurd b
 call_fades (Eject dev) d s old x b f = f
 
 -- so at each moment of a part
-pub part_fades : (asks : List Ask) (made : List Noted) (outcome : Option Fault) (d s : ℕ) (old : List ℕ) (x : Sector) (k : ℕ) → IsPart asks made outcome
+pub part_fades : (asks : List Ask) (made : List Noted) (outcome : Option Fault) (d s : ℕ) (old x : Sector) (k : ℕ)
+    → IsPart asks made outcome
     → AllBringBare asks d s → IsFading old x → IsFading old (replay (take k made) d s x)
 part_fades asks made outcome d s old x zero part b f = f
 part_fades [] [] outcome d s old x (suc k) part b f = f
@@ -87,12 +95,14 @@ part_fades (ask ∷ asks) (noted ∷ made) outcome d s old x (suc k) (is, inr (f
     stopped zero = call_fades noted.call d s old _ (subst (λ a. BringsBare a d s) (sym is) b.0) (hurt_fades (noted.damage d s) old x f)
     stopped (suc j) = call_fades noted.call d s old _ (subst (λ a. BringsBare a d s) (sym is) b.0) (hurt_fades (noted.damage d s) old x f)
 
--- A record's uberblock that an image shows there, unforged, stood there before.
-pub fading_shows : (old bytes : List ℕ) (x : Sector) (u : Uberblock) → IsFading old x → IsUberblock u bytes → 1 ≤ u.number.0
-    → (bytes ≡ x.stable) ⊎ IsOnTheWay x.pending bytes → bytes ≡ old
-fading_shows old bytes x u f is some (inl e) = ⊎_elim {A = x.stable ≡ old} {B = IsBare x.stable}
-    (λ same. e ∙ same) (λ bare. absurd (bare u (subst (IsUberblock u) e is) some)) f.stable
-fading_shows old bytes x u f is some (inr way) = absurd (none x.pending f.pending way)
+-- A record's uberblock that an image shows there, unforged, stood there before or was on the way.
+pub fading_shows : (old x : Sector) (bytes : List ℕ) (u : Uberblock) → IsFading old x → IsUberblock u bytes
+    → 1 ≤ u.number.0
+    → IsHeld x bytes → IsHeld old bytes
+fading_shows old x bytes u f is some (inl e) = ⊎_elim {A = IsHeld old x.stable} {B = IsBare x.stable}
+    (λ held. subst (IsHeld old) (sym e) held) (λ bare. absurd (bare u (subst (IsUberblock u) e is) some)) f.stable
+fading_shows old x bytes u f is some (inr way) = ⊎_elim {A = x.pending ≡ old.pending} {B = AreBare x.pending}
+    (λ same. inr (subst (λ p. IsOnTheWay p bytes) same way)) (λ bare. absurd (none x.pending bare way)) f.pending
   where
     none : (p : Pending) → AreBare p → IsOnTheWay p bytes → ⊥
     none Nothing b w = w
