@@ -1,5 +1,5 @@
 -- No record is found on cleared rings, and no identity but the one that a stamp gave.
-use Rattle.std.proofs.Common.{◌≡◌, ℕ, zero, suc, ◌+◌, ◌-◌, ◌*◌, ◌/◌, ◌%◌, ◌^◌, ◌<◌, ◌≤◌, ◌==◌, ◌&&◌, Bool, true, false, List, [], ◌∷◌, ◌++◌, take, get_or, Option, Some, refl, sym, ap, ◌∙◌, subst, inl, inr, arith}
+use Rattle.std.proofs.Common.{◌≡◌, ◌⊎◌, ℕ, zero, suc, ◌+◌, ◌-◌, ◌*◌, ◌/◌, ◌%◌, ◌^◌, ◌<◌, ◌≤◌, ◌==◌, ◌&&◌, Bool, true, false, List, [], ◌∷◌, ◌++◌, take, get_or, Option, Some, refl, sym, ap, ◌∙◌, subst, inl, inr, arith, ⊎_elim}
 use Rattle.std.specs.Prelude.{slice_get, slice_index}
 use Rattle.std.proofs.lemmas.Bool.Decides.{nat_tests}
 use Rattle.std.proofs.lemmas.Option.{same_Some}
@@ -20,7 +20,7 @@ use Rattle.label_store.specs.Plans.{label_writes, blank_uberblock, zero_ring, st
 use Rattle.label_store.specs.Records.{place_at, config_at, AreUnhurt, IsVerified}
 use Rattle.label_store.specs.Uberblock.{uberblock_bytes, IsUberblock}
 use Rattle.label_store.proofs.Bare.{zeros_bare, zeros_none, blank_bare, blank_only, blank_in_range, length-zeros}
-use Rattle.label_store.proofs.Fading.{AllBringBare, part_fades, fading_shows, wipe_brings, stamp_brings}
+use Rattle.label_store.proofs.Fading.{AllBring, IsWiped, IsStamped, part_fades, fading_shows, wipe_brings, stamp_brings}
 use Rattle.label_store.proofs.Places.{spared, label_is, labels_apart, uberblock_sectors}
 use Rattle.label_store.proofs.Writing.{ring_sectors}
 
@@ -35,7 +35,7 @@ standing_held x stood bytes st (inr way) = absurd (subst (λ p. IsOnTheWay p byt
 
 -- On no unforged image a record is verified.
 pub none_verified : (head_of : List ℕ → Option Head) (size : ℕ) (sectors : ℕ → Sector) (image : ℕ → List ℕ) (bytes : ℕ → List ℕ)
-    → ((slot : ℕ) → slot < 32 → IsBare (bytes slot)) → RingsHold size sectors bytes → IsUnforged size sectors image
+    → ((slot : ℕ) → slot < 32 → IsBare (bytes slot)) → RingsHold size sectors bytes → IsUnforged 1 size sectors image
     → (place : ℕ) (u : Uberblock) (config : List ℕ) → IsVerified head_of size (λ s. Some (image s)) place u config → ⊥
 none_verified head_of size sectors image bytes_at bare hold unforged place u config v =
     let inside : place < 128 = v.inside in
@@ -45,19 +45,19 @@ none_verified head_of size sectors image bytes_at bare hold unforged place u con
     let is : IsUberblock u (image at) = record { in_range = v.is_record.in_range; bytes = bytes } in
     let st = hold (place / 32) (place % 32) (omega arith) slot in
     let stood = standing_held (sectors at) (bytes_at (place % 32)) (image at) st
-        (unforged place u inside is v.is_record.some) in
+    (unforged place u inside is v.is_record.some) in
     bare (place % 32) slot u (subst (IsUberblock u) stood is) v.is_record.some
 
 -- An image of undamaged rings is unforged.
-pub unhurt_unforged : (size : ℕ) (sectors : ℕ → Sector) (image : ℕ → List ℕ) (bytes : ℕ → List ℕ)
+pub unhurt_unforged : (least size : ℕ) (sectors : ℕ → Sector) (image : ℕ → List ℕ) (bytes : ℕ → List ℕ)
     → RingsHold size sectors bytes
-    → AreUnhurt size sectors → IsImage sectors image → IsUnforged size sectors image
-unhurt_unforged size sectors image bytes hold unhurt shows place u inside is some =
+    → AreUnhurt size sectors → IsImage sectors image → IsUnforged least size sectors image
+unhurt_unforged least size sectors image bytes hold unhurt shows place u inside is enough =
     let label : place / 32 < 4 = omega arith in
     let slot : place % 32 < 32 = omega arith in
     let st = hold (place / 32) (place % 32) label slot in
     inl (shows (place_at size place)
-        (record { still = st.still; sound = unhurt (place / 32) (32 + place % 32) label (omega arith) }))
+    (record { still = st.still; sound = unhurt (place / 32) (32 + place % 32) label (omega arith) }))
 
 -- A read of such a ring shows in each undamaged slot what stands there,
 pub slot_shown : (size : ℕ) (sectors : ℕ → Sector) (bytes : ℕ → List ℕ) (label slot : ℕ) (ring : List ℕ) → label < 4
@@ -177,36 +177,49 @@ config_off size label i big few small other slot few' inside = λ same.
     let one = labels_apart size a b big (label_is size label few) (label_is size other few') (omega (arith, same)) (omega (arith, same)) in
     omega (arith, same, one)
 
--- At each moment of such calls, a record's uberblock that an unforged image shows was held there before them.
-held_before : (asks : List Ask) (dev size : ℕ) (made : List Noted) (outcome : Option Fault) (sectors : Sectors) (k : ℕ)
-    (image : ℕ → List ℕ)
-    → ((d s : ℕ) → AllBringBare asks d s) → IsPart asks made outcome
-    → IsUnforged size (run (take k made) sectors dev) image
-    → (place : ℕ) (u : Uberblock) → place < 128 → IsUberblock u (image (place_at size place)) → 1 ≤ u.number.0
-    → IsHeld (sectors dev (place_at size place)) (image (place_at size place))
-held_before asks dev size made outcome sectors k image bring part unforged place u inside is some =
+-- At each moment of such calls, an uberblock that an unforged image shows was held there before them, or they brought it.
+held_before : (Kind : List ℕ → Type 0) (asks : List Ask) (least dev size : ℕ) (made : List Noted)
+    (outcome : Option Fault)
+    (sectors : Sectors) (k : ℕ) (image : ℕ → List ℕ) → ((d s : ℕ) → AllBring Kind asks d s) → IsPart asks made outcome
+    → IsUnforged least size (run (take k made) sectors dev) image
+    → (place : ℕ) (u : Uberblock) → place < 128 → IsUberblock u (image (place_at size place)) → least ≤ u.number.0
+    → IsHeld (sectors dev (place_at size place)) (image (place_at size place)) ⊎ Kind (image (place_at size place))
+held_before Kind asks least dev size made outcome sectors k image bring part unforged place u inside is enough =
     let at = place_at size place in
-    let fades = part_fades asks made outcome dev at (sectors dev at) (sectors dev at) k part (bring dev at)
+    let fades = part_fades Kind asks made outcome dev at (sectors dev at) (sectors dev at) k part (bring dev at)
     (record { stable = inl (inl refl); pending = inl refl }) in
-    fading_shows (sectors dev at) _ (image at) u fades is some (unforged place u inside is some)
+    fading_shows Kind (sectors dev at) _ (image at) fades (unforged place u inside is enough)
 
-pub wipe_held : (dev size : ℕ) (made : List Noted) (outcome : Option Fault) (sectors : Sectors) (k : ℕ)
-    (image : ℕ → List ℕ)
-    → IsPart (wipe_plan dev size) made outcome → IsUnforged size (run (take k made) sectors dev) image
-    → (place : ℕ) (u : Uberblock) → place < 128 → IsUberblock u (image (place_at size place)) → 1 ≤ u.number.0
+pub wipe_held : (least dev size : ℕ) (made : List Noted) (outcome : Option Fault) (sectors : Sectors) (k : ℕ)
+    (image : ℕ → List ℕ) → IsPart (wipe_plan dev size) made outcome
+    → IsUnforged least size (run (take k made) sectors dev) image
+    → (place : ℕ) (u : Uberblock) → place < 128 → IsUberblock u (image (place_at size place)) → least ≤ u.number.0
     → IsHeld (sectors dev (place_at size place)) (image (place_at size place))
-wipe_held dev size made outcome sectors k image =
-    held_before (wipe_plan dev size) dev size made outcome sectors k image (wipe_brings dev size)
+wipe_held least dev size made outcome sectors k image part unforged place u inside is enough =
+    let at = place_at size place in
+    ⊎_elim {A = IsHeld (sectors dev at) (image at)} {B = IsWiped (image at)} (λ held. held)
+    (λ zeros. absurd (zeros_none u (subst (IsUberblock u) zeros is)))
+    (held_before IsWiped (wipe_plan dev size) least dev size made outcome sectors k image (wipe_brings dev size) part
+    unforged place u inside is enough)
 
-pub stamp_held : (dev size : ℕ) (pool member : Guid) (made : List Noted) (outcome : Option Fault) (sectors : Sectors)
-    (k : ℕ) (image : ℕ → List ℕ)
-    → pool.0 < 2 ^ 64 → member.0 < 2 ^ 64
-    → IsPart (stamp_plan dev size pool member) made outcome → IsUnforged size (run (take k made) sectors dev) image
-    → (place : ℕ) (u : Uberblock) → place < 128 → IsUberblock u (image (place_at size place)) → 1 ≤ u.number.0
-    → IsHeld (sectors dev (place_at size place)) (image (place_at size place))
-stamp_held dev size pool member made outcome sectors k image p m =
-    held_before (stamp_plan dev size pool member) dev size made outcome sectors k image
-        (λ d s. stamp_brings dev size pool member d s p m)
+stamped_blank : (pool member : Guid) (u : Uberblock) (bytes : List ℕ) → pool.0 < 2 ^ 64 → member.0 < 2 ^ 64
+    → IsStamped pool member bytes → IsUberblock u bytes → u ≡ blank_uberblock pool member
+stamped_blank pool member u bytes p m (inl zeros) is = absurd (zeros_none u (subst (IsUberblock u) zeros is))
+stamped_blank pool member u bytes p m (inr blank) is = sym
+    (blank_only pool member u p m (subst (IsUberblock u) blank is))
+
+pub stamp_held : (least dev size : ℕ) (pool member : Guid) (made : List Noted) (outcome : Option Fault)
+    (sectors : Sectors) (k : ℕ) (image : ℕ → List ℕ) → pool.0 < 2 ^ 64 → member.0 < 2 ^ 64
+    → IsPart (stamp_plan dev size pool member) made outcome
+    → IsUnforged least size (run (take k made) sectors dev) image
+    → (place : ℕ) (u : Uberblock) → place < 128 → IsUberblock u (image (place_at size place)) → least ≤ u.number.0
+    → IsHeld (sectors dev (place_at size place)) (image (place_at size place)) ⊎ (u ≡ blank_uberblock pool member)
+stamp_held least dev size pool member made outcome sectors k image p m part unforged place u inside is enough =
+    let at = place_at size place in
+    ⊎_elim {A = IsHeld (sectors dev at) (image at)} {B = IsStamped pool member (image at)} (λ held. inl held)
+    (λ stamped. inr (stamped_blank pool member u (image at) p m stamped is))
+    (held_before (IsStamped pool member) (stamp_plan dev size pool member) least dev size made outcome sectors k image
+    (stamp_brings dev size pool member) part unforged place u inside is enough)
 
 -- Where a crash inside the calls left these bytes of a sector, one before them could have left the same, or, of a clean
 -- sector, what was stable.
@@ -235,23 +248,23 @@ left_either Nothing true stable bytes P Q a b = b
 left_either (Written on_way) damaged stable bytes P Q a b = b
 left_either (Failing on_way) damaged stable bytes P Q a b = b
 
--- At each moment of such calls, what an unforged image verifies an image of the moment before them may verify.
+-- At each moment of calls that bring no record, what an unforged image verifies one of the moment before may verify.
 pub shown_before : (head_of : List ℕ → Option Head) (asks : List Ask) (dev size : ℕ) (made : List Noted)
-    (outcome : Option Fault) (sectors : Sectors) (k : ℕ)
-    (image : ℕ → List ℕ) → 320 ≤ size → ((d s : ℕ) → AllBringBare asks d s) → ((d s : ℕ) → (d ≡ dev → IsOffRings size s) → Spares asks d s)
+    (outcome : Option Fault) (sectors : Sectors) (k : ℕ) (image : ℕ → List ℕ) → 320 ≤ size
+    → ((place : ℕ) (u : Uberblock) → place < 128 → IsUberblock u (image (place_at size place)) → 1 ≤ u.number.0
+    → IsHeld (sectors dev (place_at size place)) (image (place_at size place)))
+    → ((d s : ℕ) → (d ≡ dev → IsOffRings size s) → Spares asks d s)
     → IsPart asks made outcome → AreConfigsUnhurt size (sectors dev) (run (take k made) sectors dev)
     → IsImage (run (take k made) sectors dev) image
-    → IsUnforged size (run (take k made) sectors dev) image
     → (place : ℕ) (u : Uberblock) (config : List ℕ) → IsVerified head_of size (λ s. Some (image s)) place u config
     → MayShow head_of size (sectors dev) place u config
-shown_before head_of asks dev size made outcome sectors k image big bring spare part unhurt shows unforged
-    place u config v = record {
+shown_before head_of asks dev size made outcome sectors k image big held spare part unhurt shows place u config v = record {
   image = before;
   is_image = λ s clean. left_clean (sectors dev s) (image s) clean;
   unforged = λ place' u' inside is some.
       let at = place_at size place' in
       left_either (sectors dev at).pending (sectors dev at).damaged (sectors dev at).stable (image at) (IsUberblock u')
-          (IsHeld (sectors dev at))
+      (IsHeld (sectors dev at))
       (λ is'. inl refl) (λ is'. held place' u' inside is' some) is;
   verified = record {
     inside = v.inside;
@@ -266,10 +279,6 @@ shown_before head_of asks dev size made outcome sectors k image big bring spare 
   where
     before : ℕ → List ℕ
     before s = left_before (sectors dev s).pending (sectors dev s).damaged (sectors dev s).stable (image s)
-
-    held : (place' : ℕ) (u' : Uberblock) → place' < 128 → IsUberblock u' (image (place_at size place'))
-        → 1 ≤ u'.number.0 → IsHeld (sectors dev (place_at size place')) (image (place_at size place'))
-    held = held_before asks dev size made outcome sectors k image bring part unforged
 
     bytes : image (place_at size place) ≡ uberblock_bytes u
     bytes = same_Some (image (place_at size place)) (uberblock_bytes u) v.uberblock
@@ -292,28 +301,37 @@ shown_before head_of asks dev size made outcome sectors k image big bring spare 
         let spared = part_spares asks made outcome dev s part (spare dev s (λ same. off)) in
         let untouched = untouched_front made k dev s spared in
         let st = untouched_stands (take k made) dev s (sectors dev s) (sectors dev s).stable untouched
-            (record { stable = refl; still = still }) in
+        (record { stable = refl; still = still }) in
         shows s (record { still = st.still; sound = unhurt v.label i v.is_label small sound }) ∙ st.stable)
 
-pub wipe_before : (head_of : List ℕ → Option Head) (dev size : ℕ) (made : List Noted) (outcome : Option Fault) (sectors : Sectors) (k : ℕ)
-    (image : ℕ → List ℕ) → 320 ≤ size → IsPart (wipe_plan dev size) made outcome
+pub wipe_before : (head_of : List ℕ → Option Head) (dev size : ℕ) (made : List Noted) (outcome : Option Fault)
+    (sectors : Sectors) (k : ℕ) (image : ℕ → List ℕ) → 320 ≤ size → IsPart (wipe_plan dev size) made outcome
     → AreConfigsUnhurt size (sectors dev) (run (take k made) sectors dev)
-    → IsImage (run (take k made) sectors dev) image
-    → IsUnforged size (run (take k made) sectors dev) image
+    → IsImage (run (take k made) sectors dev) image → IsUnforged 1 size (run (take k made) sectors dev) image
     → (place : ℕ) (u : Uberblock) (config : List ℕ) → IsVerified head_of size (λ s. Some (image s)) place u config
     → MayShow head_of size (sectors dev) place u config
-wipe_before head_of dev size made outcome sectors k image big =
-    shown_before head_of (wipe_plan dev size) dev size made outcome sectors k image big (wipe_brings dev size)
-        (wipe_spares dev size)
+wipe_before head_of dev size made outcome sectors k image big part unhurt shows unforged =
+    shown_before head_of (wipe_plan dev size) dev size made outcome sectors k image big
+    (wipe_held 1 dev size made outcome sectors k image part unforged) (wipe_spares dev size) part unhurt shows
 
-pub stamp_before : (head_of : List ℕ → Option Head) (dev size : ℕ) (pool member : Guid) (made : List Noted) (outcome : Option Fault) (sectors : Sectors) (k : ℕ)
-    (image : ℕ → List ℕ) → 320 ≤ size → pool.0 < 2 ^ 64 → member.0 < 2 ^ 64
-    → IsPart (stamp_plan dev size pool member) made outcome
+blank_number : (pool member : Guid) (u : Uberblock) → u ≡ blank_uberblock pool member → 1 ≤ u.number.0 → ⊥
+blank_number pool member u same some = let number : u.number.0 ≡ 0 = ap (λ v. v.number.0) same in omega arith
+
+pub stamp_before : (head_of : List ℕ → Option Head) (dev size : ℕ) (pool member : Guid) (made : List Noted)
+    (outcome : Option Fault) (sectors : Sectors) (k : ℕ) (image : ℕ → List ℕ) → 320 ≤ size
+    → pool.0 < 2 ^ 64 → member.0 < 2 ^ 64 → IsPart (stamp_plan dev size pool member) made outcome
     → AreConfigsUnhurt size (sectors dev) (run (take k made) sectors dev)
-    → IsImage (run (take k made) sectors dev) image
-    → IsUnforged size (run (take k made) sectors dev) image
+    → IsImage (run (take k made) sectors dev) image → IsUnforged 1 size (run (take k made) sectors dev) image
     → (place : ℕ) (u : Uberblock) (config : List ℕ) → IsVerified head_of size (λ s. Some (image s)) place u config
     → MayShow head_of size (sectors dev) place u config
-stamp_before head_of dev size pool member made outcome sectors k image big p m =
-    shown_before head_of (stamp_plan dev size pool member) dev size made outcome sectors k image big
-    (λ d s. stamp_brings dev size pool member d s p m) (stamp_spares dev size pool member)
+stamp_before head_of dev size pool member made outcome sectors k image big p m part unhurt shows unforged =
+    shown_before head_of (stamp_plan dev size pool member) dev size made outcome sectors k image big held
+    (stamp_spares dev size pool member) part unhurt shows
+  where
+    held : (place : ℕ) (u : Uberblock) → place < 128 → IsUberblock u (image (place_at size place)) → 1 ≤ u.number.0
+        → IsHeld (sectors dev (place_at size place)) (image (place_at size place))
+    held place u inside is some =
+        let at = place_at size place in
+        ⊎_elim {A = IsHeld (sectors dev at) (image at)} {B = u ≡ blank_uberblock pool member} (λ was. was)
+        (λ same. absurd (blank_number pool member u same some))
+        (stamp_held 1 dev size pool member made outcome sectors k image p m part unforged place u inside is some)

@@ -39,12 +39,15 @@ IsOnTheWay (Failing on_way) bytes = bytes ≡ on_way
 abbrev pub IsHeld : Sector → List ℕ → Type 0
 IsHeld x bytes = (bytes ≡ x.stable) ⊎ IsOnTheWay x.pending bytes
 
--- An image forges no uberblock of a record: none that is correct was left on a ring by mere damage or a torn write.
-abbrev pub IsUnforged : (size : ℕ) → (ℕ → Sector) → (image : ℕ → List ℕ) → Type 0
-IsUnforged size sectors image = (place : ℕ) (u : Uberblock) → place < 128 → IsUberblock u (image (place_at size place)) → 1 ≤ u.number.0
+-- An image forges no uberblock of the number `least` or more: each correct one stands there or is on the way, and none
+-- is the work of damage or of a torn write. With 1 these are the uberblocks of records, with 0 those of identities too.
+abbrev pub IsUnforged : (least size : ℕ) → (ℕ → Sector) → (image : ℕ → List ℕ) → Type 0
+IsUnforged least size sectors image = (place : ℕ) (u : Uberblock) → place < 128
+    → IsUberblock u (image (place_at size place))
+    → least ≤ u.number.0
     → IsHeld (sectors (place_at size place)) (image (place_at size place))
 
--- A read of the ring from `at` on forges no uberblock of the number `least` or more.
+-- Nor does a read of the ring from `at` on.
 abbrev pub IsReadUnforged : (least : ℕ) → (ℕ → Sector) → (at : ℕ) → (ring : List ℕ) → Type 0
 IsReadUnforged least sectors at ring = (slot : ℕ) (u : Uberblock) → slot < ring_slots
     → IsUberblock u (sector_of slot ring) → least ≤ u.number.0
@@ -66,5 +69,5 @@ pub record MayShow (head_of : List ℕ → Option Head) (size : ℕ) (sectors : 
     (config : List ℕ) : Type 0 where
   pub image : ℕ → List ℕ
   pub is_image : IsImage sectors image
-  pub unforged : IsUnforged size sectors image
+  pub unforged : IsUnforged 1 size sectors image
   pub verified : IsVerified head_of size (λ s. Some (image s)) place u config

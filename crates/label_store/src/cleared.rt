@@ -1,5 +1,5 @@
 //! What a stamp, a mark and a wipe leave of a device's records.
-ghost use Rattle.std.specs.Prelude.{◌≡◌, ℕ, ◌+◌, ◌*◌, ◌^◌, ◌<◌, ◌≤◌, false, List, take, Option, Some, None, slice_get, slice_index};
+ghost use Rattle.std.specs.Prelude.{◌≡◌, ◌⊎◌, ℕ, ◌+◌, ◌*◌, ◌^◌, ◌<◌, ◌≤◌, false, List, take, Option, Some, None, slice_get, slice_index};
 ghost use Rattle.mp_base.specs.declared.number.Guid.{Guid};
 ghost use Rattle.bank_core.specs.declared.bank.Fault.{Fault};
 ghost use Rattle.bank_core.specs.Asks.{IsPart};
@@ -12,7 +12,7 @@ ghost use Rattle.label_store.specs.Clearing.{IsBare, RingsHold, IsOffRings, IsHe
 ghost use Rattle.label_store.specs.Identities.{HasIdentity};
 ghost use Rattle.label_store.specs.Layout.{labels_of};
 ghost use Rattle.label_store.specs.Newest.{Parts, IsVerifiedBy};
-ghost use Rattle.label_store.specs.Plans.{stamp_plan, wipe_plan};
+ghost use Rattle.label_store.specs.Plans.{blank_uberblock, stamp_plan, wipe_plan};
 ghost use Rattle.label_store.specs.Records.{AreUnhurt, IsVerified, place_at};
 ghost use Rattle.label_store.specs.Uberblock.{IsUberblock};
 
@@ -48,11 +48,12 @@ pub fn cleared_rings_show_no_record()
     ensures zeros { IsBare zero_sector }
     ensures blank { (pool member : Guid) (slot : ℕ) → pool.0 < 2 ^ 64 → member.0 < 2 ^ 64 → IsBare (stamp_sector pool member slot) }
     ensures image { (head_of : List ℕ → Option Head) (size : ℕ) (sectors : ℕ → Sector) (image : ℕ → List ℕ) (bytes : ℕ → List ℕ)
-        → ((slot : ℕ) → slot < 32 → IsBare (bytes slot)) → RingsHold size sectors bytes → IsUnforged size sectors image
+        → ((slot : ℕ) → slot < 32 → IsBare (bytes slot)) → RingsHold size sectors bytes
+        → IsUnforged 1 size sectors image
         → (place : ℕ) (u : Uberblock) (config : List ℕ) → ¬ (IsVerified head_of size (λ s. Some (image s)) place u config) }
-    ensures unhurt { (size : ℕ) (sectors : ℕ → Sector) (image : ℕ → List ℕ) (bytes : ℕ → List ℕ)
+    ensures unhurt { (least size : ℕ) (sectors : ℕ → Sector) (image : ℕ → List ℕ) (bytes : ℕ → List ℕ)
         → RingsHold size sectors bytes
-        → AreUnhurt size sectors → IsImage sectors image → IsUnforged size sectors image }
+        → AreUnhurt size sectors → IsImage sectors image → IsUnforged least size sectors image }
     ensures read { (size : ℕ) (sectors : ℕ → Sector) (bytes : ℕ → List ℕ) (label slot : ℕ) (ring : List ℕ) → label < 4
         → slot < 32
         → RingsHold size sectors bytes → (sectors (slice_index (labels_of size) label + (32 + slot))).damaged ≡ false
@@ -80,38 +81,37 @@ pub fn cleared_rings_give_one_identity()
         → (pool' ≡ pool) × (member' ≡ member) }
 {}
 
-/// A stop in the middle of a wipe or a stamp, also behind a failed call, leaves no record that a stop just before
-/// it couldn't have left: on each image of that moment that forges no uberblock, whatever was on its way to the
-/// labels before. It computes nothing: its clauses are the law.
+/// A stop in the middle of a wipe or a stamp, also behind a failed call, leaves no record and no identity that a stop
+/// just before it couldn't have left, but the identity of the stamp: on each image of that moment that forges no
+/// uberblock, whatever was on its way to the labels before. It computes nothing: its clauses are the law.
 ///
-/// `wiped_held`, `stamped_held`: a record's uberblock that is shown at a place stood there before, or was on the
-/// way. `wiped`, `stamped`: of a record that is verified, an image of the moment before would have verified it too,
-/// by the uberblock at the same place, where no sector of the configurations was damaged in between.
+/// `wiped_held`, `stamped_held`: an uberblock that is shown at a place, of a record or of an identity alone, stood
+/// there before, or was on the way, or is the stamp's. `wiped`, `stamped`: of a record that is verified, an image of
+/// the moment before would have verified it too, by the uberblock at the same place, where no sector of the
+/// configurations was damaged in between.
 pub fn half_cleared_rings_show_old_records()
-    ensures wiped_held { (dev size : ℕ) (made : List Noted) (outcome : Option Fault) (sectors : Sectors) (k : ℕ)
-        (image : ℕ → List ℕ)
-        → IsPart (wipe_plan dev size) made outcome → IsUnforged size (run (take k made) sectors dev) image
-        → (place : ℕ) (u : Uberblock) → place < 128 → IsUberblock u (image (place_at size place)) → 1 ≤ u.number.0
+    ensures wiped_held { (least dev size : ℕ) (made : List Noted) (outcome : Option Fault) (sectors : Sectors) (k : ℕ)
+        (image : ℕ → List ℕ) → IsPart (wipe_plan dev size) made outcome
+        → IsUnforged least size (run (take k made) sectors dev) image
+        → (place : ℕ) (u : Uberblock) → place < 128 → IsUberblock u (image (place_at size place)) → least ≤ u.number.0
         → IsHeld (sectors dev (place_at size place)) (image (place_at size place)) }
-    ensures stamped_held { (dev size : ℕ) (pool member : Guid) (made : List Noted) (outcome : Option Fault)
-        (sectors : Sectors) (k : ℕ)
-        (image : ℕ → List ℕ) → pool.0 < 2 ^ 64 → member.0 < 2 ^ 64
-        → IsPart (stamp_plan dev size pool member) made outcome → IsUnforged size (run (take k made) sectors dev) image
-        → (place : ℕ) (u : Uberblock) → place < 128 → IsUberblock u (image (place_at size place)) → 1 ≤ u.number.0
-        → IsHeld (sectors dev (place_at size place)) (image (place_at size place)) }
-    ensures wiped { (head_of : List ℕ → Option Head) (dev size : ℕ) (made : List Noted) (outcome : Option Fault) (sectors : Sectors) (k : ℕ)
-        (image : ℕ → List ℕ) → 320 ≤ size → IsPart (wipe_plan dev size) made outcome
+    ensures stamped_held { (least dev size : ℕ) (pool member : Guid) (made : List Noted) (outcome : Option Fault)
+        (sectors : Sectors) (k : ℕ) (image : ℕ → List ℕ) → pool.0 < 2 ^ 64 → member.0 < 2 ^ 64
+        → IsPart (stamp_plan dev size pool member) made outcome
+        → IsUnforged least size (run (take k made) sectors dev) image
+        → (place : ℕ) (u : Uberblock) → place < 128 → IsUberblock u (image (place_at size place)) → least ≤ u.number.0
+        → IsHeld (sectors dev (place_at size place)) (image (place_at size place)) ⊎ (u ≡ blank_uberblock pool member) }
+    ensures wiped { (head_of : List ℕ → Option Head) (dev size : ℕ) (made : List Noted) (outcome : Option Fault)
+        (sectors : Sectors) (k : ℕ) (image : ℕ → List ℕ) → 320 ≤ size → IsPart (wipe_plan dev size) made outcome
         → AreConfigsUnhurt size (sectors dev) (run (take k made) sectors dev)
-        → IsImage (run (take k made) sectors dev) image
-        → IsUnforged size (run (take k made) sectors dev) image
+        → IsImage (run (take k made) sectors dev) image → IsUnforged 1 size (run (take k made) sectors dev) image
         → (place : ℕ) (u : Uberblock) (config : List ℕ) → IsVerified head_of size (λ s. Some (image s)) place u config
         → MayShow head_of size (sectors dev) place u config }
-    ensures stamped { (head_of : List ℕ → Option Head) (dev size : ℕ) (pool member : Guid) (made : List Noted) (outcome : Option Fault)
-        (sectors : Sectors) (k : ℕ) (image : ℕ → List ℕ) → 320 ≤ size → pool.0 < 2 ^ 64 → member.0 < 2 ^ 64
-        → IsPart (stamp_plan dev size pool member) made outcome
+    ensures stamped { (head_of : List ℕ → Option Head) (dev size : ℕ) (pool member : Guid) (made : List Noted)
+        (outcome : Option Fault) (sectors : Sectors) (k : ℕ) (image : ℕ → List ℕ) → 320 ≤ size
+        → pool.0 < 2 ^ 64 → member.0 < 2 ^ 64 → IsPart (stamp_plan dev size pool member) made outcome
         → AreConfigsUnhurt size (sectors dev) (run (take k made) sectors dev)
-        → IsImage (run (take k made) sectors dev) image
-        → IsUnforged size (run (take k made) sectors dev) image
+        → IsImage (run (take k made) sectors dev) image → IsUnforged 1 size (run (take k made) sectors dev) image
         → (place : ℕ) (u : Uberblock) (config : List ℕ) → IsVerified head_of size (λ s. Some (image s)) place u config
         → MayShow head_of size (sectors dev) place u config }
 {}
