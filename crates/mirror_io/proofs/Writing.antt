@@ -65,7 +65,6 @@ turn_failed dev at block (noted ∷ more) outcome fault f g e p caused = go p.1
     one : (fault : Option Fault) × (noted.call ≡ Write dev at block fault)
     one = written noted.call dev at block p.0
 
-
     none_left : (asks : List Noted) → IsPart [] asks outcome → outcome ≡ None
     none_left [] q = q
     none_left (x ∷ xs) q = absurd q
