@@ -12,7 +12,8 @@ use borrow.Rule.Slice.PartMut.{put_mid}
 use Rattle.mp_base.specs.Block.{zeros}
 use Rattle.mp_base.specs.declared.place.Pointer.{Pointer}
 use Rattle.block_map.specs.Pointers.{hole}
-use Rattle.block_map.specs.Pages.{be4, be8, pointer_bytes, page_bytes, IsInForm, AreInForm, short_in, long_in, pointer_in, pointers_in}
+use Rattle.block_map.specs.Pointers.{IsInForm}
+use Rattle.block_map.specs.Pages.{be4, be8, pointer_bytes, page_bytes, AreInForm, short_in, long_in, pointer_in, pointers_in}
 
 pub zeros_put : (xs ys : List ℕ) (a n m : ℕ) → ys ≡ replicate m 0 → m ≡ n → a + n ≤ length xs → take (a + n) (put_mid a (a + n - a) xs ys) ≡ take a xs ++ zeros n
 unfolding zeros

@@ -72,6 +72,7 @@ module _ (blocks : ℕ) (sectors : List ℕ) (pointers : List Pointer) (free pin
       tops = kept.tops;
       slots = kept.slots;
       well_formed = kept.well_formed;
+      in_form = kept.in_form;
       fill = kept.fill;
       room = rw size kept.room;
       pinned_room = pinned_size ∙ kept.pinned_room ∙ sym size;

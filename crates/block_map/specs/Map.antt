@@ -9,7 +9,7 @@ use Rattle.block_map.specs.Bits.{holds}
 use Rattle.block_map.specs.NumberSet.{Numbers, has, one_if}
 use Rattle.block_map.specs.Keys.{IsVolume, IsKey, is_key, IsPage, IsBefore, IsBehind, child, keys_at}
 use Rattle.block_map.specs.Places.{IsPlace, AreTops, is_place, IsPlaceBefore}
-use Rattle.block_map.specs.Pointers.{hole, IsPointer, born_within}
+use Rattle.block_map.specs.Pointers.{hole, IsPointer, IsInForm, born_within}
 use Rattle.block_map.specs.Numbers.{start, slots, key_number, place_number}
 
 -- `blocks` and `sectors` are the volume's blocks and the sectors of each top, `count` how many places are open;
@@ -124,6 +124,7 @@ pub record IsKept (blocks : ℕ) (sectors : List ℕ) (pointers : List Pointer) 
   pub tops : AreTops sectors
   pub slots : length pointers ≡ slots blocks
   pub well_formed : All (IsPointer sectors) pointers
+  pub in_form : All IsInForm pointers
   pub fill : (l i : ℕ) → l < 3 → keys_at blocks l ≤ i → start blocks l + i < start blocks (l + 1) → slice_index_or pointers (start blocks l + i) hole ≡ hole
   pub room : All (λ s. s * length sectors ≤ 64 * length free) sectors
   pub pinned_room : length pinned ≡ length free

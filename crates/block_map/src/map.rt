@@ -6,7 +6,8 @@ ghost use Rattle.mp_base.specs.declared.place.Place.{Place};
 ghost use Rattle.mp_base.specs.declared.place.Key.{Key};
 ghost use Rattle.block_map.specs.Keys.{IsVolume, IsKey, IsPage, IsBehind};
 ghost use Rattle.block_map.specs.Places.{IsPlace, AreTops, is_place};
-ghost use Rattle.block_map.specs.Pointers.{hole, IsPointer, written, born_within};
+ghost use Rattle.block_map.specs.Pointers.{hole, IsPointer, IsInForm, written, born_within};
+ghost use Rattle.block_map.specs.Pages.{AreInForm};
 ghost use Rattle.block_map.specs.Dirty.{dirty_pages};
 ghost use Rattle.block_map.specs.Numbers.{place_number};
 ghost use Rattle.block_map.specs.Map.{pointer_at, is_free, is_pinned, is_open, IsEmpty, FreeIs, PinnedIs, PointerIs, IsLeastOpen, IsNextKey, CountsPlaces, children};
@@ -89,6 +90,17 @@ impl BlockMap {
         self.blocks
     }
 
+    /// What holds of every map, whatever was done with it. It computes nothing: its clauses are the law.
+    pub fn keeps_its_form(&self)
+        ensures volume { IsVolume self.now.blocks }
+        ensures tops { AreTops self.now.sectors }
+        ensures pointers { (key : Key) → IsPointer self.now.sectors (pointer_at self.now key) }
+        ensures form { (key : Key) → IsInForm (pointer_at self.now key) }
+        ensures counted { CountsPlaces (is_open self.now) self.now.count }
+    {
+        let _ = self.opened.count();
+    }
+
     /// Whether the key is one of the volume.
     pub fn has_key(&self, key: Key) -> bool
         ensures yes { result ≡ true → IsKey self.now.blocks key }
@@ -123,6 +135,7 @@ impl BlockMap {
         requires { IsKey self.now.blocks key }
         ensures pointer { result ≡ written (pointer_at self.now key) }
         ensures hole { IfNone result (pointer_at self.now key ≡ hole) }
+        ensures place { IfSome result (λ pointer. IsPlace self.now.sectors pointer.place) }
     {
         let pointer = self.pointers[key_number(self.blocks, key)];
         if pointer.is_hole() {
@@ -238,7 +251,7 @@ impl BlockMap {
     pub fn children(&self, page: Key) -> &[Pointer]
         requires { IsPage self.now.blocks page }
         ensures pointers { result.now ≡ children (pointer_at self.now) page }
-        ensures length { length result.now ≡ 64 }
+        ensures form { AreInForm result.now }
     {
         page_at(&self.pointers, key_number(self.blocks, first_child(page)))
     }

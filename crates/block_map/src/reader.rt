@@ -55,7 +55,8 @@ impl MapReader {
         requires tops { AreTops sectors.now }
         requires pointer { IsPointer sectors.now root }
         requires born { root.birth.0 ≤ number.0 }
-        ensures { IfOk result (λ reader. BeginsReading blocks sectors.now number.0 root reader) }
+        ensures begun { IfOk result (λ reader. BeginsReading blocks sectors.now number.0 root reader) }
+        ensures places { IfOk result (λ reader. NamesPlaces reader.map) }
     {
         let mut map = BlockMap::new(alloc, blocks, sectors)?;
         put(&mut map, ROOT, root);
@@ -83,6 +84,7 @@ impl MapReader {
         requires bytes { length bytes.now ≡ 4096 }
         requires next { IsSome self.old.next }
         ensures read { result ≡ true → IfSome self.old.next (λ page. IsRead self.old self.new page bytes.now) }
+        ensures places { NamesPlaces self.new.map }
         ensures unchanged { result ≡ false → self.new ≡ self.old }
         ensures wrong { result ≡ false → IfSome self.old.next (λ page. (pointers : List Pointer) → AreInForm pointers → bytes.now ≡ page_bytes pointers
             → MayBeRead self.old.map self.old.number page pointers → ⊥) }
