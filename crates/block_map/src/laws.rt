@@ -16,15 +16,18 @@ pub fn pages_above_are_exact()
 
 /// Two lists of pointers with one page's bytes are one, and its pointers are those that stand at their offsets.
 pub fn pages_are_spelled_once()
-    ensures once { (one other : List Pointer) → AreInForm one → AreInForm other → page_bytes one ≡ page_bytes other → one ≡ other }
+    ensures once { (one other : List Pointer) → AreInForm one → AreInForm other
+        → page_bytes one ≡ page_bytes other → one ≡ other }
     ensures back { (pointers : List Pointer) → AreInForm pointers → pointers_in (page_bytes pointers) ≡ pointers }
 {}
 
 /// A page's pointers are those of its 64 keys, which come before the page. So what is put at other keys, as at all that
 /// come behind the page, changes none of them.
 pub fn children_come_before_their_page()
-    ensures each { (at : Key → Pointer) (page : Key) (j : ℕ) (d : Pointer) → j < 64 → slice_index_or (children at page) j d ≡ at (child page j) }
+    ensures each { (at : Key → Pointer) (page : Key) (j : ℕ) (d : Pointer) → j < 64
+        → slice_index_or (children at page) j d ≡ at (child page j) }
     ensures count { (at : Key → Pointer) (page : Key) → length (children at page) ≡ 64 }
     ensures before { (page : Key) (j : ℕ) → 1 ≤ page.level → IsBefore (child page j) page }
-    ensures same { (one other : Key → Pointer) (page : Key) → ((j : ℕ) → j < 64 → one (child page j) ≡ other (child page j)) → children one page ≡ children other page }
+    ensures same { (one other : Key → Pointer) (page : Key)
+        → ((j : ℕ) → j < 64 → one (child page j) ≡ other (child page j)) → children one page ≡ children other page }
 {}

@@ -43,14 +43,21 @@ impl Model for BlockMap {
 
     ghost Value = { Map };
 
-    ghost view = { λ map. record { blocks = map.blocks; sectors = map.sectors.items; pointers = map.pointers.items; free = map.free; pinned = map.pinned; count = map.opened.count } };
+    ghost view = { λ map. record {
+      blocks = map.blocks;
+      sectors = map.sectors.items;
+      pointers = map.pointers.items;
+      free = map.free;
+      pinned = map.pinned;
+      count = map.opened.count;
+    } };
 
     ghost invariant = { λ map. IsKept map.blocks map.sectors.items map.pointers.items map.free map.pinned map.opened };
 }
 
 impl BlockMap {
-    /// A map without a key, for a volume of so many blocks over tops with so many sectors each. Every place is free, and
-    /// none is pinned.
+    /// A map without a key, for a volume of so many blocks over tops with so many sectors each. Every place is free,
+    /// and none is pinned.
     pub fn new(alloc: Global, blocks: u64, sectors: &[u64]) -> Result<BlockMap, MemFault>
         requires blocks { IsVolume blocks }
         requires tops { AreTops sectors.now }
@@ -231,15 +238,16 @@ impl BlockMap {
     pub fn next_key(&self, after: Option<Key>, hi: Group) -> Option<Key>
         requires { IfSome after (λ key. IsKey self.now.blocks key) }
         ensures next { IfSome result (λ key. IsNextKey self.now after hi.0 key) }
-        ensures none { IfNone result ((key : Key) → IsBehind after key → born_within hi.0 (pointer_at self.now key) ≡ false) }
+        ensures none { IfNone result ((key : Key) → IsBehind after key
+            → born_within hi.0 (pointer_at self.now key) ≡ false) }
     {
         let from = number_behind(self.blocks, after);
         let at = next_born(&self.pointers, from, hi)?;
         Some(key_at(self.blocks, at))
     }
 
-    /// How many pages of the map a commit writes besides where the blocks of these addresses, which rise, are dirty: those
-    /// above them, on each of the three levels.
+    /// How many pages of the map a commit writes besides where the blocks of these addresses, which rise, are dirty:
+    /// those above them, on each of the three levels.
     pub fn dirty_pages(&self, addrs: &[u64]) -> u64
         requires { length addrs.now ≤ 262144 }
         ensures { result ≡ dirty_pages addrs.now }

@@ -94,7 +94,8 @@ pub fn read_page(bytes: &[u8], out: &mut [Pointer]) -> bool
     requires room { length out.old ≡ 64 }
     ensures page { result ≡ true → bytes.now ≡ page_bytes out.new }
     ensures form { result ≡ true → AreInForm out.new }
-    ensures exact { (pointers : List Pointer) → AreInForm pointers → bytes.now ≡ page_bytes pointers → (result ≡ true) × (out.new ≡ pointers) }
+    ensures exact { (pointers : List Pointer) → AreInForm pointers → bytes.now ≡ page_bytes pointers
+        → (result ≡ true) × (out.new ≡ pointers) }
 {
     read_pointers(bytes, out);
     let mut again = [0; BLOCK_BYTES];

@@ -1,5 +1,5 @@
-use Rattle.std.proofs.Common.{◌∙◌, sym, ◌≤◌, ◌≡◌, ◌<◌, ℕ, arith, length, ap}
-use Rattle.block_map.specs.Keys.{keys_at, IsKey, IsPage, child}
+use Rattle.std.proofs.Common.{◌∙◌, ◌≡◌, arith, ap}
+use Rattle.block_map.specs.Keys.{child}
 use Rattle.block_map.specs.Numbers.{key_number}
 use Rattle.block_map.proofs.KeyNumbers.{keys_le, first_is_key}
 use Rattle.block_map.proofs.Children.{inside, children_are}

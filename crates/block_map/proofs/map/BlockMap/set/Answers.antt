@@ -1,4 +1,4 @@
-use Rattle.std.proofs.Common.{arith, rules, ◌≡◌, ◌<◌, ◌^◌}
+use Rattle.std.proofs.Common.{arith}
 use Rattle.block_map.proofs.PointersChanged.{set_kept, set_is}
 use Rattle.block_map.proofs.map.BlockMap.set.Goals as goal
 

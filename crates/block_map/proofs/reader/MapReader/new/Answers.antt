@@ -1,5 +1,4 @@
-use Rattle.std.proofs.Common.{◌≡◌, arith, sym, ◌∙◌}
-use Rattle.block_map.specs.Keys.{IsKey}
+use Rattle.std.proofs.Common.{arith}
 use Rattle.block_map.proofs.KeyNumbers.{keys_pos}
 use Rattle.block_map.proofs.ReadPages.{begin_reading}
 use Rattle.block_map.proofs.reader.MapReader.new.Goals as goal
