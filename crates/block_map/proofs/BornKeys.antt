@@ -1,11 +1,11 @@
 -- The keys that a scan comes to.
-use Rattle.std.proofs.Common.{◌≡◌, ◌≢◌, ℕ, suc, ◌+◌, ◌-◌, ◌*◌, ◌<◌, ◌≤◌, Bool, true, false, not, ◌&&◌, ltb, leb, eqb, List, length, get_or, Option, Some, None, IfSome, refl, sym, ap, ◌∙◌, subst, ⊎_elim, arith}
-use Rattle.std.proofs.lemmas.Bool.{cases_eq, cases_lt, and_left, and_right, eqb-true, eqb-false, lt-ltb, le-ltb, cases_Bool, both_ways}
+use Rattle.std.proofs.Common.{◌≡◌, ◌≢◌, ℕ, suc, ◌+◌, ◌<◌, ◌≤◌, true, false, leb, eqb, List, length, get_or, Option, Some, None, IfSome, refl, sym, ap, ◌∙◌, subst, ⊎_elim, arith}
+use Rattle.std.proofs.lemmas.Bool.{cases_lt, eqb-true, eqb-false, lt-ltb, both_ways}
 use Rattle.std.proofs.lemmas.List.{get_or_past}
 use Rattle.mp_base.specs.declared.place.Key.{Key}
 use Rattle.mp_base.specs.declared.place.Pointer.{Pointer}
 use Rattle.block_map.specs.NumberSet.{Numbers}
-use Rattle.block_map.specs.Keys.{IsVolume, IsKey, IsBefore, IsBehind, keys_at}
+use Rattle.block_map.specs.Keys.{IsKey, IsBehind, keys_at}
 use Rattle.block_map.specs.Pointers.{hole, born_within}
 use Rattle.block_map.specs.Numbers.{key_number, number_behind, start, slots}
 use Rattle.block_map.specs.Map.{Map, pointer_at, IsNextKey, IsNextBorn, IsKept}

@@ -1,16 +1,14 @@
 -- A page's pointers are those of its keys.
-use Rattle.std.proofs.Common.{◌≡◌, ◌≢◌, ℕ, suc, ◌+◌, ◌-◌, ◌*◌, ◌<◌, ◌≤◌, Bool, true, false, List, length, get_or, take, drop, map, refl, sym, ap, ◌∙◌, subst, ⊎_elim, arith, get_or-take, get_or-drop, length-take, length-drop}
-use Rattle.std.specs.List.{range_with_len}
+use Rattle.std.proofs.Common.{◌≡◌, ℕ, ◌+◌, ◌-◌, ◌*◌, ◌<◌, ◌≤◌, false, length, get_or, take, drop, sym, ap, ◌∙◌, ⊎_elim, arith, get_or-take, get_or-drop, length-take, length-drop}
 use Rattle.std.proofs.lemmas.Bool.{cases_lt}
 use Rattle.std.proofs.lemmas.List.FromFn.{fill_by_all}
 use Rattle.mp_base.specs.declared.place.Key.{Key}
-use Rattle.mp_base.specs.declared.place.Pointer.{Pointer}
 use Rattle.block_map.specs.NumberSet.{Numbers}
-use Rattle.block_map.specs.Keys.{IsVolume, IsKey, is_key, keys_at, child}
+use Rattle.block_map.specs.Keys.{IsKey, is_key, keys_at, child}
 use Rattle.block_map.specs.Pointers.{hole}
-use Rattle.block_map.specs.Numbers.{key_number, start, slots}
+use Rattle.block_map.specs.Numbers.{key_number, start}
 use Rattle.block_map.specs.Map.{Map, pointer_at, children, IsKept}
-use Rattle.block_map.proofs.KeyNumbers.{is_key_cases, key_of, is_key_of, child_before, child_lower, child_level, child_number, page_inside}
+use Rattle.block_map.proofs.KeyNumbers.{is_key_cases, is_key_of, child_before, child_lower, child_level, child_number, page_inside}
 use Rattle.block_map.proofs.PointersChanged.{pointer_is, no_pointer}
 use Rattle.std.proofs.lemmas.Bool.{both_ways}
 

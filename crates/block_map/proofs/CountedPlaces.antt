@@ -1,14 +1,14 @@
 -- The open places are as many as their numbers.
-use Rattle.std.proofs.Common.{◌≡◌, ◌≢◌, ℕ, suc, zero, ◌+◌, ◌*◌, ◌<◌, ◌≤◌, Bool, true, false, cond, ◌&&◌, not, List, [], ◌∷◌, length, get_or, map, refl, sym, ap, ◌∙◌, subst, ⊎_elim, arith}
+use Rattle.std.proofs.Common.{◌≡◌, ◌≢◌, ℕ, suc, zero, ◌*◌, ◌<◌, Bool, true, cond, ◌&&◌, not, List, [], ◌∷◌, length, map, refl, sym, ap, ◌∙◌, subst, ⊎_elim, arith}
 use Rattle.std.specs.List.{All, AllPairs, Contains}
-use Rattle.std.proofs.lemmas.Bool.{cases_Bool, cases_eq, cases_lt, and_parts, both_ways}
+use Rattle.std.proofs.lemmas.Bool.{cases_Bool, cases_lt, and_parts, both_ways}
 use Rattle.std.proofs.lemmas.List.{get_or-map, length-map}
-use Rattle.std.proofs.lemmas.List.Elements.{All-nil, All-cons, All-weaker, All-contains}
+use Rattle.std.proofs.lemmas.List.Elements.{All-nil, All-cons, All-weaker}
 use Rattle.std.proofs.lemmas.List.Kept.{AllPairs-cons}
 use Rattle.mp_base.specs.declared.place.Place.{Place}
 use Rattle.block_map.specs.Bits.{holds}
-use Rattle.block_map.specs.NumberSet.{Numbers, has, room, count_below, one_if}
-use Rattle.block_map.specs.Places.{IsPlace, is_place}
+use Rattle.block_map.specs.NumberSet.{Numbers, has, room, count_below}
+use Rattle.block_map.specs.Places.{IsPlace}
 use Rattle.block_map.specs.Numbers.{place_number, place_at}
 use Rattle.block_map.specs.Map.{Map, is_free, is_open, CountsPlaces, IsKept}
 use Rattle.block_map.proofs.PlaceNumbers.{place_of, number_of_place_at, place_at_number, place_inside}

@@ -1,11 +1,9 @@
 -- Which numbers are freed, and that a map may be kept by them.
-use Rattle.std.proofs.Common.{◌≡◌, ◌≢◌, ℕ, suc, ◌+◌, ◌*◌, ◌/◌, ◌%◌, ◌<◌, ◌≤◌, Bool, true, false, not, ◌&&◌, ltb, List, length, get_or, refl, sym, ap, ◌∙◌, ⊎_elim, arith}
+use Rattle.std.proofs.Common.{◌≡◌, ◌≢◌, ℕ, ◌+◌, ◌*◌, ◌/◌, ◌%◌, ◌<◌, ◌≤◌, Bool, true, false, List, length, get_or, refl, sym, ap, ◌∙◌, ⊎_elim, arith}
 use Rattle.std.specs.List.{All}
-use Rattle.std.proofs.lemmas.Bool.{cases_eq, cases_lt, and_left, and_right, and_parts, lt-ltb, le-ltb, ltb-true, cases_Bool, both_ways}
+use Rattle.std.proofs.lemmas.Bool.{cases_eq, cases_lt, and_left, and_parts, lt-ltb, le-ltb, ltb-true}
 use Rattle.std.proofs.lemmas.Nat.{mul-le}
 use Rattle.std.proofs.lemmas.List.{get_or_default}
-use Rattle.block_map.specs.Bits.{holds}
-use Rattle.block_map.specs.NumberSet.{Numbers, has}
 use Rattle.block_map.specs.Map.{is_number, is_freed}
 
 pub none_freed : (sectors : List ℕ) (i : ℕ) → is_freed sectors 0 i ≡ false

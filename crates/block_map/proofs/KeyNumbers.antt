@@ -1,8 +1,8 @@
 -- The order of keys is the order of their numbers.
-use Rattle.std.proofs.Common.{◌≡◌, ◌≢◌, ℕ, suc, zero, ◌+◌, ◌-◌, ◌*◌, ◌/◌, ◌%◌, ◌^◌, ◌<◌, ◌≤◌, ◌⊎◌, Bool, true, false, eqb, ltb, leb, refl, sym, ap, ◌∙◌, subst, ⊎_elim, inl, inr, arith, add-one}
-use Rattle.std.proofs.lemmas.Bool.{cases_eq, cases_lt, cases_order, lt-ltb, le-leb, ltb-true, leb-true, and_parts, and_from, false≢true, cases_Bool, both_ways}
+use Rattle.std.proofs.Common.{◌≡◌, ℕ, suc, zero, ◌+◌, ◌-◌, ◌*◌, ◌/◌, ◌<◌, ◌≤◌, ◌⊎◌, true, false, refl, sym, ap, ⊎_elim, inl, inr, arith, add-one}
+use Rattle.std.proofs.lemmas.Bool.{cases_lt, cases_order, lt-ltb, le-leb, ltb-true, leb-true, and_parts, and_from, cases_Bool}
 use Rattle.mp_base.specs.declared.place.Key.{Key}
-use Rattle.block_map.specs.Keys.{keys_at, IsKey, is_key, IsBefore, child, parent}
+use Rattle.block_map.specs.Keys.{keys_at, IsKey, is_key, IsBefore, child}
 use Rattle.block_map.specs.Numbers.{start, slots, key_number}
 
 pub keys_at-zero : (blocks : ℕ) → keys_at blocks 0 ≡ blocks

@@ -4,6 +4,7 @@ pub mod KeyNumbers
 pub mod PlaceNumbers
 pub mod PlacesChanged
 pub mod PointersChanged
+pub mod PointersFit
 pub mod FreeNumbers
 pub mod BornKeys
 pub mod Children

@@ -1,24 +1,23 @@
 -- A new map has no key, and each place of the tops is free.
-use Rattle.std.proofs.Common.{◌≡◌, ◌≢◌, ℕ, ◌+◌, ◌*◌, ◌/◌, ◌%◌, ◌<◌, ◌≤◌, Bool, true, false, not, ◌&&◌, List, length, get_or, replicate, refl, sym, ap, ◌∙◌, ⊎_elim, arith}
+use Rattle.std.proofs.Common.{◌≡◌, ℕ, ◌+◌, ◌*◌, ◌/◌, ◌≤◌, Bool, false, not, ◌&&◌, List, length, get_or, replicate, refl, sym, ap, ◌∙◌, ⊎_elim, arith}
 use Rattle.std.specs.List.{All}
 use Rattle.std.proofs.lemmas.Bool.{cases_lt, cases_Bool, and_from, lt-ltb}
 use Rattle.std.proofs.lemmas.List.{get_or_past, get_or-replicate, length-replicate}
 use Rattle.std.proofs.lemmas.List.Elements.{All-replicate, All-weaker}
-use Rattle.mp_base.specs.declared.place.Key.{Key}
-use Rattle.mp_base.specs.declared.place.Place.{Place}
 use Rattle.mp_base.specs.declared.place.Pointer.{Pointer}
 use Rattle.block_map.specs.Bits.{holds}
 use Rattle.block_map.specs.NumberSet.{Numbers, has}
-use Rattle.block_map.specs.Keys.{IsVolume, is_key}
-use Rattle.block_map.specs.Places.{AreTops, IsPlace, is_place}
-use Rattle.block_map.specs.Pointers.{hole, IsPointer}
-use Rattle.block_map.specs.Numbers.{slots, place_number}
-use Rattle.block_map.specs.Map.{Map, pointer_at, is_free, is_pinned, is_number, is_freed, IsEmpty, IsKept}
+use Rattle.block_map.specs.Keys.{IsVolume}
+use Rattle.block_map.specs.Places.{AreTops}
+use Rattle.block_map.specs.Pointers.{hole, IsPointer, IsInForm}
+use Rattle.block_map.specs.Numbers.{slots}
+use Rattle.block_map.specs.Map.{Map, is_number, is_freed, IsEmpty, IsKept}
 use Rattle.block_map.proofs.FreeNumbers.{freed_number}
 use Rattle.block_map.proofs.KeyNumbers.{is_key_cases}
 use Rattle.block_map.proofs.PlaceNumbers.{is_place_of, is_place_cases, place_fits, inside_of_place}
 use Rattle.block_map.proofs.PlacesChanged.{is_free_at, is_pinned_at, not_free, not_pinned}
 use Rattle.block_map.proofs.PointersChanged.{pointer_is, no_pointer}
+use Rattle.block_map.proofs.PointersFit.{hole_fits, hole_in_form}
 
 same_open : (a b f : Bool) → a ≡ f → b ≡ false → f ≡ (a && not b)
 same_open a b f is none = rw (is, none) (⊎_elim (λ t. rw t refl) (λ t. rw t refl) (cases_Bool f))
@@ -36,7 +35,8 @@ module _ (blocks : ℕ) (sectors : List ℕ) (pointers : List Pointer) (free pin
     volume = volume;
     tops = tops;
     slots = ap length none ∙ length-replicate (slots blocks) hole;
-    well_formed = rw none (All-replicate (IsPointer sectors) (slots blocks) hole (record { hole = λ _. refl; place = λ some. absurd (omega arith) }));
+    well_formed = rw none (All-replicate (IsPointer sectors) (slots blocks) hole (hole_fits sectors));
+    in_form = rw none (All-replicate IsInForm (slots blocks) hole hole_in_form);
     fill = λ l i _ _ _. holes pointers (slots blocks) _ none;
     room = All-weaker (λ s. s * length sectors ≤ room) (λ s. s * length sectors ≤ 64 * length free) (λ s le. omega arith) sectors rooms;
     pinned_room = pinned_size ∙ sym free_size;

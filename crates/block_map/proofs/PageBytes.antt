@@ -1,6 +1,6 @@
 -- A page's bytes say its pointers.
-use Rattle.std.proofs.Common.{◌≡◌, ◌≢◌, ℕ, suc, zero, ◌+◌, ◌-◌, ◌*◌, ◌^◌, ◌<◌, ◌≤◌, List, [], ◌∷◌, replicate, ◌++◌, length, get_or, take, drop, map, refl, sym, ap, ◌∙◌, subst, arith, append_assoc, length-append, ⊎_elim}
-use Rattle.std.specs.List.{flat_map, All, range_with_len}
+use Rattle.std.proofs.Common.{◌≡◌, ℕ, suc, zero, ◌+◌, ◌-◌, ◌*◌, ◌<◌, ◌≤◌, List, [], ◌∷◌, replicate, ◌++◌, length, get_or, take, drop, refl, sym, ap, ◌∙◌, arith, append_assoc, length-append}
+use Rattle.std.specs.List.{flat_map, All}
 use Rattle.std.specs.Int.{from_be_bytes, w32, w64}
 use Rattle.std.proofs.lemmas.List.{take_more, take_at, take_all, length-replicate, drop_at, drop-drop, append-nil}
 use Rattle.std.proofs.lemmas.List.Concat.{flat_map-append}
@@ -12,7 +12,8 @@ use borrow.Rule.Slice.PartMut.{put_mid}
 use Rattle.mp_base.specs.Block.{zeros}
 use Rattle.mp_base.specs.declared.place.Pointer.{Pointer}
 use Rattle.block_map.specs.Pointers.{hole}
-use Rattle.block_map.specs.Pages.{be4, be8, pointer_bytes, page_bytes, IsInForm, AreInForm, short_in, long_in, pointer_in, pointers_in}
+use Rattle.block_map.specs.Pointers.{IsInForm}
+use Rattle.block_map.specs.Pages.{be4, be8, pointer_bytes, page_bytes, AreInForm, short_in, long_in, pointer_in, pointers_in}
 
 pub zeros_put : (xs ys : List ℕ) (a n m : ℕ) → ys ≡ replicate m 0 → m ≡ n → a + n ≤ length xs → take (a + n) (put_mid a (a + n - a) xs ys) ≡ take a xs ++ zeros n
 unfolding zeros

@@ -1,12 +1,11 @@
 -- What one place's change does to a map.
-use Rattle.std.proofs.Common.{◌≡◌, ◌≢◌, ℕ, ◌+◌, ◌-◌, ◌*◌, ◌/◌, ◌%◌, ◌<◌, ◌≤◌, ◌⊎◌, Bool, true, false, not, ◌&&◌, cond, List, length, get_or, refl, sym, ap, ◌∙◌, subst, ⊎_elim, inl, inr, arith}
-use Rattle.std.specs.List.{All}
-use Rattle.std.proofs.lemmas.Bool.{cases_eq, cases_lt, and_left, and_parts, cases_Bool, both_ways}
+use Rattle.std.proofs.Common.{◌≡◌, ◌≢◌, ℕ, ◌+◌, ◌*◌, ◌/◌, ◌%◌, ◌<◌, Bool, true, false, not, ◌&&◌, List, length, get_or, refl, sym, ◌∙◌, ⊎_elim, arith}
+use Rattle.std.proofs.lemmas.Bool.{cases_eq, and_left, and_parts}
 use Rattle.mp_base.specs.declared.place.Place.{Place}
 use Rattle.mp_base.specs.declared.place.Pointer.{Pointer}
 use Rattle.block_map.specs.Bits.{holds}
 use Rattle.block_map.specs.NumberSet.{Numbers, has, room, one_if, HasNow, HasLess, IsLeast}
-use Rattle.block_map.specs.Places.{IsPlace, is_place, IsPlaceBefore}
+use Rattle.block_map.specs.Places.{IsPlace, is_place}
 use Rattle.block_map.specs.Numbers.{place_number, place_at}
 use Rattle.block_map.specs.Map.{Map, is_free, is_pinned, is_open, pointer_at, FreeIs, PinnedIs, IsLeastOpen, IsKept}
 use Rattle.block_map.proofs.PlaceNumbers.{is_place_of, is_place_cases, number_of_place_at, same_place, place_before, place_fits, place_inside, inside_of_place}
@@ -72,6 +71,7 @@ module _ (blocks : ℕ) (sectors : List ℕ) (pointers : List Pointer) (free pin
       tops = kept.tops;
       slots = kept.slots;
       well_formed = kept.well_formed;
+      in_form = kept.in_form;
       fill = kept.fill;
       room = rw size kept.room;
       pinned_room = pinned_size ∙ kept.pinned_room ∙ sym size;

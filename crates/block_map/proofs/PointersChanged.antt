@@ -1,18 +1,16 @@
 -- What one pointer's change does to a map.
-use Rattle.std.proofs.Common.{◌≡◌, ◌≢◌, ℕ, ◌+◌, ◌*◌, ◌<◌, ◌≤◌, Bool, true, false, not, cond, eqb, List, length, get_or, set, Option, Some, None, refl, sym, ap, ◌∙◌, subst, ⊎_elim, arith, get_or-set_same, get_or-set_other, length-set}
-use Rattle.std.specs.List.{All}
-use Rattle.std.proofs.lemmas.Bool.{cases_eq, cases_lt, cases_order, cases_Bool, both_ways}
+use Rattle.std.proofs.Common.{◌≡◌, ◌≢◌, ℕ, ◌+◌, ◌<◌, ◌≤◌, true, false, eqb, List, length, get_or, set, Some, None, refl, sym, ap, ◌∙◌, subst, ⊎_elim, arith, get_or-set_same, get_or-set_other, length-set}
+use Rattle.std.proofs.lemmas.Bool.{cases_order}
 use Rattle.std.proofs.lemmas.List.{get_or_read}
 use Rattle.std.proofs.lemmas.List.Elements.{All-set}
 use Rattle.mp_base.specs.declared.place.Key.{Key}
-use Rattle.mp_base.specs.declared.place.Place.{Place}
 use Rattle.mp_base.specs.declared.place.Pointer.{Pointer}
 use Rattle.block_map.specs.NumberSet.{Numbers}
-use Rattle.block_map.specs.Keys.{IsVolume, IsKey, is_key, keys_at}
-use Rattle.block_map.specs.Pointers.{hole, IsPointer, written}
-use Rattle.block_map.specs.Numbers.{key_number, start, slots}
+use Rattle.block_map.specs.Keys.{IsKey, is_key, keys_at}
+use Rattle.block_map.specs.Pointers.{hole, IsPointer, IsInForm, written}
+use Rattle.block_map.specs.Numbers.{key_number, start}
 use Rattle.block_map.specs.Map.{Map, is_free, is_pinned, pointer_at, PointerIs, IsKept}
-use Rattle.block_map.proofs.KeyNumbers.{is_key_of, is_key_cases, same_number, number_inside, lower_first, start_le, start-next}
+use Rattle.block_map.proofs.KeyNumbers.{is_key_of, is_key_cases, same_number, number_inside, lower_first, start_le}
 
 pub pointer_is : (map : Map) (key : Key) → IsKey map.blocks key → pointer_at map key ≡ get_or map.pointers (key_number map.blocks key) hole
 unfolding pointer_at
@@ -60,7 +58,7 @@ filling blocks l i key k past before same =
     (cases_order key.level l)
 
 module _ (blocks : ℕ) (sectors : List ℕ) (pointers : List Pointer) (free pinned : List ℕ) (opened : Numbers) (kept : IsKept blocks sectors pointers free pinned opened)
-    (key : Key) (k : IsKey blocks key) (pointer : Pointer) (fits : IsPointer sectors pointer) (at : ℕ) (is : at ≡ key_number blocks key) where
+    (key : Key) (k : IsKey blocks key) (pointer : Pointer) (fits : IsPointer sectors pointer) (form : IsInForm pointer) (at : ℕ) (is : at ≡ key_number blocks key) where
   at_inside : at < length pointers
   at_inside = rw (is, kept.slots) (number_inside blocks kept.volume.some kept.volume.most key k)
 
@@ -70,6 +68,7 @@ module _ (blocks : ℕ) (sectors : List ℕ) (pointers : List Pointer) (free pin
     tops = kept.tops;
     slots = length-set pointers at pointer ∙ kept.slots;
     well_formed = All-set (IsPointer sectors) pointers at pointer fits kept.well_formed;
+    in_form = All-set IsInForm pointers at pointer form kept.in_form;
     fill = λ l i level past before.
         get_or-set_other pointers at (start blocks l + i) pointer hole (λ same. filling blocks l i key k past before (same ∙ is)) ∙ kept.fill l i level past before;
     room = kept.room;

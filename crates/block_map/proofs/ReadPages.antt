@@ -1,17 +1,17 @@
 -- What a page that is read does to a map.
-use Rattle.std.proofs.Common.{◌≡◌, ◌≢◌, ℕ, suc, zero, ◌+◌, ◌-◌, ◌*◌, ◌/◌, ◌%◌, ◌<◌, ◌≤◌, ◌⊎◌, Bool, true, false, not, ◌||◌, List, length, get_or, Option, Some, None, IfSome, refl, sym, ap, ◌∙◌, subst, ⊎_elim, inl, inr, arith}
+use Rattle.std.proofs.Common.{◌≡◌, ◌≢◌, ℕ, suc, zero, ◌+◌, ◌-◌, ◌*◌, ◌/◌, ◌%◌, ◌<◌, ◌≤◌, ◌⊎◌, Bool, true, false, not, ◌||◌, List, get_or, Option, Some, None, IfSome, refl, sym, ap, ◌∙◌, subst, ⊎_elim, inl, inr, arith}
 use Rattle.std.proofs.lemmas.Bool.{cases_eq, cases_lt, cases_order, cases_Bool, both_ways, eqb-false, eqb-true, false≢true, true≢false, and_parts, or_cases, not-true, not-false}
 use Rattle.mp_base.specs.declared.place.Key.{Key}
 use Rattle.mp_base.specs.declared.place.Place.{Place}
 use Rattle.mp_base.specs.declared.place.Pointer.{Pointer}
-use Rattle.block_map.specs.Keys.{IsVolume, IsKey, IsPage, child, root, keys_at}
+use Rattle.block_map.specs.Keys.{IsVolume, IsKey, IsPage, child, root}
 use Rattle.block_map.specs.Places.{IsPlace}
 use Rattle.block_map.specs.Pointers.{hole, IsPointer, written}
 use Rattle.block_map.proofs.KeyNumbers.{keys_pos, keys_le}
 use Rattle.std.specs.Prelude.{◌==◌, if◌then◌else◌}
 use Rattle.std.specs.Option.{is_some}
 use Rattle.block_map.proofs.PlaceNumbers.{is_place_of, place_of}
-use Rattle.block_map.specs.Map.{Map, pointer_at, is_free, is_pinned, SameVolume, PointerIs, FreeIs, IsEmpty}
+use Rattle.block_map.specs.Map.{Map, pointer_at, is_free, PointerIs, FreeIs, IsEmpty}
 use Rattle.block_map.specs.Reading.{IsWritten, IsReadBefore, IsUnread, MayStand, MayBeRead, AreRead, NextPage, NamesPlaces, IsReading, IsPut}
 
 same_key : (l m i j : ℕ) → l ≡ m → i ≡ j → ◌≡◌ {A = Key} (record { level = l; index = i }) (record { level = m; index = j })

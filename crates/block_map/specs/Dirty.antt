@@ -1,6 +1,5 @@
 -- The pages above blocks that are dirty.
 use Rattle.std.specs.Prelude.{◌≡◌, ℕ, ◌+◌, ◌/◌, ◌^◌, ◌<◌, nat_lt, List, [], ◌∷◌, length, AllPairs, Contains, if◌then◌else◌}
-use Rattle.std.specs.List.{All}
 use Rattle.mp_base.specs.declared.place.Key.{Key}
 
 -- the page of a level above a block
@@ -15,7 +14,8 @@ Rises addrs = AllPairs (λ a b. a < b) addrs
 unfoldable pub pages_from : ℕ → ℕ → List ℕ → List Key
 pages_from level next [] = []
 pages_from level next (a ∷ rest) =
-    if nat_lt (page_above level a).index next then pages_from level next rest else (page_above level a ∷ pages_from level ((page_above level a).index + 1) rest)
+    if nat_lt (page_above level a).index next then pages_from level next rest
+    else (page_above level a ∷ pages_from level ((page_above level a).index + 1) rest)
 
 -- the pages of a level above blocks whose addresses rise (`ArePagesAbove` says which these are)
 unfoldable pub pages_above : ℕ → List ℕ → List Key

@@ -7,9 +7,9 @@ use Rattle.mp_base.specs.declared.place.Place.{Place}
 use Rattle.mp_base.specs.declared.place.Pointer.{Pointer}
 use Rattle.block_map.specs.Bits.{holds}
 use Rattle.block_map.specs.NumberSet.{Numbers, has, one_if}
-use Rattle.block_map.specs.Keys.{IsVolume, IsKey, is_key, IsPage, IsBefore, IsBehind, child, keys_at}
+use Rattle.block_map.specs.Keys.{IsVolume, IsKey, is_key, IsBefore, IsBehind, child, keys_at}
 use Rattle.block_map.specs.Places.{IsPlace, AreTops, is_place, IsPlaceBefore}
-use Rattle.block_map.specs.Pointers.{hole, IsPointer, born_within}
+use Rattle.block_map.specs.Pointers.{hole, IsPointer, IsInForm, born_within}
 use Rattle.block_map.specs.Numbers.{start, slots, key_number, place_number}
 
 -- `blocks` and `sectors` are the volume's blocks and the sectors of each top, `count` how many places are open;
@@ -24,7 +24,8 @@ pub record Map : Type 0 where
 
 -- the pointer of a key: a hole where nothing was written, and outside of the volume
 unfoldable pub pointer_at : Map → Key → Pointer
-pointer_at map key = if is_key map.blocks key then slice_index_or map.pointers (key_number map.blocks key) hole else hole
+pointer_at map key =
+    if is_key map.blocks key then slice_index_or map.pointers (key_number map.blocks key) hole else hole
 
 -- no record and no group in work uses the place
 unfoldable pub is_free : Map → Place → Bool
@@ -119,12 +120,15 @@ unfoldable pub is_freed : List ℕ → ℕ → ℕ → Bool
 is_freed sectors n at = nat_lt at n && is_number sectors at
 
 -- How a map is kept: `opened` are the free places that aren't pinned, and a number without a key has a hole.
-pub record IsKept (blocks : ℕ) (sectors : List ℕ) (pointers : List Pointer) (free pinned : List ℕ) (opened : Numbers) : Type 0 where
+pub record IsKept (blocks : ℕ) (sectors : List ℕ) (pointers : List Pointer) (free pinned : List ℕ) (opened : Numbers)
+    : Type 0 where
   pub volume : IsVolume blocks
   pub tops : AreTops sectors
   pub slots : length pointers ≡ slots blocks
   pub well_formed : All (IsPointer sectors) pointers
-  pub fill : (l i : ℕ) → l < 3 → keys_at blocks l ≤ i → start blocks l + i < start blocks (l + 1) → slice_index_or pointers (start blocks l + i) hole ≡ hole
+  pub in_form : All IsInForm pointers
+  pub fill : (l i : ℕ) → l < 3 → keys_at blocks l ≤ i → start blocks l + i < start blocks (l + 1)
+      → slice_index_or pointers (start blocks l + i) hole ≡ hole
   pub room : All (λ s. s * length sectors ≤ 64 * length free) sectors
   pub pinned_room : length pinned ≡ length free
   pub open_room : length opened.members ≡ length free

@@ -1,10 +1,10 @@
 -- The bytes of a page of a map. A page has 64 pointers and zeros behind them.
-use Rattle.std.specs.Prelude.{◌≡◌, ℕ, ◌+◌, ◌*◌, ◌^◌, ◌<◌, ◌≤◌, List, ◌++◌, length, map, take, drop}
+use Rattle.std.specs.Prelude.{◌≡◌, ℕ, ◌+◌, ◌*◌, List, ◌++◌, length, map, take, drop}
 use Rattle.std.specs.List.{flat_map, range_with_len, All}
 use Rattle.std.specs.Int.{to_be_bytes, from_be_bytes, w32, w64}
 use Rattle.mp_base.specs.Block.{zeros}
 use Rattle.mp_base.specs.declared.place.Pointer.{Pointer}
-use Rattle.block_map.specs.Pointers.{hole}
+use Rattle.block_map.specs.Pointers.{IsInForm}
 
 -- a number as four and as eight bytes, the high one first
 unfoldable pub be4 : ℕ → List ℕ
@@ -20,13 +20,6 @@ pointer_bytes p = be8 p.birth.0 ++ (be4 p.place.top ++ (be8 p.place.sector ++ p.
 -- the 4,096 bytes of the page of 64 pointers
 unfoldable pub page_bytes : List Pointer → List ℕ
 page_bytes pointers = flat_map pointer_bytes pointers ++ zeros 768
-
--- Its fields fit their bytes.
-pub record IsInForm (p : Pointer) : Type 0 where
-  pub birth : p.birth.0 < 2 ^ 64
-  pub top : p.place.top < 2 ^ 32
-  pub sector : p.place.sector < 2 ^ 64
-  pub sum : length p.sum ≡ 32
 
 -- the pointers of a page
 pub record AreInForm (pointers : List Pointer) : Type 0 where

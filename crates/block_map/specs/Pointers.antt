@@ -19,3 +19,10 @@ born_within hi pointer = nat_lt 0 pointer.birth.0 && nat_le pointer.birth.0 hi
 -- the pointer where it is no hole
 unfoldable pub written : Pointer → Option Pointer
 written pointer = if pointer.birth.0 == 0 then None else Some pointer
+
+-- Its fields fit their bytes, as those of each pointer of the code do.
+pub record IsInForm (p : Pointer) : Type 0 where
+  pub birth : p.birth.0 < 2 ^ 64
+  pub top : p.place.top < 2 ^ 32
+  pub sector : p.place.sector < 2 ^ 64
+  pub sum : length p.sum ≡ 32

@@ -1,6 +1,5 @@
 -- The reading of a whole map from its pages, in the order in which an opening reads them.
-use Rattle.std.specs.Prelude.{◌≡◌, ◌≢◌, ℕ, ◌+◌, ◌<◌, ◌≤◌, ◌⊎◌, Bool, true, false, List, length, slice_index_or, Option, Some, None, IfSome, ◌==◌, if◌then◌else◌}
-use Rattle.std.specs.List.{All}
+use Rattle.std.specs.Prelude.{◌≡◌, ◌≢◌, ℕ, ◌<◌, ◌≤◌, ◌⊎◌, true, false, List, length, slice_index_or, Option, Some, None, IfSome, ◌==◌, if◌then◌else◌}
 use Rattle.mp_base.specs.declared.place.Key.{Key}
 use Rattle.mp_base.specs.declared.place.Place.{Place}
 use Rattle.mp_base.specs.declared.place.Pointer.{Pointer}
@@ -49,18 +48,26 @@ pub record MayBeRead (map : Map) (number : ℕ) (page : Key) (pointers : List Po
 pub record AreRead (old new : Map) (page : Key) (pointers : List Pointer) (n : ℕ) : Type 0 where
   pub there : (j : ℕ) → j < n → pointer_at new (child page j) ≡ slice_index_or pointers j hole
   pub others : (key : Key) → ((j : ℕ) → j < n → child page j ≢ key) → pointer_at new key ≡ pointer_at old key
-  pub used : (j : ℕ) → j < n → IsWritten (slice_index_or pointers j hole) → is_free new (slice_index_or pointers j hole).place ≡ false
-  pub unused : (place : Place) → ((j : ℕ) → j < n → IsWritten (slice_index_or pointers j hole) → (slice_index_or pointers j hole).place ≢ place)
+  pub used : (j : ℕ) → j < n → IsWritten (slice_index_or pointers j hole)
+      → is_free new (slice_index_or pointers j hole).place ≡ false
+  pub unused : (place : Place)
+      → ((j : ℕ) → j < n → IsWritten (slice_index_or pointers j hole) → (slice_index_or pointers j hole).place ≢ place)
       → is_free new place ≡ is_free old place
   pub pinned : (place : Place) → is_pinned new place ≡ is_pinned old place
   pub volume : SameVolume old new
+
+-- no earlier pointer of the page names the place of this one
+abbrev pub IsNamedFirst : List Pointer → ℕ → Type 0
+IsNamedFirst pointers j = (i : ℕ) → i < j → IsWritten (slice_index_or pointers i hole)
+    → (slice_index_or pointers i hole).place ≢ (slice_index_or pointers j hole).place
 
 -- the page that is read next behind another: the first that is no hole
 pub record IsNextPage (map : Map) (after next : Key) : Type 0 where
   pub inside : IsPage map.blocks next
   pub stored : IsWritten (pointer_at map next)
   pub behind : IsReadBefore after next
-  pub first : (page : Key) → IsPage map.blocks page → IsReadBefore after page → IsReadBefore page next → pointer_at map page ≡ hole
+  pub first : (page : Key) → IsPage map.blocks page → IsReadBefore after page → IsReadBefore page next
+      → pointer_at map page ≡ hole
 
 -- no page behind this one is to be read
 abbrev pub IsLastPage : Map → Key → Type 0
@@ -85,7 +92,8 @@ pub record IsReading (map : Map) (number : ℕ) (next : Option Key) : Type 0 whe
   pub places : NamesPlaces map
   pub born : (key : Key) → (pointer_at map key).birth.0 ≤ number
   pub page : IfSome next (λ page. IsPage map.blocks page × IsWritten (pointer_at map page))
-  pub unread : (page : Key) (j : ℕ) → 1 ≤ page.level → IsUnread next page → j < 64 → pointer_at map (child page j) ≡ hole
+  pub unread : (page : Key) (j : ℕ) → 1 ≤ page.level → IsUnread next page → j < 64
+      → pointer_at map (child page j) ≡ hole
 
 -- a page was read: its bytes are those of its pointers
 pub record IsRead (old new : Reading) (page : Key) (bytes : List ℕ) : Type 0 where
@@ -107,7 +115,8 @@ pub record IsPut (old new : Map) (key : Key) (pointer : Pointer) : Type 0 where
   pub volume : SameVolume old new
 
 -- the root alone is there, and it is to be read next where it is no hole
-pub record BeginsReading (blocks : ℕ) (sectors : List ℕ) (number : ℕ) (pointer : Pointer) (reading : Reading) : Type 0 where
+pub record BeginsReading (blocks : ℕ) (sectors : List ℕ) (number : ℕ) (pointer : Pointer) (reading : Reading)
+    : Type 0 where
   pub volume : reading.map.blocks ≡ blocks
   pub tops : reading.map.sectors ≡ sectors
   pub record_number : reading.number ≡ number
@@ -117,7 +126,8 @@ pub record BeginsReading (blocks : ℕ) (sectors : List ℕ) (number : ℕ) (poi
 
 -- no page of the level is stored from an index on
 abbrev pub NoneStored : Map → ℕ → ℕ → Type 0
-NoneStored map level from = (page : Key) → IsPage map.blocks page → page.level ≡ level → from ≤ page.index → pointer_at map page ≡ hole
+NoneStored map level from =
+    (page : Key) → IsPage map.blocks page → page.level ≡ level → from ≤ page.index → pointer_at map page ≡ hole
 
 -- the first page of the level that is stored, from an index on
 pub record IsFirstStored (map : Map) (level from : ℕ) (found : Key) : Type 0 where
@@ -125,4 +135,5 @@ pub record IsFirstStored (map : Map) (level from : ℕ) (found : Key) : Type 0 w
   pub stored : IsWritten (pointer_at map found)
   pub same : found.level ≡ level
   pub behind : from ≤ found.index
-  pub first : (page : Key) → IsPage map.blocks page → page.level ≡ level → from ≤ page.index → page.index < found.index → pointer_at map page ≡ hole
+  pub first : (page : Key) → IsPage map.blocks page → page.level ≡ level → from ≤ page.index
+      → page.index < found.index → pointer_at map page ≡ hole

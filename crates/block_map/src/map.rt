@@ -6,7 +6,8 @@ ghost use Rattle.mp_base.specs.declared.place.Place.{Place};
 ghost use Rattle.mp_base.specs.declared.place.Key.{Key};
 ghost use Rattle.block_map.specs.Keys.{IsVolume, IsKey, IsPage, IsBehind};
 ghost use Rattle.block_map.specs.Places.{IsPlace, AreTops, is_place};
-ghost use Rattle.block_map.specs.Pointers.{hole, IsPointer, written, born_within};
+ghost use Rattle.block_map.specs.Pointers.{hole, IsPointer, IsInForm, written, born_within};
+ghost use Rattle.block_map.specs.Pages.{AreInForm};
 ghost use Rattle.block_map.specs.Dirty.{dirty_pages};
 ghost use Rattle.block_map.specs.Numbers.{place_number};
 ghost use Rattle.block_map.specs.Map.{pointer_at, is_free, is_pinned, is_open, IsEmpty, FreeIs, PinnedIs, PointerIs, IsLeastOpen, IsNextKey, CountsPlaces, children};
@@ -42,14 +43,21 @@ impl Model for BlockMap {
 
     ghost Value = { Map };
 
-    ghost view = { λ map. record { blocks = map.blocks; sectors = map.sectors.items; pointers = map.pointers.items; free = map.free; pinned = map.pinned; count = map.opened.count } };
+    ghost view = { λ map. record {
+      blocks = map.blocks;
+      sectors = map.sectors.items;
+      pointers = map.pointers.items;
+      free = map.free;
+      pinned = map.pinned;
+      count = map.opened.count;
+    } };
 
     ghost invariant = { λ map. IsKept map.blocks map.sectors.items map.pointers.items map.free map.pinned map.opened };
 }
 
 impl BlockMap {
-    /// A map without a key, for a volume of so many blocks over tops with so many sectors each. Every place is free, and
-    /// none is pinned.
+    /// A map without a key, for a volume of so many blocks over tops with so many sectors each. Every place is free,
+    /// and none is pinned.
     pub fn new(alloc: Global, blocks: u64, sectors: &[u64]) -> Result<BlockMap, MemFault>
         requires blocks { IsVolume blocks }
         requires tops { AreTops sectors.now }
@@ -89,6 +97,17 @@ impl BlockMap {
         self.blocks
     }
 
+    /// What holds of every map, whatever was done with it. It computes nothing: its clauses are the law.
+    pub fn keeps_its_form(&self)
+        ensures volume { IsVolume self.now.blocks }
+        ensures tops { AreTops self.now.sectors }
+        ensures pointers { (key : Key) → IsPointer self.now.sectors (pointer_at self.now key) }
+        ensures form { (key : Key) → IsInForm (pointer_at self.now key) }
+        ensures counted { CountsPlaces (is_open self.now) self.now.count }
+    {
+        let _ = self.opened.count();
+    }
+
     /// Whether the key is one of the volume.
     pub fn has_key(&self, key: Key) -> bool
         ensures yes { result ≡ true → IsKey self.now.blocks key }
@@ -123,6 +142,7 @@ impl BlockMap {
         requires { IsKey self.now.blocks key }
         ensures pointer { result ≡ written (pointer_at self.now key) }
         ensures hole { IfNone result (pointer_at self.now key ≡ hole) }
+        ensures place { IfSome result (λ pointer. IsPlace self.now.sectors pointer.place) }
     {
         let pointer = self.pointers[key_number(self.blocks, key)];
         if pointer.is_hole() {
@@ -218,15 +238,16 @@ impl BlockMap {
     pub fn next_key(&self, after: Option<Key>, hi: Group) -> Option<Key>
         requires { IfSome after (λ key. IsKey self.now.blocks key) }
         ensures next { IfSome result (λ key. IsNextKey self.now after hi.0 key) }
-        ensures none { IfNone result ((key : Key) → IsBehind after key → born_within hi.0 (pointer_at self.now key) ≡ false) }
+        ensures none { IfNone result ((key : Key) → IsBehind after key
+            → born_within hi.0 (pointer_at self.now key) ≡ false) }
     {
         let from = number_behind(self.blocks, after);
         let at = next_born(&self.pointers, from, hi)?;
         Some(key_at(self.blocks, at))
     }
 
-    /// How many pages of the map a commit writes besides where the blocks of these addresses, which rise, are dirty: those
-    /// above them, on each of the three levels.
+    /// How many pages of the map a commit writes besides where the blocks of these addresses, which rise, are dirty:
+    /// those above them, on each of the three levels.
     pub fn dirty_pages(&self, addrs: &[u64]) -> u64
         requires { length addrs.now ≤ 262144 }
         ensures { result ≡ dirty_pages addrs.now }
@@ -238,7 +259,7 @@ impl BlockMap {
     pub fn children(&self, page: Key) -> &[Pointer]
         requires { IsPage self.now.blocks page }
         ensures pointers { result.now ≡ children (pointer_at self.now) page }
-        ensures length { length result.now ≡ 64 }
+        ensures form { AreInForm result.now }
     {
         page_at(&self.pointers, key_number(self.blocks, first_child(page)))
     }

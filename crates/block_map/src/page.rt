@@ -13,7 +13,8 @@
 ghost use Rattle.std.specs.Prelude.{◌≡◌, ℕ, ◌+◌, ◌*◌, ◌<◌, ◌≤◌, ◌++◌, true, List, length, take, drop};
 ghost use Rattle.mp_base.specs.Block.{zeros};
 ghost use Rattle.mp_base.specs.declared.place.Pointer.{Pointer};
-ghost use Rattle.block_map.specs.Pages.{be4, be8, pointer_bytes, page_bytes, long_in, short_in, pointer_in, pointers_in, IsInForm, AreInForm};
+ghost use Rattle.block_map.specs.Pointers.{IsInForm};
+ghost use Rattle.block_map.specs.Pages.{be4, be8, pointer_bytes, page_bytes, long_in, short_in, pointer_in, pointers_in, AreInForm};
 
 use mp_base::{BLOCK_BYTES, Group, Place, Pointer};
 
@@ -93,7 +94,8 @@ pub fn read_page(bytes: &[u8], out: &mut [Pointer]) -> bool
     requires room { length out.old ≡ 64 }
     ensures page { result ≡ true → bytes.now ≡ page_bytes out.new }
     ensures form { result ≡ true → AreInForm out.new }
-    ensures exact { (pointers : List Pointer) → AreInForm pointers → bytes.now ≡ page_bytes pointers → (result ≡ true) × (out.new ≡ pointers) }
+    ensures exact { (pointers : List Pointer) → AreInForm pointers → bytes.now ≡ page_bytes pointers
+        → (result ≡ true) × (out.new ≡ pointers) }
 {
     read_pointers(bytes, out);
     let mut again = [0; BLOCK_BYTES];

@@ -8,7 +8,7 @@ ghost use Rattle.block_map.specs.Places.{AreTops};
 ghost use Rattle.block_map.specs.Pointers.{hole, IsPointer};
 ghost use Rattle.block_map.specs.Pages.{page_bytes, AreInForm};
 ghost use Rattle.block_map.specs.Map.{pointer_at};
-ghost use Rattle.block_map.specs.Reading.{IsWritten, MayStand, MayBeRead, AreRead, IsRead, NextPage, NamesPlaces, IsPut, BeginsReading};
+ghost use Rattle.block_map.specs.Reading.{IsWritten, MayStand, MayBeRead, AreRead, IsRead, NextPage, NamesPlaces, IsPut, IsNamedFirst, BeginsReading};
 
 use crate::map::BlockMap;
 use crate::next_page::next_page;
@@ -42,8 +42,8 @@ impl Model for MapReader {
 }
 
 impl MapReader {
-    /// Begins to read the map of a record of this number, with so many blocks over tops with so many sectors each, whose
-    /// root page has this pointer.
+    /// Begins to read the map of a record of this number, with so many blocks over tops with so many sectors each,
+    /// whose root page has this pointer.
     pub fn new(
         alloc: Global,
         blocks: u64,
@@ -55,7 +55,8 @@ impl MapReader {
         requires tops { AreTops sectors.now }
         requires pointer { IsPointer sectors.now root }
         requires born { root.birth.0 ≤ number.0 }
-        ensures { IfOk result (λ reader. BeginsReading blocks sectors.now number.0 root reader) }
+        ensures begun { IfOk result (λ reader. BeginsReading blocks sectors.now number.0 root reader) }
+        ensures places { IfOk result (λ reader. NamesPlaces reader.map) }
     {
         let mut map = BlockMap::new(alloc, blocks, sectors)?;
         put(&mut map, ROOT, root);
@@ -68,7 +69,8 @@ impl MapReader {
 
     /// The page to read next, with its pointer. None where every page is read.
     pub fn next_page(&self) -> Option<(Key, Pointer)>
-        ensures page { IfSome result (λ page. (self.now.next ≡ Some page.0) × (page.1 ≡ pointer_at self.now.map page.0)) }
+        ensures page { IfSome result (λ page. (self.now.next ≡ Some page.0)
+            × (page.1 ≡ pointer_at self.now.map page.0)) }
         ensures stored { IfSome result (λ page. IsWritten page.1) }
         ensures none { result ≡ None → self.now.next ≡ None }
     {
@@ -83,9 +85,10 @@ impl MapReader {
         requires bytes { length bytes.now ≡ 4096 }
         requires next { IsSome self.old.next }
         ensures read { result ≡ true → IfSome self.old.next (λ page. IsRead self.old self.new page bytes.now) }
+        ensures places { NamesPlaces self.new.map }
         ensures unchanged { result ≡ false → self.new ≡ self.old }
-        ensures wrong { result ≡ false → IfSome self.old.next (λ page. (pointers : List Pointer) → AreInForm pointers → bytes.now ≡ page_bytes pointers
-            → MayBeRead self.old.map self.old.number page pointers → ⊥) }
+        ensures wrong { result ≡ false → IfSome self.old.next (λ page. (pointers : List Pointer) → AreInForm pointers
+            → bytes.now ≡ page_bytes pointers → MayBeRead self.old.map self.old.number page pointers → ⊥) }
     {
         let Some(page) = self.next else {
             return false;
@@ -139,7 +142,8 @@ fn put_all(map: &mut BlockMap, page: Key, pointers: &[Pointer])
     requires volume { IsVolume map.old.blocks }
     requires page { IsPage map.old.blocks page }
     requires each { (j : ℕ) → j < 64 → IsPointer map.old.sectors (slice_index_or pointers.now j hole) }
-    requires keys { (j : ℕ) → j < 64 → IsWritten (slice_index_or pointers.now j hole) → IsKey map.old.blocks (child page j) }
+    requires keys { (j : ℕ) → j < 64 → IsWritten (slice_index_or pointers.now j hole)
+        → IsKey map.old.blocks (child page j) }
     requires holes { (j : ℕ) → j < 64 → pointer_at map.old (child page j) ≡ hole }
     ensures { AreRead map.old map.new page pointers.now 64 }
 {
@@ -213,8 +217,8 @@ fn is_blank(pointer: &Pointer) -> bool
 /// Whether no earlier pointer names the place of this one.
 fn is_named_first(pointers: &[Pointer], j: usize) -> bool
     requires inside { j < length pointers.now }
-    ensures yes { result ≡ true → (i : ℕ) → i < j → IsWritten (slice_index_or pointers.now i hole) → (slice_index_or pointers.now i hole).place ≢ (slice_index_or pointers.now j hole).place }
-    ensures no { ((i : ℕ) → i < j → IsWritten (slice_index_or pointers.now i hole) → (slice_index_or pointers.now i hole).place ≢ (slice_index_or pointers.now j hole).place) → result ≡ true }
+    ensures yes { result ≡ true → IsNamedFirst pointers.now j }
+    ensures no { IsNamedFirst pointers.now j → result ≡ true }
 {
     for i in 0..j {
         if names(&pointers[i], pointers[j].place) {

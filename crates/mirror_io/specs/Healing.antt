@@ -17,7 +17,8 @@ abbrev pub is_rewritten : CopySeen → CopyOf → Bool
 is_rewritten known copy = is_due false copy && is_mismatch known
 
 -- A copy was rewritten where it has to be.
-pub record HealsCopy (copy : CopyOf) (at : ℕ) (block : List ℕ) (known known' : CopySeen) (old new : BankView) : Type 0 where
+pub record HealsCopy (copy : CopyOf) (at : ℕ) (block : List ℕ) (known known' : CopySeen) (old new : BankView)
+    : Type 0 where
   pub made : List Noted
   pub bank : Makes made old new
   pub asks : asks_of made ≡ rewrites at block (filter (is_rewritten known) (copy ∷ []))
@@ -26,7 +27,8 @@ pub record HealsCopy (copy : CopyOf) (at : ℕ) (block : List ℕ) (known known'
   pub idle : is_due false copy ≡ false → made ≡ []
 
 -- So were these of the copies.
-pub record Heals (copies some : List CopyOf) (at : ℕ) (block : List ℕ) (known known' : List CopySeen) (old new : BankView) : Type 0 where
+pub record Heals (copies some : List CopyOf) (at : ℕ) (block : List ℕ) (known known' : List CopySeen)
+    (old new : BankView) : Type 0 where
   pub made : List Noted
   pub bank : Makes made old new
   pub asks : (sum : List ℕ) (before : List Noted) → known ≡ map (copy_seen sum before) copies

@@ -25,7 +25,8 @@ IsHealed at None wrong made = made ≡ []
 
 -- A read of a block: the copies were read in their order, up to the first that was good, and the wrong ones rewritten.
 -- Of each copy is told what these calls show.
-pub record ReadsBlock (block : MirrorBlock) (seen : List CopySeen) (outcome : Option (List ℕ)) (old new : BankView) : Type 0 where
+pub record ReadsBlock (block : MirrorBlock) (seen : List CopySeen) (outcome : Option (List ℕ)) (old new : BankView)
+    : Type 0 where
   pub reads : List Noted
   pub rewrites : List Noted
   pub wrong : List CopyOf

@@ -25,7 +25,8 @@ AreOn dev made = AllByRecursion (λ noted. device_of noted.call ≡ dev) made
 -- what was known of the copies, and is behind these calls
 abbrev pub Shows : (sum : List ℕ) → List CopyOf → List Noted → (known known' : List CopySeen) → Type 0
 Shows sum copies made known known' =
-    (before : List Noted) → known ≡ map (copy_seen sum before) copies → known' ≡ map (copy_seen sum (before ++ made)) copies
+    (before : List Noted) → known ≡ map (copy_seen sum before) copies
+    → known' ≡ map (copy_seen sum (before ++ made)) copies
 
 -- the bytes that a read gave, where it was good
 abbrev pub outcome_of : Bool → List ℕ → Option (List ℕ)
@@ -41,8 +42,8 @@ pub record ReadsCopy (dev at : ℕ) (sum bytes : List ℕ) (shown : CopySeen) (o
   pub is : shown ≡ sees sum seen.NotTried (Read dev at bytes fault)
 
 -- A copy that is due was read, and another one wasn't.
-pub record TriesCopy (copy : CopyOf) (owing : Bool) (at : ℕ) (sum : List ℕ) (outcome : Option (List ℕ)) (known known' : CopySeen)
-    (old new : BankView) : Type 0 where
+pub record TriesCopy (copy : CopyOf) (owing : Bool) (at : ℕ) (sum : List ℕ) (outcome : Option (List ℕ))
+    (known known' : CopySeen) (old new : BankView) : Type 0 where
   pub made : List Noted
   pub wrong : List CopyOf
   pub bank : Makes made old new
@@ -52,7 +53,8 @@ pub record TriesCopy (copy : CopyOf) (owing : Bool) (at : ℕ) (sum : List ℕ) 
   pub idle : is_due owing copy ≡ false → made ≡ []
 
 -- These of the copies were read.
-pub record Tries (block : MirrorBlock) (due : List CopyOf) (outcome : Option (List ℕ)) (known known' : List CopySeen) (old new : BankView) : Type 0 where
+pub record Tries (block : MirrorBlock) (due : List CopyOf) (outcome : Option (List ℕ)) (known known' : List CopySeen)
+    (old new : BankView) : Type 0 where
   pub made : List Noted
   pub wrong : List CopyOf
   pub bank : Makes made old new

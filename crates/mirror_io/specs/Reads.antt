@@ -31,12 +31,14 @@ pub record Serves (copy : CopyOf) (at : ℕ) (sum : List ℕ) (bytes : List ℕ)
 
 -- Each copy is read once, in order. One whose read failed is passed by; one that gave bytes of another sum is wrong;
 -- the first that gave bytes of this sum is the last that is read, and its bytes are the outcome.
-abbrev pub IsReads : (at : ℕ) → (sum : List ℕ) → List CopyOf → List Noted → (wrong : List CopyOf) → (outcome : Option (List ℕ)) → Type 0
+abbrev pub IsReads : (at : ℕ) → (sum : List ℕ) → List CopyOf → List Noted → (wrong : List CopyOf)
+    → (outcome : Option (List ℕ)) → Type 0
 IsReads at sum [] made wrong outcome = (made ≡ []) × (wrong ≡ []) × (outcome ≡ None)
 IsReads at sum (copy ∷ more) [] wrong outcome = ⊥
 IsReads at sum (copy ∷ more) (noted ∷ made) wrong outcome =
     (Fails copy at noted.call × IsReads at sum more made wrong outcome)
-    ⊎ (((others : List CopyOf) × Differs copy at sum noted.call × (wrong ≡ copy ∷ others) × IsReads at sum more made others outcome)
+    ⊎ (((others : List CopyOf) × Differs copy at sum noted.call × (wrong ≡ copy ∷ others)
+    × IsReads at sum more made others outcome)
     ⊎ ((bytes : List ℕ) × Serves copy at sum bytes noted.call × (made ≡ []) × (wrong ≡ []) × (outcome ≡ Some bytes)))
 
 -- these copies are written with the block

@@ -15,9 +15,10 @@ ghost use Rattle.mirror_io.specs.Reading.{MirrorBlock};
 /// read that is exhausted passed over no good copy: where a readable copy's sector holds bytes of the sum, stable,
 /// with nothing on the way and undamaged, a read of its device failed. It computes nothing: its clauses are the law.
 pub fn reads_give_the_block()
-    ensures right { (b : MirrorBlock) (seen : List CopySeen) (given block : List ℕ) (old new : BankView) → (r : ReadsBlock b seen (Some given) old new)
-        → b.sum ≡ sha256 block → (given ≡ block) ⊎ Clashes r.reads given block }
+    ensures right { (b : MirrorBlock) (seen : List CopySeen) (given block : List ℕ) (old new : BankView)
+        → (r : ReadsBlock b seen (Some given) old new) → b.sum ≡ sha256 block → (given ≡ block) ⊎ Clashes r.reads given block }
     ensures found { (b : MirrorBlock) (seen : List CopySeen) (old new : BankView) → ReadsBlock b seen None old new
         → (story : Story) → new.told ≡ Some story → (copy : CopyOf) → Contains b.copies copy → copy.readable ≡ true
-        → IsClean (now story copy.dev b.at) → sha256 (now story copy.dev b.at).stable ≡ b.sum → Rose (old.faults copy.dev) (new.faults copy.dev) }
+        → IsClean (now story copy.dev b.at) → sha256 (now story copy.dev b.at).stable ≡ b.sum
+        → Rose (old.faults copy.dev) (new.faults copy.dev) }
 {}

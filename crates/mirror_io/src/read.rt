@@ -36,7 +36,8 @@ pub fn read_block<B: Bank>(
         (B.view bank.old) (B.view bank.new) }
     ensures verified { OnOk result (sha256 out.new ≡ sum.now) }
     ensures good { OnOk result (Contains seen.new CopySeen.Good) }
-    ensures causes { AllZip (IsCause (is_ok result) (B.view bank.old).faults (B.view bank.new).faults) copies.now seen.new }
+    ensures causes { AllZip (IsCause (is_ok result) (B.view bank.old).faults (B.view bank.new).faults)
+        copies.now seen.new }
 {
     clear_seen(copies, seen);
     if !try_all(bank, copies, at, sum, out, seen) {
@@ -69,8 +70,8 @@ fn try_all<B: Bank>(
     requires paired { length seen.old ≡ length copies.now }
     requires within { AreWithin (B.view bank.old).size copies.now at }
     requires apart { AreApart copies.now }
-    ensures { Tries (record { copies = copies.now; at = at; sum = sum.now }) (tries copies.now) (outcome_of result out.new)
-        seen.old seen.new (B.view bank.old) (B.view bank.new) }
+    ensures { Tries (record { copies = copies.now; at = at; sum = sum.now }) (tries copies.now)
+        (outcome_of result out.new) seen.old seen.new (B.view bank.old) (B.view bank.new) }
 {
     if try_due(bank, copies, false, at, sum, out, seen) {
         return true;
@@ -115,7 +116,8 @@ fn try_copy<B: Bank>(
 ) -> bool
     requires block { length out.old ≡ 4096 }
     requires within { copy.readable ≡ true → at < (B.view bank.old).size copy.dev }
-    ensures { TriesCopy copy owing at sum.now (outcome_of result out.new) seen.old seen.new (B.view bank.old) (B.view bank.new) }
+    ensures { TriesCopy copy owing at sum.now (outcome_of result out.new) seen.old seen.new
+        (B.view bank.old) (B.view bank.new) }
 {
     if !copy.is_due(owing) {
         return false;

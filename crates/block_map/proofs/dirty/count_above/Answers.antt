@@ -1,4 +1,4 @@
-use Rattle.std.proofs.Common.{◌≡◌, ◌+◌, ◌∙◌, ◌≤◌, arith, ap, sym, refl, length, drop, get_or, not, eqb}
+use Rattle.std.proofs.Common.{◌≡◌, ◌∙◌, arith, ap, refl, length, drop, not, eqb}
 use Rattle.std.proofs.lemmas.List.{drop_all}
 use Rattle.block_map.specs.Dirty.{pages_from, pages_above}
 use Rattle.block_map.proofs.DirtyPages.{one_count, none_from, byte_is, byte_le}

@@ -1,4 +1,4 @@
-use Rattle.std.proofs.Common.{◌≡◌, ◌/◌, ap}
+use Rattle.std.proofs.Common.{◌/◌, ap}
 use Rattle.block_map.specs.Dirty.{page_above}
 use Rattle.block_map.proofs.DirtyPages.{size_of_page, same_key}
 use Rattle.block_map.proofs.dirty.page_above.Goals as goal

@@ -1,4 +1,4 @@
-use Rattle.std.proofs.Common.{◌≡◌, ◌+◌, ◌-◌, ◌++◌, ◌∙◌, ◌≤◌, arith, ap, sym, refl, length, drop, get_or, [], length-drop}
+use Rattle.std.proofs.Common.{◌≡◌, ◌++◌, ◌∙◌, arith, ap, sym, refl, drop, []}
 use Rattle.std.proofs.lemmas.List.{drop_all, append-nil}
 use Rattle.block_map.specs.Dirty.{pages_from, pages_above}
 use Rattle.block_map.proofs.DirtyPages.{one_address, none_from, room_left}

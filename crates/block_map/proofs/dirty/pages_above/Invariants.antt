@@ -1,4 +1,4 @@
-use Rattle.std.proofs.Common.{◌≡◌, ◌+◌, ◌-◌, ◌≤◌, ◌++◌, length, drop}
+use Rattle.std.proofs.Common.{◌≡◌, ◌+◌, ◌≤◌, ◌++◌, length, drop}
 use Rattle.std.specs.Vec.{vec_capacity}
 use Rattle.block_map.specs.Dirty.{pages_from, pages_above}
 use Rattle.block_map.proofs.dirty.pages_above.Given as goal

@@ -1,4 +1,4 @@
-use Rattle.std.proofs.Common.{arith, ◌∙◌, refl, sym}
+use Rattle.std.proofs.Common.{◌∙◌, refl, sym}
 use Rattle.block_map.specs.Bits.{holds}
 use Rattle.block_map.specs.NumberSet.{has}
 use Rattle.block_map.proofs.FreeNumbers.{none_freed, not_yet_freed, freed_more}

@@ -1,4 +1,4 @@
-use Rattle.std.proofs.Common.{◌≡◌, ℕ, ◌<◌, ◌≤◌, length}
+use Rattle.std.proofs.Common.{◌≡◌, ℕ, length}
 use Rattle.block_map.specs.Bits.{holds}
 use Rattle.block_map.specs.NumberSet.{has}
 use Rattle.block_map.specs.Map.{is_freed}

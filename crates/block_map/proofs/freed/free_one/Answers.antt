@@ -1,4 +1,4 @@
-use Rattle.std.proofs.Common.{arith, ◌∙◌, rules}
+use Rattle.std.proofs.Common.{arith, ◌∙◌}
 use Rattle.block_map.specs.NumberSet.{room}
 use Rattle.block_map.proofs.FreeNumbers.{is_no_number, is_a_number}
 use Rattle.block_map.proofs.freed.free_one.Goals as goal

@@ -1,5 +1,4 @@
-use Rattle.std.proofs.Common.{arith, ◌≡◌, ◌≤◌, ◌*◌, length, get_or, sym, subst}
-use Rattle.std.proofs.lemmas.List.{get_or_default}
+use Rattle.std.proofs.Common.{arith}
 use Rattle.block_map.proofs.FreeNumbers.{rooms_of}
 use Rattle.block_map.proofs.freed.places.Goals as goal
 

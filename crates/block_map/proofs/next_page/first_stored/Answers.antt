@@ -1,4 +1,4 @@
-use Rattle.std.proofs.Common.{◌≡◌, sym, ◌∙◌, refl}
+use Rattle.std.proofs.Common.{sym, ◌∙◌, refl}
 use Rattle.block_map.proofs.ReadPages.{stored_of}
 use Rattle.block_map.proofs.next_page.first_stored.Goals as goal
 

@@ -1,5 +1,5 @@
-use Rattle.std.proofs.Common.{arith, ◌≡◌, ◌-◌, ◌<◌, ◌≤◌, suc}
-use Rattle.block_map.specs.Numbers.{key_number, start}
+use Rattle.std.proofs.Common.{arith, ◌≡◌, ◌-◌, suc}
+use Rattle.block_map.specs.Numbers.{key_number}
 use Rattle.block_map.proofs.KeyNumbers.{above_zero}
 use Rattle.block_map.proofs.numbers.key_at.Goals as goal
 

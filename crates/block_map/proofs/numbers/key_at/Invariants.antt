@@ -1,4 +1,4 @@
-use Rattle.std.proofs.Common.{◌≡◌, ◌≤◌, ◌<◌, suc, ℕ}
+use Rattle.std.proofs.Common.{◌≤◌, ◌<◌, suc}
 use Rattle.block_map.specs.Numbers.{start}
 use Rattle.block_map.proofs.numbers.key_at.Given as goal
 

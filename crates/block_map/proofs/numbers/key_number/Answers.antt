@@ -1,4 +1,4 @@
-use Rattle.std.proofs.Common.{arith, ◌≡◌, ◌+◌}
+use Rattle.std.proofs.Common.{arith}
 use Rattle.block_map.specs.Numbers.{key_number}
 use Rattle.block_map.proofs.KeyNumbers.{number_inside, keys_le, slots_small}
 use Rattle.block_map.proofs.numbers.key_number.Goals as goal

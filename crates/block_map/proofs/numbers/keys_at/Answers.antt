@@ -1,5 +1,4 @@
-use Rattle.std.proofs.Common.{arith, ap, ◌∙◌, sym, ◌/◌, ◌+◌, ◌≡◌, ◌≤◌}
-use Rattle.block_map.specs.Keys.{keys_at}
+use Rattle.std.proofs.Common.{arith, ap, ◌∙◌, sym, ◌/◌, ◌+◌, ◌≡◌}
 use Rattle.block_map.proofs.KeyNumbers.{keys_at-zero, keys_at-next, keys_le}
 use Rattle.block_map.proofs.numbers.keys_at.Goals as goal
 

@@ -1,4 +1,4 @@
-use Rattle.std.proofs.Common.{arith, ap, ◌∙◌, sym, ◌/◌, ◌+◌, ◌*◌, ◌≡◌, ◌≤◌}
+use Rattle.std.proofs.Common.{arith, ap, ◌∙◌, sym, ◌/◌, ◌+◌, ◌*◌, ◌≡◌}
 use Rattle.block_map.specs.Keys.{keys_at}
 use Rattle.block_map.specs.Numbers.{start}
 use Rattle.block_map.proofs.KeyNumbers.{keys_at-zero, keys_at-next, keys_le, start-zero, start-next, start_fits}

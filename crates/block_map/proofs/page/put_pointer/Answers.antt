@@ -1,5 +1,5 @@
-use Rattle.std.proofs.Common.{arith, ◌≡◌, ◌∙◌, ap, ◌++◌, ◌+◌, length, take, refl, subst}
-use Rattle.block_map.specs.Pages.{be4, be8, pointer_bytes}
+use Rattle.std.proofs.Common.{arith, ◌≡◌, ◌∙◌, ◌++◌, ◌+◌, take, refl, subst}
+use Rattle.block_map.specs.Pages.{pointer_bytes}
 use Rattle.block_map.proofs.PageBytes.{put_next, pointer_put}
 use Rattle.block_map.proofs.page.put_pointer.Goals as goal
 

@@ -1,4 +1,4 @@
-use Rattle.std.proofs.Common.{arith, ◌≡◌, ap, sym, ◌∙◌}
+use Rattle.std.proofs.Common.{◌≡◌, ap, sym, ◌∙◌}
 use Rattle.block_map.specs.Pages.{page_bytes, pointers_in}
 use Rattle.block_map.proofs.PageBytes.{read_back}
 use Rattle.block_map.proofs.page.read_page.Goals as goal

@@ -1,8 +1,7 @@
 use Rattle.std.proofs.Common.{arith, ◌*◌}
 use Rattle.std.proofs.lemmas.List.FromFn.{fill_by_all}
-use Rattle.std.proofs.lemmas.List.Elements.{All-from_get_or}
 use Rattle.block_map.specs.Pointers.{hole}
-use Rattle.block_map.specs.Pages.{pointer_in, IsInForm}
+use Rattle.block_map.specs.Pages.{pointer_in}
 use Rattle.block_map.proofs.page.read_pointers.Goals as goal
 
 pub returns-clause-value : goal.returns-clause-value

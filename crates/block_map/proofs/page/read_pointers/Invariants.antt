@@ -1,6 +1,6 @@
 use Rattle.std.proofs.Common.{◌≡◌, ℕ, ◌*◌, ◌<◌, length, get_or}
-use Rattle.block_map.specs.Pointers.{hole}
-use Rattle.block_map.specs.Pages.{pointer_in, IsInForm}
+use Rattle.block_map.specs.Pointers.{hole, IsInForm}
+use Rattle.block_map.specs.Pages.{pointer_in}
 use Rattle.block_map.proofs.page.read_pointers.Given as goal
 
 abbrev pub invariant-loop-j : goal.invariant-loop-j

@@ -1,4 +1,4 @@
-use Rattle.std.proofs.Common.{◌≡◌, ◌≢◌, ℕ, ◌<◌, get_or}
+use Rattle.std.proofs.Common.{◌≢◌, ℕ, ◌<◌, get_or}
 use Rattle.block_map.specs.Pointers.{hole}
 use Rattle.block_map.specs.Reading.{IsWritten}
 use Rattle.block_map.proofs.reader.is_named_first.Given as goal

@@ -1,4 +1,4 @@
-use Rattle.std.proofs.Common.{◌≡◌, ◌<◌, arith, get_or, length}
+use Rattle.std.proofs.Common.{◌<◌, arith, length}
 use Rattle.std.proofs.lemmas.List.{get_or_default}
 use Rattle.block_map.specs.Pointers.{hole}
 use Rattle.block_map.proofs.ReadPages.{one_looked}

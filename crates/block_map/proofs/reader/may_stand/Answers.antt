@@ -1,4 +1,4 @@
-use Rattle.std.proofs.Common.{◌≡◌, ◌<◌, arith, sym, ◌∙◌, refl, get_or, length}
+use Rattle.std.proofs.Common.{◌<◌, arith, sym, ◌∙◌, length}
 use Rattle.std.proofs.lemmas.List.{get_or_default}
 use Rattle.block_map.specs.Pointers.{hole}
 use Rattle.block_map.proofs.ReadPages.{page_fits, hole_may_stand, pointer_may_stand}

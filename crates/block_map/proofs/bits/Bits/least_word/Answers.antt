@@ -1,6 +1,6 @@
-use Rattle.std.proofs.Common.{arith, below_more, ap}
+use Rattle.std.proofs.Common.{arith, ap}
 use Rattle.std.proofs.Common.{length}
-use Rattle.block_map.proofs.Bitmaps.{no_word_upto, least_word_from}
+use Rattle.block_map.proofs.Bitmaps.{no_word_upto}
 use Rattle.block_map.proofs.bits.Bits.least_word.Goals as goal
 
 pub returns-clause-none : goal.returns-clause-none

@@ -1,4 +1,4 @@
-use Rattle.std.proofs.Common.{◌≡◌, ℕ, ◌/◌, get_or, replicate, ap, ◌∙◌}
+use Rattle.std.proofs.Common.{◌/◌}
 use Rattle.block_map.proofs.Bitmaps.{holds_none, zero_of_zeros}
 use Rattle.block_map.proofs.bits.Bits.new.Goals as goal
 

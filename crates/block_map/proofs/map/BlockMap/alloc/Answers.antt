@@ -1,5 +1,4 @@
 use Rattle.std.proofs.Common.{◌≡◌, arith, sym, ap, ◌∙◌, false, length}
-use Rattle.mp_base.specs.declared.place.Place.{Place}
 use Rattle.block_map.specs.Numbers.{place_at}
 use Rattle.block_map.proofs.PlacesChanged.{number_fits, free_kept, free_is, least_is_place, least_open, taken_now, none_open}
 use Rattle.block_map.proofs.PlaceNumbers.{number_of_place_at}

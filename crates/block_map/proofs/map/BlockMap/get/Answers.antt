@@ -1,4 +1,4 @@
-use Rattle.std.proofs.Common.{◌≡◌, sym, ap, ◌∙◌}
+use Rattle.std.proofs.Common.{sym, ap, ◌∙◌}
 use Rattle.std.proofs.lemmas.Bool.{eqb-true}
 use Rattle.block_map.proofs.PointersChanged.{got, read_is, no_birth, written_none, written_some}
 use Rattle.block_map.proofs.map.BlockMap.get.Goals as goal

@@ -1,4 +1,4 @@
-use Rattle.std.proofs.Common.{◌≡◌, ◌∙◌, sym, ap}
+use Rattle.std.proofs.Common.{◌∙◌, sym, ap}
 use Rattle.block_map.specs.Places.{is_place}
 use Rattle.block_map.proofs.PlaceNumbers.{place_of, is_place_of}
 use Rattle.block_map.proofs.map.BlockMap.has_place.Goals as goal

@@ -1,4 +1,4 @@
-use Rattle.std.proofs.Common.{◌∙◌, sym, ◌≤◌, ◌≡◌, ap, replicate}
+use Rattle.std.proofs.Common.{◌∙◌, ap, replicate}
 use Rattle.block_map.specs.Pointers.{hole}
 use Rattle.block_map.proofs.NewMaps.{new_kept, new_empty}
 use Rattle.block_map.proofs.map.BlockMap.new.Goals as goal

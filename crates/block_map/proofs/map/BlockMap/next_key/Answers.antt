@@ -1,5 +1,3 @@
-use Rattle.std.proofs.Common.{◌∙◌, sym, ◌≤◌, ◌≡◌, ℕ, get_or}
-use Rattle.block_map.specs.Pointers.{hole}
 use Rattle.block_map.proofs.BornKeys.{none_behind, next_found}
 use Rattle.block_map.proofs.map.BlockMap.next_key.Goals as goal
 

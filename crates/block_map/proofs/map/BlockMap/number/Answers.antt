@@ -1,4 +1,4 @@
-use Rattle.std.proofs.Common.{arith, ◌≡◌, ◌*◌, ◌<◌, length}
+use Rattle.std.proofs.Common.{arith, ◌≡◌, length}
 use Rattle.block_map.proofs.PlacesChanged.{number_fits}
 use Rattle.block_map.proofs.map.BlockMap.number.Goals as goal
 

@@ -1,4 +1,4 @@
-use Rattle.std.proofs.Common.{◌≡◌, ◌≤◌, ◌*◌, ◌+◌, arith, sym, length, ◌∙◌, ap, ltb}
+use Rattle.std.proofs.Common.{arith, sym, ◌∙◌, ap, ltb}
 use Rattle.block_map.specs.Bits.{holds_some}
 use Rattle.block_map.proofs.Counted.{count_none}
 use Rattle.block_map.proofs.number_set.NumberSet.new.Goals as goal

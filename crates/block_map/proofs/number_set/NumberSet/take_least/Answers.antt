@@ -1,4 +1,4 @@
-use Rattle.std.proofs.Common.{arith, ◌≡◌, ◌<◌, rules}
+use Rattle.std.proofs.Common.{arith}
 use Rattle.block_map.specs.NumberSet.{has, room}
 use Rattle.block_map.proofs.Counted.{inside_there, counted_from, least_found, none_there, zero_there}
 use Rattle.block_map.proofs.number_set.NumberSet.take_least.Goals as goal

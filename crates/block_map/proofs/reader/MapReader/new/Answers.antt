@@ -1,5 +1,4 @@
-use Rattle.std.proofs.Common.{◌≡◌, arith, sym, ◌∙◌}
-use Rattle.block_map.specs.Keys.{IsKey}
+use Rattle.std.proofs.Common.{arith}
 use Rattle.block_map.proofs.KeyNumbers.{keys_pos}
 use Rattle.block_map.proofs.ReadPages.{begin_reading}
 use Rattle.block_map.proofs.reader.MapReader.new.Goals as goal
@@ -11,3 +10,8 @@ pub invariant_of-result : goal.invariant_of-result
 invariant_of-result c =
     begin_reading c.args.blocks c.args.sectors.now c.in_ok-map.map c.put.new.map c.args.root c.args.number.0 c.in_ok-map.ensures c.put.ensures
     c.requires.pointer c.requires.born c.requires.blocks c.first_page.result c.first_page.ensures
+
+pub returns-clause-places : goal.returns-clause-places
+returns-clause-places c =
+    (begin_reading c.args.blocks c.args.sectors.now c.in_ok-map.map c.put.new.map c.args.root c.args.number.0 c.in_ok-map.ensures c.put.ensures
+    c.requires.pointer c.requires.born c.requires.blocks c.first_page.result c.first_page.ensures).places

@@ -1,4 +1,3 @@
-use Rattle.std.proofs.Common.{◌≡◌, ◌∙◌, sym}
 use Rattle.block_map.proofs.ReadPages.{written_is}
 use Rattle.block_map.proofs.reader.MapReader.next_page.Goals as goal
 
