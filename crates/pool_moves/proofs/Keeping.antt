@@ -1,5 +1,5 @@
 -- A state keeps, behind a move that the history allows and the state admits, what it kept before.
-use Rattle.std.proofs.Common.{◌≡◌, ◌⊎◌, inl, inr, ⊎_elim, ℕ, suc, zero, ◌+◌, ◌==◌, Bool, true, false, cond, Option, Some, None, List, [], ◌∷◌, ◌++◌, map, take, drop, refl, sym, ap, ◌∙◌, subst, arith}
+use Rattle.std.proofs.Common.{◌≡◌, ◌⊎◌, inl, inr, ⊎_elim, ℕ, suc, zero, ◌+◌, ◌≤◌, ◌==◌, Bool, true, false, cond, Option, Some, None, List, [], ◌∷◌, ◌++◌, map, take, drop, refl, sym, ap, ◌∙◌, subst, arith}
 use Rattle.std.specs.List.{AllByRecursion, insert, remove}
 use Rattle.std.proofs.lemmas.Bool.Decides.{nat_tests}
 use Rattle.mp_base.specs.declared.number.Guid.{Guid}
@@ -9,11 +9,11 @@ use Rattle.txg_history.specs.Pages.{Codec}
 use Rattle.txg_history.specs.Pools.{Pool, after, pool_after, other_than}
 use Rattle.txg_history.specs.Records.{Cell, block_of, block_in, cell_over, laid_over, key}
 use Rattle.txg_history.specs.Survival.{Survives}
-use Rattle.txg_history.proofs.Logging.{by_bool, same_device, true_not_false}
+use Rattle.txg_history.proofs.Logging.{by_bool, same_device, true_not_false, not_true}
 use Rattle.txg_history.proofs.Surviving.{history_survives}
-use Rattle.pool_moves.specs.Keeping.{IsElsewhere, AreSeatsApart, IsAway, IsSeated, IsOwnNumber, IsFoundAt, HasFound, over, beneath, Kept, IsOfFound, IsNotFoundAt, HasOtherNumber, MayReturn, MayCome, Admits, Walks}
+use Rattle.pool_moves.specs.Keeping.{IsElsewhere, AreSeatsApart, IsAway, IsSeated, IsOwnNumber, IsFoundAt, HasFound, IsUnder, HasUnder, IsDrafted, over, beneath, Kept, IsOfFound, IsNotFoundAt, HasOtherNumber, MayReturn, MayCome, Admits, Walks}
 use Rattle.pool_moves.specs.Leaves.{OwnLeaf, LeafSeen, Seat, At, Adrift, dev_if, told, leaf_seen}
-use Rattle.pool_moves.specs.Moves.{Move, Makes, Puts, Freeze, Wrote_key, Flushed_all, Draw, Leave, Widen, Burn, Starts, Copies, Copied, Commits, Sets, Finds, Lose, Comes, Goes, Returns, Scan_from, Pass, Drop, Clear, Rest, on_dev, leaf_cleared, leaf_step, step, burned, state_step, steps, events_of, seat_step, seats_by, after_move, after_moves}
+use Rattle.pool_moves.specs.Moves.{Draft, Move, Makes, Puts, Freeze, Wrote_key, Flushed_all, Draw, Leave, Widen, Burn, Starts, Copies, Copied, Commits, Sets, Finds, Lose, Comes, Goes, Returns, Scan_from, Pass, Drop, Clear, Rest, on_dev, leaf_cleared, leaf_step, step, burned, rec_of, state_step, steps, events_of, seat_step, seats_by, after_move, after_moves}
 use Rattle.pool_moves.specs.States.{group_seen, Side, seen, PoolState}
 use Rattle.pool_moves.proofs.Seeing.{seen_step}
 
@@ -184,13 +184,13 @@ not_number guid m d is (Adrift leaf) other = subst (λ n. (leaf.guid.0 == n.0) �
 
 find_away : (m : Guid) (d : ℕ) (p : Pool) (seat : Seat) → IsAway seat × IsNotNumber m seat → IsAway (seat_step (Finds m d) p seat)
 find_away m d p (At e found own) is = tt
-find_away m d p (Adrift leaf) is = ap (λ t. (cond t (record leaf { dev = Some d }) leaf).dev) is.1 ∙ is.0
+find_away m d p (Adrift leaf) is = (ap (λ t. (cond t (record leaf { dev = Some d }) leaf).dev) is.1 ∙ is.0.0, ap (λ t. (cond t (record leaf { dev = Some d }) leaf).on) is.1 ∙ is.0.1)
 
 set_away : (m : Guid) (own : OwnLeaf) (p : Pool) (seat : Seat) → IsAway seat → IsAway (seat_step (Sets m own) p seat)
 set_away m own p (At d found was) is = tt
 set_away m own p (Adrift leaf) is = by (leaf.guid.0 == m.0)
   where
-    by : (t : Bool) → (cond t (record leaf { own = own }) leaf).dev ≡ None
+    by : (t : Bool) → ((cond t (record leaf { own = own }) leaf).dev ≡ None) × ((cond t (record leaf { own = own }) leaf).on ≡ false)
     by true = is
     by false = is
 
@@ -198,17 +198,33 @@ clear_away : (d : ℕ) (p : Pool) (seat : Seat) → IsAway seat → IsAway (seat
 clear_away d p (At e found own) is = tt
 clear_away d p (Adrift leaf) is = by (on_dev (λ e. d == e) leaf.dev)
   where
-    by : (t : Bool) → (cond t (leaf_cleared p.scan.hi leaf) leaf).dev ≡ None
+    by : (t : Bool) → ((cond t (leaf_cleared p.scan.hi leaf) leaf).dev ≡ None) × ((cond t (leaf_cleared p.scan.hi leaf) leaf).on ≡ false)
     by true = is
     by false = is
 
-lose_away : (d : ℕ) (p : Pool) (seat : Seat) → IsAway seat × IsNotFoundAt d seat → IsAway (seat_step (Lose d) p seat)
-lose_away d p (At e found own) is = by (d == e) is.1
+-- no seat is found at a device at which none is
+none_found : (d : ℕ) (seats : List Seat) → AllByRecursion (IsNotFoundAt d) seats → HasFound d seats → ⊥
+none_found d [] all has = has
+none_found d (At e found own ∷ seats) all (inl is) = true_not_false found is.1 (all.0 is.0)
+none_found d (Adrift leaf ∷ seats) all (inl is) = is
+none_found d (seat ∷ seats) all (inr has) = none_found d seats all.1 has
+
+-- a device at which no leaf was found is on no board
+off_board : (t : Side) (d : ℕ) → (t.pool.group.frozen ≡ true → (d : ℕ) → t.pool.member d ≡ true → t.pool.group.board d ≡ true → HasFound d t.seats)
+    → AllByRecursion (IsNotFoundAt d) t.seats → t.pool.member d ≡ true → cond t.pool.group.frozen (t.pool.group.board d) false ≡ false
+off_board t d boarded none is = by_bool t.pool.group.frozen (λ f. ap (λ x. cond x (t.pool.group.board d) false) f ∙ not_true (t.pool.group.board d) (λ on. none_found d t.seats none (boarded f d is on)))
+    (λ f. ap (λ x. cond x (t.pool.group.board d) false) f)
+
+lose_away : (d : ℕ) (t : Side) → (t.pool.member d ≡ true → cond t.pool.group.frozen (t.pool.group.board d) false ≡ false) → (seat : Seat) → (IsAway seat × IsNotFoundAt d seat) × IsSeated t.pool.member seat
+    → IsAway (seat_step (Lose d) t.pool seat)
+lose_away d t off (At e found own) is = by (d == e) is.0.1 (λ same. same_device d e same)
   where
-    by : (t : Bool) → (t ≡ true → found ≡ false) → IsAway (cond t (Adrift (leaf_seen p.group.frozen p.scan.running (told p) (At e found own))) (At e found own))
-    by true un = ap (λ f. dev_if f e) (un refl)
-    by false un = tt
-lose_away d p (Adrift leaf) is = is.0
+    by : (x : Bool) → (x ≡ true → found ≡ false) → (x ≡ true → d ≡ e)
+        → IsAway (cond x (Adrift (leaf_seen t.pool.group.frozen t.pool.scan.running (told t.pool) (At e found own))) (At e found own))
+    by true un same = (ap (λ f. dev_if f e) (un refl),
+        subst (λ n. t.pool.member n ≡ true → cond t.pool.group.frozen (t.pool.group.board n) false ≡ false) (same refl) off is.1)
+    by false un same = tt
+lose_away d t off (Adrift leaf) is = is.0.0
 
 -- what is so of a seat, by where it is
 seat_cases : (Q : Seat → Type 0) → ((d : ℕ) (found : Bool) (own : OwnLeaf) → Q (At d found own)) → ((leaf : LeafSeen) → Q (Adrift leaf)) → (seat : Seat) → Q seat
@@ -219,26 +235,37 @@ both_all : {A : Type 0} (P Q : A → Type 0) (xs : List A) → AllByRecursion P 
 both_all P Q [] a b = tt
 both_all P Q (x ∷ xs) a b = ((a.0, b.0), both_all P Q xs a.1 b.1)
 
-away_kept : (v : Move) (t : Side) → Admits t v → ((d : ℕ) → t.pool.member d ≡ true → AllByRecursion (IsOwnNumber t.pool.guid d) t.seats) → AllByRecursion IsAway t.seats
-    → AllByRecursion IsAway (seats_by v t)
-away_kept (Makes noted) t ok numbered all = all
-away_kept (Puts a block) t ok numbered all = all
-away_kept (Wrote_key k) t ok numbered all = all
-away_kept Flushed_all t ok numbered all = all
-away_kept (Starts draft) t ok numbered all = all
-away_kept (Copies draft d) t ok numbered all = all
-away_kept (Copied draft d) t ok numbered all = all
-away_kept (Sets m own) t ok numbered all = all_map IsAway IsAway (seat_step (Sets m own) t.pool) (set_away m own t.pool) t.seats all
-away_kept (Finds m d) t ok numbered all = all_map (λ seat. IsAway seat × IsNotNumber m seat) IsAway (seat_step (Finds m d) t.pool) (find_away m d t.pool) t.seats
+away_kept : (v : Move) (t : Side) → Admits t v → ((d : ℕ) → t.pool.member d ≡ true → AllByRecursion (IsOwnNumber t.pool.guid d) t.seats)
+    → (t.pool.group.frozen ≡ true → (d : ℕ) → t.pool.member d ≡ true → t.pool.group.board d ≡ true → HasFound d t.seats) → AllByRecursion (IsSeated t.pool.member) t.seats
+    → AllByRecursion IsAway t.seats → AllByRecursion IsAway (seats_by v t)
+away_kept (Makes noted) t ok numbered boarded seated all = all
+away_kept (Puts a block) t ok numbered boarded seated all = all
+away_kept (Wrote_key k) t ok numbered boarded seated all = all
+away_kept Flushed_all t ok numbered boarded seated all = all
+away_kept (Starts draft) t ok numbered boarded seated all = all
+away_kept (Copies draft d) t ok numbered boarded seated all = all
+away_kept (Copied draft d) t ok numbered boarded seated all = all
+away_kept (Sets m own) t ok numbered boarded seated all = all_map IsAway IsAway (seat_step (Sets m own) t.pool) (set_away m own t.pool) t.seats all
+away_kept (Finds m d) t ok numbered boarded seated all = all_map (λ seat. IsAway seat × IsNotNumber m seat) IsAway (seat_step (Finds m d) t.pool) (find_away m d t.pool) t.seats
     (both_all IsAway (IsNotNumber m) t.seats all (all_same (IsOwnNumber t.pool.guid d) (IsNotNumber m) (not_number t.pool.guid m d ok.1) t.seats (numbered d ok.0)))
-away_kept (Lose d) t ok numbered all = all_map (λ seat. IsAway seat × IsNotFoundAt d seat) IsAway (seat_step (Lose d) t.pool) (lose_away d t.pool) t.seats
-    (both_all IsAway (IsNotFoundAt d) t.seats all ok)
-away_kept (Comes i d m top own) t ok numbered all = all_insert IsAway t.seats i (At d true own) tt all
-away_kept (Goes i) t ok numbered all = all_remove IsAway t.seats i all
-away_kept (Returns i seat leaf) t ok numbered all = all_insert IsAway t.seats i seat ok.away all
-away_kept (Clear d) t ok numbered all = all_map IsAway IsAway (seat_step (Clear d) t.pool) (clear_away d t.pool) t.seats all
-away_kept v t ok numbered all = all_map IsAway IsAway (seat_step v t.pool)
-    (seat_cases (λ seat. IsAway seat → IsAway (seat_step v t.pool seat)) (λ d found own is. tt) (λ leaf is. is)) t.seats all
+away_kept (Lose d) t ok numbered boarded seated all = all_map (λ seat. (IsAway seat × IsNotFoundAt d seat) × IsSeated t.pool.member seat) IsAway (seat_step (Lose d) t.pool)
+    (lose_away d t (off_board t d boarded ok)) t.seats
+    (both_all (λ seat. IsAway seat × IsNotFoundAt d seat) (IsSeated t.pool.member) t.seats (both_all IsAway (IsNotFoundAt d) t.seats all ok) seated)
+away_kept (Comes i d m top own) t ok numbered boarded seated all = all_insert IsAway t.seats i (At d true own) tt all
+away_kept (Goes i) t ok numbered boarded seated all = all_remove IsAway t.seats i all
+away_kept (Returns i seat leaf) t ok numbered boarded seated all = all_insert IsAway t.seats i seat ok.away all
+away_kept (Clear d) t ok numbered boarded seated all = all_map IsAway IsAway (seat_step (Clear d) t.pool) (clear_away d t.pool) t.seats all
+away_kept (Freeze cells board) t ok numbered boarded seated all = all_map IsAway IsAway (seat_step (Freeze cells board) t.pool)
+    (seat_cases (λ seat. IsAway seat → IsAway (seat_step (Freeze cells board) t.pool seat)) (λ d found own is. tt) (λ leaf is. (is.0, ap (on_dev board) is.0))) t.seats all
+away_kept (Leave d) t ok numbered boarded seated all = all_map IsAway IsAway (seat_step (Leave d) t.pool)
+    (seat_cases (λ seat. IsAway seat → IsAway (seat_step (Leave d) t.pool seat)) (λ e found own is. tt)
+    (λ leaf is. (is.0, ap (λ x. cond (on_dev (λ e. d == e) x) false leaf.on) is.0 ∙ is.1))) t.seats all
+away_kept Burn t ok numbered boarded seated all = all_map IsAway IsAway (seat_step Burn t.pool)
+    (seat_cases (λ seat. IsAway seat → IsAway (seat_step Burn t.pool seat)) (λ d found own is. tt) (λ leaf is. (is.0, refl))) t.seats all
+away_kept (Commits draft) t ok numbered boarded seated all = all_map IsAway IsAway (seat_step (Commits draft) t.pool)
+    (seat_cases (λ seat. IsAway seat → IsAway (seat_step (Commits draft) t.pool seat)) (λ d found own is. tt) (λ leaf is. (is.0, refl))) t.seats all
+away_kept v t ok numbered boarded seated all = all_map IsAway IsAway (seat_step v t.pool)
+    (seat_cases (λ seat. IsAway seat → IsAway (seat_step v t.pool seat)) (λ d found own is. tt) (λ leaf is. (is.0, is.1))) t.seats all
 
 -- No leaf has another member's number.
 number_map : (v : Move) (p : Pool) (guid : ℕ → Guid) (d : ℕ) → ((e : ℕ) (found : Bool) (own : OwnLeaf) → IsOwnNumber guid d (At e found own) → IsOwnNumber guid d (seat_step v p (At e found own)))
@@ -390,9 +417,112 @@ boarded_kept (Finds m e) t ok boarded f d is on = found_map (Finds m e) t d (λ 
 boarded_kept (Lose e) t ok boarded f d is on = let was = not_lost e d t.pool.member is in
     found_map (Lose e) t d (λ x found own there. lose_found t.pool e d x found own was.0 there) (boarded f d was.1 on)
 boarded_kept (Comes i e m top own) t ok boarded f d is on = come_found t i e m own d (boarded f d) is on
-boarded_kept (Goes i) t ok boarded f d is on = never_both t.pool.group.frozen ok f
+boarded_kept (Goes i) t ok boarded f d is on = never_both t.pool.group.frozen ok.idle f
 boarded_kept (Returns i seat leaf) t ok boarded f d is on = never_both t.pool.group.frozen ok.idle f
 boarded_kept v t ok boarded f d is on = found_map v t d (λ e found own there. there) (boarded f d is on)
+
+-- Where a member stands under a top, some leaf does.
+under_map : (in_top : ℕ → ℕ) (top : ℕ) (k : Seat → Seat) → ((seat : Seat) → IsUnder in_top top seat → IsUnder in_top top (k seat)) → (seats : List Seat)
+    → HasUnder in_top top seats → HasUnder in_top top (map k seats)
+under_map in_top top k one [] has = has
+under_map in_top top k one (seat ∷ seats) (inl is) = inl (one seat is)
+under_map in_top top k one (seat ∷ seats) (inr has) = inr (under_map in_top top k one seats has)
+
+under_insert : (in_top : ℕ → ℕ) (top : ℕ) (seats : List Seat) (i : ℕ) (seat : Seat) → HasUnder in_top top seats → HasUnder in_top top (insert seats i seat)
+under_insert in_top top seats zero seat has = inr has
+under_insert in_top top [] (suc i) seat has = absurd has
+under_insert in_top top (x ∷ seats) (suc i) seat (inl is) = inl is
+under_insert in_top top (x ∷ seats) (suc i) seat (inr has) = inr (under_insert in_top top seats i seat has)
+
+under_new : (in_top : ℕ → ℕ) (top : ℕ) (seats : List Seat) (i : ℕ) (seat : Seat) → IsUnder in_top top seat → HasUnder in_top top (insert seats i seat)
+under_new in_top top seats zero seat is = inl is
+under_new in_top top [] (suc i) seat is = inl is
+under_new in_top top (x ∷ seats) (suc i) seat is = inr (under_new in_top top seats i seat is)
+
+-- a leaf's top stays
+top_stays : (v : Move) (number first hi : ℕ) (leaf : LeafSeen) → (leaf_step v number first hi leaf).top ≡ leaf.top
+top_stays (Sets m own) number first hi leaf = by (leaf.guid.0 == m.0)
+  where
+    by : (t : Bool) → (cond t (record leaf { own = own }) leaf).top ≡ leaf.top
+    by true = refl
+    by false = refl
+top_stays (Finds m d) number first hi leaf = by (leaf.guid.0 == m.0)
+  where
+    by : (t : Bool) → (cond t (record leaf { dev = Some d }) leaf).top ≡ leaf.top
+    by true = refl
+    by false = refl
+top_stays (Clear d) number first hi leaf = by (on_dev (λ e. d == e) leaf.dev)
+  where
+    by : (t : Bool) → (cond t (leaf_cleared hi leaf) leaf).top ≡ leaf.top
+    by true = refl
+    by false = refl
+top_stays v number first hi leaf = refl
+
+under_step : (v : Move) (p : Pool) (top : ℕ) → ((d : ℕ) (found : Bool) (own : OwnLeaf) → p.in_top d ≡ top → IsUnder p.in_top top (seat_step v p (At d found own)))
+    → (seats : List Seat) → HasUnder p.in_top top seats → HasUnder p.in_top top (map (seat_step v p) seats)
+under_step v p top at seats has = under_map p.in_top top (seat_step v p) (seat_cases (λ seat. IsUnder p.in_top top seat → IsUnder p.in_top top (seat_step v p seat)) at
+    (λ leaf is. top_stays v p.highest p.group.first p.scan.hi leaf ∙ is)) seats has
+
+lose_under : (p : Pool) (x top d : ℕ) (found : Bool) (own : OwnLeaf) → p.in_top d ≡ top → IsUnder p.in_top top (seat_step (Lose x) p (At d found own))
+lose_under p x top d found own is = by (x == d)
+  where
+    by : (t : Bool) → IsUnder p.in_top top (cond t (Adrift (leaf_seen p.group.frozen p.scan.running (told p) (At d found own))) (At d found own))
+    by true = is
+    by false = is
+
+-- behind a record that is acknowledged: each seat has its top
+commit_under : (p : Pool) (draft : Draft) (top : ℕ) (seats : List Seat) → AllByRecursion (IsDrafted p draft) seats → HasUnder p.in_top top seats
+    → HasUnder (λ d. draft.tops (p.guid d)) top (map (seat_step (Commits draft) p) seats)
+commit_under p draft top [] all has = has
+commit_under p draft top (At d found own ∷ seats) all (inl is) = inl (all.0.1 ∙ is)
+commit_under p draft top (Adrift leaf ∷ seats) all (inl is) = inl is
+commit_under p draft top (At d found own ∷ seats) all (inr has) = inr (commit_under p draft top seats all.1 has)
+commit_under p draft top (Adrift leaf ∷ seats) all (inr has) = inr (commit_under p draft top seats all.1 has)
+
+come_under : (p : Pool) (d top new : ℕ) (seats : List Seat) → AllByRecursion (IsElsewhere d) seats → HasUnder p.in_top top seats → HasUnder (at_device d new p.in_top) top seats
+come_under p d top new [] off has = has
+come_under p d top new (At e found own ∷ seats) off (inl is) = inl (ap (λ t. cond t new (p.in_top e)) off.0 ∙ is)
+come_under p d top new (Adrift leaf ∷ seats) off (inl is) = inl is
+come_under p d top new (At e found own ∷ seats) off (inr has) = inr (come_under p d top new seats off.1 has)
+come_under p d top new (Adrift leaf ∷ seats) off (inr has) = inr (come_under p d top new seats off.1 has)
+
+come_topped : (t : Side) (i e : ℕ) (m : Guid) (top : ℕ) (own : OwnLeaf) → MayCome t e m → ((d : ℕ) → t.pool.member d ≡ true → 1 ≤ t.pool.in_top d → HasUnder t.pool.in_top (t.pool.in_top d) t.seats)
+    → (d : ℕ) → at_device e true (other_than m t.pool.guid t.pool.member) d ≡ true → 1 ≤ at_device e top t.pool.in_top d
+    → HasUnder (at_device e top t.pool.in_top) (at_device e top t.pool.in_top d) (insert t.seats i (At e true own))
+come_topped t i e m top own ok topped d is one = by (e == d) refl is one
+  where
+    In : ℕ → ℕ
+    In = at_device e top t.pool.in_top
+
+    by : (x : Bool) → (e == d) ≡ x → cond x true (other_than m t.pool.guid t.pool.member d) ≡ true → 1 ≤ cond x top (t.pool.in_top d)
+        → HasUnder In (cond x top (t.pool.in_top d)) (insert t.seats i (At e true own))
+    by true same is one = under_new In top t.seats i (At e true own) (ap (λ x. cond x top (t.pool.in_top e)) (here e))
+    by false away is one = under_insert In (t.pool.in_top d) t.seats i (At e true own)
+        (come_under t.pool e (t.pool.in_top d) top t.seats ok.elsewhere (topped d (other_members m t.pool.guid t.pool.member d is).1 one))
+
+topped_kept : (c : Codec) (v : Move) (s : PoolState) (t : Side) → Mays c t.pool (events_of v t.pool) → Admits t v → Kept c s t
+    → (d : ℕ) → (after_move v t).pool.member d ≡ true → 1 ≤ (after_move v t).pool.in_top d → HasUnder (after_move v t).pool.in_top ((after_move v t).pool.in_top d) (seats_by v t)
+topped_kept c (Makes noted) s t may ok kept d is one = kept.topped d is one
+topped_kept c (Puts a block) s t may ok kept d is one = kept.topped d is one
+topped_kept c (Wrote_key k) s t may ok kept d is one = kept.topped d is one
+topped_kept c Flushed_all s t may ok kept d is one = kept.topped d is one
+topped_kept c (Starts draft) s t may ok kept d is one = kept.topped d is one
+topped_kept c (Copies draft e) s t may ok kept d is one = kept.topped d is one
+topped_kept c (Copied draft e) s t may ok kept d is one = kept.topped d is one
+topped_kept c (Commits draft) s t may ok kept d is one =
+    of (kept.survives.placed.newest ok.0 may.0.begun (rec_of t.pool draft) may.0.rest d may.0.newest is)
+  where
+    of : (draft.tops (t.pool.guid d) ≡ t.pool.in_top d) ⊎ (draft.tops (t.pool.guid d) ≡ 0)
+        → HasUnder (λ d. draft.tops (t.pool.guid d)) (draft.tops (t.pool.guid d)) (map (seat_step (Commits draft) t.pool) t.seats)
+    of (inl same) = subst (λ top. HasUnder (λ d. draft.tops (t.pool.guid d)) top (map (seat_step (Commits draft) t.pool) t.seats)) (sym same)
+        (commit_under t.pool draft (t.pool.in_top d) t.seats ok.1 (kept.topped d is (subst (λ n. 1 ≤ n) same one)))
+    of (inr none) = absurd (omega (arith, one, none))
+topped_kept c (Lose e) s t may ok kept d is one = let was = not_lost e d t.pool.member is in
+    under_step (Lose e) t.pool (t.pool.in_top d) (lose_under t.pool e (t.pool.in_top d)) t.seats (kept.topped d was.1 one)
+topped_kept c (Comes i e m top own) s t may ok kept d is one = come_topped t i e m top own ok kept.topped d is one
+topped_kept c (Goes i) s t may ok kept d is one = ok.topped d is one
+topped_kept c (Returns i seat leaf) s t may ok kept d is one = under_insert t.pool.in_top (t.pool.in_top d) t.seats i seat (kept.topped d is one)
+topped_kept c v s t may ok kept d is one = under_step v t.pool (t.pool.in_top d) (λ e found own under. under) t.seats (kept.topped d is one)
 
 -- What a read answers.
 put_over : (t : Bool) (block below was : List ℕ) (write : Option (List ℕ)) → was ≡ over write below → cond t block was ≡ over (cond t (Some block) write) below
@@ -423,9 +553,10 @@ move_keeps c v s t may ok kept = record {
   core = ap (step v) kept.core ∙ sym (seen_step c v s t kept ok);
   apart = apart_kept v t ok kept.apart;
   seated = seated_kept v t ok kept.seated;
-  away = away_kept v t ok kept.numbered kept.away;
+  away = away_kept v t ok kept.numbered kept.boarded kept.seated kept.away;
   numbered = numbered_kept v t ok kept.numbered;
   boarded = boarded_kept v t ok kept.boarded;
+  topped = topped_kept c v s t may ok kept;
   written = written_kept c v s t kept ok;
   survives = history_survives c (events_of v t.pool) t.pool kept.survives may;
 }

@@ -13,7 +13,7 @@ use Rattle.txg_history.specs.Pools.{Pool, after, pool_after, kept_in, whole_log}
 use Rattle.txg_history.specs.Records.{Cell, Cells, cell_over, laid_over}
 use Rattle.txg_history.specs.Scans.{scanned_log}
 use Rattle.txg_history.proofs.Logging.{by_bool, same_device}
-use Rattle.pool_moves.specs.Keeping.{IsElsewhere, IsSeated, IsOwnNumber, IsOfFound, IsWholeLog, MayCome, MayReturn, Admits, Kept}
+use Rattle.pool_moves.specs.Keeping.{IsElsewhere, IsSeated, IsOwnNumber, IsOfFound, IsDrafted, MayCome, MayReturn, Admits, Kept}
 use Rattle.pool_moves.specs.Leaves.{OwnLeaf, LeafSeen, Seat, At, Adrift, dev_if, Told, told, leaf_seen}
 use Rattle.pool_moves.specs.Moves.{Draft, Move, Makes, Puts, Freeze, Wrote_key, Flushed_all, Draw, Leave, Widen, Burn, Starts, Copies, Copied, Commits, Sets, Finds, Lose, Comes, Goes, Returns, Scan_from, Pass, Drop, Clear, Rest, log_grown, leaf_cleared, leaf_step, leaves_step, step, sum_over, sums_over, rec_of, of_number, seat_step, seats_by, after_move, new_leaf}
 use Rattle.pool_moves.specs.States.{Sums, sums, PoolSeen, seen_by, Side, seen, PoolState}
@@ -150,19 +150,20 @@ laid_sum None old = refl
 laid_sums : (new old : Cells) → sums (laid_over new old) ≡ sums_over new (sums old)
 laid_sums new old = fun_ext (λ k. laid_sum (new k) (old k))
 
-commit_leaf : (r : Bool) (p : Pool) (draft : Draft) (hi : ℕ) (seat : Seat) → IsWholeLog p seat
+commit_leaf : (r : Bool) (p : Pool) (draft : Draft) (hi : ℕ) (seat : Seat) → IsDrafted p draft seat
     → leaf_seen false r (told (after (Acks (rec_of p draft)) p)) (seat_step (Commits draft) p seat)
     ≡ leaf_step (Commits draft) p.highest p.group.first hi (leaf_seen true r (told p) seat)
 commit_leaf r p draft hi (At d found own) fits =
-    ap (λ log. record (leaf_seen false r (told p) (At d found own)) { top = draft.tops (p.guid d); settled = log }) fits
+    ap (λ log. record (leaf_seen false r (told p) (At d found own)) { top = draft.tops (p.guid d); settled = log }) fits.0
+    ∙ ap (λ top. record (leaf_seen false r (told p) (At d found own)) { top = top; settled = p.owes d }) fits.1
 commit_leaf r p draft hi (Adrift leaf) fits = refl
 
-commit_seen : (t : Side) (draft : Draft) → t.pool.group.frozen ≡ true → AllByRecursion (IsWholeLog t.pool) t.seats
+commit_seen : (t : Side) (draft : Draft) → t.pool.group.frozen ≡ true → AllByRecursion (IsDrafted t.pool draft) t.seats
     → seen (after_move (Commits draft) t) ≡ step (Commits draft) (seen t)
 commit_seen t draft g fits = subst (λ f. seen_by false r (seats_by (Commits draft) t) (after (Acks (rec_of p draft)) p) ≡ step (Commits draft) (seen_by f r t.seats p)) (sym g)
     (ap (λ leaves. record (seen_by false r (seats_by (Commits draft) t) (after (Acks (rec_of p draft)) p)) { leaves = leaves })
     (each_seat (leaf_seen true r (told p)) (leaf_seen false r (told (after (Acks (rec_of p draft)) p))) (leaf_step (Commits draft) p.highest p.group.first (seen t).scan.hi)
-    (seat_step (Commits draft) p) (IsWholeLog p) (commit_leaf r p draft (seen t).scan.hi) t.seats fits)
+    (seat_step (Commits draft) p) (IsDrafted p draft) (commit_leaf r p draft (seen t).scan.hi) t.seats fits)
     ∙ ap (λ c. record (step (Commits draft) (seen_by true r t.seats p)) { committed = c }) (laid_sums p.group.cells p.reads.cells))
   where
     p : Pool

@@ -104,7 +104,7 @@ leaf_step Burn number first hi leaf = record leaf {
   settled = log_cleared first number leaf.settled;
   on = false;
 }
-leaf_step (Commits draft) number first hi leaf = record leaf { top = draft.tops leaf.guid; settled = leaf.owes; on = false }
+leaf_step (Commits draft) number first hi leaf = record leaf { settled = leaf.owes; on = false }
 leaf_step (Sets m own) number first hi leaf = cond (leaf.guid.0 == m.0) (record leaf { own = own }) leaf
 leaf_step (Finds m d) number first hi leaf = cond (leaf.guid.0 == m.0) (record leaf { dev = Some d }) leaf
 leaf_step (Scan_from high eligible) number first hi leaf = record leaf { eligible = on_dev eligible leaf.dev; scrub = no_log 0 }
