@@ -227,11 +227,11 @@ lose_away d t off (At e found own) is = by (d == e) is.0.1 (λ same. same_device
 lose_away d t off (Adrift leaf) is = is.0.0
 
 -- what is so of a seat, by where it is
-seat_cases : (Q : Seat → Type 0) → ((d : ℕ) (found : Bool) (own : OwnLeaf) → Q (At d found own)) → ((leaf : LeafSeen) → Q (Adrift leaf)) → (seat : Seat) → Q seat
+pub seat_cases : (Q : Seat → Type 0) → ((d : ℕ) (found : Bool) (own : OwnLeaf) → Q (At d found own)) → ((leaf : LeafSeen) → Q (Adrift leaf)) → (seat : Seat) → Q seat
 seat_cases Q at adrift (At d found own) = at d found own
 seat_cases Q at adrift (Adrift leaf) = adrift leaf
 
-both_all : {A : Type 0} (P Q : A → Type 0) (xs : List A) → AllByRecursion P xs → AllByRecursion Q xs → AllByRecursion (λ x. P x × Q x) xs
+pub both_all : {A : Type 0} (P Q : A → Type 0) (xs : List A) → AllByRecursion P xs → AllByRecursion Q xs → AllByRecursion (λ x. P x × Q x) xs
 both_all P Q [] a b = tt
 both_all P Q (x ∷ xs) a b = ((a.0, b.0), both_all P Q xs a.1 b.1)
 

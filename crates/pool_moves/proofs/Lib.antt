@@ -1,2 +1,5 @@
+pub mod Boarding
+pub mod FreeWalks
 pub mod Keeping
 pub mod Seeing
+pub mod TurnWalks
