@@ -26,7 +26,7 @@ all_at P (y ∷ xs) (suc i) x all e = all_at P xs i x all.1 e
 abbrev Shows : (which : LeafSeen → Bool) → Pool → (Which : ℕ → Type 0) → Type 0
 Shows which p Which = (d : ℕ) (own : OwnLeaf) → which (leaf_seen true p.scan.running (told p) (At d true own)) ≡ true → Which d
 
-abbrev leaves_of : Pool → List Seat → List LeafSeen
+abbrev pub leaves_of : Pool → List Seat → List LeafSeen
 leaves_of p seats = map (leaf_seen true p.scan.running (told p)) seats
 
 -- the list with this leaf is one of these, where the rest is, and with its device too

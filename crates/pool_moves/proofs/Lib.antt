@@ -1,4 +1,5 @@
 pub mod Boarding
+pub mod Drafting
 pub mod FreeWalks
 pub mod Keeping
 pub mod Seeing

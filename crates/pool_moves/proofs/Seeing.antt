@@ -143,7 +143,7 @@ burn_seen t g = subst (λ f. seen_by false r (seats_by Burn t) (after Burns p) �
     r = t.pool.scan.running
 
 -- A record is acknowledged.
-laid_sum : (cell old : Option Cell) → sum_of (cell_over cell old) ≡ sum_over cell (sum_of old)
+pub laid_sum : (cell old : Option Cell) → sum_of (cell_over cell old) ≡ sum_over cell (sum_of old)
 laid_sum (Some cell) old = refl
 laid_sum None old = refl
 
