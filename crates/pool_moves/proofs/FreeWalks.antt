@@ -1,5 +1,5 @@
 -- Free moves, one after another, and what the history gets of them.
-use Rattle.std.proofs.Common.{◌≡◌, ℕ, ◌==◌, Bool, true, false, List, [], ◌∷◌, ◌++◌, map, refl, sym, ap, ◌∙◌, subst, append-nil}
+use Rattle.std.proofs.Common.{◌≡◌, ℕ, ◌==◌, Bool, true, false, List, [], ◌∷◌, ◌++◌, map, refl, sym, ap, ◌∙◌, subst, append-nil, append_assoc}
 use Rattle.std.specs.List.{AllByRecursion}
 use Rattle.bank_core.specs.Disk.{Noted}
 use Rattle.label_store.specs.declared.member.Member.{Member}
@@ -34,6 +34,11 @@ moves_more (v ∷ vs) ws t = moves_more vs ws (after_move v t)
 pub pool_along : (vs : List Move) (t : Side) → (after_moves vs t).pool ≡ pool_after (events_along vs t) t.pool
 pool_along [] t = refl
 pool_along (v ∷ vs) t = pool_along vs (after_move v t) ∙ sym (pool_more (events_of v t.pool) (events_along vs (after_move v t)) t.pool)
+
+pub events_more : (vs ws : List Move) (t : Side) → events_along (vs ++ ws) t ≡ events_along vs t ++ events_along ws (after_moves vs t)
+events_more [] ws t = refl
+events_more (v ∷ vs) ws t = ap (λ l. events_of v t.pool ++ l) (events_more vs ws (after_move v t))
+    ∙ sym (append_assoc (events_of v t.pool) (events_along vs (after_move v t)) (events_along ws (after_moves vs (after_move v t))))
 
 -- Free moves.
 free_frozen : (v : Move) (t : Side) → IsFree t.seats v → (after_move v t).pool.group.frozen ≡ t.pool.group.frozen

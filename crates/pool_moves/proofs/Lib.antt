@@ -2,5 +2,6 @@ pub mod Boarding
 pub mod Drafting
 pub mod FreeWalks
 pub mod Keeping
+pub mod RoundWalks
 pub mod Seeing
 pub mod TurnWalks

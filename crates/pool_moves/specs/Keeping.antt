@@ -2,6 +2,7 @@
 use Rattle.std.specs.Prelude.{◌≡◌, ◌⊎◌, ℕ, ◌≤◌, ◌==◌, Bool, true, false, cond, Option, Some, None, List, [], ◌∷◌, take}
 use Rattle.std.specs.List.{AllByRecursion, remove}
 use Rattle.mp_base.specs.declared.number.Guid.{Guid}
+use Rattle.txg_history.specs.Groups.{Logs}
 use Rattle.txg_history.specs.Moves.{Mays}
 use Rattle.txg_history.specs.Pages.{Codec}
 use Rattle.txg_history.specs.Pools.{Pool}
@@ -83,9 +84,12 @@ IsOfFound which (At d found own) = found ≡ false → which d ≡ false
 IsOfFound which (Adrift leaf) = Unit {0}
 
 -- the draft has the seat's leaf under its top, and what its log has held since the round began is its log of now
+abbrev pub IsDraftedBy : (unbroken owes : Logs) → (guid : ℕ → Guid) → (in_top : ℕ → ℕ) → Draft → Seat → Type 0
+IsDraftedBy unbroken owes guid in_top draft (At d found own) = (unbroken d ≡ owes d) × (draft.tops (guid d) ≡ in_top d)
+IsDraftedBy unbroken owes guid in_top draft (Adrift leaf) = Unit {0}
+
 abbrev pub IsDrafted : Pool → Draft → Seat → Type 0
-IsDrafted p draft (At d found own) = (p.unbroken d ≡ p.owes d) × (draft.tops (p.guid d) ≡ p.in_top d)
-IsDrafted p draft (Adrift leaf) = Unit {0}
+IsDrafted p draft seat = IsDraftedBy p.unbroken p.owes p.guid p.in_top draft seat
 
 -- the run has not found a leaf at this device
 abbrev pub IsNotFoundAt : (d : ℕ) → Seat → Type 0
