@@ -6,14 +6,17 @@ use Rattle.vdev_tree.specs.declared.vdev.State.{State}
 use Rattle.txg_history.specs.Groups.{Logs, no_log}
 use Rattle.txg_history.specs.Pools.{Pool}
 
--- What the code knows of a leaf and no device call tells: its name, its state, whether it is OFFLINE only until the next
--- opening, whether it is marked to come back, and its counts.
+-- What the code knows of a leaf and no event tells: its name, its state, whether it is OFFLINE only until the next opening,
+-- whether it is marked to come back, its counts, and, of the last frozen group, whether it was on the board at the freeze and
+-- how many of its calls failed since.
 pub record OwnLeaf : Type 0 where
   pub name : List ℕ
   pub mode : State
   pub temporary : Bool
   pub marked : Bool
   pub counts : Counts
+  pub joined : Bool
+  pub faults : ℕ
 
 -- A leaf: its member number, its device in this run, if it was found, its top, from 1 on, its log and what of it is
 -- settled, whether it is on the board of a frozen group, and, of the scan that runs, whether it is eligible and its SCRUB log.

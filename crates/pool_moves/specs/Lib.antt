@@ -1,5 +1,6 @@
 pub mod Boards
 pub mod Drafts
+pub mod FreezeRow
 pub mod Keeping
 pub mod Leaves
 pub mod Moves
