@@ -3,6 +3,7 @@ pub mod Drafting
 pub mod FreeWalks
 pub mod FreezeWalks
 pub mod Keeping
+pub mod LineWalks
 pub mod RoundWalks
 pub mod Seeing
 pub mod TurnWalks

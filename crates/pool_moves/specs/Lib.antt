@@ -3,6 +3,7 @@ pub mod Drafts
 pub mod FreezeRow
 pub mod Keeping
 pub mod Leaves
+pub mod LineRows
 pub mod Moves
 pub mod States
 pub mod TurnRows

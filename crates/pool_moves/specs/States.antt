@@ -99,10 +99,12 @@ pub record Side : Type 0 where
 abbrev pub seen : Side → PoolSeen
 seen t = seen_by t.pool.group.frozen t.pool.scan.running t.seats t.pool
 
--- What is only in memory: the volume's size in blocks, and the open writes.
+-- What no event tells: the volume's size in blocks, the open writes, the tops' own numbers, and the next member number.
 pub record Own : Type 0 where
   pub blocks : ℕ
   pub writes : ℕ → Option (List ℕ)
+  pub top_number : ℕ → Guid
+  pub next_member : ℕ
 
 pub record PoolState : Type 0 where
   pub own : Own

@@ -17,7 +17,7 @@ use Rattle.txg_history.specs.Rounds.{all_true}
 use Rattle.txg_history.specs.Turns.{write_plan, flush_plan}
 use Rattle.pool_moves.specs.Boards.{board_of, board_under, emptied}
 use Rattle.pool_moves.specs.Drafts.{draft_of}
-use Rattle.pool_moves.specs.Leaves.{LeafSeen}
+use Rattle.pool_moves.specs.FreezeRow.{IsBefore}
 use Rattle.pool_moves.specs.Moves.{Draft, Move, Wrote_key, Flushed_all, Draw, Burn, Starts, Copies, Copied, Commits, sums_over}
 use Rattle.pool_moves.specs.States.{PoolSeen, PoolState}
 use Rattle.pool_moves.specs.Walking.{as_moves, leave_moves}
@@ -26,7 +26,7 @@ use Rattle.pool_moves.specs.Walking.{as_moves, leave_moves}
 abbrev pub turn_moves : List Noted → List Member → (results : List Bool) → Move → List Move
 turn_moves made members results mark = as_moves made ++ (leave_moves members results ++ (mark ∷ []))
 
--- A write turn: the block of a key, whose turn hasn't ended, goes to each leaf of its top that is on the board.
+-- A write turn: the block of the least key whose turn hasn't ended goes to each leaf of its top that is on the board.
 pub record RowWriteTurn (s : PoolSeen) (vs : List Move) : Type 0 where
   pub frozen : s.group.frozen ≡ true
   pub unflushed : s.group.flushed ≡ false
@@ -34,6 +34,7 @@ pub record RowWriteTurn (s : PoolSeen) (vs : List Move) : Type 0 where
   pub cell : Cell
   pub cell_is : s.group.cells key ≡ Some cell
   pub undone : s.group.done key ≡ false
+  pub least : (j : Key) (other : Cell) → s.group.cells j ≡ Some other → s.group.done j ≡ false → IsBefore j key → ⊥
   pub made : List Noted
   pub results : List Bool
   pub calls : IsPhase (write_plan cell) (board_under cell.top s.leaves) (map (λ m. true) (board_under cell.top s.leaves)) results made
