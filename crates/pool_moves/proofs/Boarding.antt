@@ -118,7 +118,7 @@ members_apart which p (Adrift leaf ∷ seats) away apart =
     before_all AreApart (which leaf) leaf.dev leaf.guid (members_where which (leaves_of p seats)) (members_apart which p seats away.1 apart) (λ d is dev. no_dev leaf.dev d away.0.0 dev)
 
 -- No leaf that the run has not found is at a member's device of such a list.
-found_alone : (d : ℕ) (seats : List Seat) → AllByRecursion (IsElsewhere d) seats → AllByRecursion (IsOfFound (λ e. d == e)) seats
+pub found_alone : (d : ℕ) (seats : List Seat) → AllByRecursion (IsElsewhere d) seats → AllByRecursion (IsOfFound (λ e. d == e)) seats
 found_alone d [] off = tt
 found_alone d (At e found own ∷ seats) off = ((λ un. off.0), found_alone d seats off.1)
 found_alone d (Adrift leaf ∷ seats) off = (tt, found_alone d seats off.1)

@@ -42,7 +42,7 @@ up_found f p d (Adrift leaf ∷ seats) away on =
     (or_parts (is_up leaf.own.mode && is_dev d leaf.dev) (up_devs (leaves_by f p seats) d) on)
 
 -- a device of a leaf that was not found is none of these
-found_elsewhere : {A : Type 0} (d : ℕ) (seats : List Seat) → AllByRecursion (IsElsewhere d) seats → HasFound d seats → A
+pub found_elsewhere : {A : Type 0} (d : ℕ) (seats : List Seat) → AllByRecursion (IsElsewhere d) seats → HasFound d seats → A
 found_elsewhere d [] off has = absurd has
 found_elsewhere d (At e found own ∷ seats) off (inl is) = true_not_false (d == e) is.0 off.0
 found_elsewhere d (Adrift leaf ∷ seats) off (inl is) = absurd is

@@ -1,3 +1,4 @@
+pub mod AwayWalks
 pub mod Boarding
 pub mod Drafting
 pub mod FreeWalks

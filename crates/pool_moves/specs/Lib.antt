@@ -1,3 +1,4 @@
+pub mod AwayRows
 pub mod Boards
 pub mod Drafts
 pub mod FreezeRow
