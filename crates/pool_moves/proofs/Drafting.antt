@@ -15,17 +15,12 @@ use Rattle.pool_moves.specs.Boards.{is_on_under, has_on, emptied_of, emptied}
 use Rattle.pool_moves.specs.Drafts.{top_in, owes_in, draft_of}
 use Rattle.pool_moves.specs.Keeping.{IsElsewhere, IsAway, IsSeated, IsOwnNumber, IsFoundAt, HasFound, IsUnder, HasUnder, Kept}
 use Rattle.pool_moves.specs.Leaves.{OwnLeaf, LeafSeen, Seat, At, Adrift, told, leaf_seen}
+use Rattle.pool_moves.specs.Making.{HasSeat}
 use Rattle.pool_moves.specs.Moves.{Draft, rec_of, sums_over}
 use Rattle.pool_moves.specs.States.{PoolSeen, PoolState, Side, sums, seen_by}
 use Rattle.pool_moves.specs.TurnRows.{FitsState}
 use Rattle.pool_moves.proofs.Boarding.{leaves_of, frozen_core}
 use Rattle.pool_moves.proofs.Seeing.{laid_sum}
-
--- a seat is at this device
-abbrev HasSeat : (d : ℕ) → List Seat → Type 0
-HasSeat d [] = ⊥
-HasSeat d (At e found own ∷ seats) = ((d == e) ≡ true) ⊎ HasSeat d seats
-HasSeat d (Adrift leaf ∷ seats) = HasSeat d seats
 
 -- a seat at a device of the list
 abbrev HasOwnSeat : List Seat → Seat → Type 0

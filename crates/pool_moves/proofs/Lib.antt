@@ -5,6 +5,7 @@ pub mod FreeWalks
 pub mod FreezeWalks
 pub mod Keeping
 pub mod LineWalks
+pub mod Making
 pub mod RoundWalks
 pub mod Seeing
 pub mod TurnWalks

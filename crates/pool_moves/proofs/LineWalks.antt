@@ -9,7 +9,7 @@ use Rattle.txg_history.specs.Pages.{Codec}
 use Rattle.pool_moves.specs.Boards.{board_of, board_under, emptied}
 use Rattle.pool_moves.specs.Keeping.{Kept, Walks}
 use Rattle.pool_moves.specs.Leaves.{LeafSeen, Seat}
-use Rattle.pool_moves.specs.LineRows.{TurnReply, Write, Flush, Round, Committed, sets_failed, has_number, count_moves, EndsBy, EndsTurn, IsTurnOf, IsWritePart, IsFlushPart, IsRoundPart, StartsBy, TurnBy, RowTurn, AreTurns, moves_in, EndsGroup, CommitsOpen, SyncBy, RowSync}
+use Rattle.pool_moves.specs.LineRows.{IsSized, TurnReply, Write, Flush, Round, Committed, sets_failed, has_number, count_moves, EndsBy, EndsTurn, IsTurnOf, IsWritePart, IsFlushPart, IsRoundPart, StartsBy, TurnBy, RowTurn, AreTurns, moves_in, EndsGroup, CommitsOpen, SyncBy, RowSync}
 use Rattle.pool_moves.specs.Moves.{Draft, Move, Makes, Freeze, Wrote_key, Flushed_all, Burn, Draw, Commits, Sets, steps, after_move, after_moves}
 use Rattle.pool_moves.specs.States.{PoolSeen, PoolState, Side}
 use Rattle.pool_moves.specs.TurnRows.{turn_moves, ended, IsThirdMoves, RowWriteTurn, RowFlushTurn, RowRound}
@@ -22,9 +22,6 @@ use Rattle.pool_moves.proofs.RoundWalks.{round_walks}
 use Rattle.pool_moves.proofs.TurnWalks.{write_turn_walks, flush_turn_walks}
 
 -- The run has the devices as the history has them, behind moves too.
-abbrev pub IsSized : (size : ℕ → ℕ) → Side → Type 0
-IsSized size t = (d : ℕ) → 1 ≤ size d → t.pool.size d ≡ size d
-
 size_step : (v : Move) (t : Side) → (after_move v t).pool.size ≡ t.pool.size
 size_step (Makes noted) t = refl
 size_step v t = refl

@@ -5,6 +5,7 @@ pub mod FreezeRow
 pub mod Keeping
 pub mod Leaves
 pub mod LineRows
+pub mod Making
 pub mod Moves
 pub mod States
 pub mod TurnRows

@@ -1,5 +1,5 @@
 -- The lines that end a group, as rows: a turn, and a sync.
-use Rattle.std.specs.Prelude.{◌≡◌, ◌⊎◌, ℕ, ◌+◌, ◌-◌, ◌^◌, ◌==◌, ◌&&◌, min, Bool, true, false, cond, List, [], ◌∷◌, ◌++◌, Option, Some, None}
+use Rattle.std.specs.Prelude.{◌≡◌, ◌⊎◌, ℕ, ◌+◌, ◌-◌, ◌≤◌, ◌^◌, ◌==◌, ◌&&◌, min, Bool, true, false, cond, List, [], ◌∷◌, ◌++◌, Option, Some, None}
 use Rattle.std.specs.List.{find}
 use Rattle.std.specs.Option.{option_map}
 use Rattle.mp_base.specs.declared.number.Guid.{Guid}
@@ -10,8 +10,12 @@ use Rattle.pool_moves.specs.Boards.{board_of, board_under, emptied}
 use Rattle.pool_moves.specs.FreezeRow.{RowFreeze}
 use Rattle.pool_moves.specs.Leaves.{OwnLeaf, LeafSeen}
 use Rattle.pool_moves.specs.Moves.{Move, Draw, Burn, Sets, steps}
-use Rattle.pool_moves.specs.States.{PoolSeen, PoolState}
+use Rattle.pool_moves.specs.States.{PoolState, Side}
 use Rattle.pool_moves.specs.TurnRows.{RowWriteTurn, RowFlushTurn, RowRound}
+
+-- The run has each of its devices with the sectors that the history says.
+abbrev pub IsSized : (size : ℕ → ℕ) → Side → Type 0
+IsSized size t = (d : ℕ) → 1 ≤ size d → t.pool.size d ≡ size d
 
 -- What a turn answers. A suspended group is told by its first number, the member number of the first top whose board is
 -- empty, and how many calls failed since the freeze on those leaves of that top that were on the board then.
