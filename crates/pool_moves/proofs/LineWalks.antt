@@ -34,11 +34,11 @@ pub sized_along : (size : ℕ → ℕ) (vs : List Move) (t : Side) → IsSized s
 sized_along size vs t same d one = ap (λ f. f d) (size_along vs t) ∙ same d one
 
 -- Moves of what no event tells always may be made.
-abbrev IsSet : Move → Type 0
+abbrev pub IsSet : Move → Type 0
 IsSet (Sets m own) = Unit {0}
 IsSet v = ⊥
 
-sets_walk : (c : Codec) (vs : List Move) (t : Side) → AllByRecursion IsSet vs → Walks c t vs
+pub sets_walk : (c : Codec) (vs : List Move) (t : Side) → AllByRecursion IsSet vs → Walks c t vs
 sets_walk c [] t all = tt
 sets_walk c (Sets m own ∷ vs) t all = ((tt, tt), sets_walk c vs (after_move (Sets m own) t) all.1)
 sets_walk c (v ∷ vs) t all = absurd all.0

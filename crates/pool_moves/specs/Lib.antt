@@ -7,6 +7,7 @@ pub mod Leaves
 pub mod LineRows
 pub mod Making
 pub mod Moves
+pub mod ReadRow
 pub mod States
 pub mod TurnRows
 pub mod Walking

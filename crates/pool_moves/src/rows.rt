@@ -1,12 +1,14 @@
 //! Which moves the lines of a pool may make (docs/MODEL.md, "Moves").
-ghost use Rattle.std.specs.Prelude.{◌≡◌, ℕ, Bool, List};
-ghost use Rattle.txg_history.specs.Pages.{Codec};
+ghost use Rattle.std.specs.Prelude.{◌≡◌, ◌⊎◌, ℕ, Bool, List};
+ghost use Rattle.bank_core.specs.Disk.{AllAnswer};
+ghost use Rattle.txg_history.specs.Pages.{Codec, IsClash};
 ghost use Rattle.pool_moves.specs.AwayRows.{WriteReply, RowWrite, OfflineReply, RowOffline};
 ghost use Rattle.pool_moves.specs.FreezeRow.{RowFreeze, RowEmptyFreeze};
 ghost use Rattle.pool_moves.specs.Keeping.{Kept, Walks};
 ghost use Rattle.pool_moves.specs.LineRows.{IsSized, TurnReply, RowTurn, RowSync};
 ghost use Rattle.pool_moves.specs.Making.{IsMade};
 ghost use Rattle.pool_moves.specs.Moves.{Move};
+ghost use Rattle.pool_moves.specs.ReadRow.{ReadReply, Gives, RowRead, ClashesWith, made_in};
 ghost use Rattle.pool_moves.specs.States.{PoolState, Side};
 
 /// A pool that was just made is kept by its state, so nothing that is said of kept states is empty. It computes nothing: its
@@ -42,4 +44,16 @@ pub fn leaves_may_go_offline()
     ensures write { (c : Codec) (s : PoolState) (t : Side) (a : ℕ) (block : List ℕ) (vs : List Move) (reply : WriteReply) → RowWrite s a block vs reply → Walks c t vs }
     ensures offline { (c : Codec) (s : PoolState) (t : Side) (name : List ℕ) (temporary : Bool) (vs : List Move) (reply : OfflineReply) → Kept c s t
         → RowOffline s name temporary vs reply → Walks c t vs }
+{}
+
+/// A read may be made and gives the block that was written last, but where that block and the bytes of this very reply are
+/// two byte strings with one SHA-256 sum. It computes nothing: its clauses are the law.
+///
+/// `walk`: its reads, and the rewriting of copies that gave wrong bytes, on a bank whose calls answer as the disk model says.
+/// `right`: what it gives, whichever copies fail or are damaged.
+pub fn reads_give_the_block()
+    ensures walk { (c : Codec) (s : PoolState) (t : Side) (a : ℕ) (vs : List Move) (reply : ReadReply) → Kept c s t → AllAnswer t.pool.sectors (made_in vs)
+        → RowRead s a vs reply → Walks c t vs ⊎ ClashesWith (t.pool.written a) reply }
+    ensures right { (c : Codec) (s : PoolState) (t : Side) (a : ℕ) (vs : List Move) (bytes : List ℕ) → Kept c s t → RowRead s a vs (Gives bytes)
+        → (bytes ≡ t.pool.written a) ⊎ IsClash (t.pool.written a) bytes }
 {}
