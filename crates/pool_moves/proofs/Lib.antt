@@ -1,5 +1,6 @@
 pub mod AwayWalks
 pub mod Boarding
+pub mod CommitWalks
 pub mod Drafting
 pub mod FreeWalks
 pub mod FreezeWalks

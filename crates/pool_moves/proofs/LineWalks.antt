@@ -188,7 +188,7 @@ turns_walk c size s t (turn ∷ (next ∷ turns)) reply kept same are = let walk
     walks_more c turn.0 (moves_in (next ∷ turns)) t walks
     (turns_walk c size (steps turn.0 s) (after_moves turn.0 t) (next ∷ turns) reply (walk_keeps c turn.0 s t walks kept) (sized_along size turn.0 t same) are.2)
 
-group_walks : (c : Codec) (size : ℕ → ℕ) (s : PoolState) (t : Side) (vs : List Move) (reply : TurnReply) → Kept c s t → IsSized size t → EndsGroup c size s vs reply → Walks c t vs
+pub group_walks : (c : Codec) (size : ℕ → ℕ) (s : PoolState) (t : Side) (vs : List Move) (reply : TurnReply) → Kept c s t → IsSized size t → EndsGroup c size s vs reply → Walks c t vs
 group_walks c size s t vs reply kept same ends = subst (Walks c t) (sym ends.moves) (turns_walk c size s t ends.turns reply kept same ends.are)
 
 open_walks : (c : Codec) (size : ℕ → ℕ) (s : PoolState) (t : Side) (vs : List Move) (reply : TurnReply) → Kept c s t → IsSized size t → CommitsOpen c size s vs reply → Walks c t vs

@@ -1,5 +1,6 @@
 pub mod AwayRows
 pub mod Boards
+pub mod CommitRows
 pub mod Drafts
 pub mod FreezeRow
 pub mod Keeping

@@ -3,6 +3,7 @@ ghost use Rattle.std.specs.Prelude.{◌≡◌, ◌⊎◌, ℕ, Bool, List};
 ghost use Rattle.bank_core.specs.Disk.{AllAnswer};
 ghost use Rattle.txg_history.specs.Pages.{Codec, IsClash};
 ghost use Rattle.pool_moves.specs.AwayRows.{WriteReply, RowWrite, OfflineReply, RowOffline};
+ghost use Rattle.pool_moves.specs.CommitRows.{IsOpened, RowReopen, RowFound, NamedLog, RowLogs};
 ghost use Rattle.pool_moves.specs.FreezeRow.{RowFreeze, RowEmptyFreeze};
 ghost use Rattle.pool_moves.specs.Keeping.{Kept, Walks};
 ghost use Rattle.pool_moves.specs.LineRows.{IsSized, TurnReply, RowTurn, RowSync};
@@ -15,6 +16,20 @@ ghost use Rattle.pool_moves.specs.States.{PoolState, Side};
 /// clause is the law.
 pub fn made_pools_are_kept()
     ensures { (c : Codec) (s : PoolState) (t : Side) → IsMade s t → Kept c s t }
+{}
+
+/// A pool whose opening has read a live record is kept by its state, and groups without keys may be committed. It computes
+/// nothing: its clauses are the law.
+///
+/// `opened`: the state behind the labels' reads, before the commit. `reopen`: that commit, by a flush turn and rounds. `found`:
+/// the commit of a create, by one round. `logs`: a line that makes no move.
+pub fn pools_may_be_opened()
+    ensures opened { (c : Codec) (s : PoolState) (t : Side) → IsOpened c s t → Kept c s t }
+    ensures reopen { (c : Codec) (size : ℕ → ℕ) (s : PoolState) (t : Side) (vs : List Move) (reply : TurnReply) → Kept c s t → IsSized size t
+        → RowReopen c size s vs reply → Walks c t vs }
+    ensures found { (c : Codec) (size : ℕ → ℕ) (s : PoolState) (t : Side) (vs : List Move) (whole : Bool) → Kept c s t → IsSized size t
+        → RowFound c size s vs whole → Walks c t vs }
+    ensures logs { (c : Codec) (s : PoolState) (t : Side) (vs : List Move) (logs : List NamedLog) → RowLogs s vs logs → Walks c t vs }
 {}
 
 /// A freeze may be made. It computes nothing: its clauses are the law.
