@@ -1,5 +1,6 @@
 pub mod Calming
 pub mod Containing
+pub mod Copying
 pub mod DeviceSectors
 pub mod DevicesSurvive
 pub mod Folding

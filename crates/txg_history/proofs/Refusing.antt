@@ -13,13 +13,13 @@ use Rattle.label_store.specs.Uberblock.{IsInRange, uberblock_bytes}
 use Rattle.label_store.proofs.Places.{length-uberblock, uberblock_sectors}
 use Rattle.txg_history.specs.Events.{Calls, Freezes, Begins, Passes, Clears}
 use Rattle.txg_history.specs.Groups.{Logs}
-use Rattle.txg_history.specs.Moves.{Mays, puts}
-use Rattle.txg_history.specs.Needs.{Keeps, Copied}
+use Rattle.txg_history.specs.Moves.{WasCopied, Mays, puts}
+use Rattle.txg_history.specs.Needs.{Keeps}
 use Rattle.txg_history.specs.Pages.{Codec}
 use Rattle.txg_history.specs.Places.{IsFree}
 use Rattle.txg_history.specs.Pools.{Pool, drawn, seat}
 use Rattle.txg_history.specs.Records.{Rec, Cell, Cells, IsIn, AreAtOne, number_of, data_start}
-use Rattle.txg_history.specs.Survival.{Survives}
+use Rattle.txg_history.specs.Survival.{IsAmong, Survives}
 use Rattle.txg_history.proofs.Listing.{same_cell}
 use Rattle.txg_history.proofs.Logging.{true_not_false}
 use Rattle.txg_history.proofs.Placing.{place_safe}
@@ -74,19 +74,20 @@ no_early_uberblock c p d place u noted is inside range some none call mays = of 
 
 -- A scan doesn't come past a key that an eligible leaf owes, and that it neither copied nor put into the leaf's SCRUB log.
 pub no_skipped_key : (c : Codec) (p : Pool) (k : Key) (cell : Cell) (scrub : Logs) (d : ℕ) → p.member d ≡ true → p.scan.eligible d ≡ true → p.reads.cells k ≡ Some cell
-    → p.in_top d ≡ cell.top → p.owes d cell.birth ≡ true → scrub d cell.birth ≡ false → (Copied (p.sectors d (data_start + cell.sector)) cell.block → ⊥)
+    → p.in_top d ≡ cell.top → p.owes d cell.birth ≡ true → scrub d cell.birth ≡ false
+    → (IsAmong cell.block (p.copies d (data_start + cell.sector)) → ⊥)
     → Mays c p (Passes k scrub ∷ []) → ⊥
 no_skipped_key c p k cell scrub d is eligible at top owed clean never mays =
-    of (subst (λ cell. (p.owes d cell.birth ≡ false) ⊎ ((scrub d cell.birth ≡ true) ⊎ Copied (p.sectors d (data_start + cell.sector)) cell.block)) same
+    of (subst (λ cell. (p.owes d cell.birth ≡ false) ⊎ ((scrub d cell.birth ≡ true) ⊎ WasCopied p d cell)) same
     (mays.0.each d is eligible (top ∙ ap (λ cell. cell.top) (sym same))))
   where
     same : mays.0.cell ≡ cell
     same = same_cell mays.0.cell cell (sym mays.0.cell_is ∙ at)
 
-    of : (p.owes d cell.birth ≡ false) ⊎ ((scrub d cell.birth ≡ true) ⊎ Copied (p.sectors d (data_start + cell.sector)) cell.block) → ⊥
+    of : (p.owes d cell.birth ≡ false) ⊎ ((scrub d cell.birth ≡ true) ⊎ WasCopied p d cell) → ⊥
     of (inl lacks) = true_not_false (p.owes d cell.birth) owed lacks
     of (inr (inl failed)) = true_not_false (scrub d cell.birth) failed clean
-    of (inr (inr copied)) = never copied
+    of (inr (inr copied)) = never copied.written
 
 still_sound : (noted : Noted) (d s : ℕ) (x : Sector) → noted.damage d s ≡ false → x.damaged ≡ false → (hurt (noted.damage d s) x).damaged ≡ false
 still_sound noted d s x clean sound = ap (λ t. cond t true x.damaged) clean ∙ sound

@@ -8,9 +8,8 @@ use Rattle.label_store.specs.Seats.{AreApart}
 use Rattle.label_store.proofs.Keeping.{same_member, no_member}
 use Rattle.txg_history.specs.Events.{Event, calls_of, Calls, Freezes, Wrote, Flushed, Scans, Passes, Clears}
 use Rattle.txg_history.specs.Groups.{same_key, no_log, at_device}
-use Rattle.txg_history.specs.Moves.{IsSparing, IsLeafOf, IsDrawnUp, MayFreeze, MayScan, MayPass, Mays}
+use Rattle.txg_history.specs.Moves.{IsSparing, WasCopied, IsLeafOf, IsDrawnUp, MayFreeze, MayScan, MayPass, Mays}
 use Rattle.txg_history.specs.Places.{IsFree}
-use Rattle.txg_history.specs.Needs.{Copied}
 use Rattle.txg_history.specs.Pages.{Codec, sum_of}
 use Rattle.txg_history.specs.Pools.{Pool, seat, after, pool_after}
 use Rattle.txg_history.specs.Records.{Rec, Cell, key, cell_over, block_of, laid_over, number_of, data_start}
@@ -24,7 +23,8 @@ use Rattle.txg_history.proofs.Listing.{one_key, same_cell, laid_of}
 use Rattle.txg_history.proofs.Logging.{true_not_false, at_here, same_device}
 use Rattle.txg_history.proofs.Moving.{event_survives}
 use Rattle.txg_history.proofs.RoundMoves.{round_may, round_ends}
-use Rattle.txg_history.proofs.Showing.{copy_lands, clear_may}
+use Rattle.txg_history.proofs.Copying.{step_copies}
+use Rattle.txg_history.proofs.Showing.{clear_may}
 use Rattle.txg_history.proofs.Surviving.{history_survives}
 use Rattle.txg_history.proofs.Turning.{write_turn_may, flush_turn_may}
 use Rattle.txg_history.proofs.Writing.{copy_sparing}
@@ -151,8 +151,8 @@ resilver_may c p b cell w = ((scan, (copy, (pass, clear))), cleared)
     sv2 : Survives c p2
     sv2 = event_survives c p1 (Calls (writes_well b cell)) sv1 copy
 
-    copied : Copied (p2.sectors b (data_start + cell.sector)) cell.block
-    copied = copy_lands (writes_well b cell) [] b (data_start + cell.sector) cell.block p1.sectors refl w.long tt
+    copied : WasCopied p2 b cell
+    copied = step_copies p1 (writes_well b cell) [] b cell refl w.long tt
 
     pass : MayPass p2 root_key no_log
     pass = record {
@@ -164,7 +164,7 @@ resilver_may c p b cell w = ((scan, (copy, (pass, clear))), cleared)
       next = λ j other up new at low. w.only j other at;
       more = λ d g has. has;
       only = λ d g has. inl has;
-      each = λ d is on top. inr (inr (subst (λ d. Copied (p2.sectors d (data_start + cell.sector)) cell.block) (same_device b d on) copied));
+      each = λ d is on top. inr (inr (subst (λ d. WasCopied p2 d cell) (same_device b d on) copied));
     }
 
     p3 : Pool

@@ -1,5 +1,5 @@
 -- A round of a record that is drawn up is allowed, event by event, and what it leaves of the pool.
-use Rattle.std.proofs.Common.{◌≡◌, ℕ, ◌⊎◌, ◌+◌, ◌^◌, ◌<◌, ◌≤◌, not, zero, suc, Bool, true, false, List, [], ◌∷◌, ◌++◌, map, Some, None, refl, sym, ap, ◌∙◌, subst, arith, inl, inr, append-nil}
+use Rattle.std.proofs.Common.{◌≡◌, ◌≢◌, ℕ, ◌⊎◌, ◌+◌, ◌^◌, ◌<◌, ◌≤◌, not, zero, suc, Bool, true, false, List, [], ◌∷◌, ◌++◌, map, Some, None, refl, sym, ap, ◌∙◌, subst, arith, inl, inr, append-nil, ⊎_elim}
 use Rattle.std.specs.Prelude.{slice_get}
 use Rattle.std.proofs.lemmas.Bool.{and_parts}
 use Rattle.bank_core.specs.Disk.{Sectors, Noted, run, sectors_in}
@@ -15,24 +15,24 @@ use Rattle.label_store.specs.Seats.{AreApart}
 use Rattle.label_store.specs.Uberblock.{uberblock_bytes}
 use Rattle.label_store.proofs.Keeping.{others, phase_spares, phase_lands, phase_was}
 use Rattle.label_store.proofs.Places.{label_is, config_elsewhere_even, ring_elsewhere, ring_spares_config, even_lands, ring_lands, uberblock_sectors}
-use Rattle.txg_history.specs.Events.{Event, Begins, calls_of, as_events}
-use Rattle.txg_history.specs.Labels.{Odd, Even}
+use Rattle.txg_history.specs.Events.{Event, Begins, Acks, calls_of, as_events}
+use Rattle.txg_history.specs.Labels.{Status, Odd, Even}
 use Rattle.txg_history.specs.Moves.{IsLeafOf, IsDrawnUp, MayAck, Mays}
 use Rattle.txg_history.specs.Needs.{NeedsLabel}
-use Rattle.txg_history.specs.Pools.{Pool, after, pool_after, seat}
+use Rattle.txg_history.specs.Pools.{Pool, after, pool_after, seat, noted_since, since_after, noted_copies, copies_after}
 use Rattle.txg_history.specs.Records.{Rec, IsNoLeaf, number_of, takes_part}
-use Rattle.txg_history.specs.Rounds.{all_true, acks_or, IsRoundEvents, RoundEnds}
+use Rattle.txg_history.specs.Rounds.{all_true, acks_or, behind_round, IsStatusBehind, IsRoundEvents, RoundEnds}
 use Rattle.txg_history.specs.Turns.{AreJust, OnBoard}
 use Rattle.txg_history.specs.Survival.{Survives}
-use Rattle.txg_history.proofs.Folding.{since_after, with_calls, pool_more, calls_then, mays_more, mays_calls, calls_more, calls_are}
-use Rattle.txg_history.proofs.Leaving.{leavers_may, leavers_pool, board_behind}
+use Rattle.txg_history.proofs.Folding.{with_calls, pool_more, calls_then, mays_more, mays_calls, calls_more, calls_are}
+use Rattle.txg_history.proofs.Leaving.{without, leavers_may, leavers_pool, board_behind, left_board_is, left_owes_is}
 use Rattle.txg_history.proofs.Logging.{by_bool, true_not_false}
 use Rattle.txg_history.proofs.Placing.{AreBetween, all_between}
 use Rattle.txg_history.proofs.RoundParts.{IsSeated, by_device, few_of, first_sparing, second_sparing, member_range}
 use Rattle.txg_history.proofs.RoundShapes.{acks_no_call}
 use Rattle.txg_history.proofs.RoundsSurvive.{begins_survive}
 use Rattle.txg_history.proofs.Sparing.{phase_may, still_sparing}
-use Rattle.txg_history.proofs.Thirds.{AreReady, thirds_may, turns_pool, thirds_turns, thirds_result, thirds_odd}
+use Rattle.txg_history.proofs.Thirds.{AreReady, thirds_may, turns_pool, thirds_turns, thirds_result, thirds_away, thirds_odd, thirds_failed}
 
 -- A round's setting: the pool, the record, and the members on the board.
 record Setting (codec : Codec) (p : Pool) (q : Rec) (ms : List Member) : Type 0 where
@@ -244,16 +244,60 @@ abbrev before_ack : (q : Rec) (first second : List Noted) (thirds : List Event) 
 before_ack q first second thirds p = record (front q first second p) {
   sectors = run (calls_of thirds) (run second (run first p.sectors));
   since = since_after (calls_of thirds) (front q first second p).since;
+  copies = copies_after (calls_of thirds) (front q first second p).copies;
   status = (pool_after thirds (front q first second p)).status;
 }
 
 sectors_behind : (first second third : List Noted) (sectors : Sectors) → run third (run second (run first sectors)) ≡ run (first ++ (second ++ third)) sectors
 sectors_behind first second third sectors = sym (run_more first (second ++ third) sectors ∙ run_more second third (run first sectors))
 
+-- the labels' promises before a round's last events
+record AreAtEnd (p : Pool) (q : Rec) (ms : List Member) (results : List Bool) (status : ℕ → Status) : Type 0 where
+  others : (d : ℕ) → ((i : ℕ) (m : Member) → slice_get ms i ≡ Some m → m.dev ≢ d) → status d ≡ (after (Begins q) p).status d
+  ended : (i : ℕ) (m : Member) → AreApart ms → slice_get ms i ≡ Some m → slice_get results i ≡ Some true → status m.dev ≡ Odd q
+  failed : (i : ℕ) (m : Member) → AreApart ms → slice_get ms i ≡ Some m → slice_get results i ≡ Some false
+      → (status m.dev ≡ (after (Begins q) p).status m.dev) ⊎ (status m.dev ≡ Even q)
+
+at_end : (size : ℕ → ℕ) (p : Pool) (q : Rec) (ms : List Member) (results : List Bool) (vs : List Event) → (r : IsRoundEvents size q ms results vs)
+    → AreAtEnd p q ms results (pool_after r.thirds (front q r.first r.second p)).status
+at_end size p q ms results vs r = record {
+  others = λ d ne. thirds_away (third_plan size q.commit) q ms r.in_second results r.thirds (front q r.first r.second p) d ne r.copies;
+  ended = λ i m apart e on. thirds_odd (third_plan size q.commit) q ms r.in_second results r.thirds (front q r.first r.second p) i m apart e on r.copies;
+  failed = λ i m apart e off. thirds_failed (third_plan size q.commit) q ms r.in_second results r.thirds (front q r.first r.second p) i m apart e off r.copies;
+}
+
+status_behind : (p behind : Pool) (q : Rec) (whole : Bool) (ms : List Member) (results : List Bool) (status : ℕ → Status)
+    → ((d : ℕ) → behind.status d ≡ behind_round whole q (p.guid d) (status d)) → AreAtEnd p q ms results status
+    → IsStatusBehind p behind q whole ms results
+status_behind p behind q whole ms results status is at = record {
+  others = λ d ne. is d ∙ ap (behind_round whole q (p.guid d)) (at.others d ne);
+  ended = λ i m apart e on. is m.dev ∙ ap (behind_round whole q (p.guid m.dev)) (at.ended i m apart e on);
+  failed = λ i m apart e off. ⊎_elim (λ same. inl (is m.dev ∙ ap (behind_round whole q (p.guid m.dev)) same))
+      (λ even. inr (is m.dev ∙ ap (behind_round whole q (p.guid m.dev)) even)) (at.failed i m apart e off);
+}
+
+since_more : (first second : List Noted) (since : ℕ → ℕ → List (List ℕ)) → since_after (first ++ second) since ≡ since_after second (since_after first since)
+since_more [] second since = refl
+since_more (noted ∷ first) second since = since_more first second (noted_since noted.call since)
+
+since_behind : (first second third : List Noted) (since : ℕ → ℕ → List (List ℕ))
+    → since_after third (since_after second (since_after first since)) ≡ since_after (first ++ (second ++ third)) since
+since_behind first second third since = sym (since_more first (second ++ third) since ∙ since_more second third (since_after first since))
+
+copies_more : (first second : List Noted) (copies : ℕ → ℕ → List (List ℕ))
+    → copies_after (first ++ second) copies ≡ copies_after second (copies_after first copies)
+copies_more [] second copies = refl
+copies_more (noted ∷ first) second copies = copies_more first second (noted_copies noted.call copies)
+
+copies_behind : (first second third : List Noted) (copies : ℕ → ℕ → List (List ℕ))
+    → copies_after third (copies_after second (copies_after first copies)) ≡ copies_after (first ++ (second ++ third)) copies
+copies_behind first second third copies = sym (copies_more first (second ++ third) copies ∙ copies_more second third (copies_after first copies))
+
 -- with its acknowledgement, or without the members that failed
 acknowledges : (p : Pool) (q : Rec) (first second : List Noted) (thirds : List Event) (whole : Bool) (ms : List Member) (results : List Bool) → all_true results ≡ whole
+    → AreAtEnd p q ms results (pool_after thirds (front q first second p)).status
     → RoundEnds p (pool_after (acks_or whole q ms results) (before_ack q first second thirds p)) q whole ms results (first ++ (second ++ calls_of thirds))
-acknowledges p q first second thirds true ms results all = record {
+acknowledges p q first second thirds true ms results all at = record {
   name = refl;
   pool = refl;
   member = refl;
@@ -264,6 +308,12 @@ acknowledges p q first second thirds true ms results all = record {
   written = refl;
   highest = refl;
   sectors = sectors_behind first second (calls_of thirds) p.sectors;
+  since = since_behind first second (calls_of thirds) p.since;
+  copies = copies_behind first second (calls_of thirds) p.copies;
+  acks = refl;
+  given = refl;
+  status = status_behind p (after (Acks q) (before_ack q first second thirds p)) q true ms results
+      (pool_after thirds (front q first second p)).status (λ d. refl) at;
   acked = refl;
   reads = refl;
   opened = refl;
@@ -287,11 +337,13 @@ acknowledges p q first second thirds true ms results all = record {
     good = λ d i m c is at here on. all_at results i c all on;
     stays = λ d on good. on;
   };
+  board_is = λ d. refl;
   owes = λ e. refl;
+  owes_is = λ e. absurd (cc);
   drawn_q = inl refl;
   drawn_in = λ r i. i;
 }
-acknowledges p q first second thirds false ms results all =
+acknowledges p q first second thirds false ms results all at =
     subst (λ x. RoundEnds p x q false ms results (first ++ (second ++ calls_of thirds))) (sym (leavers_pool ms results (before_ack q first second thirds p))) (record {
       name = refl;
       pool = refl;
@@ -303,6 +355,12 @@ acknowledges p q first second thirds false ms results all =
       written = refl;
       highest = refl;
       sectors = sectors_behind first second (calls_of thirds) p.sectors;
+      since = since_behind first second (calls_of thirds) p.since;
+      copies = copies_behind first second (calls_of thirds) p.copies;
+      acks = refl;
+      given = refl;
+      status = status_behind p (without ms results (before_ack q first second thirds p)) q false ms results
+          (pool_after thirds (front q first second p)).status (λ d. refl) at;
       acked = refl;
       reads = refl;
       opened = refl;
@@ -322,7 +380,9 @@ acknowledges p q first second thirds false ms results all =
       fresh = refl;
       begun = refl;
       board = board_behind ms results p.group.board;
+      board_is = λ d. left_board_is ms results p.group.board d;
       owes = λ e. absurd (cc);
+      owes_is = λ e d g. left_owes_is p.group.first p.highest ms results p.owes d g;
       drawn_q = inl refl;
       drawn_in = λ r i. i;
     })
@@ -335,4 +395,4 @@ round_ends size p q members results vs r =
     (sym (round_pool size p q members results vs r ∙ ap (pool_after (acks_or (all_true results) q members results))
     (turns_pool r.thirds (front q r.first r.second p) (thirds_turns (third_plan size q.commit) q members r.in_second results r.thirds r.copies))))
     (subst (RoundEnds p (pool_after (acks_or (all_true results) q members results) (before_ack q r.first r.second r.thirds p)) q (all_true results) members results)
-    (sym (round_calls size q members results vs r)) (acknowledges p q r.first r.second r.thirds (all_true results) members results refl))
+    (sym (round_calls size q members results vs r)) (acknowledges p q r.first r.second r.thirds (all_true results) members results refl (at_end size p q members results vs r)))

@@ -5,7 +5,7 @@ use Rattle.std.proofs.lemmas.Bool.Decides.{nat_tests}
 use Rattle.mp_base.specs.declared.place.Key.{Key}
 use Rattle.txg_history.specs.Events.{Scans, Passes, Drops, Clears, Rests}
 use Rattle.txg_history.specs.Groups.{Logs, at_device}
-use Rattle.txg_history.specs.Moves.{MayScan, MayPass, MayClear}
+use Rattle.txg_history.specs.Moves.{WasCopied, MayScan, MayPass, MayClear}
 use Rattle.txg_history.specs.Needs.{Keeps, Copied, IsAt}
 use Rattle.txg_history.specs.Pages.{Codec}
 use Rattle.txg_history.specs.Pools.{Pool, after, kept_in}
@@ -98,7 +98,7 @@ passes_survive c p k scrub sv m = record {
         birth : m.cell.birth ≡ cell.birth
         birth = ap (λ cell. cell.birth) one
 
-        of : (p.owes d m.cell.birth ≡ false) ⊎ ((scrub d m.cell.birth ≡ true) ⊎ Copied (p.sectors d (data_start + m.cell.sector)) m.cell.block)
+        of : (p.owes d m.cell.birth ≡ false) ⊎ ((scrub d m.cell.birth ≡ true) ⊎ WasCopied p d m.cell)
             → Copied (p.sectors d (data_start + m.cell.sector)) m.cell.block
         of (inl lacks) = inl (sv.current d (data_start + m.cell.sector) m.cell.block is (record {
           k = k;
@@ -109,7 +109,7 @@ passes_survive c p k scrub sv m = record {
           at = record { sector_is = refl; bytes_are = refl };
         }))
         of (inr (inl failed)) = true_not_false (scrub d m.cell.birth) failed (ap (scrub d) birth ∙ clean)
-        of (inr (inr copied)) = copied
+        of (inr (inr copied)) = copied.is_copied
 
 -- A leaf is no longer eligible.
 pub drops_survive : (c : Codec) (p : Pool) (d : ℕ) → Survives c p → Survives c (after (Drops d) p)

@@ -23,7 +23,7 @@ use Rattle.txg_history.specs.Survival.{Survives, IsKnownUber}
 use Rattle.txg_history.specs.Turns.{AreJust, OnBoard, OnTop, write_plan, flush_plan, leavers, IsTurnEvents, IsWriteTurn, IsFlushTurn, TurnEnds}
 use Rattle.txg_history.proofs.Folding.{with_calls, pool_more, calls_then, calls_more, calls_are, mays_more, mays_calls}
 use Rattle.txg_history.proofs.Landing.{untouched_landed, untouched_held, phase_brings, write_lands, flush_holds}
-use Rattle.txg_history.proofs.Leaving.{leavers_no_call, leavers_pool, leavers_may, without, left_before, left_good, board_behind}
+use Rattle.txg_history.proofs.Leaving.{leavers_no_call, leavers_pool, leavers_may, without, left_before, left_good, board_behind, left_board_is, left_owes_is}
 use Rattle.txg_history.proofs.Listing.{same_cell}
 use Rattle.txg_history.proofs.RoundParts.{first_bytes}
 use Rattle.txg_history.proofs.Sparing.{spared_lay, phase_may}
@@ -180,7 +180,10 @@ turn_leaves p mark made members results done flushed e = subst (λ q. TurnEnds p
   room = refl;
   home = refl;
   sectors = refl;
+  since = refl;
+  copies = refl;
   acked = refl;
+  acks = refl;
   live = refl;
   given = refl;
   missed = refl;
@@ -202,6 +205,8 @@ turn_leaves p mark made members results done flushed e = subst (λ q. TurnEnds p
   begun = refl;
   done_is = refl;
   flushed_is = refl;
+  owes_is = λ d g. left_owes_is p.group.first p.highest members results p.owes d g;
+  board_is = λ d. left_board_is members results p.group.board d;
   board = board_behind members results p.group.board;
 })
 

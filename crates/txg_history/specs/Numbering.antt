@@ -11,6 +11,7 @@ renumbered was p = record p {
   home = λ d. p.home (was d);
   sectors = λ d. p.sectors (was d);
   since = λ d. p.since (was d);
+  copies = λ d. p.copies (was d);
   status = λ d. p.status (was d);
   in_top = λ d. p.in_top (was d);
   owes = λ d. p.owes (was d);

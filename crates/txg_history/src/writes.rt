@@ -6,10 +6,10 @@ ghost use Rattle.bank_core.specs.Asks.{Ask, IsPart};
 ghost use Rattle.bank_core.specs.Disk.{Nothing, Sectors, Read, Write, Flush, Noted, Answers, as_found, run};
 ghost use Rattle.bank_core.specs.Standing.{Untouched};
 ghost use Rattle.txg_history.specs.Events.{Calls, Clears, as_events};
-ghost use Rattle.txg_history.specs.Moves.{IsSparing, Mays};
-ghost use Rattle.txg_history.specs.Needs.{Copied, NeedsScan};
+ghost use Rattle.txg_history.specs.Moves.{IsSparing, WasCopied, Mays};
+ghost use Rattle.txg_history.specs.Needs.{NeedsScan};
 ghost use Rattle.txg_history.specs.Pages.{Codec};
-ghost use Rattle.txg_history.specs.Pools.{Pool, after};
+ghost use Rattle.txg_history.specs.Pools.{Pool, after, pool_after};
 ghost use Rattle.txg_history.specs.Reads.{IsKeptAt, NoneHeals};
 ghost use Rattle.txg_history.specs.Records.{Cell, data_start};
 ghost use Rattle.txg_history.specs.Sparing.{AreSparing, AreElsewhere, WriteNothing};
@@ -40,8 +40,9 @@ pub fn keys_may_be_written_again()
         → (p.member d ≡ true → (p.in_top d ≡ cell.top) × (p.settled d cell.birth ≡ true)
         × (NeedsScan p.scan p.reads p.in_top d (data_start + cell.sector) cell.block → ⊥))
         → IsSparing p (Write d (data_start + cell.sector) cell.block fault) }
-    ensures copied { (noted : Noted) (made : List Noted) (d s : ℕ) (block : List ℕ) (sectors : Sectors) → noted.call ≡ Write d s block None → length block ≡ 4096
-        → Untouched made d s → Copied (run (noted ∷ made) sectors d s) block }
+    ensures copied { (p : Pool) (noted : Noted) (made : List Noted) (d : ℕ) (cell : Cell)
+        → noted.call ≡ Write d (data_start + cell.sector) cell.block None → length cell.block ≡ 4096
+        → Untouched made d (data_start + cell.sector) → WasCopied (pool_after (as_events (noted ∷ made)) p) d cell }
     ensures clears { (c : Codec) (p : Pool) (d : ℕ) (noted : Noted) → Survives c p → p.scan.running ≡ true → p.scan.eligible d ≡ true
         → ((k : Key) (cell : Cell) → p.reads.cells k ≡ Some cell → cell.birth ≤ p.scan.hi → p.scan.passed k ≡ true) → noted.call ≡ Flush d None
         → Mays c p (Calls noted ∷ Clears d ∷ []) }
