@@ -15,6 +15,7 @@ pub mod Logging
 pub mod LookedParts
 pub mod LooksFound
 pub mod LooksShow
+pub mod Losing
 pub mod Moving
 pub mod Nearing
 pub mod Numbering
@@ -28,6 +29,7 @@ pub mod RoundParts
 pub mod RoundPlaces
 pub mod RoundShapes
 pub mod RoundsSurvive
+pub mod ScansBring
 pub mod ScansSurvive
 pub mod Showing
 pub mod Sparing

@@ -314,6 +314,35 @@ ends_survives c p q d sv m = stands_survive c p d (Odd q) sv
     (λ member s bytes n. ⊎_elim (λ ring. sv.labels d s bytes member (subst (λ st. NeedsLabel (seat p d) st s bytes) (sym (m member).began) (inl ring))) (λ part. (m member).held s bytes part) n)
     (λ member. subst (IsOf p.live (p.guid d)) (m member).began (sv.status_live d member))
 
+-- A key of the acknowledged record stands under a top on a leaf of its top.
+acked_leaf : (c : Codec) (p : Pool) (q : Rec) → Survives c p → MayAck p q → (d : ℕ) (k : Key) (cell : Cell) → q.cells k ≡ Some cell
+    → q.tops (p.guid d) ≡ cell.top → 1 ≤ q.tops (p.guid d)
+acked_leaf c p q sv m d k cell at top =
+    let live : IsIn q p.live = subst (IsIn q) (sym m.newest) (inl refl) in
+    let some = top_some p.room cell sv.roomy.no_top (sv.one_key.mapped q k cell live at) in omega (arith, some, top)
+
+-- A leaf of the acknowledged record stood in the tree as it does in the record.
+acked_stands : (c : Codec) (p : Pool) (q : Rec) → Survives c p → MayAck p q → (d : ℕ) → p.member d ≡ true → 1 ≤ q.tops (p.guid d)
+    → p.in_top d ≡ q.tops (p.guid d)
+acked_stands c p q sv m d is leaf =
+    ⊎_elim (λ e. sym e) (λ none. absurd (omega (arith, leaf, none))) (sv.placed.newest m.frozen m.begun q m.rest d m.newest is)
+
+pub acked_tree : (c : Codec) (p : Pool) (q : Rec) → Survives c p → MayAck p q → (d : ℕ) (k : Key) (cell : Cell) → p.member d ≡ true
+    → q.cells k ≡ Some cell → q.tops (p.guid d) ≡ cell.top → p.in_top d ≡ cell.top
+acked_tree c p q sv m d k cell is at top = acked_stands c p q sv m d is (acked_leaf c p q sv m d k cell at top) ∙ top
+
+-- A key that the scan had to come past was one of the record that the pool read.
+pub acked_cell : (c : Codec) (p : Pool) (q : Rec) → Survives c p → MayAck p q → (k : Key) (cell : Cell) → p.scan.running ≡ true
+    → cell.birth ≤ p.scan.hi → q.cells k ≡ Some cell → p.reads.cells k ≡ Some cell
+acked_cell c p q sv m k cell on low at =
+    of (laid_of p.group.cells p.reads.cells k cell (sym (sv.come_to.newest m.frozen m.begun q m.rest m.newest k) ∙ at))
+  where
+    of : (p.group.cells k ≡ Some cell) ⊎ ((p.group.cells k ≡ None) × (p.reads.cells k ≡ Some cell)) → p.reads.cells k ≡ Some cell
+    of (inl new) =
+        let born = sv.one_key.group_births m.frozen k cell new in
+        let hi = sv.bounds.hi_low on in let lt = sv.boards.reads_first m.frozen in absurd (omega (arith, born, hi, lt, low))
+    of (inr old) = old.1
+
 -- A round is acknowledged.
 pub acks_survive : (c : Codec) (p : Pool) (q : Rec) → Survives c p → MayAck p q → Survives c (after (Acks q) p)
 acks_survive c p q sv m = record {
@@ -335,7 +364,7 @@ acks_survive c p q sv m = record {
     is_eligible = n.is_eligible;
     k = n.k;
     cell = n.cell;
-    cell_is = old_cell n.k n.cell n.running n.low n.cell_is;
+    cell_is = acked_cell c p q sv m n.k n.cell n.running n.low n.cell_is;
     top_is = tree_now d is (leaf_of d n.k n.cell n.cell_is n.top_is) ∙ n.top_is;
     is_passed = n.is_passed;
     low = n.low;
@@ -422,21 +451,11 @@ acks_survive c p q sv m = record {
     below n lt = let above = above_acked in omega (arith, lt, above)
 
     leaf_of : (d : ℕ) (k : Key) (cell : Cell) → q.cells k ≡ Some cell → q.tops (p.guid d) ≡ cell.top → 1 ≤ q.tops (p.guid d)
-    leaf_of d k cell at top = let some = top_some p.room cell sv.roomy.no_top (sv.one_key.mapped q k cell live at) in omega (arith, some, top)
+    leaf_of d k cell at top = acked_leaf c p q sv m d k cell at top
 
     -- a leaf of the record stands in the tree of now as it did
     tree_now : (d : ℕ) → p.member d ≡ true → 1 ≤ q.tops (p.guid d) → p.in_top d ≡ q.tops (p.guid d)
-    tree_now d is leaf = ⊎_elim (λ e. sym e) (λ none. absurd (omega (arith, leaf, none))) (sv.placed.newest m.frozen m.begun q m.rest d m.newest is)
-
-    -- a key that the scan had to come past was one of the record that the pool read
-    old_cell : (k : Key) (cell : Cell) → p.scan.running ≡ true → cell.birth ≤ p.scan.hi → q.cells k ≡ Some cell → p.reads.cells k ≡ Some cell
-    old_cell k cell on low at = of (laid_of p.group.cells p.reads.cells k cell (sym (sv.come_to.newest m.frozen m.begun q m.rest m.newest k) ∙ at))
-      where
-        of : (p.group.cells k ≡ Some cell) ⊎ ((p.group.cells k ≡ None) × (p.reads.cells k ≡ Some cell)) → p.reads.cells k ≡ Some cell
-        of (inl new) =
-            let born = sv.one_key.group_births m.frozen k cell new in
-            let hi = sv.bounds.hi_low on in let lt = sv.boards.reads_first m.frozen in absurd (omega (arith, born, hi, lt, low))
-        of (inr old) = old.1
+    tree_now d is leaf = acked_stands c p q sv m d is leaf
 
     kept_needs : (d : ℕ) (t : Bool) (s : ℕ) (bytes : List ℕ) → NeedsLabel (seat p d) (cond t (p.status d) Lost) s bytes → NeedsLabel (seat p d) (p.status d) s bytes
     kept_needs d true s bytes n = n
