@@ -13,6 +13,7 @@ pub mod Leaving
 pub mod Listing
 pub mod Logging
 pub mod LookedParts
+pub mod Looking
 pub mod LooksFound
 pub mod LooksShow
 pub mod Losing
@@ -41,6 +42,7 @@ pub mod Thirds
 pub mod Tracked
 pub mod Treeing
 pub mod Turning
+pub mod Twins
 pub mod Verified
 pub mod Writing
 pub mod Yields

@@ -103,6 +103,26 @@ pub record IsSearched (p : Pool) (r : Rec) (answering : ℕ → Bool) (known : K
   pub missed : (k : Key) (cell : Cell) (d : ℕ) → r.cells k ≡ Some cell → found k ≡ None → p.member d ≡ true → r.tops (p.guid d) ≡ cell.top
       → (answering d ≡ false) ⊎ ((bytes : List ℕ) × (known d (data_start + cell.sector) ≡ Some bytes) × (sha256 bytes ≢ sha256 cell.block))
 
+-- By what was read of its rings this device has the identity of a member of the pool: a correct uberblock gives it.
+pub record HasIdentity (p : Pool) (known : Known) (d : ℕ) (m : Guid) : Type 0 where
+  pub place : ℕ
+  pub inside : place < 128
+  pub bytes : List ℕ
+  pub is_read : known d (place_at (p.size d) place) ≡ Some bytes
+  pub u : Uberblock
+  pub correct : IsUberblock u bytes
+  pub pool_is : u.pool ≡ p.pool
+  pub member_is : u.member ≡ m
+
+-- In a user's words: no device that the pool has lost, or never had, is handed in under the name of a leaf of the found record
+-- with that leaf's identity on it. `under` tells under which leaf's name a device is handed in.
+abbrev pub AreNamesKept : Pool → Rec → Known → (under : ℕ → Guid → Bool) → Type 0
+AreNamesKept p r known under = (d : ℕ) (m : Guid) → under d m ≡ true → 1 ≤ r.tops m → HasIdentity p known d m → p.member d ≡ true
+
+-- the devices that an opening takes for leaves: each is handed in under the leaf's name, and has its identity
+abbrev pub AreClaims : Pool → Known → (under claims : ℕ → Guid → Bool) → Type 0
+AreClaims p known under claims = (d : ℕ) (m : Guid) → claims d m ≡ true → (under d m ≡ true) × HasIdentity p known d m
+
 -- No twin: each device that is handed in under the name of a leaf of the found record, and has that leaf's identity,
 -- is the one that the history has there.
 abbrev pub HasNoTwin : Pool → Rec → (claims : ℕ → Guid → Bool) → Type 0

@@ -6,6 +6,7 @@ mod contents;
 mod histories;
 mod labels;
 mod members;
+mod moments;
 mod moves;
 mod openings;
 mod pages;
@@ -19,6 +20,7 @@ pub use contents::{members_are_brought_in, records_have_what_was_accepted};
 pub use histories::small_histories_are_allowed;
 pub use labels::labels_stay_sound;
 pub use members::devices_are_lost_by_stamps;
+pub use moments::moments_are_fronts;
 pub use moves::{
     devices_may_be_numbered_anew, histories_keep_their_records, stamped_pools_survive,
 };

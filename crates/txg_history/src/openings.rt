@@ -1,5 +1,5 @@
 //! Laws of openings (docs/MODEL.md, "The history of a pool").
-ghost use Rattle.std.specs.Prelude.{◌≡◌, ◌⊎◌, ℕ, ◌*◌, ◌<◌, ◌≤◌, true, false, List, [], ◌∷◌, length, Option, Some, None, slice_get};
+ghost use Rattle.std.specs.Prelude.{◌≡◌, ◌⊎◌, ℕ, ◌*◌, ◌<◌, ◌≤◌, Bool, true, false, List, [], ◌∷◌, length, Option, Some, None, slice_get, take};
 ghost use Rattle.sha2.specs.Sha256.{sha256};
 ghost use Rattle.bank_core.specs.Disk.{Sectors, Noted, AllAnswer, run};
 ghost use Rattle.label_store.specs.Newest.{Parts, IsLook, IsBest};
@@ -9,15 +9,16 @@ ghost use Rattle.label_store.specs.Uberblock.{IsUberblock};
 ghost use Rattle.label_store.specs.declared.found.Found.{Found};
 ghost use Rattle.label_store.specs.declared.rule.Head.{Head};
 ghost use Rattle.label_store.specs.declared.uberblock.Uberblock.{Uberblock};
+ghost use Rattle.mp_base.specs.declared.number.Guid.{Guid};
 ghost use Rattle.txg_history.specs.Calm.{stable_of};
 ghost use Rattle.txg_history.specs.Contents.{BegunAt};
-ghost use Rattle.txg_history.specs.Events.{Event, Known, Begins, Acks};
+ghost use Rattle.txg_history.specs.Events.{Event, Known, Begins, Acks, Looks};
 ghost use Rattle.txg_history.specs.Looks.{known_by, AreDistinct, HaveRoom, NoneFailed};
 ghost use Rattle.txg_history.specs.Moves.{Mays, ReadsTrue};
-ghost use Rattle.txg_history.specs.Openings.{IsVerifiedOn, IsYield, IsReadWhole, IsDrawnRecord, FindsLive};
+ghost use Rattle.txg_history.specs.Openings.{IsVerifiedOn, IsYield, IsReadWhole, IsDrawnRecord, Finds, FindsLive};
 ghost use Rattle.txg_history.specs.Pages.{Codec};
 ghost use Rattle.txg_history.specs.Pools.{Pool, drawn, after, pool_after};
-ghost use Rattle.txg_history.specs.Premises.{AreTwins, HasNoClash, HasNoStray, HasTwin, HoldsLabels, Premises, WasAcked, WasMissed};
+ghost use Rattle.txg_history.specs.Premises.{AreClaims, AreGood, AreNamesKept, AreTwins, HasNoClash, HasNoTwin, HasNoStray, HasTwin, HoldsLabels, Premises, WasAcked, WasMissed};
 ghost use Rattle.txg_history.specs.Records.{Rec, IsIn, number_of};
 ghost use Rattle.txg_history.specs.Survival.{Survives};
 
@@ -27,7 +28,8 @@ ghost use Rattle.txg_history.specs.Survival.{Survives};
 /// `Survives` is what holds at each moment of a pool's history, and `Premises` are what is assumed of this
 /// opening: no clash, no stray, and a member with sound labels. By what it read of the labels, `some` says
 /// that a record of the name is verified, and `each` that whatever it may take is live, with its bytes and
-/// its number, and not below the acknowledged one. `contents` says of events before the opening that what it
+/// its number, and not below the acknowledged one. `along`: so does each opening of a history at whose looks the premises
+/// hold. `contents` says of events before the opening that what it
 /// finds was live before them, or its round began among them and it has what was accepted before the last freeze
 /// before that: a suspended group's record may be one of these.
 pub fn openings_find_a_live_record()
@@ -35,6 +37,8 @@ pub fn openings_find_a_live_record()
         → (d : ℕ) × (u : Uberblock) × (config : List ℕ) × IsVerifiedOn c.head_of p.size known p.name d u config }
     ensures each { (c : Codec) (p : Pool) (known : Known) (u : Uberblock) (config : List ℕ) → Survives c p → ReadsTrue p.sectors known → Premises c.head_of p known
         → IsYield c.head_of p.size known p.name u config → FindsLive p u config }
+    ensures along { (c : Codec) (p : Pool) (vs : List Event) (k : ℕ) (known : Known) → Survives c p → Mays c p vs → AreGood c.head_of p vs
+        → slice_get vs k ≡ Some (Looks known) → Finds c (pool_after (take k vs) p) known }
     ensures contents { (c : Codec) (p : Pool) (vs : List Event) (known : Known) (u : Uberblock) (config : List ℕ) → Survives c p → Mays c p vs
         → ReadsTrue (pool_after vs p).sectors known → Premises c.head_of (pool_after vs p) known
         → IsYield c.head_of (pool_after vs p).size known (pool_after vs p).name u config
@@ -94,8 +98,13 @@ pub fn strays_were_never_acknowledged()
 {}
 
 /// A correct uberblock on a member's rings gives the member's identity, whatever its number. It computes nothing: its
-/// clause is the law.
+/// clauses are the law.
+///
+/// `identity`: so it is. `no_twin`: so there is no twin where each device that is handed in under a leaf's name, with the
+/// leaf's identity on it, is some member's. That it is the very leaf's follows.
 pub fn identities_are_the_members()
-    ensures { (c : Codec) (p : Pool) (known : Known) (d place : ℕ) (u : Uberblock) (bytes : List ℕ) → Survives c p → HasNoClash c.head_of p known → p.member d ≡ true → place < 128
+    ensures no_twin { (c : Codec) (p : Pool) (r : Rec) (known : Known) (under claims : ℕ → Guid → Bool) → Survives c p → HasNoClash c.head_of p known
+        → AreNamesKept p r known under → AreClaims p known under claims → HasNoTwin p r claims }
+    ensures identity { (c : Codec) (p : Pool) (known : Known) (d place : ℕ) (u : Uberblock) (bytes : List ℕ) → Survives c p → HasNoClash c.head_of p known → p.member d ≡ true → place < 128
         → known d (place_at (p.size d) place) ≡ Some bytes → IsUberblock u bytes → (u.pool ≡ p.pool) × (u.member ≡ p.guid d) }
 {}
