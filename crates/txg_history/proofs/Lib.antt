@@ -1,3 +1,4 @@
+pub mod Branching
 pub mod Calming
 pub mod Containing
 pub mod Copying
@@ -7,6 +8,7 @@ pub mod Folding
 pub mod Freezing
 pub mod GroupsSurvive
 pub mod Holding
+pub mod Importing
 pub mod Keeping
 pub mod Landing
 pub mod Leaving

@@ -14,6 +14,7 @@ use Rattle.txg_history.specs.Survival.{Survives}
 use Rattle.txg_history.specs.Tracking.{MayBegin, Keeps, KeepsLabels, MayBeginNear, IsNotBelow, KeepsNear}
 use Rattle.txg_history.proofs.Listing.{only_one, new_or}
 use Rattle.txg_history.proofs.Logging.{true_not_false, at_away, same_device}
+use Rattle.txg_history.proofs.Tracked.{third_even}
 use Rattle.txg_history.proofs.Moving.{event_survives}
 
 -- two numbers less than 32 apart have two slots
@@ -263,3 +264,24 @@ near_labels c p d q vs sv member takes mays near =
   where
     odd : (after (Acks q) p).status d ≡ Odd q
     odd = ap (λ b. cond b (p.status d) Lost) takes ∙ mays.0.all d member takes
+
+-- So it does from a third phase on, whatever the labels held before.
+pub near_again : (c : Codec) (p : Pool) (d : ℕ) (q : Rec) (vs : List Event) → Survives c p → p.member d ≡ true → Mays c p (Third q d ∷ vs)
+    → ((r : Rec) → IsIn r p.live → takes_part r (p.guid d) ≡ true → number_of r < number_of p.acked + 32)
+    → KeepsNear d (p.guid d) p.acked (Even q) vs → KeepsLabels (after (Third q d) p) d vs
+near_again c p d q vs sv member mays numbers near =
+    subst (λ status. Keeps d (p.guid d) status vs) (sym even)
+    (near_keeps c vs (after (Third q d) p) d (p.guid d) p.acked (Even q) (event_survives c p (Third q d) sv mays.0) (record {
+      member = member;
+      number = refl;
+      acked_is = refl;
+      status_is = even;
+      holds = (stand.is_live, stand.takes, (let e = stand.number_is in omega (arith, e)), λ f n. true_not_false p.group.fresh n stand.taken);
+      near = numbers;
+    }) mays.1 near)
+  where
+    stand : MayStand p q d
+    stand = mays.0 member
+
+    even : (after (Third q d) p).status d ≡ Even q
+    even = third_even p q d

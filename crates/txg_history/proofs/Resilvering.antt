@@ -37,7 +37,7 @@ only_is cell other k e = of (same_key root_key k) refl e
     of true is e = (sym (one_key root_key k is), same_cell cell other e)
     of false is e = absurd (cc)
 
-same_test : (d : ℕ) → (d == d) ≡ true
+pub same_test : (d : ℕ) → (d == d) ≡ true
 same_test d = grind (arith, nat_tests)
 
 -- no level but the root's has a key
@@ -74,7 +74,7 @@ week_freezes c p a b cell w = record {
     top_of_a (suc t) e = omega arith
 
 -- the list of a alone
-alone : (p q : Pool) (a : ℕ) (Which : ℕ → Type 0) → q.member ≡ p.member → q.guid ≡ p.guid → Which a → ((d : ℕ) → q.member d ≡ true → Which d → a ≡ d) → AreJust q Which (seat q a ∷ [])
+pub alone : (p q : Pool) (a : ℕ) (Which : ℕ → Type 0) → q.member ≡ p.member → q.guid ≡ p.guid → Which a → ((d : ℕ) → q.member d ≡ true → Which d → a ≡ d) → AreJust q Which (seat q a ∷ [])
 alone p q a Which m g is only = record {
   seated = λ i n at member. of i n at;
   all = λ d member which. (0, ap (λ d. Some (seat q d)) (only d member which));
@@ -84,7 +84,7 @@ alone p q a Which m g is only = record {
     of zero n at = (sym (same_member (seat q a) n at) ∙ ap (λ n. seat q n.dev) (same_member (seat q a) n at), subst (λ n. Which n.dev) (same_member (seat q a) n at) is)
     of (suc i) n at = absurd (no_member n at)
 
-one_apart : (m : Member) → AreApart (m ∷ [])
+pub one_apart : (m : Member) → AreApart (m ∷ [])
 one_apart m zero zero x y ex ey lt = absurd (omega (arith, lt))
 one_apart m zero (suc j) x y ex ey lt = absurd (no_member y ey)
 one_apart m (suc i) j x y ex ey lt = absurd (no_member x ex)

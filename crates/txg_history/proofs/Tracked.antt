@@ -15,7 +15,7 @@ use Rattle.txg_history.specs.Records.{Rec, number_of, takes_part}
 use Rattle.txg_history.specs.Moves.{May}
 use Rattle.txg_history.specs.Survival.{Survives, IsOf}
 use Rattle.txg_history.specs.Tracking.{MayBegin, Keeps, KeepsLabels, HasPromise}
-use Rattle.txg_history.proofs.Logging.{at_away}
+use Rattle.txg_history.proofs.Logging.{at_here, at_away}
 
 -- the labels hold some record
 abbrev IsSome : Status → Type 0
@@ -160,3 +160,13 @@ promise_holds c p d sv has = of has.status_is
 pub cut_phase_ends : (c : Codec) (p : Pool) (q : Rec) (d : ℕ) → Survives c p → p.status d ≡ Even q
     → ((s : ℕ) (bytes : List ℕ) → InPart odd_part q s bytes → Held (p.sectors d s) bytes) → May c p (Ends q d)
 cut_phase_ends c p q d sv e odd is = record { began = e; held = odd }
+
+-- behind its beginning a third phase has the record in the even labels
+pub third_even : (p : Pool) (q : Rec) (d : ℕ) → (after (Third q d) p).status d ≡ Even q
+third_even p q d = at_here d d (Even q) p.status (let same : (d == d) ≡ true = grind (arith, nat_tests) in same)
+
+-- From a third phase on the labels go on promising a record.
+pub labels_again : (c : Codec) (p : Pool) (d : ℕ) (q : Rec) (vs : List Event) → p.member d ≡ true → Mays c p (Third q d ∷ vs)
+    → KeepsLabels (after (Third q d) p) d vs → HasPromise (pool_after (Third q d ∷ vs) p) d
+labels_again c p d q vs member mays keeps = labels_stay c (after (Third q d) p) d vs
+    (record { is_member = member; promised = q; status_is = inr (third_even p q d) }) mays.1 keeps

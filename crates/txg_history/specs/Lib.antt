@@ -1,3 +1,4 @@
+pub mod Branches
 pub mod Calm
 pub mod Contents
 pub mod Copies

@@ -11,6 +11,7 @@ use Rattle.label_store.specs.Uberblock.{IsUberblock}
 use Rattle.txg_history.specs.Events.{Event, Known, Looks, Opens}
 use Rattle.txg_history.specs.Needs.{Held, InRing, InPart, even_part, odd_part}
 use Rattle.txg_history.specs.Openings.{IsVerifiedOn, IsReadWhole, IsDrawnRecord}
+use Rattle.txg_history.specs.Pages.{Codec}
 use Rattle.txg_history.specs.Pools.{Pool, after, pool_after, drawn, seat}
 use Rattle.txg_history.specs.Records.{Rec, Cell, IsIn, number_of, takes_part, key, data_start}
 use Rattle.txg_history.specs.Survival.{IsAmong}
@@ -49,6 +50,11 @@ pub record WasMissed (p : Pool) (vs : List Event) (r : Rec) : Type 0 where
   pub all : vs ≡ before ++ (Opens opened ∷ later)
   pub was_live : IsIn r (pool_after before p).live
   pub lower : number_of opened < number_of r
+
+-- each record of the name that is verified on a device which isn't a member's is one of this pool's
+abbrev pub AreOurs : Codec → Pool → Known → Type 0
+AreOurs c p known = (d : ℕ) (u : Uberblock) (config : List ℕ) → p.member d ≡ false → IsVerifiedOn c.head_of p.size known p.name d u config
+    → (r : Rec) × IsDrawnRecord p u config r
 
 -- No stray: no record of the name on a device that isn't a member's but those of this pool; and none that
 -- was given up though an opening missed it, with a number not below the acknowledged one's, but where a live record is the very same.
