@@ -18,7 +18,7 @@ use Rattle.txg_history.specs.Openings.{IsVerifiedOn, IsYield, FindsLive}
 use Rattle.txg_history.specs.Pages.{Codec, IsPageOf, sum_of}
 use Rattle.txg_history.specs.Places.{IsFree}
 use Rattle.txg_history.specs.Pools.{Pool, drawn, seat, after, pool_after}
-use Rattle.txg_history.specs.Premises.{HoldsLabels, Premises}
+use Rattle.txg_history.specs.Premises.{AreOwnConfigs, HoldsLabels, Premises}
 use Rattle.txg_history.specs.Records.{Rec, Cell, IsIn, IsNoLeaf, key, cell_over, block_of, block_at, laid_over, number_of, takes_part}
 use Rattle.txg_history.specs.Rounds.{IsRoundEvents, RoundEnds}
 use Rattle.txg_history.specs.Survival.{Survives}
@@ -206,15 +206,11 @@ pub day_may : (c : Codec) (p : Pool) (a : ℕ) (b : Branch) (q : Rec) (vs : List
     → IsRoundEvents (pool_after (day_until_round a b) p).size q (seat (pool_after (day_until_round a b) p) a ∷ []) (true ∷ []) vs
     → Mays c p (day_until_round a b ++ (vs ++ stop_and_open q size (pool_after vs (pool_after (day_until_round a b) p))))
     × (p.missed ≡ [] → AreUnhurt ((stopped_day a b vs size p).size a) ((stopped_day a b vs size p).sectors a)
-    → ((r : Rec) (e : ℕ) (u : Uberblock) (config : List ℕ) → IsIn r (drawn (stopped_day a b vs size p))
-    → IsVerifiedOn c.head_of (stopped_day a b vs size p).size (stable_of (stopped_day a b vs size p)) p.name e u config
-    → sha256 config ≡ sha256 (config_of r.commit) → config ≡ config_of r.commit)
+    → AreOwnConfigs c.head_of (stopped_day a b vs size p) (stable_of (stopped_day a b vs size p))
     → FindsJust c (stopped_day a b vs size p) q (b.bytes 0))
 day_may c p a b q vs size w drawn_up round = (
   mays_more c (day_until_round a b) (vs ++ stop_and_open q size p6) p commit (mays_more c vs (stop_and_open q size p6) p5 may (stop, (stable_true p7, (live, tt)))),
-  λ none unhurt sums. finds (premises_met c.head_of p7 a q holds is_a unhurt (ends.missed ∙ none)
-      (λ r e u config. subst (λ name. IsIn r (drawn p7) → IsVerifiedOn c.head_of p7.size (stable_of p7) name e u config
-      → sha256 config ≡ sha256 (config_of r.commit) → config ≡ config_of r.commit) (sym ends.name) (sums r e u config))),
+  λ none unhurt sums. finds (premises_met c.head_of p7 a q holds is_a unhurt (ends.missed ∙ none) sums),
 )
   where
     commit : Mays c p (day_until_round a b)

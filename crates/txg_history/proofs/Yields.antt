@@ -50,7 +50,7 @@ verified_drawn c p known d u config sv clash member v =
       uber.0,
       record {
         is_drawn = uber.1;
-        config_is = clash.sums uber.0 d u config uber.1 v (v.verified.is_record.sum ∙ ap (λ w. w.sum) uber.2);
+        config_is = clash.sums uber.0 d u config uber.1 member uber.2 v (v.verified.is_record.sum ∙ ap (λ w. w.sum) uber.2);
         number_is = ap (λ w. w.number) uber.2;
         pool_is = ap (λ w. w.pool) uber.2 ∙ sv.pools uber.0 uber.1;
       },

@@ -6,7 +6,7 @@ use Rattle.mp_base.specs.declared.place.Key.{Key}
 use Rattle.label_store.specs.declared.rule.Head.{Head}
 use Rattle.label_store.specs.declared.uberblock.Uberblock.{Uberblock}
 use Rattle.label_store.specs.Records.{AreUnhurt, place_at}
-use Rattle.label_store.specs.Rounds.{config_of}
+use Rattle.label_store.specs.Rounds.{config_of, uberblock_of}
 use Rattle.label_store.specs.Uberblock.{IsUberblock}
 use Rattle.txg_history.specs.Events.{Event, Known, Looks, Opens}
 use Rattle.txg_history.specs.Needs.{Held, InRing, InPart, even_part, odd_part}
@@ -16,14 +16,30 @@ use Rattle.txg_history.specs.Pools.{Pool, after, pool_after, drawn, seat}
 use Rattle.txg_history.specs.Records.{Rec, Cell, IsIn, number_of, takes_part, key, data_start}
 use Rattle.txg_history.specs.Survival.{IsAmong}
 
--- No clash: no configuration that was found has the sum of another that was drawn, and no ring sector that
--- was found holds a correct uberblock that neither stood there nor was written there in this run.
+-- A configuration that was found on a member beside a drawn record's uberblock, and has its sum, is that record's. So nothing
+-- is asked of a record that no uberblock of its round has reached.
+abbrev pub AreOwnConfigs : (List ℕ → Option Head) → Pool → Known → Type 0
+AreOwnConfigs head_of p known = (r : Rec) (d : ℕ) (u : Uberblock) (config : List ℕ) → IsIn r (drawn p) → p.member d ≡ true
+    → u ≡ uberblock_of r.commit (seat p d) → IsVerifiedOn head_of p.size known p.name d u config
+    → sha256 config ≡ sha256 (config_of r.commit) → config ≡ config_of r.commit
+
+-- each correct uberblock that was found in a member's ring stood there, or was written there in this run
+abbrev pub AreNotTorn : Pool → Known → Type 0
+AreNotTorn p known = (d place : ℕ) (bytes : List ℕ) (u : Uberblock) → p.member d ≡ true → place < 128
+    → known d (place_at (p.size d) place) ≡ Some bytes → IsUberblock u bytes
+    → (bytes ≡ (p.sectors d (place_at (p.size d) place)).stable) ⊎ IsAmong bytes (p.since d (place_at (p.size d) place))
+
+-- The list has the byte strings that are there: each configuration that was found, and that of each drawn record whose uberblock was.
+pub record AreThere (head_of : List ℕ → Option Head) (p : Pool) (known : Known) (strings : List (List ℕ)) : Type 0 where
+  pub found : (d : ℕ) (u : Uberblock) (config : List ℕ) → IsVerifiedOn head_of p.size known p.name d u config → IsAmong config strings
+  pub written : (r : Rec) (d : ℕ) (config : List ℕ) → IsIn r (drawn p) → p.member d ≡ true
+      → IsVerifiedOn head_of p.size known p.name d (uberblock_of r.commit (seat p d)) config
+      → IsAmong (config_of r.commit) strings
+
+-- No clash: neither of two configurations with one sum, nor of a torn ring sector that is a correct uberblock by chance.
 pub record HasNoClash (head_of : List ℕ → Option Head) (p : Pool) (known : Known) : Type 0 where
-  pub sums : (r : Rec) (d : ℕ) (u : Uberblock) (config : List ℕ) → IsIn r (drawn p) → IsVerifiedOn head_of p.size known p.name d u config
-      → sha256 config ≡ sha256 (config_of r.commit) → config ≡ config_of r.commit
-  pub rings : (d place : ℕ) (bytes : List ℕ) (u : Uberblock) → p.member d ≡ true → place < 128 → known d (place_at (p.size d) place) ≡ Some bytes
-      → IsUberblock u bytes
-      → (bytes ≡ (p.sectors d (place_at (p.size d) place)).stable) ⊎ IsAmong bytes (p.since d (place_at (p.size d) place))
+  pub sums : AreOwnConfigs head_of p known
+  pub rings : AreNotTorn p known
 
 -- two records that no reader tells apart: one configuration and one number
 pub record AreTwins (r s : Rec) : Type 0 where

@@ -8,7 +8,7 @@ ghost use Rattle.label_store.specs.Rounds.{config_of};
 ghost use Rattle.label_store.specs.Seats.{AreApart};
 ghost use Rattle.txg_history.specs.Branches.{Branch, IsDay, day_until_round, stopped_day, stop_and_open, FindsJust};
 ghost use Rattle.txg_history.specs.Calm.{stable_of};
-ghost use Rattle.txg_history.specs.Openings.{IsVerifiedOn};
+ghost use Rattle.txg_history.specs.Premises.{AreOwnConfigs};
 ghost use Rattle.txg_history.specs.Events.{Event, Draws};
 ghost use Rattle.txg_history.specs.Moves.{MayFreeze, IsLeafOf, IsDrawnUp, Mays};
 ghost use Rattle.txg_history.specs.Pages.{Codec};
@@ -39,9 +39,7 @@ pub fn small_histories_are_allowed()
         → IsRoundEvents (pool_after (day_until_round a b) p).size q (seat (pool_after (day_until_round a b) p) a ∷ []) (true ∷ []) vs
         → Mays c p (day_until_round a b ++ (vs ++ stop_and_open q size (pool_after vs (pool_after (day_until_round a b) p))))
         × (p.missed ≡ [] → AreUnhurt ((stopped_day a b vs size p).size a) ((stopped_day a b vs size p).sectors a)
-        → ((r : Rec) (e : ℕ) (u : Uberblock) (config : List ℕ) → IsIn r (drawn (stopped_day a b vs size p))
-        → IsVerifiedOn c.head_of (stopped_day a b vs size p).size (stable_of (stopped_day a b vs size p)) p.name e u config
-        → sha256 config ≡ sha256 (config_of r.commit) → config ≡ config_of r.commit)
+        → AreOwnConfigs c.head_of (stopped_day a b vs size p) (stable_of (stopped_day a b vs size p))
         → FindsJust c (stopped_day a b vs size p) q (b.bytes 0)) }
     ensures suspends { (c : Codec) (p : Pool) (cells : Cells) (board : ℕ → Bool) (d : ℕ) → Survives c p → MayFreeze c p cells board
         → Mays c p (suspended cells board d)

@@ -20,10 +20,10 @@ ghost use Rattle.txg_history.specs.Moves.{Mays, ReadsTrue};
 ghost use Rattle.txg_history.specs.Openings.{IsVerifiedOn, IsYield, IsReadWhole, IsDrawnRecord, Finds, FindsLive};
 ghost use Rattle.txg_history.specs.Pages.{Codec};
 ghost use Rattle.txg_history.specs.Pools.{Pool, drawn, after, pool_after};
-ghost use Rattle.txg_history.specs.Premises.{AreOurs, AreClaims, AreGood, AreNamesKept, AreTwins, HasNoClash, HasNoTwin, HasNoStray, HasTwin, HoldsLabels, Premises, WasAcked, WasMissed};
+ghost use Rattle.txg_history.specs.Premises.{AreOurs, AreClaims, AreGood, AreNamesKept, AreTwins, HasNoClash, AreNotTorn, AreOwnConfigs, AreThere, HasNoTwin, HasNoStray, HasTwin, HoldsLabels, Premises, WasAcked, WasMissed};
 ghost use Rattle.txg_history.specs.Records.{Rec, IsIn, number_of};
 ghost use Rattle.txg_history.specs.Rounds.{all_true, IsRoundEvents};
-ghost use Rattle.txg_history.specs.Survival.{Survives};
+ghost use Rattle.txg_history.specs.Survival.{IsAmong, Survives};
 
 /// An opening finds the last acknowledged record or a later live one, whatever crash came before it. It
 /// computes nothing: its clauses are the law.
@@ -72,13 +72,17 @@ pub fn looks_show_the_labels()
 ///
 /// `calm`: they hold where each read of a member gives what stands there, some member's labels hold a record
 /// and none of their sectors is damaged, no opening ever missed a record, and no configuration that is
-/// verified has the sum of another drawn one. `true_to`: so read, each clean sector shows what stands there.
+/// verified has the sum of another drawn one. `true_to`: so read, each clean sector shows what stands there. `no_clash`: there is none
+/// where no two different byte strings of those that are there have one sum, and no ring sector is torn into a correct
+/// uberblock.
 pub fn premises_can_be_met()
     ensures calm { (head_of : List ℕ → Option Head) (p : Pool) (d : ℕ) (r : Rec) → HoldsLabels p d r → p.member d ≡ true → AreUnhurt (p.size d) (p.sectors d) → p.missed ≡ []
-        → ((r : Rec) (e : ℕ) (u : Uberblock) (config : List ℕ) → IsIn r (drawn p) → IsVerifiedOn head_of p.size (stable_of p) p.name e u config
-        → sha256 config ≡ sha256 (config_of r.commit) → config ≡ config_of r.commit)
+        → AreOwnConfigs head_of p (stable_of p)
         → Premises head_of p (stable_of p) }
     ensures true_to { (p : Pool) → ReadsTrue p.sectors (stable_of p) }
+    ensures no_clash { (head_of : List ℕ → Option Head) (p : Pool) (known : Known) (strings : List (List ℕ))
+        → ((a b : List ℕ) → IsAmong a strings → IsAmong b strings → sha256 a ≡ sha256 b → a ≡ b) → AreThere head_of p known strings → AreNotTorn p known
+        → HasNoClash head_of p known }
 {}
 
 /// A stray is a record that was never acknowledged, and was live when an opening read a lower one, on whatever device it
