@@ -45,7 +45,8 @@ branch_is b k cell e = of ((k.index == 0) && nat_lt k.level 4) refl e
     of true is e = let parts = and_parts (k.index == 0) (nat_lt k.level 4) is in
         let a : (k.index == 0) ≡ true = parts.0 in
         let l : nat_lt k.level 4 ≡ true = parts.1 in
-        (let none : k.index ≡ 0 = grind (arith, nat_tests) in none, let low : k.level < 4 = grind (arith, nat_tests) in low, same_cell (cell_on b k.level) cell e)
+        (let none : k.index ≡ 0 = grind (arith, nat_tests) in none, let low : k.level < 4 = grind
+        (arith, nat_tests) in low, same_cell (cell_on b k.level) cell e)
     of false is e = absurd (cc)
 
 branch_has : (b : Branch) (level index : ℕ) → index ≡ 0 → level < 4 → branch_cells b (key level index) ≡ Some (cell_on b level)
@@ -120,7 +121,8 @@ turn_may : (c : Codec) (p q : Pool) (a : ℕ) (b : Branch) (level : ℕ) → IsD
     → Mays c q (turn_on a b level)
 turn_may c p q a b level day sv low undone = write_turn_may c q (key level 0) (cell_on b level) (seat q a ∷ []) (true ∷ []) (turn_on a b level) sv
     day.frozen day.flushed (ap (λ cells. cells (key level 0)) day.cells ∙ branch_has b level 0 refl low) undone
-    (alone p q a (OnTop q b.top) day.member day.guid (on a (same_test a), day.top) (λ d member which. same_device a d (sym (ap (λ f. f d) day.board) ∙ which.0)))
+    (alone p q a (OnTop q b.top) day.member day.guid (on a (same_test a), day.top)
+    (λ d member which. same_device a d (sym (ap (λ f. f d) day.board) ∙ which.0)))
     (one_apart (seat q a))
     (record {
       made = writes_well a (cell_on b level) ∷ [];
@@ -164,7 +166,9 @@ day_commits c p a b w = (tt, (freeze,
     sv2 = history_survives c (turn_on a b 0) p1 sv1 m1
 
     m2 : Mays c p2 (turn_on a b 1)
-    m2 = turn_may c p p2 a b 1 (record { member = refl; guid = refl; board = refl; frozen = refl; flushed = refl; cells = refl; top = w.a_top }) sv2 (omega arith) refl
+    m2 = turn_may c p p2 a b 1
+        (record { member = refl; guid = refl; board = refl; frozen = refl; flushed = refl; cells = refl; top = w.a_top }) sv2
+        (omega arith) refl
 
     p3 : Pool
     p3 = pool_after (turn_on a b 1) p2
@@ -173,7 +177,9 @@ day_commits c p a b w = (tt, (freeze,
     sv3 = history_survives c (turn_on a b 1) p2 sv2 m2
 
     m3 : Mays c p3 (turn_on a b 2)
-    m3 = turn_may c p p3 a b 2 (record { member = refl; guid = refl; board = refl; frozen = refl; flushed = refl; cells = refl; top = w.a_top }) sv3 (omega arith) refl
+    m3 = turn_may c p p3 a b 2
+        (record { member = refl; guid = refl; board = refl; frozen = refl; flushed = refl; cells = refl; top = w.a_top }) sv3
+        (omega arith) refl
 
     p4 : Pool
     p4 = pool_after (turn_on a b 2) p3
@@ -182,7 +188,9 @@ day_commits c p a b w = (tt, (freeze,
     sv4 = history_survives c (turn_on a b 2) p3 sv3 m3
 
     m4 : Mays c p4 (turn_on a b 3)
-    m4 = turn_may c p p4 a b 3 (record { member = refl; guid = refl; board = refl; frozen = refl; flushed = refl; cells = refl; top = w.a_top }) sv4 (omega arith) refl
+    m4 = turn_may c p p4 a b 3
+        (record { member = refl; guid = refl; board = refl; frozen = refl; flushed = refl; cells = refl; top = w.a_top }) sv4
+        (omega arith) refl
 
     p5 : Pool
     p5 = pool_after (turn_on a b 3) p4
@@ -209,7 +217,8 @@ pub day_may : (c : Codec) (p : Pool) (a : ℕ) (b : Branch) (q : Rec) (vs : List
     → AreOwnConfigs c.head_of (stopped_day a b vs size p) (stable_of (stopped_day a b vs size p))
     → FindsJust c (stopped_day a b vs size p) q (b.bytes 0))
 day_may c p a b q vs size w drawn_up round = (
-  mays_more c (day_until_round a b) (vs ++ stop_and_open q size p6) p commit (mays_more c vs (stop_and_open q size p6) p5 may (stop, (stable_true p7, (live, tt)))),
+  mays_more c (day_until_round a b) (vs ++ stop_and_open q size p6) p commit
+      (mays_more c vs (stop_and_open q size p6) p5 may (stop, (stable_true p7, (live, tt)))),
   λ none unhurt sums. finds (premises_met c.head_of p7 a q holds is_a unhurt (ends.missed ∙ none) sums),
 )
   where
@@ -258,7 +267,8 @@ day_may c p a b q vs size w drawn_up round = (
 
         of : IsLeafOf p5 q a ⊎ (IsNoLeaf q (p5.guid a) × (p5.group.board a ≡ false)) → takes_part q (p5.guid a) ≡ true
         of (inl leaf) = not_owed (q.owes (p5.guid a) (number_of q)) (leaf.log_is (number_of q)
-            ∙ sv5.boards.on_board refl a (number_of q) w.is_a (same_test a) (let n = drawn_up.number_is in let f = sv5.boards.first_top refl in omega (arith, n, f))
+            ∙ sv5.boards.on_board refl a (number_of q) w.is_a (same_test a)
+            (let n = drawn_up.number_is in let f = sv5.boards.first_top refl in omega (arith, n, f))
             (let n = drawn_up.number_is in omega (arith, n)))
         of (inr none) = true_not_false (a == a) (same_test a) none.1
 

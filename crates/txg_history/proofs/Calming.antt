@@ -31,7 +31,8 @@ pub stable_true : (p : Pool) → ReadsTrue p.sectors (stable_of p)
 stable_true p d s bytes e clean = shows_stable (p.member d) (p.sectors d s).stable bytes e
 
 -- A member's undamaged labels with a record, and nothing that an opening missed.
-pub premises_met : (head_of : List ℕ → Option Head) (p : Pool) (d : ℕ) (r : Rec) → HoldsLabels p d r → p.member d ≡ true → AreUnhurt (p.size d) (p.sectors d) → p.missed ≡ []
+pub premises_met : (head_of : List ℕ → Option Head) (p : Pool) (d : ℕ) (r : Rec) → HoldsLabels p d r → p.member d ≡ true
+    → AreUnhurt (p.size d) (p.sectors d) → p.missed ≡ []
     → AreOwnConfigs head_of p (stable_of p)
     → Premises head_of p (stable_of p)
 premises_met head_of p d r holds member unhurt none sums = record {

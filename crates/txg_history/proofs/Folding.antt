@@ -76,7 +76,8 @@ pub kept_along : {A : Type 0} (f : Pool → A) (Kind : Event → Type 0) → ((v
 kept_along f Kind same [] p all = refl
 kept_along f Kind same (v ∷ vs) p all = kept_along f Kind same vs (after v p) all.1 ∙ same v p all.0
 
-pub all_more : (Kind : Event → Type 0) (first second : List Event) → AllByRecursion Kind first → AllByRecursion Kind second → AllByRecursion Kind (first ++ second)
+pub all_more : (Kind : Event → Type 0) (first second : List Event) → AllByRecursion Kind first
+    → AllByRecursion Kind second → AllByRecursion Kind (first ++ second)
 all_more Kind [] second a b = b
 all_more Kind (v ∷ first) second a b = (a.0, all_more Kind first second a.1 b)
 

@@ -79,5 +79,6 @@ imports_leave_none c p r q same board other made sectors size sizes members resu
     })
     of s (inr (inl e)) = inl (subst (λ s. number_of s < number_of p3.acked) (sym e) above_r)
     of s (inr (inr i)) = ⊎_elim
-        (λ lt. inl (let below : number_of s < number_of r = subst (λ x. number_of s < number_of x) acked_r lt in let above = above_r in omega (arith, below, above)))
+        (λ lt. inl (let below : number_of s < number_of r = subst
+        (λ x. number_of s < number_of x) acked_r lt in let above = above_r in omega (arith, below, above)))
         (λ none. absurd (subst (IsIn s) missed none)) (sv.order.given_below s i)

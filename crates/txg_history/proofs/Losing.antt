@@ -105,7 +105,8 @@ first_stamp : (d : ℕ) (call : Call) → ask_of call ≡ Writes d ring_offset z
 first_stamp d (Read dev at bytes fault) e = absurd (cc)
 first_stamp d (Write dev at bytes fault) e = (fault, write_is dev at d ring_offset bytes zero_ring fault e)
   where
-    write_is : (dev at d s : ℕ) (bytes ring : List ℕ) (fault : Option Fault) → Writes dev at bytes ≡ Writes d s ring → Write dev at bytes fault ≡ Write d s ring fault
+    write_is : (dev at d s : ℕ) (bytes ring : List ℕ) (fault : Option Fault) → Writes dev at bytes ≡ Writes d s ring
+        → Write dev at bytes fault ≡ Write d s ring fault
     write_is dev at d s bytes ring fault e = cc
 first_stamp d (Flush dev fault) e = absurd (cc)
 first_stamp d (Admit dev holds) e = absurd (cc)
@@ -145,7 +146,8 @@ pub stamp_refused : (c : Codec) (p : Pool) (d : ℕ) (noted : Noted) → Survive
 stamp_refused c p d noted sv has stamp mays = of has.status_is
   where
     hits : (r : Rec) → touches noted.call d (32 + slot_of (number_of r)) ≡ true
-    hits r = ap (λ call. touches call d (32 + slot_of (number_of r))) stamp.1 ∙ aimed (slot_of (number_of r)) (let lt : slot_of (number_of r) < 32 = omega arith in lt)
+    hits r = ap (λ call. touches call d (32 + slot_of (number_of r))) stamp.1 ∙ aimed (slot_of (number_of r))
+        (let lt : slot_of (number_of r) < 32 = omega arith in lt)
       where
         aimed : (slot : ℕ) → slot < 32 → ((d == d) && covers ring_offset (sectors_in zero_ring) (32 + slot)) ≡ true
         aimed slot lt = rw (same, covers_slot slot lt (sectors_in zero_ring) (ring_sectors zero_ring refl)) refl

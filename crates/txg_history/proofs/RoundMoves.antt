@@ -50,7 +50,8 @@ has_in true u e f g = absurd (cc)
 has_in false u e f g = cc
 
 -- A member on the board takes part in a record that is drawn up, and one that takes part is on the board.
-pub board_takes : (codec : Codec) (p : Pool) (q : Rec) (d : ℕ) → Survives codec p → IsDrawnUp codec p q → p.member d ≡ true → p.group.board d ≡ true → takes_part q (p.guid d) ≡ true
+pub board_takes : (codec : Codec) (p : Pool) (q : Rec) (d : ℕ) → Survives codec p → IsDrawnUp codec p q
+    → p.member d ≡ true → p.group.board d ≡ true → takes_part q (p.guid d) ≡ true
 board_takes codec p q d sv m is on = of (m.leaves d is)
   where
     of : IsLeafOf p q d ⊎ (IsNoLeaf q (p.guid d) × (p.group.board d ≡ false)) → takes_part q (p.guid d) ≡ true
@@ -58,7 +59,8 @@ board_takes codec p q d sv m is on = of (m.leaves d is)
         (subst (λ n. p.owes d n ≡ false) (sym m.number_is) (sv.boards.on_board m.frozen d p.highest is on (sv.boards.first_top m.frozen) (omega arith)))
     of (inr none) = true_not_false (p.group.board d) on none.1
 
-pub takes_board : (codec : Codec) (p : Pool) (q : Rec) (d : ℕ) → Survives codec p → IsDrawnUp codec p q → p.member d ≡ true → takes_part q (p.guid d) ≡ true → p.group.board d ≡ true
+pub takes_board : (codec : Codec) (p : Pool) (q : Rec) (d : ℕ) → Survives codec p → IsDrawnUp codec p q
+    → p.member d ≡ true → takes_part q (p.guid d) ≡ true → p.group.board d ≡ true
 takes_board codec p q d sv m is takes = by_bool (p.group.board d) (λ on. on) (λ out. absurd (of out (m.leaves d is)))
   where
     of : p.group.board d ≡ false → IsLeafOf p q d ⊎ (IsNoLeaf q (p.guid d) × (p.group.board d ≡ false)) → ⊥
@@ -66,7 +68,8 @@ takes_board codec p q d sv m is takes = by_bool (p.group.board d) (λ on. on) (�
         (subst (λ n. p.owes d n ≡ true) (sym m.number_is) (sv.boards.off_board m.frozen d p.highest is out (sv.boards.first_top m.frozen) (omega arith))) takes
     of out (inr none) = has_in (q.owes (p.guid d) (number_of q)) true (none.0.all (number_of q)) refl takes
 
-seated_of : (codec : Codec) (p : Pool) (q : Rec) (ms : List Member) → Setting codec p q ms → (j : ℕ) (m : Member) → slice_get ms j ≡ Some m → p.member m.dev ≡ true → IsSeated p q m
+seated_of : (codec : Codec) (p : Pool) (q : Rec) (ms : List Member) → Setting codec p q ms → (j : ℕ) (m : Member)
+    → slice_get ms j ≡ Some m → p.member m.dev ≡ true → IsSeated p q m
 seated_of codec p q ms s j m e is = let at = s.members.seated j m e is in record {
   is_member = is;
   takes = board_takes codec p q m.dev s.survives s.drawn_up is at.1;
@@ -93,7 +96,8 @@ front_stands : (codec : Codec) (p : Pool) (q : Rec) (ms : List Member) (results 
     → (s : ℕ) (bytes : List ℕ) → NeedsLabel (seat p m.dev) (Even q) s bytes → Stands (run r.second (run r.first p.sectors) m.dev s) bytes
 front_stands codec p q ms results vs st r j m at on is s bytes (inl (e, b)) =
     subst (λ t. Stands (run r.second (run r.first p.sectors) m.dev t) bytes) (sym there)
-    (subst (Stands (run r.second (run r.first p.sectors) m.dev (0 + (32 + slot_of (number_of q))))) (ap (λ n. uberblock_bytes (uberblock_of q.commit n)) seated.seat_is ∙ sym b)
+    (subst (Stands (run r.second (run r.first p.sectors) m.dev (0 + (32 + slot_of (number_of q)))))
+    (ap (λ n. uberblock_bytes (uberblock_of q.commit n)) seated.seat_is ∙ sym b)
     (phase_lands (second_plan p.size q.commit) ms r.in_first r.in_second r.second j m m.dev (0 + (32 + slot_of (number_of q))) _ _ at on
     (λ i n e' ne. ring_elsewhere n.dev (p.size n.dev) (uberblock_of q.commit n) m.dev _ (others ms j i m n st.apart at e' ne))
     (λ mine y part. ring_lands m.dev (p.size m.dev) (uberblock_of q.commit m) mine y seated.big
@@ -107,7 +111,8 @@ front_stands codec p q ms results vs st r j m at on is s bytes (inl (e, b)) =
 front_stands codec p q ms results vs st r j m at on is s bytes (inr (i, lt, e, b)) =
     subst (λ t. Stands (run r.second (run r.first p.sectors) m.dev t) bytes) (sym e)
     (subst (Stands (run r.second (run r.first p.sectors) m.dev (4 + i))) (sym b)
-    (untouched_stands r.second m.dev (4 + i) _ _ (second_off_part codec p q ms r.in_first r.in_second r.second m.dev i st is (omega (arith, lt, few)) r.uberblocks)
+    (untouched_stands r.second m.dev (4 + i) _ _
+    (second_off_part codec p q ms r.in_first r.in_second r.second m.dev i st is (omega (arith, lt, few)) r.uberblocks)
     (phase_lands (first_plan p.size q.commit) ms (map (λ n. true) ms) r.in_first r.first j m m.dev (4 + i) _ _ at
     (phase_was (second_plan p.size q.commit) ms r.in_first r.in_second r.second j on r.uberblocks)
     (λ i' n e' ne. config_elsewhere_even n.dev (p.size n.dev) q.commit.blob m.dev _ (others ms j i' m n st.apart at e' ne))
@@ -184,14 +189,16 @@ may_ack codec p q ms results vs st r all =
       logs = λ d g is leaf owed. same_log d g leaf owed (st.drawn_up.leaves d is);
     })
   where
-    same_log : (d g : ℕ) → 1 ≤ q.tops (p.guid d) → q.owes (p.guid d) g ≡ true → IsLeafOf p q d ⊎ (IsNoLeaf q (p.guid d) × (p.group.board d ≡ false)) → p.owes d g ≡ true
+    same_log : (d g : ℕ) → 1 ≤ q.tops (p.guid d) → q.owes (p.guid d) g ≡ true → IsLeafOf p q d
+        ⊎ (IsNoLeaf q (p.guid d) × (p.group.board d ≡ false)) → p.owes d g ≡ true
     same_log d g leaf owed (inl of) = sym (of.log_is g) ∙ owed
     same_log d g leaf owed (inr none) = absurd (omega (arith, leaf, none.0.no_top))
 
 still_frozen : (codec : Codec) (p : Pool) (q : Rec) (ms : List Member) (results : List Bool) (vs : List Event) → Setting codec p q ms
     → (r : IsRoundEvents p.size q ms results vs) → (pool_after r.thirds (front q r.first r.second p)).group.frozen ≡ true
 still_frozen codec p q ms results vs st r =
-    ap (λ x. x.group.frozen) (turns_pool r.thirds (front q r.first r.second p) (thirds_turns (third_plan p.size q.commit) q ms r.in_second results r.thirds r.copies))
+    ap (λ x. x.group.frozen) (turns_pool r.thirds (front q r.first r.second p)
+        (thirds_turns (third_plan p.size q.commit) q ms r.in_second results r.thirds r.copies))
     ∙ st.drawn_up.frozen
 
 round_allowed : (codec : Codec) (p : Pool) (q : Rec) (ms : List Member) (results : List Bool) (vs : List Event) → Setting codec p q ms
@@ -209,7 +216,8 @@ round_allowed codec p q ms results vs st r =
           (second_sparing codec p q m st.survives (begun_between codec p q ms st) st.drawn_up.fits (seated_of codec p q ms st j m e))) r.uberblocks)
           (mays_more codec r.thirds (acks_or (all_true results) q ms results) (front q r.first r.second p)
           (thirds_may codec q ms r.in_second results r.thirds (front q r.first r.second p) (front_ready codec p q ms results vs st r) r.copies)
-          (acks_may codec q ms results (all_true results) (pool_after r.thirds (front q r.first r.second p)) (still_frozen codec p q ms results vs st r) (may_ack codec p q ms results vs st r)))),
+          (acks_may codec q ms results (all_true results) (pool_after r.thirds (front q r.first r.second p))
+          (still_frozen codec p q ms results vs st r) (may_ack codec p q ms results vs st r)))),
     )
 
 -- A round of a record that is drawn up is allowed.
@@ -294,7 +302,8 @@ copies_behind : (first second third : List Noted) (copies : ℕ → ℕ → List
 copies_behind first second third copies = sym (copies_more first (second ++ third) copies ∙ copies_more second third (copies_after first copies))
 
 -- with its acknowledgement, or without the members that failed
-acknowledges : (p : Pool) (q : Rec) (first second : List Noted) (thirds : List Event) (whole : Bool) (ms : List Member) (results : List Bool) → all_true results ≡ whole
+acknowledges : (p : Pool) (q : Rec) (first second : List Noted) (thirds : List Event) (whole : Bool) (ms : List Member)
+    (results : List Bool) → all_true results ≡ whole
     → AreAtEnd p q ms results (pool_after thirds (front q first second p)).status
     → RoundEnds p (pool_after (acks_or whole q ms results) (before_ack q first second thirds p)) q whole ms results (first ++ (second ++ calls_of thirds))
 acknowledges p q first second thirds true ms results all at = record {
@@ -344,7 +353,8 @@ acknowledges p q first second thirds true ms results all at = record {
   drawn_in = λ r i. i;
 }
 acknowledges p q first second thirds false ms results all at =
-    subst (λ x. RoundEnds p x q false ms results (first ++ (second ++ calls_of thirds))) (sym (leavers_pool ms results (before_ack q first second thirds p))) (record {
+    subst (λ x. RoundEnds p x q false ms results (first ++ (second ++ calls_of thirds)))
+        (sym (leavers_pool ms results (before_ack q first second thirds p))) (record {
       name = refl;
       pool = refl;
       member = refl;
@@ -394,5 +404,7 @@ round_ends size p q members results vs r =
     subst (λ x. RoundEnds p x q (all_true results) members results (calls_of vs))
     (sym (round_pool size p q members results vs r ∙ ap (pool_after (acks_or (all_true results) q members results))
     (turns_pool r.thirds (front q r.first r.second p) (thirds_turns (third_plan size q.commit) q members r.in_second results r.thirds r.copies))))
-    (subst (RoundEnds p (pool_after (acks_or (all_true results) q members results) (before_ack q r.first r.second r.thirds p)) q (all_true results) members results)
-    (sym (round_calls size q members results vs r)) (acknowledges p q r.first r.second r.thirds (all_true results) members results refl (at_end size p q members results vs r)))
+    (subst (RoundEnds p (pool_after (acks_or (all_true results) q members results)
+    (before_ack q r.first r.second r.thirds p)) q (all_true results) members results)
+    (sym (round_calls size q members results vs r)) (acknowledges p q r.first r.second r.thirds
+    (all_true results) members results refl (at_end size p q members results vs r)))

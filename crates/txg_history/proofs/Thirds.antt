@@ -181,18 +181,21 @@ turns_ends : (c : Bool) (q : Rec) (d : ℕ) (vs : List Event) → AllByRecursion
 turns_ends true q d vs t = (tt, t)
 turns_ends false q d vs t = t
 
-pub thirds_turns : (plan : Member → List Ask) (q : Rec) (ms : List Member) (was is : List Bool) (vs : List Event) → IsThirds plan q ms was is vs → AllByRecursion IsOfTurn vs
+pub thirds_turns : (plan : Member → List Ask) (q : Rec) (ms : List Member) (was is : List Bool) (vs : List Event)
+    → IsThirds plan q ms was is vs → AllByRecursion IsOfTurn vs
 thirds_turns plan q [] [] [] vs t = subst (AllByRecursion IsOfTurn) (sym t) tt
 thirds_turns plan q [] [] (c ∷ is) vs t = absurd t
 thirds_turns plan q [] (b ∷ was) is vs t = absurd t
 thirds_turns plan q (m ∷ ms) [] is vs t = absurd t
 thirds_turns plan q (m ∷ ms) (b ∷ was) [] vs t = absurd t
 thirds_turns plan q (m ∷ ms) (true ∷ was) (c ∷ is) vs t = subst (AllByRecursion IsOfTurn) (sym t.2)
-    (tt, all_more IsOfTurn (as_events t.0) (ends_if c q m.dev ++ t.1) (all_calls IsOfTurn (λ noted. tt) t.0) (turns_ends c q m.dev t.1 (thirds_turns plan q ms was is t.1 t.4)))
+    (tt, all_more IsOfTurn (as_events t.0) (ends_if c q m.dev ++ t.1) (all_calls IsOfTurn (λ noted. tt) t.0)
+    (turns_ends c q m.dev t.1 (thirds_turns plan q ms was is t.1 t.4)))
 thirds_turns plan q (m ∷ ms) (false ∷ was) (c ∷ is) vs t = thirds_turns plan q ms was is vs t.1
 
 -- each member has a result
-pub thirds_result : (plan : Member → List Ask) (q : Rec) (ms : List Member) (was is : List Bool) (vs : List Event) (i : ℕ) (m : Member) → slice_get ms i ≡ Some m
+pub thirds_result : (plan : Member → List Ask) (q : Rec) (ms : List Member) (was is : List Bool) (vs : List Event)
+    (i : ℕ) (m : Member) → slice_get ms i ≡ Some m
     → IsThirds plan q ms was is vs → (c : Bool) × (slice_get is i ≡ Some c)
 thirds_result plan q [] was is vs i m e t = absurd (no_member m e)
 thirds_result plan q (n ∷ ms) [] is vs i m e t = absurd t

@@ -60,7 +60,8 @@ IsFlushTurn members results vs = IsTurnEvents flush_plan Flushed members results
 pub record IsBoardBehind (was is : ℕ → Bool) (members : List Member) (results : List Bool) : Type 0 where
   pub before : (d : ℕ) → is d ≡ true → was d ≡ true
   pub good : (d i : ℕ) (m : Member) (c : Bool) → is d ≡ true → slice_get members i ≡ Some m → m.dev ≡ d → slice_get results i ≡ Some c → c ≡ true
-  pub stays : (d : ℕ) → was d ≡ true → ((i : ℕ) (m : Member) (c : Bool) → slice_get members i ≡ Some m → m.dev ≡ d → slice_get results i ≡ Some c → c ≡ true) → is d ≡ true
+  pub stays : (d : ℕ) → was d ≡ true → ((i : ℕ) (m : Member) (c : Bool) → slice_get members i ≡ Some m → m.dev ≡ d
+      → slice_get results i ≡ Some c → c ≡ true) → is d ≡ true
 
 -- What a turn leaves of a pool, by its calls: what it changed of the group, and all else is as it was.
 pub record TurnEnds (p behind : Pool) (members : List Member) (results : List Bool) (done : Key → Bool) (flushed : Bool) (made : List Noted) : Type 0 where

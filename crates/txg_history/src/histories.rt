@@ -28,7 +28,8 @@ ghost use Rattle.txg_history.specs.Weeks.{IsWeek, until_round, resilver, suspend
 /// opening finds the record with the block. Its premises hold where no label sector of the leaf is damaged, no opening before missed a
 /// record, and no configuration there has the sum of another.
 pub fn small_histories_are_allowed()
-    ensures week { (c : Codec) (p : Pool) (a b : ℕ) (cell : Cell) (q : Rec) (vs : List Event) → IsWeek c p a b cell → IsDrawnUp c (pool_after (until_round a cell) p) q
+    ensures week { (c : Codec) (p : Pool) (a b : ℕ) (cell : Cell) (q : Rec) (vs : List Event) → IsWeek c p a b cell
+        → IsDrawnUp c (pool_after (until_round a cell) p) q
         → IsLeafOf (pool_after (until_round a cell) p) q b
         → IsRoundEvents (pool_after (until_round a cell) p).size q (seat (pool_after (until_round a cell) p) a ∷ []) (true ∷ []) vs
         → Mays c p (until_round a cell ++ (vs ++ resilver b (number_of q) cell))
@@ -45,7 +46,9 @@ pub fn small_histories_are_allowed()
         → Mays c p (suspended cells board d)
         × ((e g : ℕ) → p.member e ≡ true → 1 ≤ p.in_top e → (pool_after (suspended cells board d) p).owes e g ≡ p.owes e g) }
     ensures further { (c : Codec) (p : Pool) (q again : Rec) (members left : List Member) (results others : List Bool) (vs more : List Event)
-        → Survives c p → IsDrawnUp c p q → AreJust p (OnBoard p) members → AreApart members → IsRoundEvents p.size q members results vs → all_true results ≡ false
-        → IsDrawnUp c (pool_after (vs ++ Draws ∷ []) p) again → AreJust (pool_after (vs ++ Draws ∷ []) p) (OnBoard (pool_after (vs ++ Draws ∷ []) p)) left → AreApart left
+        → Survives c p → IsDrawnUp c p q → AreJust p (OnBoard p) members → AreApart members
+        → IsRoundEvents p.size q members results vs → all_true results ≡ false
+        → IsDrawnUp c (pool_after (vs ++ Draws ∷ []) p) again → AreJust (pool_after (vs ++ Draws ∷ []) p)
+        (OnBoard (pool_after (vs ++ Draws ∷ []) p)) left → AreApart left
         → IsRoundEvents (pool_after (vs ++ Draws ∷ []) p).size again left others more → Mays c p ((vs ++ Draws ∷ []) ++ more) }
 {}

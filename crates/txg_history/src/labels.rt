@@ -32,7 +32,8 @@ pub fn labels_stay_sound()
     ensures stays { (c : Codec) (p : Pool) (d : ℕ) (vs : List Event) → HasPromise p d → Mays c p vs → KeepsLabels p d vs → HasPromise (pool_after vs p) d }
     ensures since { (c : Codec) (p : Pool) (d : ℕ) (q : Rec) (vs : List Event) → p.member d ≡ true → takes_part q (p.guid d) ≡ true → Mays c p (Acks q ∷ vs)
         → KeepsLabels (after (Acks q) p) d vs → HasPromise (pool_after (Acks q ∷ vs) p) d }
-    ensures near { (c : Codec) (p : Pool) (d : ℕ) (q : Rec) (vs : List Event) → Survives c p → p.member d ≡ true → takes_part q (p.guid d) ≡ true → Mays c p (Acks q ∷ vs)
+    ensures near { (c : Codec) (p : Pool) (d : ℕ) (q : Rec) (vs : List Event) → Survives c p → p.member d ≡ true
+        → takes_part q (p.guid d) ≡ true → Mays c p (Acks q ∷ vs)
         → KeepsNear d (p.guid d) q (Odd q) vs → KeepsLabels (after (Acks q) p) d vs }
     ensures again { (c : Codec) (p : Pool) (d : ℕ) (q : Rec) (vs : List Event) → p.member d ≡ true → Mays c p (Third q d ∷ vs)
         → KeepsLabels (after (Third q d) p) d vs → HasPromise (pool_after (Third q d ∷ vs) p) d }
@@ -42,7 +43,8 @@ pub fn labels_stay_sound()
     ensures holds { (c : Codec) (p : Pool) (d : ℕ) → Survives c p → (has : HasPromise p d) → HoldsLabels p d has.promised }
     ensures mends { (c : Codec) (p : Pool) (q : Rec) (d : ℕ) → Survives c p → p.status d ≡ Even q
         → ((s : ℕ) (bytes : List ℕ) → InPart odd_part q s bytes → Held (p.sectors d s) bytes) → May c p (Ends q d) }
-    ensures flushes { (c : Codec) (p : Pool) (members : List Member) (results : List Bool) (vs : List Event) (i d : ℕ) (q : Rec) → IsFlushTurn members results vs
+    ensures flushes { (c : Codec) (p : Pool) (members : List Member) (results : List Bool) (vs : List Event) (i d : ℕ)
+        (q : Rec) → IsFlushTurn members results vs
         → slice_get members i ≡ Some (seat p d) → slice_get results i ≡ Some true → p.status d ≡ Even q
         → ((s : ℕ) (bytes : List ℕ) → InPart odd_part q s bytes → Landed (p.sectors d s) bytes) → May c (pool_after vs p) (Ends q d) }
 {}

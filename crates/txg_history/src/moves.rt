@@ -44,7 +44,8 @@ pub fn histories_keep_their_records()
 pub fn stamped_pools_survive()
     ensures begins { (c : Codec) (name : List ℕ) (pool : Guid) (member : ℕ → Bool) (guid : ℕ → Guid) (size room home : ℕ → ℕ) (sectors : Sectors)
         → AreStamped pool member guid size room home sectors → Survives c (stamped name pool member guid size room home sectors) }
-    ensures stamps { (dev size : ℕ) (pool member : Guid) (made : List Noted) (sectors : Sectors) → 320 ≤ size → IsPart (stamp_plan dev size pool member) made None
+    ensures stamps { (dev size : ℕ) (pool member : Guid) (made : List Noted) (sectors : Sectors) → 320 ≤ size → IsPart
+        (stamp_plan dev size pool member) made None
         → (place : ℕ) → place < 128 → IsBlank (run made sectors dev (place_at size place)) pool member }
 {}
 

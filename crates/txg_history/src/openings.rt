@@ -38,7 +38,8 @@ ghost use Rattle.txg_history.specs.Survival.{IsAmong, Survives};
 pub fn openings_find_a_live_record()
     ensures some { (c : Codec) (p : Pool) (known : Known) → Survives c p → ReadsTrue p.sectors known → Premises c.head_of p known
         → (d : ℕ) × (u : Uberblock) × (config : List ℕ) × IsVerifiedOn c.head_of p.size known p.name d u config }
-    ensures each { (c : Codec) (p : Pool) (known : Known) (u : Uberblock) (config : List ℕ) → Survives c p → ReadsTrue p.sectors known → Premises c.head_of p known
+    ensures each { (c : Codec) (p : Pool) (known : Known) (u : Uberblock) (config : List ℕ) → Survives c p
+        → ReadsTrue p.sectors known → Premises c.head_of p known
         → IsYield c.head_of p.size known p.name u config → FindsLive p u config }
     ensures along { (c : Codec) (p : Pool) (vs : List Event) (k : ℕ) (known : Known) → Survives c p → Mays c p vs → AreGood c.head_of p vs
         → slice_get vs k ≡ Some (Looks known) → Finds c (pool_after (take k vs) p) known }
@@ -56,15 +57,19 @@ pub fn openings_find_a_live_record()
 /// what stands there, where it is clean behind the reads, and `whole` that a device was read whole where
 /// none of its reads failed. The devices differ, and each has the room of four labels, of 320 sectors.
 pub fn looks_show_the_labels()
-    ensures found { (head_of : List ℕ → Option Head) (size : ℕ → ℕ) (devs : List ℕ) (looks : List Parts) (made : List Noted) (sectors : Sectors) (name : List ℕ) (found : Found)
-        → IsLook size devs looks made → AreDistinct devs → HaveRoom size devs → AllAnswer sectors made → IsBest head_of looks name (128 * length devs) (Some found)
+    ensures found { (head_of : List ℕ → Option Head) (size : ℕ → ℕ) (devs : List ℕ) (looks : List Parts)
+        (made : List Noted) (sectors : Sectors) (name : List ℕ) (found : Found)
+        → IsLook size devs looks made → AreDistinct devs → HaveRoom size devs → AllAnswer sectors made
+        → IsBest head_of looks name (128 * length devs) (Some found)
         → (u : Uberblock) × (found.number ≡ u.number) × (found.pool ≡ u.pool) × IsYield head_of size (known_by size devs looks) name u found.blob.items }
     ensures none { (head_of : List ℕ → Option Head) (size : ℕ → ℕ) (devs : List ℕ) (looks : List Parts) (made : List Noted) (sectors : Sectors) (name : List ℕ)
         → IsLook size devs looks made → HaveRoom size devs → AllAnswer sectors made → IsBest head_of looks name (128 * length devs) None
         → (d : ℕ) (u : Uberblock) (config : List ℕ) → IsVerifiedOn head_of size (known_by size devs looks) name d u config → ⊥ }
-    ensures true_to { (size : ℕ → ℕ) (devs : List ℕ) (looks : List Parts) (made : List Noted) (sectors : Sectors) → IsLook size devs looks made → AllAnswer sectors made
+    ensures true_to { (size : ℕ → ℕ) (devs : List ℕ) (looks : List Parts) (made : List Noted) (sectors : Sectors)
+        → IsLook size devs looks made → AllAnswer sectors made
         → ReadsTrue (run made sectors) (known_by size devs looks) }
-    ensures whole { (size : ℕ → ℕ) (devs : List ℕ) (looks : List Parts) (made : List Noted) (i d : ℕ) → IsLook size devs looks made → slice_get devs i ≡ Some d → 320 ≤ size d
+    ensures whole { (size : ℕ → ℕ) (devs : List ℕ) (looks : List Parts) (made : List Noted) (i d : ℕ)
+        → IsLook size devs looks made → slice_get devs i ≡ Some d → 320 ≤ size d
         → NoneFailed d made → IsReadWhole (size d) (known_by size devs looks d) }
 {}
 
@@ -76,7 +81,8 @@ pub fn looks_show_the_labels()
 /// where no two different byte strings of those that are there have one sum, and no ring sector is torn into a correct
 /// uberblock.
 pub fn premises_can_be_met()
-    ensures calm { (head_of : List ℕ → Option Head) (p : Pool) (d : ℕ) (r : Rec) → HoldsLabels p d r → p.member d ≡ true → AreUnhurt (p.size d) (p.sectors d) → p.missed ≡ []
+    ensures calm { (head_of : List ℕ → Option Head) (p : Pool) (d : ℕ) (r : Rec) → HoldsLabels p d r → p.member d ≡ true
+        → AreUnhurt (p.size d) (p.sectors d) → p.missed ≡ []
         → AreOwnConfigs head_of p (stable_of p)
         → Premises head_of p (stable_of p) }
     ensures true_to { (p : Pool) → ReadsTrue p.sectors (stable_of p) }
@@ -91,7 +97,8 @@ pub fn premises_can_be_met()
 /// `missed`: a record counts as missed only where an opening read a record of a lower number while it was live. `acked`: one
 /// that was acknowledged, told by its bytes, is below the acknowledged record, or a live one is the very same;
 /// so it is no stray. `premise`: the premise of openings holds where no other pool's record of the name is found, and each
-/// missed record that is found, and isn't below the acknowledged one, was acknowledged. `again`: a record that is drawn a second time, the very same, is live from its round's beginning on. So
+/// missed record that is found, and isn't below the acknowledged one, was acknowledged. `again`: a record that is drawn
+/// a second time, the very same, is live from its round's beginning on. So
 /// an opening that is stopped before any of its uberblocks, and is followed by one that draws the same record, leaves no stray.
 /// `imports`: so behind a create an import that is stopped in its round, and a whole one that reads and draws the same records,
 /// leave none to the next.
@@ -100,7 +107,8 @@ pub fn strays_were_never_acknowledged()
     ensures acked { (c : Codec) (p : Pool) (r : Rec) → Survives c p → WasAcked p r → (number_of r < number_of p.acked) ⊎ HasTwin p r }
     ensures premise { (c : Codec) (p : Pool) (known : Known) → Survives c p
         → AreOurs c p known
-        → ((d : ℕ) (u : Uberblock) (config : List ℕ) (r : Rec) → IsVerifiedOn c.head_of p.size known p.name d u config → IsDrawnRecord p u config r → IsIn r p.missed
+        → ((d : ℕ) (u : Uberblock) (config : List ℕ) (r : Rec) → IsVerifiedOn c.head_of p.size known p.name d u config
+        → IsDrawnRecord p u config r → IsIn r p.missed
         → number_of p.acked ≤ number_of r → WasAcked p r)
         → HasNoStray c.head_of p known }
     ensures imports { (c : Codec) (p : Pool) (r q same : Rec) (board other : ℕ → Bool) (made : List Noted) (sectors : Sectors) (size : ℕ → ℕ)
@@ -120,6 +128,7 @@ pub fn strays_were_never_acknowledged()
 pub fn identities_are_the_members()
     ensures no_twin { (c : Codec) (p : Pool) (r : Rec) (known : Known) (under claims : ℕ → Guid → Bool) → Survives c p → HasNoClash c.head_of p known
         → AreNamesKept p r known under → AreClaims p known under claims → HasNoTwin p r claims }
-    ensures identity { (c : Codec) (p : Pool) (known : Known) (d place : ℕ) (u : Uberblock) (bytes : List ℕ) → Survives c p → HasNoClash c.head_of p known → p.member d ≡ true → place < 128
+    ensures identity { (c : Codec) (p : Pool) (known : Known) (d place : ℕ) (u : Uberblock) (bytes : List ℕ)
+        → Survives c p → HasNoClash c.head_of p known → p.member d ≡ true → place < 128
         → known d (place_at (p.size d) place) ≡ Some bytes → IsUberblock u bytes → (u.pool ≡ p.pool) × (u.member ≡ p.guid d) }
 {}

@@ -20,7 +20,8 @@ ghost use Rattle.txg_history.specs.Survival.{Survives};
 /// `allowed`: the calls of such a plan, up to the first that fails. `reading`: a plan that only reads and flushes is
 /// one. `elsewhere`: so is a plan that aims at no member's device.
 pub fn plans_may_be_made()
-    ensures allowed { (c : Codec) (p : Pool) (plan : List Ask) (made : List Noted) (outcome : Option Fault) → AreSparing p plan → IsPart plan made outcome → Mays c p (as_events made) }
+    ensures allowed { (c : Codec) (p : Pool) (plan : List Ask) (made : List Noted) (outcome : Option Fault)
+        → AreSparing p plan → IsPart plan made outcome → Mays c p (as_events made) }
     ensures reading { (p : Pool) (plan : List Ask) → WriteNothing plan → AreSparing p plan }
     ensures elsewhere { (p : Pool) (plan : List Ask) → AreElsewhere p plan → AreSparing p plan }
 {}
@@ -55,7 +56,8 @@ pub fn keys_may_be_written_again()
 /// that is undamaged behind it, gives it. `damage`: so a read that answered other bytes shows that the sector is
 /// damaged. `stays`: it is so until a flush of the device.
 pub fn reads_show_the_block()
-    ensures clean { (c : Codec) (p : Pool) (d s : ℕ) (block : List ℕ) → Survives c p → p.member d ≡ true → IsKeptAt p d s block → (p.sectors d s).damaged ≡ false
+    ensures clean { (c : Codec) (p : Pool) (d s : ℕ) (block : List ℕ) → Survives c p → p.member d ≡ true
+        → IsKeptAt p d s block → (p.sectors d s).damaged ≡ false
         → ((p.sectors d s).stable ≡ block) × ((p.sectors d s).pending ≡ Nothing) }
     ensures right { (c : Codec) (p : Pool) (noted : Noted) (d s : ℕ) (bytes block : List ℕ) → Survives c p → p.member d ≡ true → IsKeptAt p d s block
         → noted.call ≡ Read d s bytes None → length bytes ≡ 4096 → Answers (as_found noted p.sectors) noted.call
@@ -63,5 +65,6 @@ pub fn reads_show_the_block()
     ensures damage { (c : Codec) (p : Pool) (noted : Noted) (d s : ℕ) (bytes block : List ℕ) → Survives c p → p.member d ≡ true → IsKeptAt p d s block
         → noted.call ≡ Read d s bytes None → length bytes ≡ 4096 → Answers (as_found noted p.sectors) noted.call
         → bytes ≢ block → ((after (Calls noted) p).sectors d s).damaged ≡ true }
-    ensures stays { (made : List Noted) (d s : ℕ) (sectors : Sectors) → NoneHeals made d → (sectors d s).damaged ≡ true → (run made sectors d s).damaged ≡ true }
+    ensures stays { (made : List Noted) (d s : ℕ) (sectors : Sectors) → NoneHeals made d → (sectors d s).damaged ≡ true
+        → (run made sectors d s).damaged ≡ true }
 {}
