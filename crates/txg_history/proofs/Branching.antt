@@ -2,24 +2,19 @@
 use Rattle.std.proofs.Common.{◌≡◌, ◌⊎◌, ℕ, zero, suc, ◌+◌, ◌*◌, ◌≤◌, ◌<◌, ◌==◌, ◌&&◌, nat_lt, Bool, true, false, not, cond, List, [], ◌∷◌, ◌++◌, length, Option, Some, None, refl, sym, ap, ◌∙◌, subst, inl, inr, arith}
 use Rattle.std.proofs.lemmas.Bool.{and_parts}
 use Rattle.std.proofs.lemmas.Bool.Decides.{nat_tests}
-use Rattle.sha2.specs.Sha256.{sha256}
 use Rattle.bank_core.specs.Disk.{after_crash}
 use Rattle.mp_base.specs.declared.place.Key.{Key}
-use Rattle.label_store.specs.declared.uberblock.Uberblock.{Uberblock}
 use Rattle.label_store.specs.Records.{AreUnhurt}
-use Rattle.label_store.specs.Rounds.{config_of}
 use Rattle.txg_history.specs.Branches.{Branch, cell_on, branch_cells, IsDay, turn_on, flush_of, day_until_round, calm_stop, stopped_day, stop_and_open, FindsJust}
 use Rattle.txg_history.specs.Calm.{stable_of}
-use Rattle.txg_history.specs.Events.{Event, calls_of, Calls, Accepts, Freezes, Wrote, Flushed, Looks, Opens}
-use Rattle.txg_history.specs.Groups.{same_key}
+use Rattle.txg_history.specs.Events.{Event, calls_of, Accepts, Freezes}
 use Rattle.txg_history.specs.Labels.{Odd, Lost}
 use Rattle.txg_history.specs.Moves.{IsLeafOf, IsDrawnUp, MayFreeze, MayStop, Mays}
-use Rattle.txg_history.specs.Openings.{IsVerifiedOn, IsYield, FindsLive}
 use Rattle.txg_history.specs.Pages.{Codec, IsPageOf, sum_of}
 use Rattle.txg_history.specs.Places.{IsFree}
-use Rattle.txg_history.specs.Pools.{Pool, drawn, seat, after, pool_after}
+use Rattle.txg_history.specs.Pools.{Pool, seat, after, pool_after}
 use Rattle.txg_history.specs.Premises.{AreOwnConfigs, HoldsLabels, Premises}
-use Rattle.txg_history.specs.Records.{Rec, Cell, IsIn, IsNoLeaf, key, cell_over, block_of, block_at, laid_over, number_of, takes_part}
+use Rattle.txg_history.specs.Records.{Rec, Cell, IsIn, IsNoLeaf, key, cell_over, block_of, laid_over, number_of, takes_part}
 use Rattle.txg_history.specs.Rounds.{IsRoundEvents, RoundEnds}
 use Rattle.txg_history.specs.Survival.{Survives}
 use Rattle.txg_history.specs.Turns.{OnBoard, OnTop}
@@ -44,9 +39,12 @@ branch_is b k cell e = of ((k.index == 0) && nat_lt k.level 4) refl e
         → (k.index ≡ 0) × (k.level < 4) × (cell_on b k.level ≡ cell)
     of true is e = let parts = and_parts (k.index == 0) (nat_lt k.level 4) is in
         let a : (k.index == 0) ≡ true = parts.0 in
-        let l : nat_lt k.level 4 ≡ true = parts.1 in
-        (let none : k.index ≡ 0 = grind (arith, nat_tests) in none, let low : k.level < 4 = grind
-        (arith, nat_tests) in low, same_cell (cell_on b k.level) cell e)
+        let l : nat_lt k.level 4 ≡ true = parts.1 in (
+          let none : k.index ≡ 0 = grind (arith, nat_tests) in none,
+          let low : k.level < 4 = grind
+              (arith, nat_tests) in low,
+          same_cell (cell_on b k.level) cell e,
+        )
     of false is e = absurd (cc)
 
 branch_has : (b : Branch) (level index : ℕ) → index ≡ 0 → level < 4 → branch_cells b (key level index) ≡ Some (cell_on b level)
@@ -135,11 +133,16 @@ turn_may c p q a b level day sv low undone = write_turn_may c q (key level 0) (c
 
 -- The write, the freeze and the turns are allowed.
 day_commits : (c : Codec) (p : Pool) (a : ℕ) (b : Branch) → IsDay c p a b → Mays c p (day_until_round a b)
-day_commits c p a b w = (tt, (freeze,
+day_commits c p a b w = (
+  tt,
+  (
+    freeze,
     mays_more c (turn_on a b 0) (turn_on a b 1 ++ (turn_on a b 2 ++ (turn_on a b 3 ++ flush_of a))) p1 m1
-    (mays_more c (turn_on a b 1) (turn_on a b 2 ++ (turn_on a b 3 ++ flush_of a)) p2 m2
-    (mays_more c (turn_on a b 2) (turn_on a b 3 ++ flush_of a) p3 m3
-    (mays_more c (turn_on a b 3) (flush_of a) p4 m4 flush)))))
+        (mays_more c (turn_on a b 1) (turn_on a b 2 ++ (turn_on a b 3 ++ flush_of a)) p2 m2
+        (mays_more c (turn_on a b 2) (turn_on a b 3 ++ flush_of a) p3 m3
+        (mays_more c (turn_on a b 3) (flush_of a) p4 m4 flush))),
+  ),
+)
   where
     p0 : Pool
     p0 = after (Accepts 0 (b.bytes 0)) p

@@ -2,7 +2,6 @@
 use Rattle.std.proofs.Common.{◌≡◌, ℕ, Bool, true, false, cond, List, [], Option, Some, None, refl, subst, inl}
 use Rattle.sha2.specs.Sha256.{sha256}
 use Rattle.label_store.specs.declared.rule.Head.{Head}
-use Rattle.label_store.specs.declared.uberblock.Uberblock.{Uberblock}
 use Rattle.label_store.specs.Records.{AreUnhurt}
 use Rattle.label_store.specs.Rounds.{config_of}
 use Rattle.label_store.specs.Uberblock.{uberblock_bytes}
@@ -10,7 +9,7 @@ use Rattle.txg_history.specs.Calm.{stable_of}
 use Rattle.txg_history.specs.Events.{Known}
 use Rattle.txg_history.specs.Moves.{ReadsTrue}
 use Rattle.txg_history.specs.Openings.{IsVerifiedOn}
-use Rattle.txg_history.specs.Pools.{Pool, drawn, seat}
+use Rattle.txg_history.specs.Pools.{Pool}
 use Rattle.txg_history.specs.Premises.{AreNotTorn, AreOwnConfigs, AreThere, HasNoClash, HoldsLabels, Premises}
 use Rattle.txg_history.specs.Records.{Rec, IsIn}
 use Rattle.txg_history.specs.Survival.{IsAmong}

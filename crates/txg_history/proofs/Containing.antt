@@ -38,7 +38,7 @@ pub live_contents : (c : Codec) (vs : List Event) (p : Pool) (r : Rec) → Survi
 live_contents c [] p r sv mays i = inl i
 live_contents c (Begins q ∷ vs) p r sv mays i =
     or_later (Begins q) vs p r (λ before a. refl) (λ i. ⊎_elim
-        (λ e. inr (subst (BegunAt p.written p.group.content (Begins q ∷ vs)) (sym e) here)) (λ i. inl i) i)
+    (λ e. inr (subst (BegunAt p.written p.group.content (Begins q ∷ vs)) (sym e) here)) (λ i. inl i) i)
     (live_contents c vs (after (Begins q) p) r (event_survives c p (Begins q) sv mays.0) mays.1 i)
   where
     here : BegunAt p.written p.group.content (Begins q ∷ vs) q

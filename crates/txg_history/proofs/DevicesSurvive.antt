@@ -69,8 +69,13 @@ opens_survive c p r sv live = record {
   };
   boards = record { reads_first = λ f. absurd (cc); first_top = λ f. absurd (cc); off_board = λ f. absurd (cc); on_board = λ f. absurd (cc) };
   logs = record { now = λ d is leaf. sv.logs.in_records r d live is leaf; in_records = sv.logs.in_records; boarded = λ f. absurd (cc) };
-  unbroken = record { still = λ d g is held. absurd (cc); newest = λ d g is held. absurd
-      (cc); settled_still = λ d g is held. absurd (cc); settled_live = λ d g is held. absurd (cc) };
+  unbroken = record {
+    still = λ d g is held. absurd (cc);
+    newest = λ d g is held. absurd
+        (cc);
+    settled_still = λ d g is held. absurd (cc);
+    settled_live = λ d g is held. absurd (cc);
+  };
   bounds = record { open_one = λ on. absurd (cc); hi_low = λ on. absurd (cc); scrubbed = λ on. absurd (cc) };
   fit = sv.fit;
   pools = sv.pools;
@@ -374,7 +379,7 @@ joins_survive c p d m top sv may = record {
         (p.sectors d (place_at (p.size d) place)) (q.since d (place_at (p.size d) place))
     new_ring place inside =
         subst (λ g. IsKnownRing (drawn p) p.pool (record { dev = d; guid = g })
-            (p.sectors d (place_at (p.size d) place)) (q.since d (place_at (p.size d) place)))
+        (p.sectors d (place_at (p.size d) place)) (q.since d (place_at (p.size d) place)))
         (sym (at_here d d m p.guid same_d))
         (subst (λ f. IsKnownRing (drawn p) p.pool (record { dev = d; guid = m }) (p.sectors d (place_at (p.size d) place)) (f (place_at (p.size d) place)))
         (sym (at_here d d (λ s. []) p.since same_d))

@@ -71,8 +71,12 @@ write_all P fault bytes x since is all = record { stable = all.stable; since_all
 
 flush_all : (P : List ℕ → Type 0) (p : Pending) (x : Sector) (since : List (List ℕ)) → x.pending ≡ p → AreAll P x since → AreAll P (after_flush p x) since
 flush_all P Nothing x since e all = all
-flush_all P (Written b) x since e all = record { stable = all.since_all b
-    (subst (λ p. IsNoted p since) e all.pending); since_all = all.since_all; pending = tt }
+flush_all P (Written b) x since e all = record {
+  stable = all.since_all b
+      (subst (λ p. IsNoted p since) e all.pending);
+  since_all = all.since_all;
+  pending = tt;
+}
 flush_all P (Failing b) x since e all = all
 
 hurt_all : (P : List ℕ → Type 0) (damage : Bool) (x : Sector) (since : List (List ℕ)) → AreAll P x since → AreAll P (hurt damage x) since

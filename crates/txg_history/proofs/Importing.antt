@@ -1,9 +1,9 @@
 -- An import that is stopped in its round, and a whole one that draws the same record, leave no stray.
-use Rattle.std.proofs.Common.{◌≡◌, ◌⊎◌, ℕ, ◌+◌, ◌≤◌, ◌<◌, Bool, true, cond, List, [], ◌∷◌, ◌++◌, None, refl, sym, ap, ◌∙◌, subst, inl, inr, arith, ⊎_elim}
+use Rattle.std.proofs.Common.{◌≡◌, ◌⊎◌, ℕ, ◌<◌, Bool, true, cond, List, [], ◌∷◌, ◌++◌, None, refl, sym, ap, ◌∙◌, subst, inl, inr, arith, ⊎_elim}
 use Rattle.bank_core.specs.Disk.{Noted, Sectors}
 use Rattle.label_store.specs.declared.member.Member.{Member}
 use Rattle.txg_history.specs.Branches.{stopped_import, import_to_round}
-use Rattle.txg_history.specs.Events.{Event, Known, calls_of, as_events, Opens, Freezes, Flushed, Begins, Stops}
+use Rattle.txg_history.specs.Events.{Event, Known, calls_of, Opens, Freezes, Flushed, Begins, Stops}
 use Rattle.txg_history.specs.Moves.{IsDrawnUp, Mays}
 use Rattle.txg_history.specs.Pages.{Codec}
 use Rattle.txg_history.specs.Pools.{Pool, after, pool_after}

@@ -107,8 +107,12 @@ written_lands dev at block y long one first = of ((dev == dev) && covers at (sec
         at_high n e = grind (arith, nat_tests)
 
     of : (t : Bool) → t ≡ true → (cond t
-        (record { stable = y.stable; pending = Written (sector_of
-        (at - at) block); damaged = y.damaged }) y).pending ≡ Written block
+        (record {
+          stable = y.stable;
+          pending = Written (sector_of
+              (at - at) block);
+          damaged = y.damaged;
+        }) y).pending ≡ Written block
     of true e = ap Written first
     of false e = absurd (cc)
 

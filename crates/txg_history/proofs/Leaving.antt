@@ -36,8 +36,11 @@ left_owes first last (m ∷ ms) (true ∷ results) owes = left_owes first last m
 left_owes first last (m ∷ ms) (false ∷ results) owes = left_owes first last ms results (grown (λ e. m.dev == e) first last owes)
 
 abbrev pub without : List Member → List Bool → Pool → Pool
-without ms results p = record p { owes = left_owes p.group.first p.highest ms results p.owes; group = record
-    (p.group) { board = left_board ms results p.group.board } }
+without ms results p = record p {
+  owes = left_owes p.group.first p.highest ms results p.owes;
+  group = record
+      (p.group) { board = left_board ms results p.group.board };
+}
 
 pub leavers_pool : (ms : List Member) (results : List Bool) (p : Pool) → pool_after (leavers ms results) p ≡ without ms results p
 leavers_pool [] results p = refl

@@ -50,7 +50,7 @@ pub reads_later : (made : List Noted) (d s : ℕ) (x : Sector) → AreReads (ask
 reads_later [] d s x are = record { stable = refl; pending = refl; sound = λ e. e }
 reads_later (noted ∷ made) d s x are =
     later_more x _ _ (hurt_later (noted.damage d s) x)
-        (later_more (hurt (noted.damage d s) x) _ _ (read_later noted.call d s _ are.0) (reads_later made d s _ are.1))
+    (later_more (hurt (noted.damage d s) x) _ _ (read_later noted.call d s _ are.0) (reads_later made d s _ are.1))
 
 pub clean_before : (x y : Sector) → IsLater x y → IsClean y → IsClean x
 clean_before x y l c = record { still = sym l.pending ∙ c.still; sound = l.sound c.sound }

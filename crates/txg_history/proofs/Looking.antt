@@ -1,5 +1,5 @@
 -- Each opening of a history at whose looks the premises hold finds a live record.
-use Rattle.std.proofs.Common.{◌≡◌, ℕ, zero, suc, Bool, List, [], ◌∷◌, Option, Some, take, subst, ap}
+use Rattle.std.proofs.Common.{◌≡◌, ℕ, zero, suc, List, [], ◌∷◌, Option, Some, take, subst}
 use Rattle.std.specs.Prelude.{slice_get}
 use Rattle.label_store.specs.declared.rule.Head.{Head}
 use Rattle.txg_history.specs.Events.{Event, Known, Looks}

@@ -65,13 +65,25 @@ known_of size (dev ∷ devs) (first ∷ looks) d s bytes e = by_test (dev == d) 
   where
     by_test : (t : Bool) → (dev == d) ≡ t → (known_by size devs looks d s ≡ Some bytes → IsKnownOf size devs looks d)
         → IsKnownOf size (dev ∷ devs) (first ∷ looks) d
-    by_test true t more = record { i = 0; parts = first; dev_is = ap Some
-        (same_test dev d t); parts_are = refl; known_is = λ r. if_so (dev == d) (device_sector (size d) first r)
-        (known_by size devs looks d r) t }
+    by_test true t more = record {
+      i = 0;
+      parts = first;
+      dev_is = ap Some
+          (same_test dev d t);
+      parts_are = refl;
+      known_is = λ r. if_so (dev == d) (device_sector (size d) first r)
+          (known_by size devs looks d r) t;
+    }
     by_test false t more =
         let k = more (sym (if_not (dev == d) (device_sector (size d) first s) (known_by size devs looks d s) t) ∙ e) in
-        record { i = suc k.i; parts = k.parts; dev_is = k.dev_is; parts_are = k.parts_are; known_is = λ r. if_not
-            (dev == d) (device_sector (size d) first r) (known_by size devs looks d r) t ∙ k.known_is r }
+        record {
+          i = suc k.i;
+          parts = k.parts;
+          dev_is = k.dev_is;
+          parts_are = k.parts_are;
+          known_is = λ r. if_not
+              (dev == d) (device_sector (size d) first r) (known_by size devs looks d r) t ∙ k.known_is r;
+        }
 
 -- the asks of a label's ring and configuration part
 pub ring_ask : (size label dev : ℕ) → label < 4 → slice_get (look_asks dev size) (2 * label) ≡ Some (Reads dev (slice_index (labels_of size) label + 32) 32)

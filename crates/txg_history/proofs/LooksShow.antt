@@ -66,15 +66,16 @@ pub best_yields : (head_of : List ℕ → Option Head) (size : ℕ → ℕ) (dev
     → IsLook size devs looks made → AreDistinct devs → HaveRoom size devs → AllAnswer sectors made → IsBest head_of looks name (128 * length devs) (Some found)
     → (u : Uberblock) × (found.number ≡ u.number) × (found.pool ≡ u.pool) × IsYield head_of size (known_by size devs looks) name u found.blob.items
 best_yields head_of size devs looks made sectors name found l apart room answered best =
-    let on = candidate_verified head_of size devs looks made sectors name best.place best.u found.blob.items l apart room answered best.inside best.candidate in
-    (
+    let on = candidate_verified head_of size devs looks made sectors name best.place best.u found.blob.items l apart room answered best.inside best.candidate in (
       best.u,
       best.number_is,
       best.pool_is,
       record {
         d = on.0;
         verified = on.1;
-        greatest = λ e v other is. let c = verified_candidate head_of size devs looks made sectors name e v other l room answered is in best.greatest c.0 v other c.1 c.2;
+        greatest = λ e v other is.
+            let c = verified_candidate head_of size devs looks made sectors name e v other l room answered is in
+            best.greatest c.0 v other c.1 c.2;
       },
     )
 

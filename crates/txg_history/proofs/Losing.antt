@@ -1,5 +1,5 @@
 -- Where a pool loses a device.
-use Rattle.std.proofs.Common.{◌≡◌, ◌≢◌, ◌⊎◌, ℕ, ◌+◌, ◌-◌, ◌≤◌, ◌<◌, ◌==◌, ◌&&◌, nat_le, nat_lt, Bool, true, false, cond, List, [], ◌∷◌, ◌++◌, Option, Some, None, refl, sym, ap, ◌∙◌, subst, inl, inr, arith}
+use Rattle.std.proofs.Common.{◌≡◌, ◌≢◌, ◌⊎◌, ℕ, ◌+◌, ◌-◌, ◌<◌, ◌==◌, ◌&&◌, nat_le, nat_lt, Bool, true, false, cond, List, [], ◌∷◌, Option, refl, sym, ap, ◌∙◌, subst, inl, inr, arith}
 use Rattle.std.proofs.lemmas.Bool.{and_left, ne_eqb}
 use Rattle.std.proofs.lemmas.Bool.Decides.{nat_tests}
 use Rattle.mp_base.specs.declared.number.Guid.{Guid}
@@ -7,8 +7,8 @@ use Rattle.bank_core.specs.declared.bank.Fault.{Fault}
 use Rattle.bank_core.specs.Asks.{Ask, Writes, IsPart, ask_of}
 use Rattle.bank_core.specs.Disk.{Call, Read, Write, Flush, Admit, Eject, Noted, covers, sectors_in}
 use Rattle.bank_core.specs.Standing.{Spares, touches}
-use Rattle.label_store.specs.Layout.{labels_of, ring_offset, slot_of}
-use Rattle.label_store.specs.Plans.{zero_ring, blank_uberblock, no_guid, stamp_plan, wipe_plan, mark_plan}
+use Rattle.label_store.specs.Layout.{ring_offset, slot_of}
+use Rattle.label_store.specs.Plans.{zero_ring, blank_uberblock, no_guid, stamp_plan}
 use Rattle.label_store.specs.Rounds.{uberblock_of}
 use Rattle.label_store.specs.Uberblock.{uberblock_bytes}
 use Rattle.label_store.proofs.Writing.{ring_sectors}

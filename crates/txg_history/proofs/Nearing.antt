@@ -246,21 +246,28 @@ near_keeps c (Third q e ∷ vs) p d m acked status sv t mays near =
 near_keeps c (Ends q e ∷ vs) p d m acked status sv t mays near =
     near_keeps c vs (after (Ends q e) p) d m acked _ (event_survives c p (Ends q e) sv mays.0)
     (stands_near p d e m acked status (Odd q) t (ends_holds p d e m acked status q t mays.0)) mays.1 near
-near_keeps c (Acks q ∷ vs) p d m acked status sv t mays near =
-    (near.0, near_keeps c vs (after (Acks q) p) d m q (Odd q) (event_survives c p (Acks q) sv mays.0)
-    (acks_near p d m acked status q t mays.0 near.0) mays.1 near.1)
+near_keeps c (Acks q ∷ vs) p d m acked status sv t mays near = (
+  near.0,
+  near_keeps c vs (after (Acks q) p) d m q (Odd q) (event_survives c p (Acks q) sv mays.0)
+      (acks_near p d m acked status q t mays.0 near.0) mays.1 near.1,
+)
 near_keeps c (Opens r ∷ vs) p d m acked status sv t mays near =
     near_keeps c vs (after (Opens r) p) d m acked status (event_survives c p (Opens r) sv mays.0) (opens_near p d m acked status r t near.0) mays.1 near.1
-near_keeps c (Joins e n top ∷ vs) p d m acked status sv t mays near =
-    (near.0, near.1, near_keeps c vs (after (Joins e n top) p) d m acked status
-    (event_survives c p (Joins e n top) sv mays.0)
-    (joins_near p d e m n top acked status t near.0 near.1) mays.1 near.2)
-near_keeps c (Loses e ∷ vs) p d m acked status sv t mays near =
-    (near.0, near_keeps c vs (after (Loses e) p) d m acked status (event_survives c p (Loses e) sv mays.0)
-    (loses_near p d e m acked status t near.0) mays.1 near.1)
+near_keeps c (Joins e n top ∷ vs) p d m acked status sv t mays near = (
+  near.0,
+  near.1,
+  near_keeps c vs (after (Joins e n top) p) d m acked status
+      (event_survives c p (Joins e n top) sv mays.0)
+      (joins_near p d e m n top acked status t near.0 near.1) mays.1 near.2,
+)
+near_keeps c (Loses e ∷ vs) p d m acked status sv t mays near = (
+  near.0,
+  near_keeps c vs (after (Loses e) p) d m acked status (event_survives c p (Loses e) sv mays.0)
+      (loses_near p d e m acked status t near.0) mays.1 near.1,
+)
 near_keeps c (v ∷ vs) p d m acked status sv t mays near =
     near_keeps c vs (after v p) d m acked status (event_survives c p v sv mays.0)
-        (same_near p (after v p) d m acked status refl refl refl refl refl (λ r h. h) t) mays.1 near
+    (same_near p (after v p) d m acked status refl refl refl refl refl (λ r h. h) t) mays.1 near
 
 -- From an acknowledgement on, in whose round the member takes part, the rule by numbers gives the rule by slots.
 pub near_labels : (c : Codec) (p : Pool) (d : ℕ) (q : Rec) (vs : List Event) → Survives c p → p.member d ≡ true

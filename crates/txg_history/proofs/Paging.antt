@@ -1,5 +1,5 @@
 -- A good leaf of a page has it, and says so where it is read.
-use Rattle.std.proofs.Common.{◌≡◌, ◌≢◌, ◌⊎◌, ℕ, ◌+◌, ◌≤◌, Bool, true, false, List, Option, Some, None, refl, ap, ◌∙◌, inl, inr}
+use Rattle.std.proofs.Common.{◌≡◌, ◌≢◌, ◌⊎◌, ℕ, ◌+◌, ◌≤◌, Bool, false, List, Option, Some, None, refl, ap, ◌∙◌, inl, inr}
 use Rattle.sha2.specs.Sha256.{sha256}
 use Rattle.txg_history.specs.Events.{Known}
 use Rattle.txg_history.specs.Moves.{ReadsTrue}
@@ -18,7 +18,16 @@ pub good_kept : (p : Pool) (r : Rec) (k : Key) (cell : Cell) (answering : ℕ �
     → IsKeptAt p good.d (data_start + cell.sector) cell.block
 good_kept p r k cell answering i at good =
     inl
-        (record { r = r; is_live = i; k = k; cell = cell; cell_is = at; in_top = good.top_is; has = good.has; at = record { sector_is = refl; bytes_are = refl } })
+    (record {
+      r = r;
+      is_live = i;
+      k = k;
+      cell = cell;
+      cell_is = at;
+      in_top = good.top_is;
+      has = good.has;
+      at = record { sector_is = refl; bytes_are = refl };
+    })
 
 -- Where each page has a good leaf, each is found.
 pub good_found : (c : Codec) (p : Pool) (r : Rec) (answering : ℕ → Bool) (known : Known) (found : Key → Option (List ℕ)) → Survives c p → IsIn r p.live

@@ -57,8 +57,15 @@ page_right c cells config found got level index tree back low right = of (cells 
             ⊎ ClashesAt cells found
         by_bytes (inl same) = inl (λ j lt. page.3 j lt ∙ (ap (λ bytes. c.pointer bytes j) same ∙ tree.pages level index cell low at j lt))
         by_bytes (inr other) = inr
-            (record { page = key
-            (suc level) index; cell = cell; cell_is = at; bytes = page.0; bytes_are = page.1; clash = record { other = other; same_sum = page.2 } })
+            (record {
+              page = key
+                  (suc level) index;
+              cell = cell;
+              cell_is = at;
+              bytes = page.0;
+              bytes_are = page.1;
+              clash = record { other = other; same_sum = page.2 };
+            })
 
 -- what is right of a level
 abbrev AreRight : (cells : Cells) → (got : Key → Option Sum) → (level : ℕ) → Type 0

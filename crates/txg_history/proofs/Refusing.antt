@@ -106,17 +106,17 @@ pub no_early_clear : (c : Codec) (p : Pool) (k : Key) (cell : Cell) (d : ℕ) (n
     → Mays c p (Calls noted ∷ Clears d ∷ []) → ⊥
 no_early_clear c p k cell d noted is at top passed low clean long call undamaged sound mays = of
     (mays.1.0.kept (data_start + cell.sector) cell.block is (record {
-  running = mays.1.0.running;
-  is_eligible = mays.1.0.is_eligible;
-  k = k;
-  cell = cell;
-  cell_is = at;
-  top_is = top;
-  is_passed = passed;
-  low = low;
-  not_scrubbed = clean;
-  at = record { sector_is = refl; bytes_are = refl };
-}))
+      running = mays.1.0.running;
+      is_eligible = mays.1.0.is_eligible;
+      k = k;
+      cell = cell;
+      cell_is = at;
+      top_is = top;
+      is_passed = passed;
+      low = low;
+      not_scrubbed = clean;
+      at = record { sector_is = refl; bytes_are = refl };
+    }))
   where
     s : ℕ
     s = data_start + cell.sector
@@ -136,13 +136,21 @@ no_early_clear c p k cell d noted is at top passed low clean long call undamaged
 
     written : (effect noted.call d s x).pending ≡ Written (sector_of (s - s) cell.block)
     written = ap (λ call. (effect call d s x).pending) call ∙ ap
-        (λ t. (cond t (record { stable = x.stable; pending = Written
-        (sector_of (s - s) cell.block); damaged = x.damaged }) x).pending) aimed
+        (λ t. (cond t (record {
+          stable = x.stable;
+          pending = Written
+              (sector_of (s - s) cell.block);
+          damaged = x.damaged;
+        }) x).pending) aimed
 
     whole : (effect noted.call d s x).damaged ≡ false
     whole = ap (λ call. (effect call d s x).damaged) call
-        ∙ (ap (λ t. (cond t (record { stable = x.stable; pending = Written
-        (sector_of (s - s) cell.block); damaged = x.damaged }) x).damaged) aimed ∙ still_sound noted d s
+        ∙ (ap (λ t. (cond t (record {
+          stable = x.stable;
+          pending = Written
+              (sector_of (s - s) cell.block);
+          damaged = x.damaged;
+        }) x).damaged) aimed ∙ still_sound noted d s
         (p.sectors d s) undamaged sound)
 
     never : (bytes : List ℕ) → Written bytes ≡ Nothing → ⊥

@@ -12,7 +12,7 @@ use Rattle.txg_history.specs.Moves.{IsSparing, WasCopied, IsLeafOf, IsDrawnUp, M
 use Rattle.txg_history.specs.Places.{IsFree}
 use Rattle.txg_history.specs.Pages.{Codec, sum_of}
 use Rattle.txg_history.specs.Pools.{Pool, seat, after, pool_after}
-use Rattle.txg_history.specs.Records.{Rec, Cell, key, cell_over, block_of, laid_over, number_of, data_start}
+use Rattle.txg_history.specs.Records.{Rec, Cell, key, cell_over, block_of, laid_over, number_of}
 use Rattle.txg_history.specs.Rounds.{IsRoundEvents, RoundEnds}
 use Rattle.txg_history.specs.Scans.{up_to}
 use Rattle.txg_history.specs.Survival.{Survives}
@@ -84,8 +84,11 @@ alone p q a Which m g is only = record {
 }
   where
     of : (i : ℕ) (n : Member) → slice_get (seat q a ∷ []) i ≡ Some n → (n ≡ seat q n.dev) × Which n.dev
-    of zero n at = (sym (same_member (seat q a) n at) ∙ ap (λ n. seat q n.dev) (same_member (seat q a) n at), subst
-        (λ n. Which n.dev) (same_member (seat q a) n at) is)
+    of zero n at = (
+      sym (same_member (seat q a) n at) ∙ ap (λ n. seat q n.dev) (same_member (seat q a) n at),
+      subst
+          (λ n. Which n.dev) (same_member (seat q a) n at) is,
+    )
     of (suc i) n at = absurd (no_member n at)
 
 pub one_apart : (m : Member) → AreApart (m ∷ [])
@@ -97,7 +100,7 @@ one_apart m (suc i) j x y ex ey lt = absurd (no_member x ex)
 pub week_commits : (c : Codec) (p : Pool) (a b : ℕ) (cell : Cell) → IsWeek c p a b cell → Mays c p (until_round a cell)
 week_commits c p a b cell w =
     mays_more c (Freezes (only_root cell) (λ d. a == d) ∷ [])
-        (Calls (writes_well a cell) ∷ Wrote root_key ∷ Calls (flushes_well a) ∷ Flushed ∷ []) p (freeze, tt)
+    (Calls (writes_well a cell) ∷ Wrote root_key ∷ Calls (flushes_well a) ∷ Flushed ∷ []) p (freeze, tt)
     (mays_more c (Calls (writes_well a cell) ∷ Wrote root_key ∷ []) (Calls (flushes_well a) ∷ Flushed ∷ []) p1 written
     (flush_turn_may c p2 (seat p2 a ∷ []) (true ∷ []) (Calls (flushes_well a) ∷ Flushed ∷ [])
     (history_survives c (Calls (writes_well a cell) ∷ Wrote root_key ∷ []) p1 sv1 written) refl

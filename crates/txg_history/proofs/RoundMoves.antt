@@ -198,7 +198,7 @@ still_frozen : (codec : Codec) (p : Pool) (q : Rec) (ms : List Member) (results 
     → (r : IsRoundEvents p.size q ms results vs) → (pool_after r.thirds (front q r.first r.second p)).group.frozen ≡ true
 still_frozen codec p q ms results vs st r =
     ap (λ x. x.group.frozen) (turns_pool r.thirds (front q r.first r.second p)
-        (thirds_turns (third_plan p.size q.commit) q ms r.in_second results r.thirds r.copies))
+    (thirds_turns (third_plan p.size q.commit) q ms r.in_second results r.thirds r.copies))
     ∙ st.drawn_up.frozen
 
 round_allowed : (codec : Codec) (p : Pool) (q : Rec) (ms : List Member) (results : List Bool) (vs : List Event) → Setting codec p q ms
@@ -354,7 +354,7 @@ acknowledges p q first second thirds true ms results all at = record {
 }
 acknowledges p q first second thirds false ms results all at =
     subst (λ x. RoundEnds p x q false ms results (first ++ (second ++ calls_of thirds)))
-        (sym (leavers_pool ms results (before_ack q first second thirds p))) (record {
+    (sym (leavers_pool ms results (before_ack q first second thirds p))) (record {
       name = refl;
       pool = refl;
       member = refl;

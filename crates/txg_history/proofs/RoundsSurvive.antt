@@ -98,15 +98,15 @@ drawn_kept c p q d k cell sv m is at top has = of (m.leaves d is)
             (p.sectors d (data_start + cell.sector)) cell.block
         by_laid (inl new) = held_keeps (p.sectors d (data_start + cell.sector)) cell.block
             (held p.group.flushed m.flushed (sv.puts d (data_start + cell.sector) cell.block is (record {
-          is_frozen = m.frozen;
-          on_board = on_board new;
-          k = k;
-          cell = cell;
-          cell_is = new;
-          top_is = top_now;
-          ended = sv.come_to.flushed_all m.frozen m.flushed k cell new;
-          at = record { sector_is = refl; bytes_are = refl };
-        })))
+              is_frozen = m.frozen;
+              on_board = on_board new;
+              k = k;
+              cell = cell;
+              cell_is = new;
+              top_is = top_now;
+              ended = sv.come_to.flushed_all m.frozen m.flushed k cell new;
+              at = record { sector_is = refl; bytes_are = refl };
+            })))
         by_laid (inr (none, old)) = sv.current d (data_start + cell.sector) cell.block is
             (record { k = k; cell = cell; cell_is = old; top_is = top_now; has = lacks; at = record { sector_is = refl; bytes_are = refl } })
     of (inr none) = true_not_false (q.owes (p.guid d) cell.birth) (none.0.all cell.birth) has

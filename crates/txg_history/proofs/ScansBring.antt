@@ -4,10 +4,9 @@ use Rattle.std.proofs.lemmas.Bool.Decides.{nat_tests}
 use Rattle.std.specs.List.{AllByRecursion}
 use Rattle.mp_base.specs.declared.place.Key.{Key}
 use Rattle.txg_history.specs.Copies.{NeverScans, WasBrought, IsCopiedGroup, MayTakeGroup}
-use Rattle.txg_history.specs.Events.{Event, Calls, Freezes, Draws, Leaves, Grows, Burns, Begins, Acks, Opens, Joins, Loses, Scans, Passes, Drops, Clears, Rests, Stops}
+use Rattle.txg_history.specs.Events.{Event, Freezes, Draws, Leaves, Grows, Burns, Acks, Opens, Joins, Loses, Scans, Passes, Drops, Clears, Rests, Stops}
 use Rattle.txg_history.specs.Groups.{Logs, at_device, off, grown}
 use Rattle.txg_history.specs.Moves.{WasCopied, MayPass, MayClear, May, Mays}
-use Rattle.txg_history.specs.Needs.{Keeps}
 use Rattle.txg_history.specs.Pages.{Codec}
 use Rattle.txg_history.specs.Pools.{Pool, other_than, whole_log, after, pool_after}
 use Rattle.txg_history.specs.Records.{Cell, data_start}
@@ -18,7 +17,6 @@ use Rattle.txg_history.proofs.Listing.{same_cell}
 use Rattle.txg_history.proofs.Logging.{by_bool, true_not_false, not_true, at_here, at_away, grown_more, cleared_false}
 use Rattle.txg_history.proofs.Moving.{event_survives}
 use Rattle.txg_history.proofs.RoundsSurvive.{acked_tree, acked_cell}
-use Rattle.txg_history.proofs.Surviving.{history_survives}
 
 -- This is so of each key that the running scan came past, on each eligible leaf of its top whose SCRUB log lacks its birth.
 abbrev IsOfPassed : (P : ℕ → Key → Cell → Type 0) → Pool → Type 0
@@ -66,15 +64,21 @@ event_brings c P (Rests) p sv m h = λ on d k cell is el at top passed low clean
 event_brings c P (Opens r) p sv m h = λ on d k cell is el at top passed low clean. absurd (cc)
 event_brings c P (Stops sectors size) p sv m h = λ on d k cell is el at top passed low clean. absurd (cc)
 event_brings c P (Passes j scrub) p sv m h = λ on d k cell is el at top passed low clean. by_bool (p.scan.passed k)
-    (λ old. inl (h on d k cell is el at top old low
-    (not_true (p.scan.scrub d cell.birth) (λ has. true_not_false (scrub d cell.birth) (m.more d cell.birth has) clean)), tt))
+    (λ old. inl (
+      h on d k cell is el at top old low
+          (not_true (p.scan.scrub d cell.birth) (λ has. true_not_false (scrub d cell.birth) (m.more d cell.birth has) clean)),
+      tt,
+    ))
     (λ new. inr (passed_now c p j scrub d k cell m is el at top clean (m.next k cell passed new at low)))
 event_brings c P (Acks q) p sv m h = λ on d k cell is el at top passed low clean.
     inl (h on d k cell is el (acked_cell c p q sv m k cell on low at) (acked_tree c p q sv m d k cell is at top) passed low clean, tt)
 event_brings c P (Joins e n t) p sv m h = λ on d k cell is el at top passed low clean. by_bool (e == d)
     (λ here. true_not_false (at_device e false p.scan.eligible d) el (at_here e d false p.scan.eligible here))
-    (λ away. inl (h on d k cell (other_was n p.guid p.member d (sym (at_away e d true (other_than n p.guid p.member) away) ∙ is))
-    (sym (at_away e d false p.scan.eligible away) ∙ el) at (sym (at_away e d t p.in_top away) ∙ top) passed low clean, tt))
+    (λ away. inl (
+      h on d k cell (other_was n p.guid p.member d (sym (at_away e d true (other_than n p.guid p.member) away) ∙ is))
+          (sym (at_away e d false p.scan.eligible away) ∙ el) at (sym (at_away e d t p.in_top away) ∙ top) passed low clean,
+      tt,
+    ))
 event_brings c P (Loses e) p sv m h = λ on d k cell is el at top passed low clean.
     inl (h on d k cell (taken_false e d p.member is) el at top passed low clean, tt)
 event_brings c P (Drops e) p sv m h = λ on d k cell is el at top passed low clean.

@@ -106,12 +106,22 @@ stamped_survives c name pool member guid size room home sectors st = record {
         (nothing pool) r (λ leaf. absurd (omega (arith, leaf))) i leaf;
     boarded = λ f. absurd (cc);
   };
-  unbroken = record { still = λ d g is held. absurd (cc); newest = λ d g is held. absurd
-      (cc); settled_still = λ d g is held. absurd (cc); settled_live = λ d g is held. absurd (cc) };
+  unbroken = record {
+    still = λ d g is held. absurd (cc);
+    newest = λ d g is held. absurd
+        (cc);
+    settled_still = λ d g is held. absurd (cc);
+    settled_live = λ d g is held. absurd (cc);
+  };
   bounds = record { open_one = λ on. absurd (cc); hi_low = λ on. absurd (cc); scrubbed = λ on. absurd (cc) };
-  fit = λ r i. only_one (IsFit c name pool) (nothing pool) r
-      (inl refl, record { pages = λ level index cell low at. absurd
-      (no_cell cell at); holes = λ level index j low lt none. refl }) i;
+  fit = λ r i. only_one (IsFit c name pool) (nothing pool) r (
+    inl refl,
+    record {
+      pages = λ level index cell low at. absurd
+          (no_cell cell at);
+      holes = λ level index j low lt none. refl;
+    },
+  ) i;
   pools = λ r i. only_one (λ r. r.commit.pool ≡ pool) (nothing pool) r refl i;
   in_range = st.in_range;
 }

@@ -38,8 +38,15 @@ above_in n r (q ∷ rs) i = by_test (nat_lt n (number_of q)) refl (λ j. above_i
 
 -- a miss among later events
 later_missed : (v : Event) (vs : List Event) (p : Pool) (r : Rec) → WasMissed (after v p) vs r → WasMissed p (v ∷ vs) r
-later_missed v vs p r w = record { before = v ∷ w.before; opened = w.opened; later = w.later; all = ap
-    (λ l. v ∷ l) w.all; was_live = w.was_live; lower = w.lower }
+later_missed v vs p r w = record {
+  before = v ∷ w.before;
+  opened = w.opened;
+  later = w.later;
+  all = ap
+      (λ l. v ∷ l) w.all;
+  was_live = w.was_live;
+  lower = w.lower;
+}
 
 more_missed : (v : Event) (vs : List Event) (p : Pool) (r : Rec) → IsIn r p.missed ⊎ WasMissed (after v p) vs r → IsIn r p.missed ⊎ WasMissed p (v ∷ vs) r
 more_missed v vs p r (inl i) = inl i

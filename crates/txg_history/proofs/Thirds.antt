@@ -188,9 +188,11 @@ thirds_turns plan q [] [] (c ∷ is) vs t = absurd t
 thirds_turns plan q [] (b ∷ was) is vs t = absurd t
 thirds_turns plan q (m ∷ ms) [] is vs t = absurd t
 thirds_turns plan q (m ∷ ms) (b ∷ was) [] vs t = absurd t
-thirds_turns plan q (m ∷ ms) (true ∷ was) (c ∷ is) vs t = subst (AllByRecursion IsOfTurn) (sym t.2)
-    (tt, all_more IsOfTurn (as_events t.0) (ends_if c q m.dev ++ t.1) (all_calls IsOfTurn (λ noted. tt) t.0)
-    (turns_ends c q m.dev t.1 (thirds_turns plan q ms was is t.1 t.4)))
+thirds_turns plan q (m ∷ ms) (true ∷ was) (c ∷ is) vs t = subst (AllByRecursion IsOfTurn) (sym t.2) (
+  tt,
+  all_more IsOfTurn (as_events t.0) (ends_if c q m.dev ++ t.1) (all_calls IsOfTurn (λ noted. tt) t.0)
+      (turns_ends c q m.dev t.1 (thirds_turns plan q ms was is t.1 t.4)),
+)
 thirds_turns plan q (m ∷ ms) (false ∷ was) (c ∷ is) vs t = thirds_turns plan q ms was is vs t.1
 
 -- each member has a result

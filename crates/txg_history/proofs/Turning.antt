@@ -55,7 +55,7 @@ turn_calls : (plan : Member → List Ask) (mark : Event) (members : List Member)
     → (t : IsTurnEvents plan mark members results vs) → calls_of vs ≡ t.made
 turn_calls plan mark members results vs no_call t =
     ap calls_of t.all ∙ calls_more (as_events t.made) (leavers members results ++ (mark ∷ [])) ∙ ap
-        (λ l. l ++ calls_of (leavers members results ++ (mark ∷ []))) (calls_are t.made)
+    (λ l. l ++ calls_of (leavers members results ++ (mark ∷ []))) (calls_are t.made)
     ∙ ap (λ l. t.made ++ l) (calls_more (leavers members results) (mark ∷ []) ∙ ap (λ l. l ++ calls_of (mark ∷ []))
     (leavers_no_call members results) ∙ no_call) ∙ append-nil t.made
 
@@ -127,7 +127,7 @@ write_turn_may c p k cell members results vs sv frozen unflushed at undone just 
         let part = made_part p (write_plan cell) (OnTop p cell.top) members results t.made d just t.phase is
         (left_before members results p.group.board d on, top) on in
         phase_brings (write_plan cell) (λ y. Unit {0}) (λ y. Landed y cell.block) members
-            (map (λ m. true) members) results t.made part.0 (seat p d) d (data_start + cell.sector)
+        (map (λ m. true) members) results t.made part.0 (seat p d) d (data_start + cell.sector)
         (p.sectors d (data_start + cell.sector)) part.1 part.2
         (λ j n e ne b r mine y turn u. tt)
         (λ j n e ne b r mine y turn l. untouched_landed mine d (data_start + cell.sector) y cell.block
@@ -164,7 +164,7 @@ flush_turn_may c p members results vs sv frozen all just apart t =
         let on = left_before members results p.group.board d n.on_board in
         let part = made_part p flush_plan (OnBoard p) members results t.made d just t.phase is on n.on_board in
         phase_brings flush_plan (λ y. Landed y bytes) (λ y. Held y bytes) members
-            (map (λ m. true) members) results t.made part.0 (seat p d) d s (p.sectors d s) part.1 part.2
+        (map (λ m. true) members) results t.made part.0 (seat p d) d s (p.sectors d s) part.1 part.2
         (λ j m e ne b r mine y turn l. untouched_landed mine d s y bytes (turn_spares (flush_plan m) b r mine d s (λ on. (refl, tt)) turn) l)
         (λ j m e ne b r mine y turn h. untouched_held mine d s y bytes (turn_spares (flush_plan m) b r mine d s (λ on. (refl, tt)) turn) h)
         (λ mine y whole l. flush_holds d s bytes mine y whole l) t.phase
@@ -181,8 +181,10 @@ flush_turn_may c p members results vs sv frozen all just apart t =
 
 turn_leaves : (p : Pool) (mark : Event) (made : List Noted) (members : List Member) (results : List Bool) (done : Key → Bool) (flushed : Bool)
     → after mark (turned made members results p) ≡ record
-    (turned made members results p) { group = record
-    ((turned made members results p).group) { done = done; flushed = flushed } }
+    (turned made members results p) {
+      group = record
+          ((turned made members results p).group) { done = done; flushed = flushed };
+    }
     → TurnEnds p (after mark (turned made members results p)) members results done flushed made
 turn_leaves p mark made members results done flushed e = subst (λ q. TurnEnds p q members results done flushed made) (sym e) (record {
   name = refl;
@@ -228,7 +230,7 @@ pub write_turn_ends : (p : Pool) (k : Key) (cell : Cell) (members : List Member)
     → TurnEnds p (pool_after vs p) members results (λ j. cond (same_key k j) true (p.group.done j)) p.group.flushed (calls_of vs)
 write_turn_ends p k cell members results vs t =
     subst (λ q. TurnEnds p q members results (λ j. cond (same_key k j) true (p.group.done j)) p.group.flushed
-        (calls_of vs)) (sym (turn_pool (write_plan cell) (Wrote k) members results vs p t))
+    (calls_of vs)) (sym (turn_pool (write_plan cell) (Wrote k) members results vs p t))
     (subst (TurnEnds p (after (Wrote k) (turned t.made members results p)) members results (λ j. cond (same_key k j) true (p.group.done j)) p.group.flushed)
     (sym (turn_calls (write_plan cell) (Wrote k) members results vs refl t)) (turn_leaves p (Wrote k) t.made members results _ _ refl))
 
@@ -249,7 +251,7 @@ flush_mends c p members results vs i d q t at on even landed =
     holds : (s : ℕ) (bytes : List ℕ) → InPart odd_part q s bytes → Held (run t.made p.sectors d s) bytes
     holds s bytes part =
         phase_brings flush_plan (λ y. Landed y bytes) (λ y. Held y bytes) members
-            (map (λ m. true) members) results t.made i (seat p d) d s (p.sectors d s) at on
+        (map (λ m. true) members) results t.made i (seat p d) d s (p.sectors d s) at on
         (λ j m e ne b r mine y turn l. untouched_landed mine d s y bytes (turn_spares (flush_plan m) b r mine d s (λ on. (refl, tt)) turn) l)
         (λ j m e ne b r mine y turn h. untouched_held mine d s y bytes (turn_spares (flush_plan m) b r mine d s (λ on. (refl, tt)) turn) h)
         (λ mine y whole l. flush_holds d s bytes mine y whole l) t.phase (landed s bytes part)

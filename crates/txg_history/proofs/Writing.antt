@@ -80,8 +80,8 @@ off_label : (c : Codec) (p : Pool) (dev at s : ℕ) (block bytes : List ℕ) →
     → NeedsLabel (seat p dev) (p.status dev) s bytes → ((dev == dev) && covers at (sectors_in block) s) ≡ false
 off_label c p dev at s block bytes sv one is b n =
     outside_one dev at dev s block one (inl
-        (let low = b.low in let below = label_below c p dev (p.status dev) s bytes sv (sv.status_live dev is) n in omega
-        (arith, low, below)))
+    (let low = b.low in let below = label_below c p dev (p.status dev) s bytes sv (sv.status_live dev is) n in omega
+    (arith, low, below)))
 
 off_put : (p : Pool) (dev at s : ℕ) (block bytes : List ℕ) → sectors_in block ≡ 1 → IsBlockAt p dev at block → NeedsPut p dev s bytes
     → ((dev == dev) && covers at (sectors_in block) s) ≡ false
@@ -91,8 +91,8 @@ off_ring : (p : Pool) (dev at place : ℕ) (block : List ℕ) → sectors_in blo
     → ((dev == dev) && covers at (sectors_in block) (place_at (p.size dev) place)) ≡ false
 off_ring p dev at place block one inside b =
     outside_one dev at dev (place_at (p.size dev) place) block one
-        (ring_off_data (p.size dev) at (place / 32) (place % 32) (ring_of (p.size dev) place inside)
-        (slot_below place) b.low b.high)
+    (ring_off_data (p.size dev) at (place / 32) (place % 32) (ring_of (p.size dev) place inside)
+    (slot_below place) b.low b.high)
 
 -- A write that spares all that is needed.
 pub write_spares : (c : Codec) (p : Pool) (dev at : ℕ) (block : List ℕ) → Survives c p → length block ≡ 4096 → (p.member dev ≡ true → IsBlockAt p dev at block)
@@ -285,7 +285,7 @@ copy_sparing c p k cell dev fault sv at leaf = again_sparing c p dev (data_start
     none is bytes (inr (inl n)) =
         let same = (at_read c p k cell dev sv at is (leaf is).0).by_read bytes n in
         true_not_false (p.owes dev n.cell.birth) (subst (λ cell. p.owes dev cell.birth ≡ true) (sym same)
-            (sv.unbroken.settled_still dev cell.birth is (leaf is).1)) n.has
+        (sv.unbroken.settled_still dev cell.birth is (leaf is).1)) n.has
     none is bytes (inr (inr n)) =
         let same = (at_read c p k cell dev sv at is (leaf is).0).by_scan bytes n in
         (leaf is).2 (subst (NeedsScan p.scan p.reads p.in_top dev (data_start + cell.sector)) (n.at.bytes_are ∙ ap (λ cell. cell.block) same) n)

@@ -88,7 +88,7 @@ pub yield_live : (c : Codec) (p : Pool) (known : Known) (u : Uberblock) (config 
     → IsYield c.head_of p.size known p.name u config → FindsLive p u config
 yield_live c p known u config sv true_to premises y =
     of (drawn_live c p known y.d u config drawn_one.0 sv premises.no_stray y.verified drawn_one.1 above
-        (in_append drawn_one.0 p.live p.given drawn_one.1.is_drawn))
+    (in_append drawn_one.0 p.live p.given drawn_one.1.is_drawn))
   where
     drawn_one : (r : Rec) × IsDrawnRecord p u config r
     drawn_one = anywhere_drawn c p known y.d u config sv premises (p.member y.d) refl y.verified
@@ -125,6 +125,10 @@ yield_live c p known u config sv true_to premises y =
 pub finds_some : (c : Codec) (p : Pool) (known : Known) → Survives c p → ReadsTrue p.sectors known → Premises c.head_of p known
     → (d : ℕ) × (u : Uberblock) × (config : List ℕ) × IsVerifiedOn c.head_of p.size known p.name d u config
 finds_some c p known sv true_to premises =
-    let good = premises.sound_labels in
-    (premises.good, uberblock_of good.promised.commit
-    (seat p premises.good), config_of good.promised.commit, good_verified c p known premises.good sv true_to good)
+    let good = premises.sound_labels in (
+      premises.good,
+      uberblock_of good.promised.commit
+          (seat p premises.good),
+      config_of good.promised.commit,
+      good_verified c p known premises.good sv true_to good,
+    )

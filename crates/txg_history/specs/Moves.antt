@@ -151,7 +151,7 @@ pub record MayScan (p : Pool) (hi : ℕ) : Type 0 where
   pub opened : p.opened ≡ true
   pub hi_low : hi ≤ number_of p.reads
 
--- In this step of the scan a call that answered Ok wrote the cell's block to its place on the leaf, and nothing undid it:
+-- Since the scan came past its last key, so in this step of it, a call that answered Ok wrote the cell's block to its place on the leaf, and nothing undid it:
 -- it is on the way or stands there, or the sector is damaged.
 pub record WasCopied (p : Pool) (d : ℕ) (cell : Cell) : Type 0 where
   pub written : IsAmong cell.block (p.copies d (data_start + cell.sector))
