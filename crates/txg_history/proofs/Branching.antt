@@ -1,11 +1,17 @@
 -- A block is committed with the pages above it, the machine stops, and an opening finds the record.
-use Rattle.std.proofs.Common.{◌≡◌, ◌⊎◌, ℕ, zero, suc, ◌+◌, ◌*◌, ◌≤◌, ◌<◌, ◌==◌, ◌&&◌, nat_lt, Bool, true, false, not, cond, List, [], ◌∷◌, ◌++◌, length, Option, Some, None, refl, sym, ap, ◌∙◌, subst, inl, inr, arith}
+use Rattle.std.proofs.Common.{
+  ◌≡◌, ◌⊎◌, ℕ, zero, suc, ◌+◌, ◌*◌, ◌≤◌, ◌<◌, ◌==◌, ◌&&◌, nat_lt, Bool, true, false, not, cond, List, [], ◌∷◌, ◌++◌,
+  length, Option, Some, None, refl, sym, ap, ◌∙◌, subst, inl, inr, arith,
+}
 use Rattle.std.proofs.lemmas.Bool.{and_parts}
 use Rattle.std.proofs.lemmas.Bool.Decides.{nat_tests}
 use Rattle.bank_core.specs.Disk.{after_crash}
 use Rattle.mp_base.specs.declared.place.Key.{Key}
 use Rattle.label_store.specs.Records.{AreUnhurt}
-use Rattle.txg_history.specs.Branches.{Branch, cell_on, branch_cells, IsDay, turn_on, flush_of, day_until_round, calm_stop, stopped_day, stop_and_open, FindsJust}
+use Rattle.txg_history.specs.Branches.{
+  Branch, cell_on, branch_cells, IsDay, turn_on, flush_of, day_until_round, calm_stop, stopped_day, stop_and_open,
+  FindsJust,
+}
 use Rattle.txg_history.specs.Calm.{stable_of}
 use Rattle.txg_history.specs.Events.{Event, calls_of, Accepts, Freezes}
 use Rattle.txg_history.specs.Labels.{Odd, Lost}
@@ -41,8 +47,8 @@ branch_is b k cell e = of ((k.index == 0) && nat_lt k.level 4) refl e
         let a : (k.index == 0) ≡ true = parts.0 in
         let l : nat_lt k.level 4 ≡ true = parts.1 in (
           let none : k.index ≡ 0 = grind (arith, nat_tests) in none,
-          let low : k.level < 4 = grind
-              (arith, nat_tests) in low,
+          let low : k.level < 4 =
+              grind (arith, nat_tests) in low,
           same_cell (cell_on b k.level) cell e,
         )
     of false is e = absurd (cc)

@@ -1,7 +1,10 @@
 -- What a call, more damage and a stop leave of a sector that keeps a block, or where one has landed or was copied.
 use Rattle.std.proofs.Common.{◌≡◌, ◌⊎◌, ℕ, ◌-◌, ◌==◌, ◌&&◌, Bool, true, false, cond, List, Option, Some, None, refl, sym, subst, inl, inr, is_none}
 use Rattle.bank_core.specs.declared.bank.Fault.{Fault}
-use Rattle.bank_core.specs.Disk.{Sector, Pending, Nothing, Written, Failing, Call, Read, Write, Flush, Admit, Eject, Noted, covers, sectors_in, sector_of, hurt, after_write, after_flush, effect, after_call, IsClean}
+use Rattle.bank_core.specs.Disk.{
+  Sector, Pending, Nothing, Written, Failing, Call, Read, Write, Flush, Admit, Eject, Noted, covers, sectors_in,
+  sector_of, hurt, after_write, after_flush, effect, after_call, IsClean,
+}
 use Rattle.bank_core.specs.Standing.{touches}
 use Rattle.txg_history.specs.Moves.{IsPlain, puts}
 use Rattle.txg_history.specs.Needs.{Held, IsOnTheWay, Keeps, Landed, Copied, IsPut}

@@ -1,10 +1,16 @@
 -- What a whole part of one member brings to a sector, through the phase of all.
-use Rattle.std.proofs.Common.{◌≡◌, ◌≢◌, ℕ, zero, suc, ◌+◌, ◌-◌, nat_le, nat_lt, ◌==◌, ◌&&◌, Bool, true, false, cond, List, [], ◌∷◌, length, Some, None, refl, sym, ap, ◌∙◌, subst, inl, inr, arith}
+use Rattle.std.proofs.Common.{
+  ◌≡◌, ◌≢◌, ℕ, zero, suc, ◌+◌, ◌-◌, nat_le, nat_lt, ◌==◌, ◌&&◌, Bool, true, false, cond, List, [], ◌∷◌, length, Some,
+  None, refl, sym, ap, ◌∙◌, subst, inl, inr, arith,
+}
 use Rattle.std.specs.Prelude.{slice_get}
 use Rattle.std.proofs.lemmas.Bool.Decides.{nat_tests}
 use Rattle.bank_core.specs.Asks.{Ask, Writes, Flushes, ask_of, IsPart}
 use Rattle.bank_core.specs.Calls.{fault_of}
-use Rattle.bank_core.specs.Disk.{Sector, Pending, Nothing, Written, Failing, Call, Read, Write, Flush, Admit, Eject, Noted, replay, hurt, effect, after_call, after_flush, covers, sectors_in, sector_of}
+use Rattle.bank_core.specs.Disk.{
+  Sector, Pending, Nothing, Written, Failing, Call, Read, Write, Flush, Admit, Eject, Noted, replay, hurt, effect,
+  after_call, after_flush, covers, sectors_in, sector_of,
+}
 use Rattle.bank_core.specs.Standing.{Untouched}
 use Rattle.bank_core.proofs.Composing.{replay_more}
 use Rattle.label_store.specs.declared.member.Member.{Member}

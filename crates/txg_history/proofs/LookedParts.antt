@@ -1,8 +1,14 @@
 -- What the reads of a look gave: whole sectors, and the stable bytes of the clean ones.
-use Rattle.std.proofs.Common.{◌≡◌, ℕ, zero, suc, ◌+◌, ◌*◌, ◌%◌, ◌<◌, Bool, true, false, cond, List, [], ◌∷◌, ◌++◌, length, Some, None, refl, sym, ap, ◌∙◌, subst, arith}
+use Rattle.std.proofs.Common.{
+  ◌≡◌, ℕ, zero, suc, ◌+◌, ◌*◌, ◌%◌, ◌<◌, Bool, true, false, cond, List, [], ◌∷◌, ◌++◌, length, Some, None, refl, sym,
+  ap, ◌∙◌, subst, arith,
+}
 use Rattle.std.specs.Prelude.{slice_get}
 use Rattle.bank_core.specs.Asks.{Ask, Reads, Writes, Flushes, Admits, Ejects, ask_of, asks_of}
-use Rattle.bank_core.specs.Disk.{Sector, Sectors, Call, Read, Write, Flush, Admit, Eject, Noted, sector_size, sectors_in, sector_of, hurt, effect, replay, run, IsClean, ShowsStable, Answers, AllAnswer}
+use Rattle.bank_core.specs.Disk.{
+  Sector, Sectors, Call, Read, Write, Flush, Admit, Eject, Noted, sector_size, sectors_in, sector_of, hurt, effect,
+  replay, run, IsClean, ShowsStable, Answers, AllAnswer,
+}
 use Rattle.label_store.specs.Newest.{Parts, parts_of, given_by, look_asks, IsLook}
 
 pub same_some : {X : Type 0} (a b : X) → Some a ≡ Some b → a ≡ b

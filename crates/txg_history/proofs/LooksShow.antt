@@ -1,5 +1,8 @@
 -- The laws of looks at devices: what was found, that it is true, and which devices were read whole.
-use Rattle.std.proofs.Common.{◌≡◌, ℕ, zero, suc, ◌+◌, ◌-◌, ◌*◌, ◌/◌, ◌%◌, ◌<◌, ◌≤◌, ◌==◌, Bool, true, false, List, [], ◌∷◌, ◌++◌, length, get_or, Option, Some, None, refl, sym, ap, ◌∙◌, subst, arith, ⊎_elim}
+use Rattle.std.proofs.Common.{
+  ◌≡◌, ℕ, zero, suc, ◌+◌, ◌-◌, ◌*◌, ◌/◌, ◌%◌, ◌<◌, ◌≤◌, ◌==◌, Bool, true, false, List, [], ◌∷◌, ◌++◌, length, get_or,
+  Option, Some, None, refl, sym, ap, ◌∙◌, subst, arith, ⊎_elim,
+}
 use Rattle.std.specs.Prelude.{slice_get, slice_index}
 use Rattle.std.proofs.lemmas.Bool.{cases_lt}
 use Rattle.std.proofs.lemmas.List.{map-append}
@@ -19,7 +22,10 @@ use Rattle.txg_history.specs.Looks.{sector_in, label_sector, device_sector, know
 use Rattle.txg_history.specs.Moves.{ReadsTrue}
 use Rattle.txg_history.specs.Openings.{IsVerifiedOn, IsYield, IsReadWhole}
 use Rattle.txg_history.proofs.DeviceSectors.{ring_sector, config_sector, label_of_device, device_shown}
-use Rattle.txg_history.proofs.LookedParts.{same_some, part_shows, answer_first, answer_second, looked_at, AreReads, look_reads, IsLater, reads_later, clean_before}
+use Rattle.txg_history.proofs.LookedParts.{
+  same_some, part_shows, answer_first, answer_second, looked_at, AreReads, look_reads, IsLater, reads_later,
+  clean_before,
+}
 use Rattle.txg_history.proofs.LooksFound.{same_test, alike, if_so, if_not, known_at, known_of, parts_verify, sectors_verify, ring_ask, config_ask}
 
 -- What is verified on a device by its sectors is a candidate.

@@ -1,5 +1,8 @@
 -- A disk's week: a leaf is away from a commit, comes back, and a resilver brings it what it missed.
-use Rattle.std.proofs.Common.{◌≡◌, ℕ, zero, suc, ◌+◌, ◌*◌, ◌≤◌, ◌<◌, ◌==◌, nat_le, Bool, true, false, cond, List, [], ◌∷◌, ◌++◌, length, Option, Some, None, refl, sym, ap, ◌∙◌, subst, inl, inr, arith, ⊎_elim}
+use Rattle.std.proofs.Common.{
+  ◌≡◌, ℕ, zero, suc, ◌+◌, ◌*◌, ◌≤◌, ◌<◌, ◌==◌, nat_le, Bool, true, false, cond, List, [], ◌∷◌, ◌++◌, length, Option,
+  Some, None, refl, sym, ap, ◌∙◌, subst, inl, inr, arith, ⊎_elim,
+}
 use Rattle.std.specs.Prelude.{slice_get}
 use Rattle.std.proofs.lemmas.Bool.Decides.{nat_tests}
 use Rattle.mp_base.specs.declared.place.Key.{Key}

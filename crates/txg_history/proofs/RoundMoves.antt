@@ -1,5 +1,8 @@
 -- A round of a record that is drawn up is allowed, event by event, and what it leaves of the pool.
-use Rattle.std.proofs.Common.{◌≡◌, ◌≢◌, ℕ, ◌⊎◌, ◌+◌, ◌^◌, ◌<◌, ◌≤◌, not, zero, suc, Bool, true, false, List, [], ◌∷◌, ◌++◌, map, Some, None, refl, sym, ap, ◌∙◌, subst, arith, inl, inr, append-nil, ⊎_elim}
+use Rattle.std.proofs.Common.{
+  ◌≡◌, ◌≢◌, ℕ, ◌⊎◌, ◌+◌, ◌^◌, ◌<◌, ◌≤◌, not, zero, suc, Bool, true, false, List, [], ◌∷◌, ◌++◌, map, Some, None, refl,
+  sym, ap, ◌∙◌, subst, arith, inl, inr, append-nil, ⊎_elim,
+}
 use Rattle.std.specs.Prelude.{slice_get}
 use Rattle.std.proofs.lemmas.Bool.{and_parts}
 use Rattle.bank_core.specs.Disk.{Sectors, Noted, run, sectors_in}

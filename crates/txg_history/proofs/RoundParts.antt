@@ -1,5 +1,8 @@
 -- Each part of a round spares what is needed while it is made.
-use Rattle.std.proofs.Common.{◌≡◌, ◌≢◌, ℕ, ◌+◌, ◌-◌, ◌*◌, ◌/◌, ◌%◌, ◌^◌, ◌<◌, ◌≤◌, ◌==◌, ◌&&◌, nat_le, nat_lt, cond, Bool, true, false, List, length, take, drop, refl, sym, ap, ◌∙◌, subst, arith, inl, inr, ⊎_elim}
+use Rattle.std.proofs.Common.{
+  ◌≡◌, ◌≢◌, ℕ, ◌+◌, ◌-◌, ◌*◌, ◌/◌, ◌%◌, ◌^◌, ◌<◌, ◌≤◌, ◌==◌, ◌&&◌, nat_le, nat_lt, cond, Bool, true, false, List,
+  length, take, drop, refl, sym, ap, ◌∙◌, subst, arith, inl, inr, ⊎_elim,
+}
 use Rattle.std.proofs.lemmas.Bool.{cases_eq, eqb-false, and_parts, leb-true, ltb-true}
 use Rattle.std.proofs.lemmas.List.{take_all}
 use Rattle.bank_core.specs.Disk.{covers, sectors_in, sector_of, sector_size}
@@ -10,7 +13,10 @@ use Rattle.label_store.specs.Records.{place_at}
 use Rattle.label_store.specs.Rounds.{uberblock_of, first_plan, second_plan, third_plan}
 use Rattle.label_store.specs.Uberblock.{IsInRange, uberblock_bytes, fields_of}
 use Rattle.label_store.proofs.Fields.{fields_are, is_of_fields}
-use Rattle.label_store.proofs.Places.{label_is, even_spares_ring, odd_spares_ring, config_elsewhere_even, config_elsewhere_odd, ring_elsewhere, length-uberblock, uberblock_sectors}
+use Rattle.label_store.proofs.Places.{
+  label_is, even_spares_ring, odd_spares_ring, config_elsewhere_even, config_elsewhere_odd, ring_elsewhere,
+  length-uberblock, uberblock_sectors,
+}
 use Rattle.txg_history.specs.Events.{Begins}
 use Rattle.txg_history.specs.Labels.{Status, Odd, Even, Lost, begun}
 use Rattle.mp_base.specs.declared.number.Guid.{Guid}
@@ -23,7 +29,10 @@ use Rattle.txg_history.proofs.Placing.{AreBetween}
 use Rattle.txg_history.specs.Pools.{Pool, after, drawn, seat}
 use Rattle.txg_history.specs.Records.{Rec, IsIn, number_of, takes_part, data_start}
 use Rattle.txg_history.specs.Survival.{Fits, IsFit, IsKnownUber, IsOf, Survives}
-use Rattle.txg_history.proofs.RoundPlaces.{InFront, FrontRing, FrontPart, FrontData, InBack, BackRing, BackPart, BackData, first_spares, second_spares, third_spares}
+use Rattle.txg_history.proofs.RoundPlaces.{
+  InFront, FrontRing, FrontPart, FrontData, InBack, BackRing, BackPart, BackData, first_spares, second_spares,
+  third_spares,
+}
 use Rattle.txg_history.proofs.Sparing.{spared_lay}
 
 -- A member of the pool, on its device, that takes part in the round. A device in the list that the pool has lost is no member.

@@ -1,8 +1,14 @@
 -- A read of a block that a leaf has to have gives it, or the sector is damaged.
-use Rattle.std.proofs.Common.{◌≡◌, ◌≢◌, ℕ, ◌+◌, ◌-◌, ◌≤◌, ◌==◌, ◌&&◌, Bool, true, false, cond, List, [], ◌∷◌, length, Some, None, is_none, refl, sym, ap, ◌∙◌, subst, inl, inr, arith}
+use Rattle.std.proofs.Common.{
+  ◌≡◌, ◌≢◌, ℕ, ◌+◌, ◌-◌, ◌≤◌, ◌==◌, ◌&&◌, Bool, true, false, cond, List, [], ◌∷◌, length, Some, None, is_none, refl,
+  sym, ap, ◌∙◌, subst, inl, inr, arith,
+}
 use Rattle.bank_core.specs.Asks.{Flushes, ask_of}
 use Rattle.bank_core.specs.Calls.{fault_of}
-use Rattle.bank_core.specs.Disk.{Sector, Sectors, Nothing, Call, Read, Write, Flush, Admit, Eject, Noted, Answers, IsClean, as_found, hurt, effect, after_call, after_flush, replay, run, sectors_in, sector_of, covers}
+use Rattle.bank_core.specs.Disk.{
+  Sector, Sectors, Nothing, Call, Read, Write, Flush, Admit, Eject, Noted, Answers, IsClean, as_found, hurt, effect,
+  after_call, after_flush, replay, run, sectors_in, sector_of, covers,
+}
 use Rattle.bank_core.specs.Standing.{Untouched}
 use Rattle.bank_core.proofs.Blocks.{block_sectors}
 use Rattle.txg_history.specs.Events.{Calls, Clears}

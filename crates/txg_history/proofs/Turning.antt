@@ -1,5 +1,8 @@
 -- A write turn and the flush turn are allowed, whichever of their calls fail, and what they leave.
-use Rattle.std.proofs.Common.{◌≡◌, ◌≢◌, ℕ, zero, suc, ◌+◌, ◌-◌, ◌==◌, ◌&&◌, Bool, true, false, cond, List, [], ◌∷◌, ◌++◌, map, length, Some, refl, sym, ap, ◌∙◌, subst, inr, arith, append-nil}
+use Rattle.std.proofs.Common.{
+  ◌≡◌, ◌≢◌, ℕ, zero, suc, ◌+◌, ◌-◌, ◌==◌, ◌&&◌, Bool, true, false, cond, List, [], ◌∷◌, ◌++◌, map, length, Some, refl,
+  sym, ap, ◌∙◌, subst, inr, arith, append-nil,
+}
 use Rattle.std.specs.Prelude.{slice_get}
 use Rattle.std.proofs.lemmas.Bool.{and_left, ne_eqb}
 use Rattle.mp_base.specs.declared.place.Key.{Key}

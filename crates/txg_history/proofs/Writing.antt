@@ -1,5 +1,8 @@
 -- Which blocks a pool may write at a place: fresh ones of the frozen group, and those of its keys again.
-use Rattle.std.proofs.Common.{◌≡◌, ◌≢◌, ◌⊎◌, ℕ, zero, suc, ◌+◌, ◌-◌, ◌/◌, ◌%◌, ◌<◌, ◌≤◌, ◌==◌, ◌&&◌, nat_le, nat_lt, Bool, true, false, List, [], ◌∷◌, length, Option, Some, refl, sym, ap, ◌∙◌, subst, inl, inr, arith, ⊎_elim}
+use Rattle.std.proofs.Common.{
+  ◌≡◌, ◌≢◌, ◌⊎◌, ℕ, zero, suc, ◌+◌, ◌-◌, ◌/◌, ◌%◌, ◌<◌, ◌≤◌, ◌==◌, ◌&&◌, nat_le, nat_lt, Bool, true, false, List, [],
+  ◌∷◌, length, Option, Some, refl, sym, ap, ◌∙◌, subst, inl, inr, arith, ⊎_elim,
+}
 use Rattle.std.specs.Prelude.{slice_index}
 use Rattle.std.proofs.lemmas.Bool.{and_left, and_parts, cases_eq, leb-true, ltb-true, ne_eqb}
 use Rattle.std.proofs.lemmas.Bool.Decides.{nat_tests}
@@ -80,8 +83,8 @@ off_label : (c : Codec) (p : Pool) (dev at s : ℕ) (block bytes : List ℕ) →
     → NeedsLabel (seat p dev) (p.status dev) s bytes → ((dev == dev) && covers at (sectors_in block) s) ≡ false
 off_label c p dev at s block bytes sv one is b n =
     outside_one dev at dev s block one (inl
-    (let low = b.low in let below = label_below c p dev (p.status dev) s bytes sv (sv.status_live dev is) n in omega
-    (arith, low, below)))
+    (let low = b.low in let below = label_below c p dev (p.status dev) s bytes sv (sv.status_live dev is) n in
+    omega (arith, low, below)))
 
 off_put : (p : Pool) (dev at s : ℕ) (block bytes : List ℕ) → sectors_in block ≡ 1 → IsBlockAt p dev at block → NeedsPut p dev s bytes
     → ((dev == dev) && covers at (sectors_in block) s) ≡ false
@@ -177,8 +180,8 @@ one_place c p r d a b sv is i ma mb top in_top e = (b_home ∙ sym a_home, omega
         (λ home. sym top ∙ home) (sv.placed.in_tree d is)
 
     b_home : b.top ≡ p.home d
-    b_home = ⊎_elim (λ none. absurd (let some = top_some p.room b sv.roomy.no_top mb in omega
-        (arith, some, none, in_top))) (λ home. sym in_top ∙ home) (sv.placed.in_records r d i is)
+    b_home = ⊎_elim (λ none. absurd (let some = top_some p.room b sv.roomy.no_top mb in
+        omega (arith, some, none, in_top))) (λ home. sym in_top ∙ home) (sv.placed.in_records r d i is)
 
 same_place : (a b : Cell) (t : ℕ) → t ≡ a.top → t ≡ b.top → data_start + a.sector ≡ data_start + b.sector → AreAtOne b a
 same_place a b t at bt e = (sym bt ∙ at, omega (arith, e))

@@ -7,7 +7,10 @@ use Rattle.bank_core.specs.Standing.{touches}
 use Rattle.label_store.specs.declared.uberblock.Uberblock.{Uberblock}
 use Rattle.label_store.specs.Records.{place_at}
 use Rattle.label_store.specs.Uberblock.{IsUberblock}
-use Rattle.txg_history.specs.Events.{Event, Known, Calls, Accepts, Freezes, Wrote, Flushed, Draws, Leaves, Grows, Burns, Begins, Third, Ends, Acks, Looks, Opens, Joins, Loses, Scans, Passes, Drops, Clears, Rests, Stops}
+use Rattle.txg_history.specs.Events.{
+  Event, Known, Calls, Accepts, Freezes, Wrote, Flushed, Draws, Leaves, Grows, Burns, Begins, Third, Ends, Acks, Looks,
+  Opens, Joins, Loses, Scans, Passes, Drops, Clears, Rests, Stops,
+}
 use Rattle.txg_history.specs.Groups.{Logs}
 use Rattle.txg_history.specs.Labels.{Odd, Even}
 use Rattle.txg_history.specs.Needs.{Held, Keeps, Landed, Copied, InPart, odd_part, NeedsLabel, NeedsPut, NeedsScan, NeedsFirm, NeedsSoft}
@@ -151,8 +154,8 @@ pub record MayScan (p : Pool) (hi : ℕ) : Type 0 where
   pub opened : p.opened ≡ true
   pub hi_low : hi ≤ number_of p.reads
 
--- Since the scan came past its last key, so in this step of it, a call that answered Ok wrote the cell's block to its place on the leaf, and nothing undid it:
--- it is on the way or stands there, or the sector is damaged.
+-- Since the scan came past its last key, so in this step of it, a call that answered Ok wrote the cell's block to its place
+-- on the leaf, and nothing undid it: it is on the way or stands there, or the sector is damaged.
 pub record WasCopied (p : Pool) (d : ℕ) (cell : Cell) : Type 0 where
   pub written : IsAmong cell.block (p.copies d (data_start + cell.sector))
   pub is_copied : Copied (p.sectors d (data_start + cell.sector)) cell.block
