@@ -1,7 +1,38 @@
 -- A block is committed with the pages above it, the machine stops, and an opening finds the record.
 use Rattle.std.proofs.Common.{
-  ◌≡◌, ◌⊎◌, ℕ, zero, suc, ◌+◌, ◌*◌, ◌≤◌, ◌<◌, ◌==◌, ◌&&◌, nat_lt, Bool, true, false, not, cond, List, [], ◌∷◌, ◌++◌,
-  length, Option, Some, None, refl, sym, ap, ◌∙◌, subst, inl, inr, arith,
+  ◌≡◌,
+  ◌⊎◌,
+  ℕ,
+  zero,
+  suc,
+  ◌+◌,
+  ◌*◌,
+  ◌≤◌,
+  ◌<◌,
+  ◌==◌,
+  ◌&&◌,
+  nat_lt,
+  Bool,
+  true,
+  false,
+  not,
+  cond,
+  List,
+  [],
+  ◌∷◌,
+  ◌++◌,
+  length,
+  Option,
+  Some,
+  None,
+  refl,
+  sym,
+  ap,
+  ◌∙◌,
+  subst,
+  inl,
+  inr,
+  arith,
 }
 use Rattle.std.proofs.lemmas.Bool.{and_parts}
 use Rattle.std.proofs.lemmas.Bool.Decides.{nat_tests}
@@ -9,7 +40,16 @@ use Rattle.bank_core.specs.Disk.{after_crash}
 use Rattle.mp_base.specs.declared.place.Key.{Key}
 use Rattle.label_store.specs.Records.{AreUnhurt}
 use Rattle.txg_history.specs.Branches.{
-  Branch, cell_on, branch_cells, IsDay, turn_on, flush_of, day_until_round, calm_stop, stopped_day, stop_and_open,
+  Branch,
+  cell_on,
+  branch_cells,
+  IsDay,
+  turn_on,
+  flush_of,
+  day_until_round,
+  calm_stop,
+  stopped_day,
+  stop_and_open,
   FindsJust,
 }
 use Rattle.txg_history.specs.Calm.{stable_of}

@@ -1,7 +1,29 @@
 -- A write that answered Ok is a copy of a scan's step, behind calls that put nothing there.
 use Rattle.std.proofs.Common.{
-  ◌≡◌, ℕ, ◌+◌, ◌-◌, ◌==◌, ◌&&◌, nat_le, nat_lt, Bool, true, false, cond, List, [], ◌∷◌, length, Some, None, refl, sym,
-  subst, inl, inr, arith,
+  ◌≡◌,
+  ℕ,
+  ◌+◌,
+  ◌-◌,
+  ◌==◌,
+  ◌&&◌,
+  nat_le,
+  nat_lt,
+  Bool,
+  true,
+  false,
+  cond,
+  List,
+  [],
+  ◌∷◌,
+  length,
+  Some,
+  None,
+  refl,
+  sym,
+  subst,
+  inl,
+  inr,
+  arith,
 }
 use Rattle.std.proofs.lemmas.Bool.Decides.{nat_tests}
 use Rattle.bank_core.specs.Disk.{Call, Read, Write, Flush, Admit, Eject, Noted, covers, sectors_in, sector_of}

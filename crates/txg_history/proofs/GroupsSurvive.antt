@@ -1,7 +1,30 @@
 -- Calls, accepted writes, and the moves of a group keep the invariant.
 use Rattle.std.proofs.Common.{
-  ◌≡◌, ◌⊎◌, ℕ, ◌+◌, ◌≤◌, ◌<◌, ◌==◌, nat_le, Bool, true, false, not, cond, List, ◌∷◌, Some, refl, sym, ap, ◌∙◌, subst,
-  inl, inr, arith, ⊎_elim,
+  ◌≡◌,
+  ◌⊎◌,
+  ℕ,
+  ◌+◌,
+  ◌≤◌,
+  ◌<◌,
+  ◌==◌,
+  nat_le,
+  Bool,
+  true,
+  false,
+  not,
+  cond,
+  List,
+  ◌∷◌,
+  Some,
+  refl,
+  sym,
+  ap,
+  ◌∙◌,
+  subst,
+  inl,
+  inr,
+  arith,
+  ⊎_elim,
 }
 use Rattle.std.proofs.lemmas.Bool.Decides.{nat_tests}
 use Rattle.mp_base.specs.declared.place.Key.{Key}
@@ -21,8 +44,19 @@ use Rattle.txg_history.proofs.Holding.{noted_all}
 use Rattle.txg_history.proofs.Keeping.{noted_keeps, noted_held, noted_put, noted_copied}
 use Rattle.txg_history.proofs.Listing.{one_key}
 use Rattle.txg_history.proofs.Logging.{
-  by_bool, true_not_false, not_true, at_here, at_away, grown_more, grown_false, grown_in, grown_out, grown_of,
-  cleared_of, cleared_both, cleared_false,
+  by_bool,
+  true_not_false,
+  not_true,
+  at_here,
+  at_away,
+  grown_more,
+  grown_false,
+  grown_in,
+  grown_out,
+  grown_of,
+  cleared_of,
+  cleared_both,
+  cleared_false,
 }
 use Rattle.txg_history.proofs.Placing.{place_safe, one_of}
 use Rattle.txg_history.proofs.Treeing.{freeze_tree}

@@ -2,8 +2,27 @@
 use Rattle.std.proofs.Common.{◌≡◌, ◌⊎◌, ℕ, ◌-◌, ◌==◌, ◌&&◌, Bool, true, false, cond, List, Option, Some, None, refl, sym, subst, inl, inr, is_none}
 use Rattle.bank_core.specs.declared.bank.Fault.{Fault}
 use Rattle.bank_core.specs.Disk.{
-  Sector, Pending, Nothing, Written, Failing, Call, Read, Write, Flush, Admit, Eject, Noted, covers, sectors_in,
-  sector_of, hurt, after_write, after_flush, effect, after_call, IsClean,
+  Sector,
+  Pending,
+  Nothing,
+  Written,
+  Failing,
+  Call,
+  Read,
+  Write,
+  Flush,
+  Admit,
+  Eject,
+  Noted,
+  covers,
+  sectors_in,
+  sector_of,
+  hurt,
+  after_write,
+  after_flush,
+  effect,
+  after_call,
+  IsClean,
 }
 use Rattle.bank_core.specs.Standing.{touches}
 use Rattle.txg_history.specs.Moves.{IsPlain, puts}

@@ -1,7 +1,36 @@
 -- The laws of looks at devices: what was found, that it is true, and which devices were read whole.
 use Rattle.std.proofs.Common.{
-  ◌≡◌, ℕ, zero, suc, ◌+◌, ◌-◌, ◌*◌, ◌/◌, ◌%◌, ◌<◌, ◌≤◌, ◌==◌, Bool, true, false, List, [], ◌∷◌, ◌++◌, length, get_or,
-  Option, Some, None, refl, sym, ap, ◌∙◌, subst, arith, ⊎_elim,
+  ◌≡◌,
+  ℕ,
+  zero,
+  suc,
+  ◌+◌,
+  ◌-◌,
+  ◌*◌,
+  ◌/◌,
+  ◌%◌,
+  ◌<◌,
+  ◌≤◌,
+  ◌==◌,
+  Bool,
+  true,
+  false,
+  List,
+  [],
+  ◌∷◌,
+  ◌++◌,
+  length,
+  get_or,
+  Option,
+  Some,
+  None,
+  refl,
+  sym,
+  ap,
+  ◌∙◌,
+  subst,
+  arith,
+  ⊎_elim,
 }
 use Rattle.std.specs.Prelude.{slice_get, slice_index}
 use Rattle.std.proofs.lemmas.Bool.{cases_lt}
@@ -23,7 +52,15 @@ use Rattle.txg_history.specs.Moves.{ReadsTrue}
 use Rattle.txg_history.specs.Openings.{IsVerifiedOn, IsYield, IsReadWhole}
 use Rattle.txg_history.proofs.DeviceSectors.{ring_sector, config_sector, label_of_device, device_shown}
 use Rattle.txg_history.proofs.LookedParts.{
-  same_some, part_shows, answer_first, answer_second, looked_at, AreReads, look_reads, IsLater, reads_later,
+  same_some,
+  part_shows,
+  answer_first,
+  answer_second,
+  looked_at,
+  AreReads,
+  look_reads,
+  IsLater,
+  reads_later,
   clean_before,
 }
 use Rattle.txg_history.proofs.LooksFound.{same_test, alike, if_so, if_not, known_at, known_of, parts_verify, sectors_verify, ring_ask, config_ask}
@@ -72,7 +109,8 @@ pub best_yields : (head_of : List ℕ → Option Head) (size : ℕ → ℕ) (dev
     → IsLook size devs looks made → AreDistinct devs → HaveRoom size devs → AllAnswer sectors made → IsBest head_of looks name (128 * length devs) (Some found)
     → (u : Uberblock) × (found.number ≡ u.number) × (found.pool ≡ u.pool) × IsYield head_of size (known_by size devs looks) name u found.blob.items
 best_yields head_of size devs looks made sectors name found l apart room answered best =
-    let on = candidate_verified head_of size devs looks made sectors name best.place best.u found.blob.items l apart room answered best.inside best.candidate in (
+    let on = candidate_verified head_of size devs looks made sectors name best.place best.u found.blob.items l apart room
+    answered best.inside best.candidate in (
       best.u,
       best.number_is,
       best.pool_is,

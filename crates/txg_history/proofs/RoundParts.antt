@@ -1,7 +1,37 @@
 -- Each part of a round spares what is needed while it is made.
 use Rattle.std.proofs.Common.{
-  ◌≡◌, ◌≢◌, ℕ, ◌+◌, ◌-◌, ◌*◌, ◌/◌, ◌%◌, ◌^◌, ◌<◌, ◌≤◌, ◌==◌, ◌&&◌, nat_le, nat_lt, cond, Bool, true, false, List,
-  length, take, drop, refl, sym, ap, ◌∙◌, subst, arith, inl, inr, ⊎_elim,
+  ◌≡◌,
+  ◌≢◌,
+  ℕ,
+  ◌+◌,
+  ◌-◌,
+  ◌*◌,
+  ◌/◌,
+  ◌%◌,
+  ◌^◌,
+  ◌<◌,
+  ◌≤◌,
+  ◌==◌,
+  ◌&&◌,
+  nat_le,
+  nat_lt,
+  cond,
+  Bool,
+  true,
+  false,
+  List,
+  length,
+  take,
+  drop,
+  refl,
+  sym,
+  ap,
+  ◌∙◌,
+  subst,
+  arith,
+  inl,
+  inr,
+  ⊎_elim,
 }
 use Rattle.std.proofs.lemmas.Bool.{cases_eq, eqb-false, and_parts, leb-true, ltb-true}
 use Rattle.std.proofs.lemmas.List.{take_all}
@@ -14,8 +44,14 @@ use Rattle.label_store.specs.Rounds.{uberblock_of, first_plan, second_plan, thir
 use Rattle.label_store.specs.Uberblock.{IsInRange, uberblock_bytes, fields_of}
 use Rattle.label_store.proofs.Fields.{fields_are, is_of_fields}
 use Rattle.label_store.proofs.Places.{
-  label_is, even_spares_ring, odd_spares_ring, config_elsewhere_even, config_elsewhere_odd, ring_elsewhere,
-  length-uberblock, uberblock_sectors,
+  label_is,
+  even_spares_ring,
+  odd_spares_ring,
+  config_elsewhere_even,
+  config_elsewhere_odd,
+  ring_elsewhere,
+  length-uberblock,
+  uberblock_sectors,
 }
 use Rattle.txg_history.specs.Events.{Begins}
 use Rattle.txg_history.specs.Labels.{Status, Odd, Even, Lost, begun}
@@ -30,7 +66,16 @@ use Rattle.txg_history.specs.Pools.{Pool, after, drawn, seat}
 use Rattle.txg_history.specs.Records.{Rec, IsIn, number_of, takes_part, data_start}
 use Rattle.txg_history.specs.Survival.{Fits, IsFit, IsKnownUber, IsOf, Survives}
 use Rattle.txg_history.proofs.RoundPlaces.{
-  InFront, FrontRing, FrontPart, FrontData, InBack, BackRing, BackPart, BackData, first_spares, second_spares,
+  InFront,
+  FrontRing,
+  FrontPart,
+  FrontData,
+  InBack,
+  BackRing,
+  BackPart,
+  BackData,
+  first_spares,
+  second_spares,
   third_spares,
 }
 use Rattle.txg_history.proofs.Sparing.{spared_lay}

@@ -4,8 +4,30 @@ use Rattle.mp_base.specs.declared.number.Guid.{Guid}
 use Rattle.bank_core.specs.Disk.{Call, Noted, Read, Write, Flush, Admit, Eject, Sectors, run, covers, sectors_in, sector_of}
 use Rattle.label_store.specs.declared.member.Member.{Member}
 use Rattle.txg_history.specs.Events.{
-  Event, Calls, Accepts, Freezes, Wrote, Flushed, Draws, Leaves, Grows, Burns, Begins, Third, Ends, Acks, Looks, Opens,
-  Joins, Loses, Scans, Passes, Drops, Clears, Rests, Stops,
+  Event,
+  Calls,
+  Accepts,
+  Freezes,
+  Wrote,
+  Flushed,
+  Draws,
+  Leaves,
+  Grows,
+  Burns,
+  Begins,
+  Third,
+  Ends,
+  Acks,
+  Looks,
+  Opens,
+  Joins,
+  Loses,
+  Scans,
+  Passes,
+  Drops,
+  Clears,
+  Rests,
+  Stops,
 }
 use Rattle.txg_history.specs.Groups.{Group, frozen_group, thawed, no_group, same_key, at_device, Logs, between, grown, cleared, off, no_log}
 use Rattle.txg_history.specs.Labels.{Status, Odd, Even, Lost, begun}
