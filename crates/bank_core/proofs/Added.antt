@@ -2,6 +2,7 @@
 use Rattle.std.proofs.Common.{◌≡◌, Bool, true, false, cond, List, [], ◌∷◌, ◌++◌, length, Some, None, refl, ap, ◌∙◌, arith, subst}
 use Rattle.std.proofs.lemmas.List.{length-append}
 use Rattle.std.proofs.lemmas.List.{map-append}
+use Rattle.std.proofs.lemmas.Option.{none-some}
 use Rattle.bank_core.specs.declared.call.MemCall.{MemCall}
 use Rattle.bank_core.specs.declared.device.MemDevice.{MemDevice}
 use Rattle.bank_core.specs.declared.memory.MemBank.{MemBank}
@@ -17,9 +18,6 @@ no_calls (x ∷ calls) e = absurd (omega (arith, e))
 is_story : (a b : Story) → Some a ≡ Some b → a ≡ b
 is_story a b e = cc
 
-none_told : (story : Story) → None ≡ Some story → ⊥
-none_told story e = cc
-
 story_added : (devices : List MemDevice) (x : MemDevice)
     → story_in (devices ++ x ∷ []) []
     ≡ record { start = with_device (story_in devices []).start (length devices) (image_sector x.sectors x.first.items x.damage.items (length devices)); calls = [] }
@@ -33,7 +31,7 @@ told_added devices x true story e =
     ap Some (story_added devices x
     ∙ ap (λ told. record { start = with_device told.start (length devices) (image_sector x.sectors x.first.items x.damage.items (length devices)); calls = [] })
     (is_story _ story e))
-told_added devices x false story e = absurd (none_told story e)
+told_added devices x false story e = absurd (none-some story e)
 
 pub is_added : (old new : MemBank) (x : MemDevice) → new.devices.items ≡ old.devices.items ++ x ∷ [] → new.calls.items ≡ old.calls.items
     → new.faults ≡ old.faults → new.tells ≡ old.tells → length old.calls.items ≡ 0

@@ -1,6 +1,7 @@
 -- Calls one after another.
 use mathlib.Core.Path.{fun_ext}
 use Rattle.std.proofs.Common.{◌≡◌, ◌≢◌, ℕ, ◌≤◌, List, [], ◌∷◌, ◌++◌, Option, Some, None, Result, Ok, Err, OnOk, OnErr, refl, sym, ◌∙◌, ap, arith, append_assoc, append-nil, subst, Bool, false}
+use Rattle.std.proofs.lemmas.Option.{none-some}
 use Rattle.bank_core.specs.declared.bank.Fault.{Fault}
 use Rattle.mp_base.specs.Outside.{Rose}
 use Rattle.bank_core.specs.Disk.{Sector, Sectors, Call, Noted, run, replay, AllAnswer}
@@ -18,12 +19,6 @@ run_more first second sectors = fun_ext (λ d. fun_ext (λ s. replay_more first 
 pub answer_more : (first second : List Noted) (sectors : Sectors) → AllAnswer sectors first → AllAnswer (run first sectors) second → AllAnswer sectors (first ++ second)
 answer_more [] second sectors a b = b
 answer_more (noted ∷ first) second sectors a b = (a.0, answer_more first second _ a.1 b)
-
-none_some : (story : Story) → None ≡ Some story → ⊥
-none_some story e = cc
-
-none_fault : (fault : Fault) → None ≡ Some fault → ⊥
-none_fault fault e = cc
 
 same_some : (a b : Story) → Some a ≡ Some b → a ≡ b
 same_some a b e = cc
@@ -111,7 +106,7 @@ one_made_at old new f g call c tells None e = record {
   damage = no_damage;
   made = record {
     caused = one_caused (record { call = call; damage = no_damage }) f g c;
-    told = λ story' told. absurd (none_some story' (sym e ∙ told));
+    told = λ story' told. absurd (none-some story' (sym e ∙ told));
   };
 }
 one_made_at old new f g call c tells (Some story) e = record {
@@ -131,15 +126,15 @@ pub call_caused : {A : Type 0} (call : Call) (r : Result A Fault) (f g : ℕ →
     → ((d : ℕ) → f d ≤ g d) → OnErr r (Rose (f (device_of call)) (g (device_of call))) → OnOk r ((d : ℕ) → g d ≡ f d)
     → ((d : ℕ) → d ≢ device_of call → g d ≡ f d) → IsCaused call f g
 call_caused call (Ok x) f g e counts cause still others =
-    record { counts = counts; cause = λ fault is. absurd (none_fault fault (sym e ∙ is)); still = λ _. still; others = others }
+    record { counts = counts; cause = λ fault is. absurd (none-some fault (sym e ∙ is)); still = λ _. still; others = others }
 call_caused call (Err fault) f g e counts cause still others =
-    record { counts = counts; cause = λ _ _. cause; still = λ is. absurd (none_fault fault (sym is ∙ e)); others = others }
+    record { counts = counts; cause = λ _ _. cause; still = λ is. absurd (none-some fault (sym is ∙ e)); others = others }
 
 -- a call that answered Ok moved no count
 pub ok_caused : (call : Call) (f g : ℕ → ℕ) → fault_of call ≡ None → ((d : ℕ) → g d ≡ f d) → IsCaused call f g
 ok_caused call f g e still = record {
   counts = λ d. let same = still d in omega arith;
-  cause = λ fault is. absurd (none_fault fault (sym e ∙ is));
+  cause = λ fault is. absurd (none-some fault (sym e ∙ is));
   still = λ _. still;
   others = λ d _. still d;
 }

@@ -1,5 +1,5 @@
 -- What stays the same over calls, one after another, and parts of a plan on one device.
-use Rattle.std.proofs.Common.{◌≡◌, ◌≢◌, ℕ, ◌+◌, ◌<◌, ◌≤◌, Bool, List, [], ◌∷◌, ◌++◌, length, take, drop, get_or, Option, Some, None, IfSome, IfNone, refl, sym, ap, ◌∙◌, subst, arith, append-nil, take-append-drop}
+use Rattle.std.proofs.Common.{◌≡◌, ℕ, ◌+◌, ◌<◌, ◌≤◌, Bool, List, [], ◌∷◌, ◌++◌, length, take, drop, get_or, Option, Some, None, IfSome, IfNone, refl, sym, ap, ◌∙◌, subst, arith, append-nil, take-append-drop}
 use Rattle.std.specs.List.{flat_map}
 use Rattle.std.proofs.lemmas.List.{take_more, take_all}
 use Rattle.std.proofs.lemmas.Grind.{flat_map-append}
@@ -7,10 +7,9 @@ use Rattle.mp_base.specs.Outside.{Rose}
 use Rattle.bank_core.specs.declared.bank.Fault.{Fault}
 use Rattle.bank_core.specs.Asks.{Ask, Reads, Writes, Flushes, ask_of}
 use Rattle.bank_core.specs.BankView.{BankView, SameBank, NoneRose}
-use Rattle.bank_core.specs.Calls.{Called, Makes, Made, IsCaused, device_of, fault_of}
+use Rattle.bank_core.specs.Calls.{Called, Makes, IsCaused, device_of, fault_of}
 use Rattle.bank_core.specs.Disk.{Call, Read, Write, Flush, Noted, sectors_in}
 use Rattle.bank_core.specs.Parts.{Part, MakesPart}
-use Rattle.bank_core.specs.Story.{Tells}
 use Rattle.bank_core.proofs.Composing.{made_none, made_more, one_made}
 use Rattle.bank_core.proofs.Parting.{is_part_more, is_part_stop, one_part}
 

@@ -1,5 +1,6 @@
 -- Parts of a plan, one after another.
 use Rattle.std.proofs.Common.{◌≡◌, ◌≢◌, ℕ, ◌≤◌, List, [], ◌∷◌, ◌++◌, Bool, Option, Some, None, Result, Ok, Err, OnOk, OnErr, refl, arith, inl, inr, ◌⊎◌, sym}
+use Rattle.std.proofs.lemmas.Option.{none-some}
 use Rattle.mp_base.specs.Outside.{Rose}
 use Rattle.bank_core.specs.declared.bank.Fault.{Fault}
 use Rattle.bank_core.specs.Disk.{Call, Noted}
@@ -12,9 +13,6 @@ use Rattle.bank_core.proofs.Composing.{made_none, made_more, one_made, call_caus
 pub part_none : {told : Option Story} {faults : ℕ → ℕ} → MakesPart [] told told faults faults None
 part_none {told} {faults} = record { made = []; calls = made_none told faults; part = refl }
 
-no_fault : (fault : Fault) → None ≡ Some fault → ⊥
-no_fault fault e = cc
-
 -- the rest of a part behind its first call
 abbrev Rest : Noted → List Ask → List Noted → Option Fault → Type 0
 Rest noted asks made outcome = ((fault_of noted.call ≡ None) × IsPart asks made outcome)
@@ -24,7 +22,7 @@ rest_more : (noted : Noted) (first second : List Ask) (made made' : List Noted) 
     → (IsPart first made None → IsPart (first ++ second) (made ++ made') outcome) → Rest noted first made None
     → Rest noted (first ++ second) (made ++ made') outcome
 rest_more noted first second made made' outcome more (inl ok) = inl (ok.0, more ok.1)
-rest_more noted first second made made' outcome more (inr failed) = absurd (no_fault failed.0 failed.3)
+rest_more noted first second made made' outcome more (inr failed) = absurd (none-some failed.0 failed.3)
 
 pub is_part_more : (first second : List Ask) (made made' : List Noted) (outcome : Option Fault)
     → IsPart first made None → IsPart second made' outcome → IsPart (first ++ second) (made ++ made') outcome
@@ -41,7 +39,7 @@ rest_stop noted first second made fault more (inl ok) = inl (ok.0, more ok.1)
 rest_stop noted first second made fault more (inr failed) = inr failed
 
 pub is_part_stop : (first second : List Ask) (made : List Noted) (fault : Fault) → IsPart first made (Some fault) → IsPart (first ++ second) made (Some fault)
-is_part_stop [] second [] fault a = absurd (no_fault fault (sym a))
+is_part_stop [] second [] fault a = absurd (none-some fault (sym a))
 is_part_stop [] second (noted ∷ made) fault a = absurd a
 is_part_stop (ask ∷ first) second [] fault a = absurd a
 is_part_stop (ask ∷ first) second (noted ∷ made) fault a = (a.0, rest_stop noted first second made fault (is_part_stop first second made fault) a.1)

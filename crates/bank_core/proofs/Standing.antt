@@ -1,14 +1,12 @@
 -- What stays on a sector while calls are made elsewhere, and what a whole part brings onto it.
-use Rattle.std.proofs.Common.{◌≡◌, ℕ, ◌-◌, ◌==◌, ◌&&◌, Bool, true, false, cond, List, [], ◌∷◌, ◌++◌, take, zero, suc, Option, Some, None, refl, sym, ap, ◌∙◌, ◌⊎◌, inl, inr, arith, subst, is_none}
+use Rattle.std.proofs.Common.{◌≡◌, ℕ, ◌-◌, ◌==◌, ◌&&◌, Bool, true, false, cond, List, [], ◌∷◌, ◌++◌, take, zero, suc, Option, None, refl, sym, ap, ◌∙◌, ◌⊎◌, inl, inr, arith, subst, is_none}
 use Rattle.std.proofs.lemmas.Bool.Decides.{nat_tests}
+use Rattle.std.proofs.lemmas.Option.{none-some}
 use Rattle.bank_core.specs.declared.bank.Fault.{Fault}
 use Rattle.bank_core.specs.Asks.{Ask, Writes, Flushes, ask_of, IsPart}
 use Rattle.bank_core.specs.Calls.{fault_of}
 use Rattle.bank_core.specs.Disk.{Sector, Pending, Nothing, Written, Failing, Call, Read, Write, Flush, Admit, Eject, Noted, sectors_in, sector_of, covers, hurt, after_flush, effect, replay}
 use Rattle.bank_core.specs.Standing.{Stands, touches, Untouched, aims, Spares}
-
-no_fault : (fault : Fault) → None ≡ Some fault → ⊥
-no_fault fault e = cc
 
 alike : (n : ℕ) → (n == n) ≡ true
 alike n = grind (arith, nat_tests)
@@ -16,16 +14,10 @@ alike n = grind (arith, nat_tests)
 hurt_stands : (damage : Bool) (x : Sector) (b : List ℕ) → Stands x b → Stands (hurt damage x) b
 hurt_stands damage x b st = record { stable = st.stable; still = st.still }
 
-written_nothing : (b : List ℕ) → Written b ≡ Nothing → ⊥
-written_nothing b e = cc
-
-failing_nothing : (b : List ℕ) → Failing b ≡ Nothing → ⊥
-failing_nothing b e = cc
-
 flush_stands : (t : Bool) (p : Pending) (x : Sector) (b : List ℕ) → p ≡ Nothing → Stands x b → Stands (cond t (after_flush p x) x) b
 flush_stands true Nothing x b e st = st
-flush_stands true (Written c) x b e st = absurd (written_nothing c e)
-flush_stands true (Failing c) x b e st = absurd (failing_nothing c e)
+flush_stands true (Written c) x b e st = absurd (cc)
+flush_stands true (Failing c) x b e st = absurd (cc)
 flush_stands false p x b e st = st
 
 call_stands : (call : Call) (d s : ℕ) (x : Sector) (b : List ℕ) → touches call d s ≡ false → Stands x b → Stands (effect call d s x) b
@@ -134,11 +126,11 @@ rest_lands : (rest : List Ask) (made : List Noted) (d s : ℕ) (x : Sector) (b :
 rest_lands [] [] d s x b p sp part = absurd part
 rest_lands [] (noted ∷ []) d s x b p sp (is, inl (ok, more)) = flush_lands noted.call d s _ b is ok (hurt_promises (noted.damage d s) x b p)
 rest_lands [] (noted ∷ other ∷ made) d s x b p sp (is, inl (ok, more)) = absurd more
-rest_lands [] (noted ∷ made) d s x b p sp (is, inr (fault, failed, none, end)) = absurd (no_fault fault end)
+rest_lands [] (noted ∷ made) d s x b p sp (is, inr (fault, failed, none, end)) = absurd (none-some fault end)
 rest_lands (ask ∷ rest) [] d s x b p sp part = absurd part
 rest_lands (ask ∷ rest) (noted ∷ made) d s x b p sp (is, inl (ok, more)) =
     rest_lands rest made d s _ b (call_promises noted.call d s _ b (asked_touches noted.call ask d s is sp.0) (hurt_promises (noted.damage d s) x b p)) sp.1 more
-rest_lands (ask ∷ rest) (noted ∷ made) d s x b p sp (is, inr (fault, failed, none, end)) = absurd (no_fault fault end)
+rest_lands (ask ∷ rest) (noted ∷ made) d s x b p sp (is, inr (fault, failed, none, end)) = absurd (none-some fault end)
 
 -- What a write of a whole part brought stands behind the part's flush, if no later ask of it aims there.
 pub part_lands : (d at : ℕ) (bytes : List ℕ) (rest : List Ask) (made : List Noted) (s : ℕ) (x : Sector)
@@ -147,4 +139,4 @@ pub part_lands : (d at : ℕ) (bytes : List ℕ) (rest : List Ask) (made : List 
 part_lands d at bytes rest [] s x c sp part = absurd part
 part_lands d at bytes rest (noted ∷ made) s x c sp (is, inl (ok, more)) =
     rest_lands rest made d s _ _ (write_promises noted.call d at bytes s _ is ok c) sp more
-part_lands d at bytes rest (noted ∷ made) s x c sp (is, inr (fault, failed, none, end)) = absurd (no_fault fault end)
+part_lands d at bytes rest (noted ∷ made) s x c sp (is, inr (fault, failed, none, end)) = absurd (none-some fault end)

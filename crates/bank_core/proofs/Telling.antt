@@ -1,6 +1,7 @@
 -- The list of calls, told.
 use Rattle.std.proofs.Common.{◌≡◌, ◌≢◌, ℕ, ◌≤◌, Bool, true, false, cond, is_some, List, [], ◌∷◌, ◌++◌, Option, Some, None, IfSome, IfNone, refl, sym, ap, ◌∙◌}
 use Rattle.std.proofs.lemmas.List.{map-append}
+use Rattle.std.proofs.lemmas.Option.{none-some}
 use Rattle.mp_base.specs.Outside.{Rose}
 use Rattle.bank_core.specs.declared.bank.Fault.{Fault}
 use Rattle.bank_core.specs.declared.call.CallKind.{CallKind}
@@ -13,9 +14,6 @@ use Rattle.bank_core.specs.Disk.{Call}
 use Rattle.bank_core.specs.MemBank.{bank_faults, bank_view}
 use Rattle.bank_core.specs.Story.{Story, Tells, goes_on}
 use Rattle.bank_core.specs.Memory.{story_in, noted_in, size_in, number_in, names_in, call_as, call_of, AnswersThere}
-
-silent : (story : Story) → None ≡ Some story → ⊥
-silent story e = cc
 
 same_story : (a b : Story) → Some a ≡ Some b → a ≡ b
 same_story a b e = cc
@@ -38,7 +36,7 @@ tells_one devices calls x answers true = record {
     },
   );
 }
-tells_one devices calls x answers false = record { by = λ story' e. absurd (silent story' e) }
+tells_one devices calls x answers false = record { by = λ story' e. absurd (none-some story' e) }
 
 -- A call that was put into the list is told.
 kept_is_told : (devices devices' : List MemDevice) (calls calls' : List MemCall) (tells tells' : Bool) (x : MemCall) (call : Call)

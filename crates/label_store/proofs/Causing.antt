@@ -1,6 +1,8 @@
 -- A member that left a phase had a failed call.
 use Rattle.std.proofs.Common.{◌≡◌, ◌⊎◌, ℕ, zero, suc, ◌≤◌, Bool, true, false, List, [], ◌∷◌, ◌++◌, map, Option, Some, None, is_none, refl, sym, ap, ◌∙◌, subst, arith, inl, inr, ⊎_elim}
 use Rattle.std.specs.Prelude.{slice_get}
+use Rattle.std.proofs.lemmas.Option.{none-some, same_Some}
+use Rattle.std.proofs.lemmas.Bool.{false≢true, true≢false}
 use Rattle.mp_base.specs.Outside.{Rose}
 use Rattle.bank_core.specs.declared.bank.Fault.{Fault}
 use Rattle.bank_core.specs.Asks.{Ask, Reads, Writes, Flushes, Admits, Ejects, ask_of, IsPart}
@@ -37,11 +39,8 @@ earlier x y z le r = omega arith
 later : (x y z : ℕ) → Rose x y → y ≤ z → Rose x z
 later x y z r le = omega arith
 
-none_some : {A : Type 0} (fault : Fault) → None ≡ Some fault → A
-none_some fault e = absurd (cc)
-
 part_cause : (asks : List Ask) (made : List Noted) (fault : Fault) (d : ℕ) (f g : ℕ → ℕ) → IsPart asks made (Some fault) → AllOn d asks → AllCaused made f g → Rose (f d) (g d)
-part_cause [] [] fault d f g p on c = none_some fault (sym p)
+part_cause [] [] fault d f g p on c = absurd (none-some fault (sym p))
 part_cause [] (noted ∷ made) fault d f g p on c = absurd p
 part_cause (ask ∷ asks) [] fault d f g p on c = absurd p
 part_cause (ask ∷ asks) (noted ∷ made) fault d f g (is, inl (ok, more)) on c =
@@ -50,43 +49,28 @@ part_cause (ask ∷ asks) (noted ∷ made) fault d f g (is, inr (fault', failed,
     let here : device_of noted.call ≡ d = device_asked noted.call ∙ ap dev_asked is ∙ on.0 in
     later (f d) (c.0 d) (g d) (subst (λ n. Rose (f n) (c.0 n)) here (c.1.cause fault' failed)) (caused_counts made c.0 g c.2 d)
 
-true_false : {A : Type 0} → true ≡ false → A
-true_false e = absurd (cc)
-
 turn_cause : (asks : List Ask) (was is : Bool) (made : List Noted) (d : ℕ) (f g : ℕ → ℕ) → is ≡ false → AllOn d asks → AllCaused made f g → IsTurn asks was is made
     → (was ≡ false) ⊎ Rose (f d) (g d)
 turn_cause asks true is made d f g e on c t = by_outcome t.0 t.1 (sym e ∙ t.2)
   where
     by_outcome : (outcome : Option Fault) → IsPart asks made outcome → false ≡ is_none outcome → (true ≡ false) ⊎ Rose (f d) (g d)
-    by_outcome None p none = true_false (sym none)
+    by_outcome None p none = absurd (false≢true none)
     by_outcome (Some fault) p none = inr (part_cause asks made fault d f g p on c)
 turn_cause asks false is made d f g e on c t = inl refl
-
-no_bool : {A : Type 0} (b : Bool) → None ≡ Some b → A
-no_bool b e = absurd (cc)
-
-no_member : {A : Type 0} (m : Member) → None ≡ Some m → A
-no_member m e = absurd (cc)
-
-same_bool : (b c : Bool) → Some b ≡ Some c → b ≡ c
-same_bool b c e = cc
-
-same_member : (m n : Member) → Some m ≡ Some n → m ≡ n
-same_member m n e = cc
 
 -- who left a phase was off the board before, or its count rose
 phase_cause : (plan : Member → List Ask) (ms : List Member) (was is : List Bool) (made : List Noted) (i : ℕ) (m : Member) (f g : ℕ → ℕ)
     → ((n : Member) → AllOn n.dev (plan n)) → slice_get ms i ≡ Some m → slice_get is i ≡ Some false → AllCaused made f g → IsPhase plan ms was is made
     → (slice_get was i ≡ Some false) ⊎ Rose (f m.dev) (g m.dev)
-phase_cause plan [] was is made i m f g on e off c p = no_member m e
+phase_cause plan [] was is made i m f g on e off c p = absurd (none-some m e)
 phase_cause plan (n ∷ ms) [] is made i m f g on e off c p = absurd p
 phase_cause plan (n ∷ ms) (w ∷ was) [] made i m f g on e off c p = absurd p
 phase_cause plan (n ∷ ms) (w ∷ was) (x ∷ is) made zero m f g on e off c p =
     let s = caused_split p.0 p.1 f g (subst (λ calls. AllCaused calls f g) p.2 c) in
     ⊎_elim {A = w ≡ false} {B = Rose (f n.dev) (s.0 n.dev)}
     (λ no. inl (ap Some no))
-    (λ rose. inr (subst (λ q. Rose (f q.dev) (g q.dev)) (same_member n m e) (later (f n.dev) (s.0 n.dev) (g n.dev) rose (caused_counts p.1 s.0 g s.2 n.dev))))
-    (turn_cause (plan n) w x p.0 n.dev f s.0 (same_bool x false off) (on n) s.1 p.3)
+    (λ rose. inr (subst (λ q. Rose (f q.dev) (g q.dev)) (same_Some n m e) (later (f n.dev) (s.0 n.dev) (g n.dev) rose (caused_counts p.1 s.0 g s.2 n.dev))))
+    (turn_cause (plan n) w x p.0 n.dev f s.0 (same_Some x false off) (on n) s.1 p.3)
 phase_cause plan (n ∷ ms) (w ∷ was) (x ∷ is) made (suc i) m f g on e off c p =
     let s = caused_split p.0 p.1 f g (subst (λ calls. AllCaused calls f g) p.2 c) in
     ⊎_elim {A = slice_get was i ≡ Some false} {B = Rose (s.0 m.dev) (g m.dev)}
@@ -106,8 +90,8 @@ unfolding dev_asked
 on_third size commit m = (refl, (refl, (refl, tt)))
 
 all_true : (ms : List Member) (i : ℕ) → slice_get (map (λ m. true) ms) i ≡ Some false → ⊥
-all_true [] i e = no_bool false e
-all_true (m ∷ ms) zero e = true_false (same_bool true false e)
+all_true [] i e = none-some false e
+all_true (m ∷ ms) zero e = absurd (true≢false (same_Some true false e))
 all_true (m ∷ ms) (suc i) e = all_true ms i e
 
 -- Each member that left a round had a failed call.

@@ -1,12 +1,12 @@
 -- What a whole stamp or wipe brings onto each place of a device's rings.
-use Rattle.std.proofs.Common.{◌≡◌, ◌⊎◌, ℕ, zero, suc, ◌+◌, ◌-◌, ◌*◌, ◌<◌, ◌≤◌, ◌==◌, ◌&&◌, Bool, true, false, List, [], ◌∷◌, ◌++◌, length, take, drop, replicate, Option, Some, None, refl, ap, ◌∙◌, inl, inr, arith}
+use Rattle.std.proofs.Common.{◌≡◌, ◌⊎◌, ℕ, zero, suc, ◌+◌, ◌-◌, ◌*◌, ◌<◌, ◌≤◌, ◌==◌, ◌&&◌, Bool, true, false, List, [], ◌∷◌, ◌++◌, length, take, drop, replicate, None, refl, ap, ◌∙◌, inl, inr, arith}
 use Rattle.std.proofs.lemmas.Bool.Decides.{nat_tests}
 use Rattle.std.proofs.lemmas.Grind.{common_steps}
 use Rattle.std.proofs.lemmas.List.{take-replicate, drop-replicate, take_all}
 use Rattle.std.specs.Prelude.{slice_index}
+use Rattle.std.proofs.lemmas.Option.{none-some}
 use Rattle.mp_base.specs.Block.{zeros}
 use Rattle.mp_base.specs.declared.number.Guid.{Guid}
-use Rattle.bank_core.specs.declared.bank.Fault.{Fault}
 use Rattle.bank_core.specs.Asks.{Ask, Writes, Flushes, IsPart}
 use Rattle.bank_core.specs.Disk.{Sector, Sectors, Noted, covers, sectors_in, sector_of, sector_size, replay, run}
 use Rattle.bank_core.specs.Memory.{zero_sector}
@@ -20,16 +20,13 @@ use Rattle.label_store.proofs.Bare.{length-zeros}
 use Rattle.label_store.proofs.Places.{uberblock_sectors, length-uberblock}
 use Rattle.label_store.proofs.Writing.{ring_sectors}
 
-no_fault : (fault : Fault) → None ≡ Some fault → ⊥
-no_fault fault e = cc
-
 -- What the end of a whole plan brings, whatever was asked before it.
 pub behind : (before asks : List Ask) (made : List Noted) (d s : ℕ) (x : Sector) (P : Sector → Type 0)
     → ((made' : List Noted) (y : Sector) → IsPart asks made' None → P (replay made' d s y)) → IsPart (before ++ asks) made None → P (replay made d s x)
 behind [] asks made d s x P brings part = brings made x part
 behind (ask ∷ before) asks [] d s x P brings part = absurd part
 behind (ask ∷ before) asks (noted ∷ made) d s x P brings (is, inl (ok, more)) = behind before asks made d s _ P brings more
-behind (ask ∷ before) asks (noted ∷ made) d s x P brings (is, inr (fault, failed, none, end)) = absurd (no_fault fault end)
+behind (ask ∷ before) asks (noted ∷ made) d s x P brings (is, inr (fault, failed, none, end)) = absurd (none-some fault end)
 
 and_false : (x : Bool) → (x && false) ≡ false
 and_false true = refl

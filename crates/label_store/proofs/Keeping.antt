@@ -3,6 +3,8 @@ use Rattle.std.proofs.Common.{◌≡◌, ◌≢◌, ◌⊎◌, ℕ, zero, suc, �
 use Rattle.std.specs.Prelude.{slice_get}
 use Rattle.std.proofs.lemmas.Bool.{cases_lt}
 use Rattle.std.proofs.lemmas.List.{take-append-le}
+use Rattle.std.proofs.lemmas.Option.{none-some, same_Some}
+use Rattle.std.proofs.lemmas.Bool.{true≢false}
 use Rattle.bank_core.specs.declared.bank.Fault.{Fault}
 use Rattle.bank_core.specs.Asks.{Ask, IsPart}
 use Rattle.bank_core.specs.Disk.{Sector, Sectors, Noted, replay, run, sectors_in, sector_of, IsImage}
@@ -21,19 +23,10 @@ use Rattle.label_store.specs.Uberblock.{uberblock_bytes}
 use Rattle.label_store.proofs.Places.{label_is, config_elsewhere_even, config_elsewhere_odd, ring_elsewhere, even_spares_ring, odd_spares_ring, even_spares_config, odd_spares_config, ring_spares_ring, ring_spares_config, uberblock_sectors, even_lands, odd_lands, ring_lands}
 
 pub same_member : (m n : Member) → Some m ≡ Some n → m ≡ n
-same_member m n e = cc
-
-same_bool : (b c : Bool) → Some b ≡ Some c → b ≡ c
-same_bool b c e = cc
+same_member = same_Some
 
 pub no_member : (m : Member) → None ≡ Some m → ⊥
-no_member m e = cc
-
-no_bool : (b : Bool) → None ≡ Some b → ⊥
-no_bool b e = cc
-
-true_false : {A : Type 0} → true ≡ false → A
-true_false e = absurd (cc)
+no_member = none-some
 
 -- another member has another device
 pub others : (ms : List Member) (i j : ℕ) (m n : Member) → AreApart ms → slice_get ms i ≡ Some m → slice_get ms j ≡ Some n → j ≢ i → n.dev ≢ m.dev
@@ -51,7 +44,7 @@ each P ms i j m n apart e f here away =
     (λ lt. let ne : j ≢ i = omega arith in away n (others ms i j m n apart e f ne))
     (λ le. ⊎_elim {A = j < i} {B = i ≤ j}
     (λ lt. let ne : j ≢ i = omega arith in away n (others ms i j m n apart e f ne))
-    (λ le'. let same : j ≡ i = omega arith in subst P (same_member m n (sym e ∙ ap (slice_get ms) (sym same) ∙ f)) (here same))
+    (λ le'. let same : j ≡ i = omega arith in subst P (same_Some m n (sym e ∙ ap (slice_get ms) (sym same) ∙ f)) (here same))
     (cases_lt j i))
     (cases_lt i j)
 
@@ -78,8 +71,8 @@ whole_part asks true made t = whole_of t.0 t.1 t.2
   where
     whole_of : (outcome : Option Fault) → IsPart asks made outcome → true ≡ is_none outcome → IsPart asks made None
     whole_of None part is' = part
-    whole_of (Some fault) part is' = true_false is'
-whole_part asks false made t = true_false t.1
+    whole_of (Some fault) part is' = absurd (true≢false is')
+whole_part asks false made t = absurd (true≢false t.1)
 
 turn_lands : (asks : List Ask) (was is : Bool) (made : List Noted) (d s : ℕ) (x : Sector) (b : List ℕ) → is ≡ true
     → (IsPart asks made None → Stands (replay made d s x) b) → IsTurn asks was is made → Stands (replay made d s x) b
@@ -91,7 +84,7 @@ pub phase_lands : (plan : Member → List Ask) (ms : List Member) (was is : List
     → ((j : ℕ) (n : Member) → slice_get ms j ≡ Some n → j ≢ i → Spares (plan n) d s)
     → ((mine : List Noted) (y : Sector) → IsPart (plan m) mine None → Stands (replay mine d s y) b)
     → IsPhase plan ms was is made → Stands (replay made d s x) b
-phase_lands plan [] was is made i m d s x b e f h lands p = absurd (no_member m e)
+phase_lands plan [] was is made i m d s x b e f h lands p = absurd (none-some m e)
 phase_lands plan (n ∷ ms) [] is made i m d s x b e f h lands p = absurd p
 phase_lands plan (n ∷ ms) (w ∷ was) [] made i m d s x b e f h lands p = absurd p
 phase_lands plan (n ∷ ms) (w ∷ was) (c ∷ is) made zero m d s x b e f h lands p =
@@ -99,8 +92,8 @@ phase_lands plan (n ∷ ms) (w ∷ was) (c ∷ is) made zero m d s x b e f h lan
     (subst (λ y. Stands y b) (sym (replay_more p.0 p.1 d s x))
     (untouched_stands p.1 d s (replay p.0 d s x) b
     (phase_spares plan ms was is p.1 d s (λ j n' e' on. h (suc j) n' e' (omega arith)) p.4)
-    (turn_lands (plan n) w c p.0 d s x b (same_bool c true f)
-    (λ part. lands p.0 x (subst (λ q. IsPart (plan q) p.0 None) (same_member n m e) part)) p.3)))
+    (turn_lands (plan n) w c p.0 d s x b (same_Some c true f)
+    (λ part. lands p.0 x (subst (λ q. IsPart (plan q) p.0 None) (same_Some n m e) part)) p.3)))
 phase_lands plan (n ∷ ms) (w ∷ was) (c ∷ is) made (suc i) m d s x b e f h lands p =
     subst (λ calls. Stands (replay calls d s x) b) (sym p.2)
     (subst (λ y. Stands y b) (sym (replay_more p.0 p.1 d s x))
@@ -108,23 +101,23 @@ phase_lands plan (n ∷ ms) (w ∷ was) (c ∷ is) made (suc i) m d s x b e f h 
 
 turn_was : (asks : List Ask) (was is : Bool) (made : List Noted) → is ≡ true → IsTurn asks was is made → was ≡ true
 turn_was asks true is made e t = refl
-turn_was asks false is made e t = true_false (sym e ∙ t.1)
+turn_was asks false is made e t = absurd (true≢false (sym e ∙ t.1))
 
 -- who ends a phase on the board began it there
 pub phase_was : (plan : Member → List Ask) (ms : List Member) (was is : List Bool) (made : List Noted) (i : ℕ) → slice_get is i ≡ Some true
     → IsPhase plan ms was is made → slice_get was i ≡ Some true
-phase_was plan [] [] [] made i e p = absurd (no_bool true e)
+phase_was plan [] [] [] made i e p = absurd (none-some true e)
 phase_was plan [] [] (c ∷ is) made i e p = absurd p
 phase_was plan [] (b ∷ was) is made i e p = absurd p
 phase_was plan (m ∷ ms) [] is made i e p = absurd p
 phase_was plan (m ∷ ms) (b ∷ was) [] made i e p = absurd p
-phase_was plan (m ∷ ms) (b ∷ was) (c ∷ is) made zero e p = ap Some (turn_was (plan m) b c p.0 (same_bool c true e) p.3)
+phase_was plan (m ∷ ms) (b ∷ was) (c ∷ is) made zero e p = ap Some (turn_was (plan m) b c p.0 (same_Some c true e) p.3)
 phase_was plan (m ∷ ms) (b ∷ was) (c ∷ is) made (suc i) e p = phase_was plan ms was is p.1 i e p.4
 
 -- each member has a result
 phase_result : (plan : Member → List Ask) (ms : List Member) (was is : List Bool) (made : List Noted) (i : ℕ) (m : Member) → slice_get ms i ≡ Some m
     → IsPhase plan ms was is made → (c : Bool) × (slice_get is i ≡ Some c)
-phase_result plan [] was is made i m e p = absurd (no_member m e)
+phase_result plan [] was is made i m e p = absurd (none-some m e)
 phase_result plan (n ∷ ms) [] is made i m e p = absurd p
 phase_result plan (n ∷ ms) (b ∷ was) [] made i m e p = absurd p
 phase_result plan (n ∷ ms) (b ∷ was) (c ∷ is) made zero m e p = (c, refl)
@@ -247,7 +240,7 @@ second_keeps head_of size commit ms i m was is made sectors u config sc old =
     (λ q away. ring_elsewhere q.dev (size q.dev) (uberblock_of commit q) m.dev _ away))
 
 on_off : {A : Type 0} (was : List Bool) (i j : ℕ) → slice_get was i ≡ Some false → slice_get was j ≡ Some true → j ≡ i → A
-on_off was i j off on same = true_false (same_bool true false (sym on ∙ ap (slice_get was) same ∙ off))
+on_off was i j off on same = absurd (true≢false (same_Some true false (sym on ∙ ap (slice_get was) same ∙ off)))
 
 -- a third phase keeps the old record of a member that isn't on the board
 third_keeps : (head_of : List ℕ → Option Head) (size : ℕ → ℕ) (commit : Commit) (ms : List Member) (i : ℕ) (m : Member) (was is : List Bool) (made : List Noted)

@@ -1,10 +1,9 @@
 -- Reads of the parts of labels, one after another.
-use Rattle.std.proofs.Common.{◌≡◌, ◌≢◌, ℕ, ◌+◌, ◌*◌, ◌/◌, ◌%◌, ◌<◌, ◌≤◌, List, [], ◌∷◌, ◌++◌, length, take, get_or, Option, Some, None, refl, sym, ap, ◌∙◌, subst, arith, append_assoc, append-nil}
+use Rattle.std.proofs.Common.{◌≡◌, ℕ, ◌+◌, ◌*◌, ◌/◌, ◌%◌, ◌<◌, ◌≤◌, List, [], ◌∷◌, ◌++◌, length, take, get_or, Option, Some, None, refl, sym, ap, ◌∙◌, subst, arith, append_assoc, append-nil}
 use Rattle.std.specs.Prelude.{slice_get}
 use Rattle.std.specs.List.{flat_map}
 use Rattle.std.proofs.lemmas.List.{map-append, take_more, take_all, take_at, length_push}
 use Rattle.std.proofs.lemmas.Grind.{flat_map-append}
-use Rattle.mp_base.specs.Outside.{Rose}
 use Rattle.bank_core.specs.declared.bank.Fault.{Fault}
 use Rattle.bank_core.specs.Asks.{Ask, Reads, ask_of, asks_of}
 use Rattle.bank_core.specs.BankView.{BankView}
@@ -95,9 +94,6 @@ is_look_more size [] (p ∷ looks) made mine dev parts l asks are = absurd l
 is_look_more size (d ∷ devs) [] made mine dev parts l asks are = absurd l
 is_look_more size (d ∷ devs) (p ∷ looks) made mine dev parts l asks are =
     (l.0, l.1 ++ mine, ap (λ x. x ++ mine) l.2 ∙ append_assoc l.0 l.1 mine, l.3, l.4, is_look_more size devs looks l.1 mine dev parts l.5 asks are)
-
-same_some : {X : Type 0} (a b : X) → Some a ≡ Some b → a ≡ b
-same_some a b e = cc
 
 -- a look at a further device changes no candidate of the earlier ones
 candidate_front : (head_of : List ℕ → Option Head) (looks : List Parts) (parts : Parts) (name : List ℕ) (k : ℕ) (v : Uberblock) (config : List ℕ) → k < 128 * length looks

@@ -3,6 +3,7 @@ use Rattle.std.proofs.Common.{◌≡◌, ℕ, ◌+◌, ◌-◌, ◌*◌, ◌/◌
 use Rattle.std.specs.Prelude.{slice_get}
 use Rattle.std.proofs.lemmas.Bool.{cases_lt}
 use Rattle.std.proofs.lemmas.List.{length-take, length-drop}
+use Rattle.std.proofs.lemmas.Option.{none-some, same_Some}
 use Rattle.bank_core.specs.Disk.{sector_of, sector_size}
 use Rattle.bank_core.proofs.Sectors.{piece_is}
 use Rattle.label_store.specs.declared.found.Found.{Found}
@@ -32,10 +33,7 @@ pub slot_exact : (r : Option Uberblock) (ring piece : List ℕ) (slot : ℕ) →
 slot_exact r ring piece slot is exact u at = exact u (subst (IsUberblock u) (sym (piece_is ring piece slot (slot * 4096) refl is)) at)
 
 pub not_newer : (u v : Uberblock) (above : ℕ) → Some u ≡ Some v → u.number.0 ≤ above → above < v.number.0 → ⊥
-not_newer u v above e le lt = let same : u.number.0 ≡ v.number.0 = ap (λ w. w.number.0) (same_uberblock u v e) in omega arith
-  where
-    same_uberblock : (u v : Uberblock) → Some u ≡ Some v → u ≡ v
-    same_uberblock u v e = cc
+not_newer u v above e le lt = let same : u.number.0 ≡ v.number.0 = ap (λ w. w.number.0) (same_Some u v e) in omega arith
 
 -- None of the configuration parts below this label has it.
 pub LacksBelow : (List ℕ → Option Head) → Parts → List ℕ → Uberblock → ℕ → Type 0
@@ -45,16 +43,13 @@ pub lacks_none : (head_of : List ℕ → Option Head) (parts : Parts) (name : Li
 unfolding LacksBelow
 lacks_none head_of parts name u k lt = absurd (omega arith)
 
-same_some : {X : Type 0} (a b : X) → Some a ≡ Some b → a ≡ b
-same_some a b e = cc
-
 pub lacks_more : (head_of : List ℕ → Option Head) (parts : Parts) (name : List ℕ) (u : Uberblock) (n : ℕ) (part : Option (List ℕ)) → slice_get parts (2 * n + 1) ≡ Some part
     → ((config : List ℕ) → HasConfigAt head_of part name u config → ⊥) → LacksBelow head_of parts name u n → LacksBelow head_of parts name u (n + 1)
 unfolding LacksBelow
 lacks_more head_of parts name u n part at lacks below =
     below_more (λ k. (part' : List ℕ) → slice_get parts (2 * k + 1) ≡ Some (Some part') → HasConfig head_of name u part' → ⊥) n below
     (λ part' at' has. lacks (take u.length part')
-    (subst (λ p. HasConfigAt head_of p name u (take u.length part')) (same_some (Some part') part (sym at' ∙ at)) (has, refl)))
+    (subst (λ p. HasConfigAt head_of p name u (take u.length part')) (same_Some (Some part') part (sym at' ∙ at)) (has, refl)))
 
 pub lacks_all : (head_of : List ℕ → Option Head) (parts : Parts) (name : List ℕ) (u : Uberblock) (n : ℕ) → 4 ≤ n → LacksBelow head_of parts name u n
     → (config : List ℕ) → HasConfigIn head_of parts name u config → ⊥
@@ -122,10 +117,7 @@ not_above a b n = ⊎_elim {A = a < b} {B = b ≤ a} (λ lt. absurd (n lt)) (λ 
 pub none_newer : (head_of : List ℕ → Option Head) (parts : Parts) (name : List ℕ) (place above : ℕ) → ((u : Uberblock) → IsUberblockAt parts place u → above < u.number.0 → None ≡ Some u)
     → (u : Uberblock) (config : List ℕ) → IsVerifiedBy head_of parts name place u config → u.number.0 ≤ above
 none_newer head_of parts name place above none u config v =
-    not_above above u.number.0 (λ lt. no_uberblock u (none u (verified_place head_of parts name place u config v) lt))
-  where
-    no_uberblock : (u : Uberblock) → None ≡ Some u → ⊥
-    no_uberblock u e = cc
+    not_above above u.number.0 (λ lt. none-some u (none u (verified_place head_of parts name place u config v) lt))
 
 -- one uberblock above the number, but no configuration of it
 pub none_configured : (head_of : List ℕ → Option Head) (parts : Parts) (name : List ℕ) (place above : ℕ) (u : Uberblock) → ((w : Uberblock) → IsUberblockAt parts place w → above < w.number.0 → Some u ≡ Some w)
@@ -133,13 +125,13 @@ pub none_configured : (head_of : List ℕ → Option Head) (parts : Parts) (name
     → (w : Uberblock) (config : List ℕ) → IsVerifiedBy head_of parts name place w config → w.number.0 ≤ above
 none_configured head_of parts name place above u only none w config v =
     not_above above w.number.0 (λ lt. none config (subst (λ x. HasConfigIn head_of parts name x config)
-    (sym (same_some u w (only w (verified_place head_of parts name place w config v) lt))) (verified_config head_of parts name place w config v)))
+    (sym (same_Some u w (only w (verified_place head_of parts name place w config v) lt))) (verified_config head_of parts name place w config v)))
 
 -- two uberblocks at one place are one
 one_at_place : (head_of : List ℕ → Option Head) (parts : Parts) (name : List ℕ) (place : ℕ) (u v : Uberblock) (config config' : List ℕ) → IsVerifiedBy head_of parts name place u config
     → IsVerifiedBy head_of parts name place v config' → u ≡ v
 one_at_place head_of parts name place u v config config' a b =
-    let ring : a.ring ≡ b.ring = same_some a.ring b.ring (same_some (Some a.ring) (Some b.ring) (sym a.ring_is ∙ b.ring_is)) in
+    let ring : a.ring ≡ b.ring = same_Some a.ring b.ring (same_Some (Some a.ring) (Some b.ring) (sym a.ring_is ∙ b.ring_is)) in
     sym (is_of_fields u (sector_of (place % 32) a.ring) a.is_uberblock) ∙ ap (λ r. fields_of (sector_of (place % 32) r)) ring ∙ is_of_fields v (sector_of (place % 32) b.ring) b.is_uberblock
 
 -- the records at the places before are at most the best
@@ -154,7 +146,7 @@ here_verified : (head_of : List ℕ → Option Head) (looks : List Parts) (name 
 here_verified head_of looks name i place k parts v config at lt e c =
     let dev : k / 128 ≡ i = omega arith in
     let there : k % 128 ≡ place = omega arith in
-    let same : c.parts ≡ parts = same_some c.parts parts (sym c.parts_are ∙ ap (slice_get looks) dev ∙ at) in
+    let same : c.parts ≡ parts = same_Some c.parts parts (sym c.parts_are ∙ ap (slice_get looks) dev ∙ at) in
     subst (λ p. IsVerifiedBy head_of parts name p v config) there (subst (λ q. IsVerifiedBy head_of q name (k % 128) v config) same c.verified)
 
 candidate_here : (head_of : List ℕ → Option Head) (looks : List Parts) (name : List ℕ) (i place : ℕ) (parts : Parts) (u : Uberblock) (config : List ℕ) → slice_get looks i ≡ Some parts

@@ -1,11 +1,10 @@
 -- Writes into one label after another.
-use Rattle.std.proofs.Common.{◌≡◌, ◌≢◌, ℕ, zero, suc, ◌+◌, ◌%◌, ◌<◌, ◌≤◌, List, [], ◌∷◌, ◌++◌, length, take, drop, replicate, get_or, refl, sym, ap, ◌∙◌, subst, arith, Option, Some, None, Result, Ok, Err, OnOk, OnErr}
+use Rattle.std.proofs.Common.{◌≡◌, ℕ, zero, suc, ◌+◌, ◌%◌, ◌<◌, ◌≤◌, List, [], ◌∷◌, ◌++◌, length, take, drop, replicate, get_or, refl, sym, ap, ◌∙◌, subst, arith, Option, Some, None}
 use Rattle.std.proofs.lemmas.List.{length-replicate, map-append, take_more, take-append-drop}
 use Rattle.bank_core.specs.declared.bank.Fault.{Fault}
-use Rattle.bank_core.specs.Asks.{Ask, Writes, Flushes}
-use Rattle.bank_core.specs.Disk.{Flush, sector_size, sectors_in}
+use Rattle.bank_core.specs.Asks.{Writes}
+use Rattle.bank_core.specs.Disk.{sector_size, sectors_in}
 use Rattle.mp_base.specs.Block.{zeros}
-use Rattle.mp_base.specs.Outside.{Rose}
 use Rattle.label_store.specs.Layout.{labels_of}
 use Rattle.bank_core.specs.BankView.{BankView}
 use Rattle.bank_core.specs.Parts.{Part}

@@ -1,13 +1,14 @@
 -- Rings from which every record was taken, by a stamp or a wipe, and what stands there at each moment of it.
-use Rattle.std.specs.Prelude.{◌≡◌, ◌≢◌, ◌⊎◌, ℕ, zero, suc, ◌+◌, ◌<◌, ◌≤◌, List, slice_index}
+use Rattle.std.specs.Prelude.{◌≡◌, ◌≢◌, ◌⊎◌, ℕ, zero, suc, ◌+◌, ◌<◌, ◌≤◌, false, List, Option, Some, slice_index}
 use Rattle.mp_base.specs.declared.number.Guid.{Guid}
-use Rattle.bank_core.specs.Disk.{Sector, Pending, Nothing, Written, Failing, sector_of}
+use Rattle.bank_core.specs.Disk.{Sector, Pending, Nothing, Written, Failing, sector_of, IsImage}
 use Rattle.bank_core.specs.Memory.{zero_sector}
 use Rattle.bank_core.specs.Standing.{Stands}
+use Rattle.label_store.specs.declared.rule.Head.{Head}
 use Rattle.label_store.specs.declared.uberblock.Uberblock.{Uberblock}
-use Rattle.label_store.specs.Layout.{labels_of, ring_slots}
+use Rattle.label_store.specs.Layout.{labels_of, config_sectors, ring_slots}
 use Rattle.label_store.specs.Plans.{blank_uberblock}
-use Rattle.label_store.specs.Records.{place_at}
+use Rattle.label_store.specs.Records.{config_at, place_at, IsVerified}
 use Rattle.label_store.specs.Uberblock.{IsUberblock, uberblock_bytes}
 
 -- A sector that holds no uberblock of a record: none that is correct has a number of 1 or more.
@@ -24,17 +25,9 @@ abbrev pub RingsHold : (size : ℕ) → (ℕ → Sector) → (bytes : ℕ → Li
 RingsHold size sectors bytes = (label slot : ℕ) → label < 4 → slot < 32
     → Stands (sectors (slice_index (labels_of size) label + (32 + slot))) (bytes slot)
 
--- a ring shows these bytes, by the slot
-abbrev pub RingShows : List ℕ → (bytes : ℕ → List ℕ) → Type 0
-RingShows ring bytes = (slot : ℕ) → slot < ring_slots → sector_of slot ring ≡ bytes slot
-
 -- the sector is none of the device's places of uberblocks
 abbrev pub IsOffRings : (size s : ℕ) → Type 0
 IsOffRings size s = (label slot : ℕ) → label < 4 → slot < 32 → s ≢ slice_index (labels_of size) label + (32 + slot)
-
--- nothing is on the way on the labels
-abbrev pub AreAtRest : (size : ℕ) → (ℕ → Sector) → Type 0
-AreAtRest size sectors = (label s : ℕ) → label < 4 → s < 64 → (sectors (slice_index (labels_of size) label + s)).pending ≡ Nothing
 
 -- these bytes are on the way
 abbrev pub IsOnTheWay : Pending → List ℕ → Type 0
@@ -42,7 +35,39 @@ IsOnTheWay Nothing bytes = ⊥
 IsOnTheWay (Written on_way) bytes = bytes ≡ on_way
 IsOnTheWay (Failing on_way) bytes = bytes ≡ on_way
 
--- An image forges no uberblock of a record on a ring: one that is correct stood there, or was written.
-abbrev pub IsUnforged : (size : ℕ) → (ℕ → Sector) → (image : ℕ → List ℕ) → Type 0
-IsUnforged size sectors image = (place : ℕ) (u : Uberblock) → place < 128 → IsUberblock u (image (place_at size place)) → 1 ≤ u.number.0
-    → (image (place_at size place) ≡ (sectors (place_at size place)).stable) ⊎ IsOnTheWay (sectors (place_at size place)).pending (image (place_at size place))
+-- these bytes stand on the sector, or are on the way
+abbrev pub IsHeld : Sector → List ℕ → Type 0
+IsHeld x bytes = (bytes ≡ x.stable) ⊎ IsOnTheWay x.pending bytes
+
+-- An image forges no uberblock of the number `least` or more: each correct one stands there or is on the way, and none
+-- is the work of damage or of a torn write. With 1 these are the uberblocks of records, with 0 those of identities too.
+abbrev pub IsUnforged : (least size : ℕ) → (ℕ → Sector) → (image : ℕ → List ℕ) → Type 0
+IsUnforged least size sectors image = (place : ℕ) (u : Uberblock) → place < 128
+    → IsUberblock u (image (place_at size place))
+    → least ≤ u.number.0
+    → IsHeld (sectors (place_at size place)) (image (place_at size place))
+
+-- Nor does a read of the ring from `at` on.
+abbrev pub IsReadUnforged : (least : ℕ) → (ℕ → Sector) → (at : ℕ) → (ring : List ℕ) → Type 0
+IsReadUnforged least sectors at ring = (slot : ℕ) (u : Uberblock) → slot < ring_slots
+    → IsUberblock u (sector_of slot ring) → least ≤ u.number.0
+    → IsHeld (sectors (at + slot)) (sector_of slot ring)
+
+-- A ring shows no uberblock of the number `least` or more but those of these bytes, slot by slot.
+abbrev pub ShowsOnly : (least : ℕ) → (ring : List ℕ) → (bytes : ℕ → List ℕ) → Type 0
+ShowsOnly least ring bytes = (slot : ℕ) (u : Uberblock) → slot < ring_slots → IsUberblock u (sector_of slot ring)
+    → least ≤ u.number.0
+    → sector_of slot ring ≡ bytes slot
+
+-- no sector of the configurations was damaged in between
+abbrev pub AreConfigsUnhurt : (size : ℕ) → (old new : ℕ → Sector) → Type 0
+AreConfigsUnhurt size old new = (label i : ℕ) → label < 4 → i < config_sectors
+    → (old (config_at size label + i)).damaged ≡ false → (new (config_at size label + i)).damaged ≡ false
+
+-- A crash could leave an image, unforged, that verifies this record by the uberblock at this place.
+pub record MayShow (head_of : List ℕ → Option Head) (size : ℕ) (sectors : ℕ → Sector) (place : ℕ) (u : Uberblock)
+    (config : List ℕ) : Type 0 where
+  pub image : ℕ → List ℕ
+  pub is_image : IsImage sectors image
+  pub unforged : IsUnforged 1 size sectors image
+  pub verified : IsVerified head_of size (λ s. Some (image s)) place u config

@@ -1,18 +1,18 @@
 //! What a stamp, a mark and a wipe leave of a device's records.
-ghost use Rattle.std.specs.Prelude.{◌≡◌, ℕ, ◌+◌, ◌*◌, ◌^◌, ◌<◌, ◌≤◌, List, take, Option, Some, None, slice_get, slice_index};
+ghost use Rattle.std.specs.Prelude.{◌≡◌, ◌⊎◌, ℕ, ◌+◌, ◌*◌, ◌^◌, ◌<◌, ◌≤◌, false, List, take, Option, Some, None, slice_get, slice_index};
 ghost use Rattle.mp_base.specs.declared.number.Guid.{Guid};
 ghost use Rattle.bank_core.specs.declared.bank.Fault.{Fault};
 ghost use Rattle.bank_core.specs.Asks.{IsPart};
-ghost use Rattle.bank_core.specs.Disk.{Sector, Sectors, Noted, run, sectors_in, IsImage, ShowsStable};
+ghost use Rattle.bank_core.specs.Disk.{Sector, Sectors, Noted, run, sectors_in, sector_of, IsImage, ShowsStable};
 ghost use Rattle.bank_core.specs.Memory.{zero_sector};
 ghost use Rattle.bank_core.specs.Standing.{Untouched};
 ghost use Rattle.label_store.specs.declared.rule.Head.{Head};
 ghost use Rattle.label_store.specs.declared.uberblock.Uberblock.{Uberblock};
-ghost use Rattle.label_store.specs.Clearing.{IsBare, RingsHold, RingShows, IsOffRings, AreAtRest, IsUnforged, stamp_sector};
+ghost use Rattle.label_store.specs.Clearing.{IsBare, RingsHold, IsOffRings, IsHeld, IsUnforged, IsReadUnforged, ShowsOnly, AreConfigsUnhurt, MayShow, stamp_sector};
 ghost use Rattle.label_store.specs.Identities.{HasIdentity};
 ghost use Rattle.label_store.specs.Layout.{labels_of};
 ghost use Rattle.label_store.specs.Newest.{Parts, IsVerifiedBy};
-ghost use Rattle.label_store.specs.Plans.{stamp_plan, wipe_plan};
+ghost use Rattle.label_store.specs.Plans.{blank_uberblock, stamp_plan, wipe_plan};
 ghost use Rattle.label_store.specs.Records.{AreUnhurt, IsVerified, place_at};
 ghost use Rattle.label_store.specs.Uberblock.{IsUberblock};
 
@@ -40,59 +40,78 @@ pub fn cleared_rings_hold()
 /// On a device whose rings hold zeros, or what a stamp brought, no record is found. It computes nothing: its
 /// clauses are the law.
 ///
-/// `zeros`, `blank`: neither is an uberblock of a record. `image`: so no image that a crash may leave verifies a
-/// record, as long as no label sector is damaged. `read`, `looked`: nor does an opening that reads the rings.
+/// `zeros`, `blank`: neither is an uberblock of a record. `image`: so nothing that a crash may leave verifies a
+/// record, as long as no damaged sector happens to show a correct uberblock, which none does where no label
+/// sector is damaged (`unhurt`). `read`, `only`, `looked`: nor does an opening that reads the rings. A read shows
+/// what stands in each undamaged slot, and, unforged, no other uberblock, whatever is damaged.
 pub fn cleared_rings_show_no_record()
     ensures zeros { IsBare zero_sector }
     ensures blank { (pool member : Guid) (slot : ℕ) → pool.0 < 2 ^ 64 → member.0 < 2 ^ 64 → IsBare (stamp_sector pool member slot) }
     ensures image { (head_of : List ℕ → Option Head) (size : ℕ) (sectors : ℕ → Sector) (image : ℕ → List ℕ) (bytes : ℕ → List ℕ)
-        → ((slot : ℕ) → slot < 32 → IsBare (bytes slot)) → RingsHold size sectors bytes → AreUnhurt size sectors → IsImage sectors image
+        → ((slot : ℕ) → slot < 32 → IsBare (bytes slot)) → RingsHold size sectors bytes
+        → IsUnforged 1 size sectors image
         → (place : ℕ) (u : Uberblock) (config : List ℕ) → ¬ (IsVerified head_of size (λ s. Some (image s)) place u config) }
-    ensures read { (size : ℕ) (sectors : ℕ → Sector) (bytes : ℕ → List ℕ) (label : ℕ) (ring : List ℕ) → label < 4 → RingsHold size sectors bytes
-        → AreUnhurt size sectors → sectors_in ring ≡ 32 → ShowsStable sectors (slice_index (labels_of size) label + 32) ring → RingShows ring bytes }
+    ensures unhurt { (least size : ℕ) (sectors : ℕ → Sector) (image : ℕ → List ℕ) (bytes : ℕ → List ℕ)
+        → RingsHold size sectors bytes
+        → AreUnhurt size sectors → IsImage sectors image → IsUnforged least size sectors image }
+    ensures read { (size : ℕ) (sectors : ℕ → Sector) (bytes : ℕ → List ℕ) (label slot : ℕ) (ring : List ℕ) → label < 4
+        → slot < 32
+        → RingsHold size sectors bytes → (sectors (slice_index (labels_of size) label + (32 + slot))).damaged ≡ false
+        → slot < sectors_in ring
+        → ShowsStable sectors (slice_index (labels_of size) label + 32) ring → sector_of slot ring ≡ bytes slot }
+    ensures only { (least size : ℕ) (sectors : ℕ → Sector) (bytes : ℕ → List ℕ) (label : ℕ) (ring : List ℕ) → label < 4
+        → RingsHold size sectors bytes → IsReadUnforged least sectors (slice_index (labels_of size) label + 32) ring
+        → ShowsOnly least ring bytes }
     ensures looked { (head_of : List ℕ → Option Head) (parts : Parts) (name : List ℕ) (bytes : ℕ → List ℕ)
         → ((slot : ℕ) → slot < 32 → IsBare (bytes slot))
-        → ((label : ℕ) (ring : List ℕ) → label < 4 → slice_get parts (2 * label) ≡ Some (Some ring) → RingShows ring bytes)
+        → ((label : ℕ) (ring : List ℕ) → label < 4 → slice_get parts (2 * label) ≡ Some (Some ring)
+        → ShowsOnly 1 ring bytes)
         → (place : ℕ) (u : Uberblock) (config : List ℕ) → place < 128 → ¬ (IsVerifiedBy head_of parts name place u config) }
 {}
 
-/// The identity that such a ring gives: none behind a wipe, and behind a stamp the one of the stamp and no
-/// other. It computes nothing: its clauses are the law.
+/// The identity that such a ring gives, where its read forged no uberblock: none behind a wipe, and behind a
+/// stamp the one of the stamp, by its first slot, and no other. It computes nothing: its clauses are the law.
 pub fn cleared_rings_give_one_identity()
-    ensures wiped { (pool member : Guid) (ring : List ℕ) → RingShows ring (λ slot. zero_sector) → ¬ (HasIdentity pool member ring) }
+    ensures wiped { (pool member : Guid) (ring : List ℕ) → ShowsOnly 0 ring (λ slot. zero_sector)
+        → ¬ (HasIdentity pool member ring) }
     ensures stamped { (pool member : Guid) (ring : List ℕ) → pool.0 < 2 ^ 64 → member.0 < 2 ^ 64
-        → RingShows ring (stamp_sector pool member) → HasIdentity pool member ring }
+        → sector_of 0 ring ≡ stamp_sector pool member 0 → HasIdentity pool member ring }
     ensures no_other { (pool member : Guid) (ring : List ℕ) (pool' member' : Guid) → pool.0 < 2 ^ 64 → member.0 < 2 ^ 64
-        → RingShows ring (stamp_sector pool member) → HasIdentity pool' member' ring → (pool' ≡ pool) × (member' ≡ member) }
+        → ShowsOnly 0 ring (stamp_sector pool member) → HasIdentity pool' member' ring
+        → (pool' ≡ pool) × (member' ≡ member) }
 {}
 
-/// A stop in the middle of a wipe or a stamp, also behind a failed call, leaves no record that wasn't there: on
-/// each image of that moment that forges no uberblock. It computes nothing: its clauses are the law.
+/// A stop in the middle of a wipe or a stamp, also behind a failed call, leaves no record and no identity that a stop
+/// just before it couldn't have left, but the identity of the stamp: on each image of that moment that forges no
+/// uberblock, whatever was on its way to the labels before. It computes nothing: its clauses are the law.
 ///
-/// `wiped_stood`, `stamped_stood`: a record's uberblock that is shown at a place stood there before. `wiped`,
-/// `stamped`: a record that is verified, while no label sector is damaged, was verified before, by the uberblock
-/// at the same place.
+/// `wiped_held`, `stamped_held`: an uberblock that is shown at a place, of a record or of an identity alone, stood
+/// there before, or was on the way, or is the stamp's. `wiped`, `stamped`: of a record that is verified, an image of
+/// the moment before would have verified it too, by the uberblock at the same place, where no sector of the
+/// configurations was damaged in between.
 pub fn half_cleared_rings_show_old_records()
-    ensures wiped_stood { (dev size : ℕ) (made : List Noted) (outcome : Option Fault) (sectors : Sectors) (k : ℕ) (image : ℕ → List ℕ)
-        → IsPart (wipe_plan dev size) made outcome → AreAtRest size (sectors dev) → IsUnforged size (run (take k made) sectors dev) image
-        → (place : ℕ) (u : Uberblock) → place < 128 → IsUberblock u (image (place_at size place)) → 1 ≤ u.number.0
-        → image (place_at size place) ≡ (sectors dev (place_at size place)).stable }
-    ensures stamped_stood { (dev size : ℕ) (pool member : Guid) (made : List Noted) (outcome : Option Fault) (sectors : Sectors) (k : ℕ)
-        (image : ℕ → List ℕ) → pool.0 < 2 ^ 64 → member.0 < 2 ^ 64
-        → IsPart (stamp_plan dev size pool member) made outcome → AreAtRest size (sectors dev) → IsUnforged size (run (take k made) sectors dev) image
-        → (place : ℕ) (u : Uberblock) → place < 128 → IsUberblock u (image (place_at size place)) → 1 ≤ u.number.0
-        → image (place_at size place) ≡ (sectors dev (place_at size place)).stable }
-    ensures wiped { (head_of : List ℕ → Option Head) (dev size : ℕ) (made : List Noted) (outcome : Option Fault) (sectors : Sectors) (k : ℕ)
-        (image : ℕ → List ℕ) → 320 ≤ size → IsPart (wipe_plan dev size) made outcome → AreAtRest size (sectors dev)
-        → AreUnhurt size (run (take k made) sectors dev) → IsImage (run (take k made) sectors dev) image
-        → IsUnforged size (run (take k made) sectors dev) image
+    ensures wiped_held { (least dev size : ℕ) (made : List Noted) (outcome : Option Fault) (sectors : Sectors) (k : ℕ)
+        (image : ℕ → List ℕ) → IsPart (wipe_plan dev size) made outcome
+        → IsUnforged least size (run (take k made) sectors dev) image
+        → (place : ℕ) (u : Uberblock) → place < 128 → IsUberblock u (image (place_at size place)) → least ≤ u.number.0
+        → IsHeld (sectors dev (place_at size place)) (image (place_at size place)) }
+    ensures stamped_held { (least dev size : ℕ) (pool member : Guid) (made : List Noted) (outcome : Option Fault)
+        (sectors : Sectors) (k : ℕ) (image : ℕ → List ℕ) → pool.0 < 2 ^ 64 → member.0 < 2 ^ 64
+        → IsPart (stamp_plan dev size pool member) made outcome
+        → IsUnforged least size (run (take k made) sectors dev) image
+        → (place : ℕ) (u : Uberblock) → place < 128 → IsUberblock u (image (place_at size place)) → least ≤ u.number.0
+        → IsHeld (sectors dev (place_at size place)) (image (place_at size place)) ⊎ (u ≡ blank_uberblock pool member) }
+    ensures wiped { (head_of : List ℕ → Option Head) (dev size : ℕ) (made : List Noted) (outcome : Option Fault)
+        (sectors : Sectors) (k : ℕ) (image : ℕ → List ℕ) → 320 ≤ size → IsPart (wipe_plan dev size) made outcome
+        → AreConfigsUnhurt size (sectors dev) (run (take k made) sectors dev)
+        → IsImage (run (take k made) sectors dev) image → IsUnforged 1 size (run (take k made) sectors dev) image
         → (place : ℕ) (u : Uberblock) (config : List ℕ) → IsVerified head_of size (λ s. Some (image s)) place u config
-        → IsVerified head_of size (λ s. Some ((sectors dev s).stable)) place u config }
-    ensures stamped { (head_of : List ℕ → Option Head) (dev size : ℕ) (pool member : Guid) (made : List Noted) (outcome : Option Fault)
-        (sectors : Sectors) (k : ℕ) (image : ℕ → List ℕ) → 320 ≤ size → pool.0 < 2 ^ 64 → member.0 < 2 ^ 64
-        → IsPart (stamp_plan dev size pool member) made outcome → AreAtRest size (sectors dev)
-        → AreUnhurt size (run (take k made) sectors dev) → IsImage (run (take k made) sectors dev) image
-        → IsUnforged size (run (take k made) sectors dev) image
+        → MayShow head_of size (sectors dev) place u config }
+    ensures stamped { (head_of : List ℕ → Option Head) (dev size : ℕ) (pool member : Guid) (made : List Noted)
+        (outcome : Option Fault) (sectors : Sectors) (k : ℕ) (image : ℕ → List ℕ) → 320 ≤ size
+        → pool.0 < 2 ^ 64 → member.0 < 2 ^ 64 → IsPart (stamp_plan dev size pool member) made outcome
+        → AreConfigsUnhurt size (sectors dev) (run (take k made) sectors dev)
+        → IsImage (run (take k made) sectors dev) image → IsUnforged 1 size (run (take k made) sectors dev) image
         → (place : ℕ) (u : Uberblock) (config : List ℕ) → IsVerified head_of size (λ s. Some (image s)) place u config
-        → IsVerified head_of size (λ s. Some ((sectors dev s).stable)) place u config }
+        → MayShow head_of size (sectors dev) place u config }
 {}

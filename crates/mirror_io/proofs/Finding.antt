@@ -4,6 +4,7 @@ use Rattle.std.specs.Str.{bytes_eq}
 use Rattle.std.specs.List.{AllByRecursion}
 use Rattle.std.proofs.lemmas.List.{take_all}
 use Rattle.std.proofs.lemmas.Slice.Eq.{bytes_eq-Decides}
+use Rattle.std.proofs.lemmas.Option.{none-some}
 use Rattle.sha2.specs.Sha256.{sha256}
 use Rattle.mp_base.specs.Outside.{Rose}
 use Rattle.bank_core.specs.declared.bank.Fault.{Fault}
@@ -22,13 +23,13 @@ use Rattle.mirror_io.specs.Reading.{MirrorBlock}
 use Rattle.mirror_io.specs.Reads.{IsReads}
 use Rattle.mirror_io.proofs.Causing.{all_by, all_readable, rose_from}
 use Rattle.mirror_io.proofs.Missing.{next_rest}
-use Rattle.mirror_io.proofs.Reading.{Next, no_block}
+use Rattle.mirror_io.proofs.Reading.{Next}
 use Rattle.mirror_io.proofs.Serving.{verified, same_block}
 
 -- the last read gave the bytes
 block_found : (at : ℕ) (sum : List ℕ) (copies : List CopyOf) (made : List Noted) (wrong : List CopyOf) (block : List ℕ) → IsReads at sum copies made wrong (Some block)
     → IsFound made block
-block_found at sum [] made wrong block r = absurd (no_block block (sym r.2))
+block_found at sum [] made wrong block r = absurd (none-some block (sym r.2))
 block_found at sum (copy ∷ copies) [] wrong block r = absurd r
 block_found at sum (copy ∷ copies) (noted ∷ made) wrong block r = go r (λ wrong' rest. block_found at sum copies made wrong' block rest)
   where
@@ -134,7 +135,7 @@ all_owe at sum (copy ∷ copies) (noted ∷ made) wrong sectors f g r answers ca
         read_hurts noted copy.dev at differs.bytes None copy.dev at x differs.gives.is in
         absurd (differs.other (ap sha256 (clean_read sectors noted copy.dev at differs.bytes differs.gives.is differs.gives.whole answers.0
         (subst IsClean found (kept.clean clean))) ∙ ap (λ x. sha256 x.stable) (sym found) ∙ ap sha256 (sym kept.same) ∙ same))
-    here (inr (inr (bytes, serves, none, right, is))) clean same = absurd (no_block bytes is)
+    here (inr (inr (bytes, serves, none, right, is))) clean same = absurd (none-some bytes is)
 
 at_contained : (P : CopyOf → Type 0) (xs : List CopyOf) (x : CopyOf) (k : ℕ) → k < length xs → get_or xs k x ≡ x → AllByRecursion P xs → P x
 at_contained P [] x k lt is a = absurd (omega arith)

@@ -1,6 +1,7 @@
 -- Reads of which none was good: each copy failed, or gave other bytes.
 use Rattle.std.proofs.Common.{◌≡◌, ℕ, ◌==◌, Bool, true, false, cond, List, [], ◌∷◌, None, refl, inl, inr}
 use Rattle.std.specs.List.{AllByRecursion}
+use Rattle.std.proofs.lemmas.Option.{none-some}
 use Rattle.sha2.specs.Sha256.{sha256}
 use Rattle.bank_core.specs.Calls.{device_of}
 use Rattle.bank_core.specs.Disk.{Noted}
@@ -10,7 +11,7 @@ use Rattle.mirror_io.specs.declared.copies.CopySeen.TheVariants as seen
 use Rattle.mirror_io.specs.Reads.{IsReads}
 use Rattle.mirror_io.specs.Seen.{sees, seen_after}
 use Rattle.mirror_io.proofs.Causing.{all_by}
-use Rattle.mirror_io.proofs.Reading.{Next, next_on, not_equal, no_block}
+use Rattle.mirror_io.proofs.Reading.{Next, next_on, not_equal}
 use Rattle.mirror_io.proofs.Showing.{same_device}
 
 abbrev pub is_spent : CopySeen → Bool
@@ -27,13 +28,13 @@ next_spent : (at : ℕ) (sum : List ℕ) (copy : CopyOf) (noted : Noted) (more :
 next_spent at sum copy noted more made wrong s (inl (failed, rest)) = rw failed.gives.is refl
 next_spent at sum copy noted more made wrong s (inr (inl (others, differs, is, rest))) =
     rw (differs.gives.is, not_equal (sha256 differs.bytes) sum differs.other) refl
-next_spent at sum copy noted more made wrong s (inr (inr (bytes, serves, none, right, is))) = absurd (no_block bytes is)
+next_spent at sum copy noted more made wrong s (inr (inr (bytes, serves, none, right, is))) = absurd (none-some bytes is)
 
 pub next_rest : (at : ℕ) (sum : List ℕ) (copy : CopyOf) (noted : Noted) (more : List CopyOf) (made : List Noted) (wrong : List CopyOf)
     → Next at sum copy noted more made wrong None → (wrong' : List CopyOf) × IsReads at sum more made wrong' None
 next_rest at sum copy noted more made wrong (inl (failed, rest)) = (wrong, rest)
 next_rest at sum copy noted more made wrong (inr (inl (others, differs, is, rest))) = (others, rest)
-next_rest at sum copy noted more made wrong (inr (inr (bytes, serves, none, right, is))) = absurd (no_block bytes is)
+next_rest at sum copy noted more made wrong (inr (inr (bytes, serves, none, right, is))) = absurd (none-some bytes is)
 
 spent_still : (at : ℕ) (sum : List ℕ) (dev : ℕ) (copies : List CopyOf) (made : List Noted) (wrong : List CopyOf) (s : CopySeen)
     → IsReads at sum copies made wrong None → is_spent s ≡ true → is_spent (seen_after sum dev s made) ≡ true

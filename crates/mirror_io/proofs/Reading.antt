@@ -2,13 +2,11 @@
 use Rattle.std.proofs.Common.{◌≡◌, ◌≢◌, ℕ, Bool, true, false, List, [], ◌∷◌, ◌++◌, Option, Some, None, refl, sym, ap, inl, inr, ◌⊎◌}
 use Rattle.std.specs.Str.{bytes_eq}
 use Rattle.std.proofs.lemmas.Slice.Eq.{bytes_eq-Decides}
+use Rattle.std.proofs.lemmas.Option.{none-some}
 use Rattle.bank_core.specs.Calls.{device_of}
 use Rattle.bank_core.specs.Disk.{Noted}
 use Rattle.mirror_io.specs.declared.copies.CopyOf.{CopyOf}
 use Rattle.mirror_io.specs.Reads.{Fails, Differs, Serves, IsReads}
-
-pub no_block : (bytes : List ℕ) → None ≡ Some bytes → ⊥
-no_block bytes e = cc
 
 -- what may come of the first copy
 abbrev pub Next : (at : ℕ) → (sum : List ℕ) → CopyOf → Noted → List CopyOf → List Noted → List CopyOf → Option (List ℕ) → Type 0
@@ -31,12 +29,12 @@ reads_more at sum (copy ∷ first) second (noted ∷ made) made' wrong wrong' ou
         → Next at sum copy noted (first ++ second) (made ++ made') (wrong ++ wrong') outcome
     go (inl (failed, rest)) more = inl (failed, more wrong rest)
     go (inr (inl (others, differs, is, rest))) more = inr (inl (others ++ wrong', differs, ap (λ l. l ++ wrong') is, more others rest))
-    go (inr (inr (bytes, serves, none, right, is))) more = absurd (no_block bytes is)
+    go (inr (inr (bytes, serves, none, right, is))) more = absurd (none-some bytes is)
 
 -- one of the first copies was good
 pub reads_stop : (at : ℕ) (sum : List ℕ) (first second : List CopyOf) (made : List Noted) (wrong : List CopyOf) (block : List ℕ)
     → IsReads at sum first made wrong (Some block) → IsReads at sum (first ++ second) made wrong (Some block)
-reads_stop at sum [] second made wrong block a = absurd (no_block block (sym a.2))
+reads_stop at sum [] second made wrong block a = absurd (none-some block (sym a.2))
 reads_stop at sum (copy ∷ first) second [] wrong block a = absurd a
 reads_stop at sum (copy ∷ first) second (noted ∷ made) wrong block a =
     go a (λ wrong. λ a. reads_stop at sum first second made wrong block a)

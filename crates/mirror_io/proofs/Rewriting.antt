@@ -29,18 +29,12 @@ first_ask a b xs ys e = cc
 later_asks : (a b : Ask) (xs ys : List Ask) → a ∷ xs ≡ b ∷ ys → xs ≡ ys
 later_asks a b xs ys e = cc
 
-no_asks : (a : Ask) (xs : List Ask) → a ∷ xs ≡ [] → ⊥
-no_asks a xs e = cc
-
-no_calls : (a : Ask) (xs : List Ask) → [] ≡ a ∷ xs → ⊥
-no_calls a xs e = cc
-
 -- writes to other devices show nothing of this one
 pub seen-unwritten : (sum : List ℕ) (dev at : ℕ) (block : List ℕ) (copies : List CopyOf) (made : List Noted) (s : CopySeen)
     → asks_of made ≡ rewrites at block copies → Away dev copies → seen_after sum dev s made ≡ s
 seen-unwritten sum dev at block [] [] s e away = refl
-seen-unwritten sum dev at block [] (noted ∷ made) s e away = absurd (no_asks _ _ e)
-seen-unwritten sum dev at block (copy ∷ copies) [] s e away = absurd (no_calls _ _ e)
+seen-unwritten sum dev at block [] (noted ∷ made) s e away = absurd (cc)
+seen-unwritten sum dev at block (copy ∷ copies) [] s e away = absurd (cc)
 seen-unwritten sum dev at block (copy ∷ copies) (noted ∷ made) s e away =
     let one = written noted.call copy.dev at block (first_ask _ _ _ _ e) in
     rw (other_device (device_of noted.call) copy.dev dev (ap device_of one.1) (λ e. away.0 (sym e)))
@@ -55,8 +49,8 @@ still_mismatch sum s dev at block (Some fault) e = (e, fault, refl)
 pub was_mismatch : (sum : List ℕ) (dev at : ℕ) (block : List ℕ) (copies : List CopyOf) (made : List Noted) (s : CopySeen)
     → asks_of made ≡ rewrites at block copies → seen_after sum dev s made ≡ seen.Mismatch → s ≡ seen.Mismatch
 was_mismatch sum dev at block [] [] s e is = is
-was_mismatch sum dev at block [] (noted ∷ made) s e is = absurd (no_asks _ _ e)
-was_mismatch sum dev at block (copy ∷ copies) [] s e is = absurd (no_calls _ _ e)
+was_mismatch sum dev at block [] (noted ∷ made) s e is = absurd (cc)
+was_mismatch sum dev at block (copy ∷ copies) [] s e is = absurd (cc)
 was_mismatch sum dev at block (copy ∷ copies) (noted ∷ made) s e is =
     go (device_of noted.call == dev) (was_mismatch sum dev at block copies made _ (later_asks _ _ _ _ e) is)
   where
@@ -70,7 +64,7 @@ was_mismatch sum dev at block (copy ∷ copies) (noted ∷ made) s e is =
 pub all_rose : (sum : List ℕ) (at : ℕ) (block : List ℕ) (copies : List CopyOf) (made : List Noted) (f g : ℕ → ℕ) → asks_of made ≡ rewrites at block copies
     → AllCaused made f g → AllByRecursion (λ copy. (s : CopySeen) → seen_after sum copy.dev s made ≡ seen.Mismatch → Rose (f copy.dev) (g copy.dev)) copies
 all_rose sum at block [] made f g e caused = tt
-all_rose sum at block (copy ∷ copies) [] f g e caused = absurd (no_calls _ _ e)
+all_rose sum at block (copy ∷ copies) [] f g e caused = absurd (cc)
 all_rose sum at block (copy ∷ copies) (noted ∷ made) f g e caused =
     let between = caused.0 in (
       here,

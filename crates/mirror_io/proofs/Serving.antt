@@ -2,6 +2,7 @@
 use Rattle.std.proofs.Common.{◌≡◌, ℕ, zero, suc, ◌==◌, Bool, true, false, cond, List, [], ◌∷◌, ◌++◌, map, Contains, Some, refl, sym, ap, ◌∙◌, inl, inr, ◌⊎◌, arith}
 use Rattle.std.specs.List.{filter}
 use Rattle.std.proofs.lemmas.Slice.Eq.{bytes_eq-Decides}
+use Rattle.std.proofs.lemmas.Option.{none-some}
 use Rattle.sha2.specs.Sha256.{sha256}
 use Rattle.bank_core.specs.Calls.{device_of}
 use Rattle.bank_core.specs.Disk.{Noted}
@@ -11,7 +12,7 @@ use Rattle.mirror_io.specs.declared.copies.CopySeen.TheVariants as seen
 use Rattle.mirror_io.specs.Copies.{is_due, tries}
 use Rattle.mirror_io.specs.Reads.{IsReads}
 use Rattle.mirror_io.specs.Seen.{sees, seen_after}
-use Rattle.mirror_io.proofs.Reading.{Next, next_on, no_block}
+use Rattle.mirror_io.proofs.Reading.{Next, next_on}
 use Rattle.mirror_io.proofs.Showing.{same_device, due_readable}
 
 -- Some one of a list.
@@ -53,7 +54,7 @@ some_contained f s (x ∷ xs) (inr later) = let more = some_contained f s xs lat
 -- The last read shows a good copy.
 pub some_good : (at : ℕ) (sum : List ℕ) (copies : List CopyOf) (made : List Noted) (wrong : List CopyOf) (block : List ℕ) → IsReads at sum copies made wrong (Some block)
     → SomeOf (λ copy. (s : CopySeen) → seen_after sum copy.dev s made ≡ seen.Good) copies
-some_good at sum [] made wrong block r = absurd (no_block block (sym r.2))
+some_good at sum [] made wrong block r = absurd (none-some block (sym r.2))
 some_good at sum (copy ∷ copies) [] wrong block r = absurd r
 some_good at sum (copy ∷ copies) (noted ∷ made) wrong block r = go r (λ wrong' rest. some_good at sum copies made wrong' block rest)
   where
@@ -82,7 +83,7 @@ same_block a b e = cc
 -- and gave bytes of the sum
 pub verified : (at : ℕ) (sum : List ℕ) (copies : List CopyOf) (made : List Noted) (wrong : List CopyOf) (block : List ℕ) → IsReads at sum copies made wrong (Some block)
     → sha256 block ≡ sum
-verified at sum [] made wrong block r = absurd (no_block block (sym r.2))
+verified at sum [] made wrong block r = absurd (none-some block (sym r.2))
 verified at sum (copy ∷ copies) [] wrong block r = absurd r
 verified at sum (copy ∷ copies) (noted ∷ made) wrong block r = go r (λ wrong' rest. verified at sum copies made wrong' block rest)
   where

@@ -2,6 +2,7 @@
 use Rattle.std.proofs.Common.{true≢false, ◌≡◌, ℕ, ◌+◌, ◌<◌, ◌≤◌, Bool, true, false, List, [], ◌∷◌, ◌++◌, map, length, take, get_or, set, Option, Some, None, Result, is_none, is_ok, Ok, Err, refl, sym, ap, ◌∙◌, subst, inl, inr, ◌⊎◌, arith, append_assoc, append-nil}
 use Rattle.std.specs.List.{AllZip}
 use Rattle.std.proofs.lemmas.List.{take_all, take_more, take_more_set, map-append}
+use Rattle.std.proofs.lemmas.Option.{none-some}
 use Rattle.mp_base.specs.Outside.{Rose}
 use Rattle.bank_core.specs.declared.bank.Fault.{Fault}
 use Rattle.bank_core.specs.Asks.{Ask, IsPart}
@@ -64,15 +65,12 @@ turn_failed dev at block (noted ∷ more) outcome fault f g e p caused = go p.1
     one : (fault : Option Fault) × (noted.call ≡ Write dev at block fault)
     one = written noted.call dev at block p.0
 
-    no_fault : None ≡ Some fault → ⊥
-    no_fault e = cc
-
     none_left : (asks : List Noted) → IsPart [] asks outcome → outcome ≡ None
     none_left [] q = q
     none_left (x ∷ xs) q = absurd q
 
     go : ((fault_of noted.call ≡ None) × IsPart [] more outcome) ⊎ ((other : Fault) × (fault_of noted.call ≡ Some other) × (more ≡ []) × (outcome ≡ Some other)) → Rose (f dev) (g dev)
-    go (inl (ok, rest)) = absurd (no_fault (sym (none_left more rest) ∙ e))
+    go (inl (ok, rest)) = absurd (none-some fault (sym (none_left more rest) ∙ e))
     go (inr (other, failed, last, is)) =
         rose_from (f dev) (f dev) (caused.0 dev) (g dev) (omega arith)
         (subst (λ d. Rose (f d) (caused.0 d)) (ap device_of one.1) (caused.1.cause other failed)) (caused_counts more caused.0 g caused.2 dev)

@@ -1,5 +1,6 @@
 -- How many vdevs a valid tree has, and how many bytes are put of them.
-use Rattle.std.proofs.Common.{◌≡◌, ℕ, ◌+◌, ◌*◌, ◌≤◌, Bool, true, false, cond, List, [], ◌∷◌, ◌++◌, map, length, take, drop, refl, ap, sym, ◌∙◌, arith, length-append}
+use Rattle.std.proofs.Common.{◌≡◌, ℕ, ◌+◌, ◌*◌, ◌≤◌, Bool, true, false, cond, List, [], ◌∷◌, ◌++◌, map, length, take}
+use Rattle.std.proofs.Common.{drop, refl, ap, sym, ◌∙◌, arith, length-append}
 use Rattle.std.specs.Prelude.{nat_le, fold, sum, All}
 use Rattle.std.specs.List.{flat_map, list_all}
 use Rattle.std.proofs.lemmas.Bool.{and_parts, and_from, leb-true, le-leb, eqb-true, false≢true}
@@ -9,10 +10,12 @@ use Rattle.std.proofs.lemmas.List.Elements.{All-head, All-tail}
 use Rattle.std.proofs.lemmas.List.Concat.{flat_map-append}
 use Rattle.vdev_tree.specs.declared.vdev.Kind.{Kind}
 use Rattle.vdev_tree.specs.declared.vdev.Kind.TheVariants.{Mirror, Replacing, Spare}
-use Rattle.vdev_tree.specs.Tree.{Form, a_leaf, a_replacing, a_spare, a_mirror, no_form, form_over, is_leaf, is_mirror, may_be_spared, may_be_mirrored}
+use Rattle.vdev_tree.specs.Tree.{Form, a_leaf, a_replacing, a_spare, a_mirror, no_form, form_over, is_leaf, is_mirror}
+use Rattle.vdev_tree.specs.Tree.{may_be_spared, may_be_mirrored}
 use Rattle.mp_base.specs.declared.number.Group.{Group}
 use Rattle.mp_base.specs.declared.number.Guid.{Guid}
-use Rattle.pool_config.specs.Seen.{VdevSeen, leaf_vdev, inner_vdev, TopSeen, ConfigSeen, leaves_among, top_vdevs, all_vdevs, room, fits}
+use Rattle.pool_config.specs.Seen.{VdevSeen, leaf_vdev, inner_vdev, TopSeen, ConfigSeen, leaves_among, top_vdevs}
+use Rattle.pool_config.specs.Seen.{all_vdevs, room, fits}
 use Rattle.pool_config.specs.Trees.{forms, is_one_mirror, is_tree}
 use Rattle.pool_config.specs.Validity.{IsLeaf, IsTop, IsValid, log_length}
 
@@ -74,7 +77,11 @@ under : (kind : Kind) (fs : List Form) → may_be_mirrored (form_over kind fs) �
 under Mirror fs is = absurd (false≢true (sym (other may_be_mirrored _ a_mirror refl refl) ∙ is))
 under Replacing fs is =
     let parts = and_parts (list_all is_leaf fs) _ (kept may_be_mirrored _ a_replacing refl is) in
-    record { all = leaves_mirrored fs parts.0; some = omega (arith, eqb-true _ _ parts.1); few = omega (arith, eqb-true _ _ parts.1) }
+    record {
+      all = leaves_mirrored fs parts.0;
+      some = omega (arith, eqb-true _ _ parts.1);
+      few = omega (arith, eqb-true _ _ parts.1);
+    }
 under Spare fs is = spare_under fs is
 
 no_mirror : (fs : List Form) → is_mirror (form_over Spare fs) ≡ false
@@ -96,9 +103,11 @@ whole : (b : Bool) (f : Form) (fs : List Form) → list_all may_be_mirrored (con
 whole true f fs all = (refl, and_parts (may_be_mirrored f) _ all)
 whole false f fs all = absurd (false≢true all)
 
-all_back : (n : ℕ) (fs : List Form) → list_all may_be_mirrored (take n fs) ≡ true → list_all may_be_mirrored (drop n fs) ≡ true → list_all may_be_mirrored fs ≡ true
+all_back : (n : ℕ) (fs : List Form) → list_all may_be_mirrored (take n fs) ≡ true
+    → list_all may_be_mirrored (drop n fs) ≡ true → list_all may_be_mirrored fs ≡ true
 all_back n fs front rest =
-    ap (list_all may_be_mirrored) (sym (take-append-drop n fs)) ∙ list_all-append may_be_mirrored (take n fs) (drop n fs) ∙ and_from _ _ front rest
+    ap (list_all may_be_mirrored) (sym (take-append-drop n fs))
+    ∙ list_all-append may_be_mirrored (take n fs) (drop n fs) ∙ and_from _ _ front rest
 
 length_split : (n : ℕ) (fs : List Form) → length fs ≡ length (take n fs) + length (drop n fs)
 length_split n fs = ap length (sym (take-append-drop n fs)) ∙ length-append (take n fs) (drop n fs)
@@ -108,7 +117,8 @@ pub record AreFew (vdevs : List VdevSeen) (trees : ℕ) : Type 0 where
   pub counted : list_all is_counted vdevs ≡ true
 
 -- Trees that may stand under a mirror have no more inner vdevs than leaves, even when each tree counts for one more.
-few_under : (vdevs : List VdevSeen) → list_all may_be_mirrored (forms vdevs) ≡ true → AreFew vdevs (length (forms vdevs))
+few_under : (vdevs : List VdevSeen) → list_all may_be_mirrored (forms vdevs) ≡ true
+    → AreFew vdevs (length (forms vdevs))
 unfolding forms leaves_among
 few_under [] all = record { few = omega arith; counted = refl }
 few_under (leaf_vdev leaf ∷ vdevs) all =
@@ -120,13 +130,16 @@ few_under (inner_vdev guid kind count ∷ vdevs) all =
     let inside : count ≤ length fs = leb-true _ _ parts.0 in
     let are = under kind (take count fs) parts.1.0 in
     let rest = few_under vdevs (all_back count fs are.all parts.1.1) in
-    let here : forms (inner_vdev guid kind count ∷ vdevs) ≡ form_over kind (take count fs) ∷ drop count fs = ap (λ b. cond b (form_over kind (take count fs) ∷ drop count fs) (no_form ∷ [])) parts.0 in
+    let here : forms (inner_vdev guid kind count ∷ vdevs) ≡ form_over kind (take count fs) ∷ drop count fs =
+    ap (λ b. cond b (form_over kind (take count fs) ∷ drop count fs) (no_form ∷ [])) parts.0 in
     record {
       few = omega (arith, rest.few, ap length here, length_split count fs, length-take-le count fs inside, are.some);
-      counted = and_from (nat_le count 8) _ (le-leb _ _ (omega (arith, length-take-le count fs inside, are.few))) rest.counted;
+      counted = and_from (nat_le count 8) _ (le-leb _ _ (omega (arith, length-take-le count fs inside, are.few)))
+          rest.counted;
     }
 
-one : (b : Bool) (f : Form) (fs : List Form) → is_one_mirror (cond b (f ∷ fs) (no_form ∷ [])) ≡ true → (b ≡ true) × ((is_mirror f ≡ true) × (fs ≡ []))
+one : (b : Bool) (f : Form) (fs : List Form) → is_one_mirror (cond b (f ∷ fs) (no_form ∷ [])) ≡ true
+    → (b ≡ true) × ((is_mirror f ≡ true) × (fs ≡ []))
 one true f [] is = (refl, (is, refl))
 one true f (g ∷ fs) is = absurd (false≢true is)
 one false f fs is = absurd (false≢true is)
@@ -141,10 +154,12 @@ pub record IsOver (vdevs : List VdevSeen) (kind : Kind) (count : ℕ) : Type 0 w
   pub under : AreUnder (take count (forms vdevs)) 1 8
   pub all : drop count (forms vdevs) ≡ []
 
-pub over_tree : (guid : Guid) (kind : Kind) (count : ℕ) (vdevs : List VdevSeen) → is_tree (inner_vdev guid kind count ∷ vdevs) ≡ true → IsOver vdevs kind count
+pub over_tree : (guid : Guid) (kind : Kind) (count : ℕ) (vdevs : List VdevSeen)
+    → is_tree (inner_vdev guid kind count ∷ vdevs) ≡ true → IsOver vdevs kind count
 unfolding is_tree forms
 over_tree guid kind count vdevs is =
-    let parts = one (nat_le count (length (forms vdevs))) (form_over kind (take count (forms vdevs))) (drop count (forms vdevs)) is in
+    let parts = one (nat_le count (length (forms vdevs))) (form_over kind (take count (forms vdevs)))
+    (drop count (forms vdevs)) is in
     record { inside = parts.0; under = under_mirror kind (take count (forms vdevs)) parts.1.0; all = parts.1.1 }
 
 -- the tree of a top has no more inner vdevs than leaves
@@ -159,7 +174,8 @@ few_tree (inner_vdev guid kind count ∷ vdevs) is =
     let rest = few_under vdevs (all_back count fs over.under.all (ap (list_all may_be_mirrored) over.all)) in
     record {
       few = omega (arith, rest.few, length_split count fs, length-take-le count fs inside, over.under.some);
-      counted = and_from (nat_le count 8) _ (le-leb _ _ (omega (arith, length-take-le count fs inside, over.under.few))) rest.counted;
+      counted = and_from (nat_le count 8) _ (le-leb _ _ (omega (arith, length-take-le count fs inside, over.under.few)))
+          rest.counted;
     }
 
 pub inners-append : (xs ys : List VdevSeen) → inners (xs ++ ys) ≡ inners xs + inners ys
@@ -187,7 +203,8 @@ few_trees (top ∷ tops) all =
         ap length (leaves-append top.vdevs (flat_map top_vdevs tops)),
         length-append (leaves_among top.vdevs) (leaves_among (flat_map top_vdevs tops)),
       );
-      counted = list_all-append is_counted top.vdevs (flat_map top_vdevs tops) ∙ and_from _ _ first.counted rest.counted;
+      counted = list_all-append is_counted top.vdevs (flat_map top_vdevs tops)
+          ∙ and_from _ _ first.counted rest.counted;
     }
 
 -- ---- how many bytes are put
@@ -199,21 +216,25 @@ sum_from n (x ∷ xs) = omega (arith, sum_from (n + x) xs, sum_from (0 + x) xs)
 pub sum_cons : (x : ℕ) (xs : List ℕ) → sum (x ∷ xs) ≡ x + sum xs
 sum_cons x xs = omega (arith, sum_from (0 + x) xs)
 
-pub room_is : (vdevs : List VdevSeen) → room vdevs ≡ 79 * length (leaves_among vdevs) + 16 * sum (map log_length (leaves_among vdevs)) + 10 * inners vdevs
+pub room_is : (vdevs : List VdevSeen) → room vdevs ≡ 79 * length (leaves_among vdevs) + 16 * sum (map log_length
+    (leaves_among vdevs)) + 10 * inners vdevs
 unfolding room leaves_among
 room_is [] = omega arith
-room_is (leaf_vdev leaf ∷ vdevs) = omega (arith, room_is vdevs, sum_cons (length leaf.log) (map log_length (leaves_among vdevs)))
+room_is (leaf_vdev leaf ∷ vdevs) =
+    omega (arith, room_is vdevs, sum_cons (length leaf.log) (map log_length (leaves_among vdevs)))
 room_is (inner_vdev guid kind count ∷ vdevs) = omega (arith, room_is vdevs)
 
 pub valid_room : (c : ConfigSeen) → IsValid c → room (all_vdevs c) ≤ 68384
 valid_room c v = omega (arith, room_is (all_vdevs c), v.few_leaves, v.few_ranges, (few_trees c.tops v.tops).few)
 
 -- what is put of each vdev is counted in the bytes that there are for it
-pub all_fit : (number : Group) (vdevs : List VdevSeen) → list_all is_counted vdevs ≡ true → All (IsLeaf number) (leaves_among vdevs) → list_all fits vdevs ≡ true
+pub all_fit : (number : Group) (vdevs : List VdevSeen) → list_all is_counted vdevs ≡ true
+    → All (IsLeaf number) (leaves_among vdevs) → list_all fits vdevs ≡ true
 unfolding leaves_among
 all_fit number [] counted leaves = refl
 all_fit number (leaf_vdev leaf ∷ vdevs) counted leaves =
-    and_from (nat_le (length leaf.log) 4096) _ (le-leb _ _ (All-head (IsLeaf number) leaf (leaves_among vdevs) leaves).few)
+    and_from (nat_le (length leaf.log) 4096) _
+    (le-leb _ _ (All-head (IsLeaf number) leaf (leaves_among vdevs) leaves).few)
     (all_fit number vdevs counted (All-tail (IsLeaf number) leaf (leaves_among vdevs) leaves))
 all_fit number (inner_vdev guid kind count ∷ vdevs) counted leaves =
     let both = and_parts (nat_le count 8) _ counted in

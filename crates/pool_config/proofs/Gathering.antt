@@ -11,23 +11,31 @@ use Rattle.pool_config.proofs.Bounds.{leaves-append}
 abbrev gathered_with : List ℕ → List (List ℕ) → List ℕ → Gathered
 gathered_with numbers names lengths = record { numbers = numbers; names = names; lengths = lengths }
 
-same_gathered : (a a' : List ℕ) (b b' : List (List ℕ)) (c c' : List ℕ) → a ≡ a' → b ≡ b' → c ≡ c' → gathered_with a b c ≡ gathered_with a' b' c'
+same_gathered : (a a' : List ℕ) (b b' : List (List ℕ)) (c c' : List ℕ) → a ≡ a' → b ≡ b' → c ≡ c'
+    → gathered_with a b c ≡ gathered_with a' b' c'
 same_gathered a a' b b' c c' e f g = cc
 
 pub gathered_none : (m : Gathered) → m ≡ gathered m []
 unfolding leaves_among
-gathered_none m = same_gathered _ _ _ _ _ _ (sym (append-nil m.numbers)) (sym (append-nil m.names)) (sym (append-nil m.lengths))
+gathered_none m =
+    same_gathered _ _ _ _ _ _ (sym (append-nil m.numbers)) (sym (append-nil m.names)) (sym (append-nil m.lengths))
 
-pub gathered_leaf : (m : Gathered) (leaf : LeafSeen) → with_leaf m leaf.guid.0 leaf.name (length leaf.log) ≡ gathered m (leaf_vdev leaf ∷ [])
+pub gathered_leaf : (m : Gathered) (leaf : LeafSeen)
+    → with_leaf m leaf.guid.0 leaf.name (length leaf.log) ≡ gathered m (leaf_vdev leaf ∷ [])
 unfolding leaves_among
 gathered_leaf m leaf = refl
 
-pub gathered_inner : (m : Gathered) (guid : Guid) (kind : Kind) (count : ℕ) (vdevs : List VdevSeen) → gathered (with_inner m guid.0) vdevs ≡ gathered m (inner_vdev guid kind count ∷ vdevs)
+pub gathered_inner : (m : Gathered) (guid : Guid) (kind : Kind) (count : ℕ) (vdevs : List VdevSeen)
+    → gathered (with_inner m guid.0) vdevs ≡ gathered m (inner_vdev guid kind count ∷ vdevs)
 unfolding leaves_among
-gathered_inner m guid kind count vdevs = same_gathered _ _ _ _ _ _ (append_assoc m.numbers (guid.0 ∷ []) (map number_of_vdev vdevs)) refl refl
+gathered_inner m guid kind count vdevs =
+    same_gathered _ _ _ _ _ _ (append_assoc m.numbers (guid.0 ∷ []) (map number_of_vdev vdevs)) refl refl
 
-mapped_more : {B C : Type 0} (g : B → C) (start : List C) (xs ys zs : List B) → zs ≡ xs ++ ys → (start ++ map g xs) ++ map g ys ≡ start ++ map g zs
-mapped_more g start xs ys zs is = append_assoc start (map g xs) (map g ys) ∙ ap (λ s. start ++ s) (sym (map-append g xs ys)) ∙ ap (λ s. start ++ map g s) (sym is)
+mapped_more : {B C : Type 0} (g : B → C) (start : List C) (xs ys zs : List B) → zs ≡ xs ++ ys
+    → (start ++ map g xs) ++ map g ys ≡ start ++ map g zs
+mapped_more g start xs ys zs is =
+    append_assoc start (map g xs) (map g ys) ∙ ap (λ s. start ++ s) (sym (map-append g xs ys))
+    ∙ ap (λ s. start ++ map g s) (sym is)
 
 pub gathered_more : (m : Gathered) (xs ys : List VdevSeen) → gathered (gathered m xs) ys ≡ gathered m (xs ++ ys)
 gathered_more m xs ys =

@@ -1,8 +1,10 @@
+pub mod Alike
 pub mod Bounds
 pub mod Checking
 pub mod Deciding
 pub mod Gathering
 pub mod Growing
+pub mod Induction
 pub mod Lists
 pub mod Placing
 pub mod Returning
@@ -15,3 +17,4 @@ pub mod TakingTrees
 pub mod TakingWhole
 pub mod Testing
 pub mod Walking
+pub mod WrittenTrees

@@ -1,5 +1,6 @@
 -- Pieces that are put one behind another, and how long they are.
-use Rattle.std.proofs.Common.{◌≡◌, ℕ, ◌+◌, ◌-◌, ◌≤◌, List, [], ◌∷◌, ◌++◌, length, take, drop, refl, sym, ap, ◌∙◌, arith, append_assoc, length-append, true, subst}
+use Rattle.std.proofs.Common.{◌≡◌, ℕ, ◌+◌, ◌-◌, ◌≤◌, List, [], ◌∷◌, ◌++◌, length, take, drop, refl, sym, ap, ◌∙◌, arith}
+use Rattle.std.proofs.Common.{append_assoc, length-append, true, subst}
 use Rattle.std.specs.List.{flat_map}
 use Rattle.std.proofs.lemmas.List.{length-replicate, take_more, take-append-drop, append-nil, drop-drop}
 use Rattle.std.proofs.lemmas.List.Concat.{flat_map-append}
@@ -29,7 +30,8 @@ unfolding zeros
 length-zeros n = length-replicate n 0
 
 -- a piece that is laid over a part
-pub puts_mid : (xs ys piece : List ℕ) (a k e : ℕ) → ys ≡ piece → length ys ≡ k → e ≡ a + k → a + k ≤ length xs → Puts xs a piece (put_mid a k xs ys) e
+pub puts_mid : (xs ys piece : List ℕ) (a k e : ℕ) → ys ≡ piece → length ys ≡ k → e ≡ a + k → a + k ≤ length xs
+    → Puts xs a piece (put_mid a k xs ys) e
 puts_mid xs ys piece a k e is long end inside = record {
   front = take-put_mid a k xs ys e (omega arith) (omega arith) ∙ ap (λ s. take a xs ++ s) is;
   stop = omega (arith, ap length is);
@@ -44,10 +46,12 @@ pub puts_none : (old : List ℕ) (at : ℕ) → Puts old at [] old at
 puts_none old at = record { front = sym (append-nil (take at old)); stop = omega arith; rest = refl }
 
 -- one more piece
-pub puts_next : {old mid new a b : List ℕ} {at m e : ℕ} → Puts old at a mid m → Puts mid m b new e → Puts old at (a ++ b) new e
+pub puts_next : {old mid new a b : List ℕ} {at m e : ℕ} → Puts old at a mid m → Puts mid m b new e
+    → Puts old at (a ++ b) new e
 puts_next {old} {mid} {new} {a} {b} {at} {m} {e} p q =
     let end : length b + m ≡ e = omega (arith, q.stop) in
-    let later : (s : List ℕ) → drop e s ≡ drop (length b) (drop m s) = λ s. sym (drop-drop (length b) m s ∙ ap (λ n. drop n s) (let n : m + length b ≡ e = omega (arith, q.stop) in n)) in
+    let later : (s : List ℕ) → drop e s ≡ drop (length b) (drop m s) =
+    λ s. sym (drop-drop (length b) m s ∙ ap (λ n. drop n s) (let n : m + length b ≡ e = omega (arith, q.stop) in n)) in
     record {
       front = q.front ∙ ap (λ s. s ++ b) p.front ∙ append_assoc (take at old) a b;
       stop = omega (arith, p.stop, q.stop, length-append a b);
@@ -60,13 +64,16 @@ name_short name is =
     let short = and_parts (nat_le (length name) 64) _ some.1 in
     leb-true (length name) 64 short.0
 
-pub puts_text : {old new text text' : List ℕ} {at e : ℕ} → text ≡ text' → Puts old at ((length text ∷ []) ++ text) new e → Puts old at (text_bytes text') new e
+pub puts_text : {old new text text' : List ℕ} {at e : ℕ} → text ≡ text' → Puts old at ((length text ∷ []) ++ text) new e
+    → Puts old at (text_bytes text') new e
 unfolding text_bytes
 puts_text {old} {new} {text} {text'} {at} {e} same p = subst (λ t. Puts old at (length t ∷ t) new e) same p
 
 -- the pieces of one item more of a list
-pub puts_item : {A : Type 0} (f : A → List ℕ) (items : List A) (i : ℕ) (item : A) {old mid new : List ℕ} {at m e : ℕ} → i < length items → item ≡ get_or items i item
-    → Puts old at (flat_map f (take i items)) mid m → Puts mid m (f item) new e → Puts old at (flat_map f (take (i + 1) items)) new e
+pub puts_item : {A : Type 0} (f : A → List ℕ) (items : List A) (i : ℕ) (item : A) {old mid new : List ℕ} {at m e : ℕ}
+    → i < length items → item ≡ get_or items i item
+    → Puts old at (flat_map f (take i items)) mid m → Puts mid m (f item) new e
+    → Puts old at (flat_map f (take (i + 1) items)) new e
 puts_item {A} f items i item {old} {mid} {new} {at} {m} {e} inside is p q =
     let more : flat_map f (take i items) ++ f item ≡ flat_map f (take (i + 1) items) =
     sym (ap (flat_map f) (take_more items i item inside) ∙ flat_map-append f (take i items) (get_or items i item ∷ [])
@@ -74,9 +81,11 @@ puts_item {A} f items i item {old} {mid} {new} {at} {m} {e} inside is p q =
     puts_same more (puts_next p q)
 
 -- bytes at the front, zeros to the end of their last sector, and the rest as it was
-pub laid_is : (old new bytes : List ℕ) (n e : ℕ) → Puts old 0 (bytes ++ zeros n) new e → n ≡ whole_sectors (length bytes) - length bytes → e ≡ whole_sectors (length bytes)
+pub laid_is : (old new bytes : List ℕ) (n e : ℕ) → Puts old 0 (bytes ++ zeros n) new e
+    → n ≡ whole_sectors (length bytes) - length bytes → e ≡ whole_sectors (length bytes)
     → new ≡ laid bytes old
 unfolding laid
 laid_is old new bytes n e p count end =
     sym (take-append-drop e new) ∙ ap (λ s. s ++ drop e new) p.front ∙ ap (λ s. (bytes ++ zeros n) ++ s) p.rest
-    ∙ ap (λ k. (bytes ++ zeros k) ++ drop e old) count ∙ ap (λ k. (bytes ++ zeros (whole_sectors (length bytes) - length bytes)) ++ drop k old) end
+    ∙ ap (λ k. (bytes ++ zeros k) ++ drop e old) count
+    ∙ ap (λ k. (bytes ++ zeros (whole_sectors (length bytes) - length bytes)) ++ drop k old) end

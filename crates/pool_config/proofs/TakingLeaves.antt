@@ -22,28 +22,35 @@ use Rattle.pool_config.proofs.Testing.{rises_from}
 
 -- Where the log is none, or the name, no valid configuration has the leaf.
 
-pub leaf_unlogged : (number : Group) (s rest : List ℕ) → rest ≡ from_log s → (nat_le (length (log_in rest).value) 4096 && rises 1 number.0 (log_in rest).value) ≡ false
+pub leaf_unlogged : (number : Group) (s rest : List ℕ) → rest ≡ from_log s
+    → (nat_le (length (log_in rest).value) 4096 && rises 1 number.0 (log_in rest).value) ≡ false
     → is_leaf_of number (leaf_in s).value ≡ false
 unfolding leaf_in
 leaf_unlogged number s rest e bad =
-    let here : (nat_le (length (log_in (from_log s)).value) 4096 && rises 1 number.0 (log_in (from_log s)).value) ≡ false =
+    let here : (nat_le (length (log_in (from_log s)).value) 4096 && rises 1 number.0 (log_in (from_log s)).value)
+    ≡ false =
     ap (λ t. nat_le (length (log_in t).value) 4096 && rises 1 number.0 (log_in t).value) (sym e) ∙ bad in
     and_right (is_name (leaf_in s).value.name) _ (and_right (is_recorded (leaf_in s).value.state) _ here)
 
-pub leaf_unnamed : (number : Group) (s text : List ℕ) → text ≡ text_in (from_device s) → is_name text ≡ false → is_leaf_of number (leaf_in s).value ≡ false
+pub leaf_unnamed : (number : Group) (s text : List ℕ) → text ≡ text_in (from_device s) → is_name text ≡ false
+    → is_leaf_of number (leaf_in s).value ≡ false
 unfolding leaf_in
 leaf_unnamed number s text e bad = and_left (is_name (leaf_in s).value.name) _ (ap is_name (sym e) ∙ bad)
 
-pub log_rises : (number : Group) (log : List GroupRange) → number.0 ≤ 2 ^ 62 → rises 1 number.0 log ≡ true → Rises 1 (2 ^ 62) log
+pub log_rises : (number : Group) (log : List GroupRange) → number.0 ≤ 2 ^ 62 → rises 1 number.0 log ≡ true
+    → Rises 1 (2 ^ 62) log
 log_rises number log last t = Rises-later 1 number.0 (2 ^ 62) log (rises_from 1 number.0 log t) last
 
 -- a set of these ranges has them
-pub ranges_back : (set : Groups) (ranges : List GroupRange) → Rises 1 (2 ^ 62) ranges → ((g : ℕ) → holds set g ≡ in_ranges ranges g) → ranges_of set ≡ ranges
+pub ranges_back : (set : Groups) (ranges : List GroupRange) → Rises 1 (2 ^ 62) ranges
+    → ((g : ℕ) → holds set g ≡ in_ranges ranges g) → ranges_of set ≡ ranges
 unfolding ranges_of
-ranges_back set ranges rises is = upto_same (holds set) (in_ranges ranges) (2 ^ 62) (λ g first last. is g) ∙ upto_back (2 ^ 62) ranges rises
+ranges_back set ranges rises is =
+    upto_same (holds set) (in_ranges ranges) (2 ^ 62) (λ g first last. is g) ∙ upto_back (2 ^ 62) ranges rises
 
 -- what was read of a leaf, field by field
-pub record IsLeafRead (number : Group) (s rest words end : List ℕ) (byte : ℕ) (ranges : List GroupRange) (before after : Gathered) (leaf : LeafVdev) : Type 0 where
+pub record IsLeafRead (number : Group) (s rest words end : List ℕ) (byte : ℕ) (ranges : List GroupRange)
+    (before after : Gathered) (leaf : LeafVdev) : Type 0 where
   pub last : number.0 ≤ 2 ^ 62
   pub guid : leaf.guid.0 ≡ number_in (drop 1 s)
   pub text : words ≡ text_in (from_device s)
@@ -68,11 +75,14 @@ pub record IsLeafRead (number : Group) (s rest words end : List ℕ) (byte : ℕ
   pub writes : leaf.counts.writes ≡ 0
   pub mismatches : leaf.counts.mismatches ≡ 0
 
-leaf_log : (number : Group) (s rest words end : List ℕ) (byte : ℕ) (ranges : List GroupRange) (before after : Gathered) (leaf : LeafVdev)
+leaf_log : (number : Group) (s rest words end : List ℕ) (byte : ℕ) (ranges : List GroupRange) (before after : Gathered)
+    (leaf : LeafVdev)
     → IsLeafRead number s rest words end byte ranges before after leaf → ranges_of leaf.log ≡ ranges
-leaf_log number s rest words end byte ranges before after leaf is = ranges_back leaf.log ranges (log_rises number ranges is.last is.rising) is.groups
+leaf_log number s rest words end byte ranges before after leaf is =
+    ranges_back leaf.log ranges (log_rises number ranges is.last is.rising) is.groups
 
-leaf_same : (number : Group) (s rest words end : List ℕ) (byte : ℕ) (ranges : List GroupRange) (before after : Gathered) (leaf : LeafVdev)
+leaf_same : (number : Group) (s rest words end : List ℕ) (byte : ℕ) (ranges : List GroupRange) (before after : Gathered)
+    (leaf : LeafVdev)
     → IsLeafRead number s rest words end byte ranges before after leaf → leaf_seen leaf ≡ (leaf_in s).value
 unfolding leaf_in
 leaf_same number s rest words end byte ranges before after leaf is =
@@ -85,8 +95,10 @@ leaf_end : (s rest end : List ℕ) → rest ≡ from_log s → end ≡ (log_in r
 unfolding leaf_in
 leaf_end s rest end e f = f ∙ ap (λ t. (log_in t).rest) e
 
-pub leaf_taken : (number : Group) (s rest words end : List ℕ) (byte : ℕ) (ranges : List GroupRange) (before after : Gathered) (leaf : LeafVdev)
-    → IsLeafRead number s rest words end byte ranges before after leaf → IsTakenLeaf number (leaf_in s) end before after leaf
+pub leaf_taken : (number : Group) (s rest words end : List ℕ) (byte : ℕ) (ranges : List GroupRange)
+    (before after : Gathered) (leaf : LeafVdev)
+    → IsLeafRead number s rest words end byte ranges before after leaf
+    → IsTakenLeaf number (leaf_in s) end before after leaf
 leaf_taken number s rest words end byte ranges before after leaf is =
     let same = leaf_same number s rest words end byte ranges before after leaf is in
     let log = leaf_log number s rest words end byte ranges before after leaf is in
@@ -94,7 +106,8 @@ leaf_taken number s rest words end byte ranges before after leaf is =
     record {
       leaf = same;
       rest = leaf_end s rest end is.at_log is.stop;
-      gathered = is.listed ∙ ap (λ (r : List GroupRange). with_leaf before leaf.guid.0 leaf.name (length r)) (sym log) ∙ gathered_leaf before (leaf_seen leaf)
+      gathered = is.listed ∙ ap (λ (r : List GroupRange). with_leaf before leaf.guid.0 leaf.name (length r)) (sym log)
+          ∙ gathered_leaf before (leaf_seen leaf)
           ∙ ap (λ l. gathered before (leaf_vdev l ∷ [])) same;
       stands = ap (is_leaf_of number) (sym same)
           ∙ and_from (is_name leaf.name) _ is.named

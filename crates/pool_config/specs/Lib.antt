@@ -1,3 +1,4 @@
+pub mod Alike
 pub mod Faults
 pub mod Flags
 pub mod Members

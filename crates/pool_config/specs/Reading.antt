@@ -1,5 +1,6 @@
 -- The configuration that bytes are, where they are one.
-use Rattle.std.specs.Prelude.{ℕ, zero, suc, ◌-◌, ◌==◌, ◌&&◌, cond, List, [], ◌∷◌, ◌++◌, length, take, drop, Option, Some, None, slice_index}
+use Rattle.std.specs.Prelude.{ℕ, zero, suc, ◌-◌, ◌==◌, ◌&&◌, cond, List, [], ◌∷◌, ◌++◌, length, take, drop, Option}
+use Rattle.std.specs.Prelude.{Some, None, slice_index}
 use Rattle.std.specs.Int.{from_be_bytes, w32, w64}
 use Rattle.std.specs.Str.{bytes_eq}
 use Rattle.mp_base.specs.Block.{zeros}
@@ -109,7 +110,8 @@ leaf_alone_in bytes = record { value = leaf_vdev (leaf_in bytes).value ∷ []; r
 -- an inner vdev with its children
 abbrev pub inner_over : List ℕ → Read (List (List VdevSeen)) → Read (List VdevSeen)
 inner_over bytes children = record {
-  value = inner_vdev (record { 0 = number_in (drop 1 bytes) }) (kind_in (byte_in bytes)) (byte_in (from_count bytes)) ∷ joined children.value;
+  value = inner_vdev (record { 0 = number_in (drop 1 bytes) }) (kind_in (byte_in bytes)) (byte_in (from_count bytes))
+      ∷ joined children.value;
   rest = children.rest;
 }
 
@@ -117,7 +119,8 @@ inner_over bytes children = record {
 unfoldable pub tree_in : (levels : ℕ) → List ℕ → Read (List VdevSeen)
 tree_in zero bytes = leaf_alone_in bytes
 tree_in (suc levels) bytes =
-    cond (byte_in bytes == 0) (leaf_alone_in bytes) (inner_over bytes (many_in (tree_in levels) (byte_in (from_count bytes)) (from_children bytes)))
+    cond (byte_in bytes == 0) (leaf_alone_in bytes)
+    (inner_over bytes (many_in (tree_in levels) (byte_in (from_count bytes)) (from_children bytes)))
 
 -- A mirror has three levels below it: a spare vdev, a replacing one, and its leaves.
 unfoldable pub top_in : List ℕ → Read TopSeen

@@ -73,7 +73,8 @@ vdevs_of = fold-Vdev (List VdevSeen) (List VdevSeen) vdevs_at_vdev vdevs_at_inne
 abbrev pub top_seen : Top → TopSeen
 top_seen top = record { sectors = top.sectors; vdevs = vdevs_of top.mirror }
 
-abbrev pub parts_seen : Guid → (name : List ℕ) → (blocks : ℕ) → (number : Group) → (next_guid : ℕ) → Pointer → List Top → (spares : List (List ℕ)) → ConfigSeen
+abbrev pub parts_seen : Guid → (name : List ℕ) → (blocks : ℕ) → (number : Group) → (next_guid : ℕ) → Pointer → List Top
+    → (spares : List (List ℕ)) → ConfigSeen
 parts_seen pool name blocks number next_guid root tops spares = record {
   pool = pool;
   name = name;

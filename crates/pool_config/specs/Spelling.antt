@@ -76,4 +76,5 @@ whole_sectors n = next_multiple_of n 4096
 
 -- bytes at the front of a buffer, zeros to the end of their last sector, and the rest as it was
 unfoldable pub laid : List ℕ → (buffer : List ℕ) → List ℕ
-laid bytes buffer = bytes ++ zeros (whole_sectors (length bytes) - length bytes) ++ drop (whole_sectors (length bytes)) buffer
+laid bytes buffer =
+    bytes ++ zeros (whole_sectors (length bytes) - length bytes) ++ drop (whole_sectors (length bytes)) buffer

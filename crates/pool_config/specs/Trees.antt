@@ -5,7 +5,8 @@ use Rattle.pool_config.specs.Seen.{VdevSeen, leaf_vdev, inner_vdev}
 
 -- an inner vdev takes the first trees behind it for its children, where there are so many
 abbrev pub over_first : (count : ℕ) → (List Form → Form) → List Form → List Form
-over_first count over forms = cond (nat_le count (length forms)) (over (take count forms) ∷ drop count forms) (no_form ∷ [])
+over_first count over forms =
+    cond (nat_le count (length forms)) (over (take count forms) ∷ drop count forms) (no_form ∷ [])
 
 -- the forms of the trees that these vdevs make up, in their order
 unfoldable pub forms : List VdevSeen → List Form

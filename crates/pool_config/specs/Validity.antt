@@ -1,5 +1,7 @@
 -- Which configurations are valid, as facts and as a test.
-use Rattle.std.specs.Prelude.{◌≡◌, ◌≢◌, ◌⊎◌, ℕ, ◌^◌, ◌+◌, ◌-◌, ◌<◌, ◌≤◌, ◌==◌, ◌&&◌, ◌||◌, Bool, true, false, not, IsTrue, nat_le, nat_lt, List, [], ◌∷◌, map, length, Option, Some, None, slice_get, All, AllPairs, sum}
+use Rattle.std.specs.Prelude.{◌≡◌, ◌≢◌, ◌⊎◌, ℕ, ◌^◌, ◌+◌, ◌-◌, ◌<◌, ◌≤◌, ◌==◌, ◌&&◌, ◌||◌, Bool, true, false, not}
+use Rattle.std.specs.Prelude.{IsTrue, nat_le, nat_lt, List, [], ◌∷◌, map, length, Option, Some, None, slice_get, All}
+use Rattle.std.specs.Prelude.{AllPairs, sum}
 use Rattle.std.specs.List.{list_all, list_any}
 use Rattle.std.specs.Str.{bytes_eq}
 use Rattle.mp_base.specs.Block.{zeros}
@@ -9,7 +11,8 @@ use Rattle.mp_base.specs.declared.number.Group.{Group}
 use Rattle.mp_base.specs.declared.place.Pointer.{Pointer}
 use Rattle.mp_base.specs.declared.range.GroupRange.{GroupRange}
 use Rattle.pool_config.specs.Flags.{is_recorded}
-use Rattle.pool_config.specs.Seen.{LeafSeen, VdevSeen, leaf_vdev, inner_vdev, TopSeen, ConfigSeen, all_vdevs, leaves_among, number_of_vdev, leaf_name}
+use Rattle.pool_config.specs.Seen.{LeafSeen, VdevSeen, leaf_vdev, inner_vdev, TopSeen, ConfigSeen, all_vdevs}
+use Rattle.pool_config.specs.Seen.{leaves_among, number_of_vdev, leaf_name}
 use Rattle.pool_config.specs.Trees.{is_tree}
 
 -- n lies from the least to the most
@@ -97,7 +100,8 @@ is_top_of number top = is_tree top.vdevs && list_all (is_vdev_of number) top.vde
 -- what is asked of the parts one by one
 unfoldable pub are_parts : ConfigSeen → Bool
 are_parts c =
-    is_in 1 (2 ^ 62) c.number.0 && (is_name c.name && (list_all (is_top_of c.number) c.tops && list_all is_name c.spares))
+    is_in 1 (2 ^ 62) c.number.0 && (is_name c.name
+    && (list_all (is_top_of c.number) c.tops && list_all is_name c.spares))
 
 abbrev pub is_hole : Pointer → Bool
 is_hole p = p.birth.0 == 0 && (p.place.top == 0 && (p.place.sector == 0 && bytes_eq p.sum (zeros 32)))
@@ -138,7 +142,8 @@ is_root c = is_hole c.root || is_placed c.number c.tops c.root
 -- the devices, the numbers and the logs of all vdevs
 unfoldable pub are_together : ConfigSeen → Bool
 are_together c =
-    are_devices (map leaf_name (leaves_among (all_vdevs c))) && (are_drawn c.next_guid (map number_of_vdev (all_vdevs c))
+    are_devices (map leaf_name (leaves_among (all_vdevs c)))
+    && (are_drawn c.next_guid (map number_of_vdev (all_vdevs c))
     && nat_le (sum (map log_length (leaves_among (all_vdevs c)))) 4096)
 
 unfoldable pub is_whole : ConfigSeen → Bool

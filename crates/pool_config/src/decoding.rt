@@ -8,7 +8,8 @@ ghost use Rattle.std.specs.Str.{bytes_eq};
 ghost use Rattle.pool_config.specs.declared.unread.Unread.TheVariants.{NoConfig};
 ghost use Rattle.pool_config.specs.Seen.{config_seen, top_leaves, IsRecorded};
 ghost use Rattle.pool_config.specs.Taken.{IsUnchecked};
-ghost use Rattle.pool_config.specs.Reading.{number_in, text_in, pointer_in, from_pool, from_name, from_blocks, from_number, from_next_guid, from_root, from_tops, seen_in, config_in};
+ghost use Rattle.pool_config.specs.Reading.{number_in, text_in, pointer_in, from_pool, from_name, from_blocks};
+ghost use Rattle.pool_config.specs.Reading.{from_number, from_next_guid, from_root, from_tops, seen_in, config_in};
 ghost use Rattle.pool_config.specs.Spelling.{config_bytes};
 ghost use Rattle.pool_config.specs.Validity.{IsValid, is_valid, are_parts};
 

@@ -104,7 +104,7 @@ struct Head<'a> {
 
 fn put_head(head: &Head, out: &mut [u8]) -> usize
     requires room { 153 ≤ length out.old }
-    ensures piece { Puts out.old 0 (head_bytes head.now.pool.0 head.now.name.now head.now.blocks head.now.number.0 head.now.next_guid head.now.root.now) out.new result }
+    ensures piece { let h = head.now in Puts out.old 0 (head_bytes h.pool.0 h.name.now h.blocks h.number.0 h.next_guid h.root.now) out.new result }
     ensures stop { result ≤ 153 }
 {
     let at = put_u32(out, 0, VERSION);

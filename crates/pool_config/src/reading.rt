@@ -1,11 +1,14 @@
 //! Reading the parts of a configuration, valid or not. What reading cannot make a part of ends it: a name
 //! that is none, a log that isn't one, vdevs that make up no tree of a top.
-ghost use Rattle.std.specs.Prelude.{◌≡◌, ◌^◌, ◌≤◌, ◌==◌, ◌&&◌, ◌||◌, nat_le, false, true, length, drop, IfOk, OnOk, IsErrOf};
+ghost use Rattle.std.specs.Prelude.{◌≡◌, ◌^◌, ◌≤◌, ◌==◌, ◌&&◌, ◌||◌, nat_le, false, true, length, drop, IfOk, OnOk};
+ghost use Rattle.std.specs.Prelude.{IsErrOf};
 ghost use Rattle.std.specs.List.{list_all};
 ghost use Rattle.mp_base.specs.Name.{is_name};
 ghost use Rattle.mp_base.specs.Ranges.{Rises};
 ghost use Rattle.pool_config.specs.declared.unread.Unread.TheVariants.{NoConfig};
-ghost use Rattle.pool_config.specs.Reading.{byte_in, number_in, text_in, pointer_in, range_in, many_in, log_in, from_device, from_flags, from_log, leaf_in, kind_in, from_count, from_children, tree_in, top_in, tops_in, spares_in};
+ghost use Rattle.pool_config.specs.Reading.{byte_in, number_in, text_in, pointer_in, range_in, many_in, log_in};
+ghost use Rattle.pool_config.specs.Reading.{from_device, from_flags, from_log, leaf_in, kind_in, from_count};
+ghost use Rattle.pool_config.specs.Reading.{from_children, tree_in, top_in, tops_in, spares_in};
 ghost use Rattle.pool_config.specs.Taken.{IsTakenLeaf, IsTakenTree, IsTakenTop, AreTakenTops};
 ghost use Rattle.pool_config.specs.Validity.{rises, is_leaf_of, is_vdev_of, is_top_of};
 

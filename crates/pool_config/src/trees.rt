@@ -19,7 +19,8 @@ ghost use Rattle.std.specs.List.{flat_map, list_all};
 ghost use Rattle.group_set.specs.Groups.{holds};
 ghost use Rattle.pool_config.specs.Pieces.{Puts};
 ghost use Rattle.pool_config.specs.Seen.{leaf_seen, vdevs_of, top_seen, mirror_vdevs, ranges_of, room, fits};
-ghost use Rattle.pool_config.specs.Spelling.{range_bytes, log_bytes, leaf_bytes, kind_byte, inner_bytes, vdev_bytes, top_bytes, tops_bytes};
+ghost use Rattle.pool_config.specs.Spelling.{range_bytes, log_bytes, leaf_bytes, kind_byte, inner_bytes, vdev_bytes};
+ghost use Rattle.pool_config.specs.Spelling.{top_bytes, tops_bytes};
 
 use crate::flags::flags_of;
 use crate::pieces::{put_name, put_u8, put_u32, put_u64};

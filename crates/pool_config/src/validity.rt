@@ -5,7 +5,9 @@ ghost use Rattle.std.specs.Str.{bytes_eq};
 ghost use Rattle.mp_base.specs.Block.{zeros};
 ghost use Rattle.pool_config.specs.Members.{nothing, gathered};
 ghost use Rattle.pool_config.specs.Seen.{config_seen, top_seen, all_vdevs};
-ghost use Rattle.pool_config.specs.Validity.{is_whole, are_bounds, is_root, are_together, is_in, rises, all_differ, is_hole, is_placed, are_sized, is_drawn, are_drawn, are_devices, are_spares};
+ghost use Rattle.pool_config.specs.Validity.{is_whole, are_bounds, is_root, are_together, is_in, rises, all_differ};
+ghost use Rattle.pool_config.specs.Validity.{is_hole, is_placed, are_sized, is_drawn, are_drawn, are_devices};
+ghost use Rattle.pool_config.specs.Validity.{are_spares};
 
 use crate::config::Config;
 use crate::members::Members;

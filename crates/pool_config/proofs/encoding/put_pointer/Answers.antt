@@ -5,4 +5,5 @@ use Rattle.pool_config.proofs.encoding.put_pointer.Goals as goal
 pub returns-clause-piece : goal.returns-clause-piece
 unfolding pointer_bytes
 returns-clause-piece c =
-    puts_next (puts_next (puts_next c.put_u64-at.ensures.piece c.put_u32-at.ensures.piece) c.put_u64-at-2.ensures.piece) c.put.ensures.piece
+    puts_next (puts_next (puts_next c.put_u64-at.ensures.piece c.put_u32-at.ensures.piece) c.put_u64-at-2.ensures.piece)
+    c.put.ensures.piece

@@ -1,3 +1,4 @@
+use Rattle.pool_config.proofs.Alike.{one_spelling}
 use Rattle.pool_config.proofs.Deciding.{back, is_config, short}
 use Rattle.pool_config.proofs.laws.each_has_one_spelling.Goals as goal
 
@@ -12,3 +13,6 @@ returns-clause-spelled c = λ bytes f e. (is_config bytes f e).spelled
 
 pub returns-clause-fits : goal.returns-clause-fits
 returns-clause-fits c = short
+
+pub returns-clause-one : goal.returns-clause-one
+returns-clause-one c = one_spelling

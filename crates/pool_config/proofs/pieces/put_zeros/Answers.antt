@@ -11,5 +11,7 @@ pub returns-clause-piece : goal.returns-clause-piece
 returns-clause-piece c =
     let at = c.args.at in
     let count = c.args.count in
-    let are : c.fill.new.self ≡ zeros count = zeros_are c.fill.new.self _ count (c.fill.ensures.after (λ y e. search rules)) (search rules) in
-    puts_mid c.args.out.now c.fill.new.self (zeros count) at (at + count - at) _ are (omega (arith, ap length are, length-zeros count)) (omega arith) (omega (arith, c.requires))
+    let are : c.fill.new.self ≡ zeros count =
+    zeros_are c.fill.new.self _ count (c.fill.ensures.after (λ y e. search rules)) (search rules) in
+    puts_mid c.args.out.now c.fill.new.self (zeros count) at (at + count - at) _ are
+    (omega (arith, ap length are, length-zeros count)) (omega arith) (omega (arith, c.requires))

@@ -8,19 +8,24 @@ use Rattle.pool_config.proofs.reading.read_leaf.Goals as goal
 pub returns-in_err-log-clause-none : goal.returns-in_err-log-clause-none
 returns-in_err-log-clause-none c = λ none.
     let same = handed_on c.in_err-log.field-0.0 _ c.from_residual.result c.from_residual.ensures.1 none in
-    leaf_unlogged c.args.number c.args.cursor.now c.read_leaf_head-head.new.cursor c.read_leaf_head-head.ensures.rest (c.in_err-log.ensures.none (ap Err same))
+    leaf_unlogged c.args.number c.args.cursor.now c.read_leaf_head-head.new.cursor c.read_leaf_head-head.ensures.rest
+    (c.in_err-log.ensures.none (ap Err same))
 
 pub returns-in_err-name-clause-none : goal.returns-in_err-name-clause-none
 returns-in_err-name-clause-none c = λ none.
-    let bad = bad_name c.in_err-name.field-0.0 c.from_residual-in_err-name.result c.from_residual-in_err-name.ensures.1 none in
-    leaf_unnamed c.args.number c.args.cursor.now c.read_leaf_head-head.result.name.now c.read_leaf_head-head.ensures.name (c.in_err-name.ensures.bad.0 (ap Err bad))
+    let bad = bad_name c.in_err-name.field-0.0 c.from_residual-in_err-name.result c.from_residual-in_err-name.ensures.1
+    none in
+    leaf_unnamed c.args.number c.args.cursor.now c.read_leaf_head-head.result.name.now
+    c.read_leaf_head-head.ensures.name (c.in_err-name.ensures.bad.0 (ap Err bad))
 
 pub from_ranges-requires : goal.from_ranges-requires
-from_ranges-requires c = rw c.as_slice-2.ensures (log_rises c.args.number c.in_ok-log.log c.requires c.in_ok-log.ensures.rises)
+from_ranges-requires c =
+    rw c.as_slice-2.ensures (log_rises c.args.number c.in_ok-log.log c.requires c.in_ok-log.ensures.rises)
 
 pub returns-clause-taken : goal.returns-clause-taken
 returns-clause-taken c =
-    leaf_taken c.args.number c.args.cursor.now c.read_leaf_head-head.new.cursor c.read_leaf_head-head.result.name.now c.read_log.new.cursor c.read_leaf_head-head.result.flags c.in_ok-log.log
+    leaf_taken c.args.number c.args.cursor.now c.read_leaf_head-head.new.cursor c.read_leaf_head-head.result.name.now
+    c.read_log.new.cursor c.read_leaf_head-head.result.flags c.in_ok-log.log
     c.args.members.now c.add_leaf.new.self _
     (record {
       last = c.requires;
@@ -41,8 +46,10 @@ returns-clause-taken c =
       rising = c.in_ok-log.ensures.rises;
       stop = c.in_ok-log.ensures.rest;
       listed = c.in_ok-add_leaf.ensures
-          ∙ ap (λ (n : List ℕ). with_leaf c.args.members.now c.read_leaf_head-head.result.guid.0 n (length c.as_slice.result.now)) (sym c.name.view_is)
-          ∙ ap (λ (r : List GroupRange). with_leaf c.args.members.now c.read_leaf_head-head.result.guid.0 c.name.inside.bytes.items (length r)) c.as_slice.ensures;
+          ∙ ap (λ (n : List ℕ). with_leaf c.args.members.now c.read_leaf_head-head.result.guid.0 n
+          (length c.as_slice.result.now)) (sym c.name.view_is)
+          ∙ ap (λ (r : List GroupRange). with_leaf c.args.members.now c.read_leaf_head-head.result.guid.0
+          c.name.inside.bytes.items (length r)) c.as_slice.ensures;
       dev = refl;
       settled = c.new-2.ensures.groups;
       reads = refl;

@@ -7,7 +7,8 @@ use Rattle.pool_config.proofs.trees.+put_vdev.Given as goal
 
 abbrev pub invariant-loop-child : goal.invariant-loop-child
 invariant-loop-child l = record {
-  piece : Puts l.initial.out l.initial.stop (flat_map vdev_bytes (flat_map vdevs_of (take l.child-index l.child-items))) l.out l.stop;
+  piece : Puts l.initial.out l.initial.stop (flat_map vdev_bytes (flat_map vdevs_of (take l.child-index l.child-items)))
+      l.out l.stop;
   stop : l.stop ≤ l.initial.stop + room (flat_map vdevs_of (take l.child-index l.child-items));
 }
 

@@ -6,4 +6,5 @@ use Rattle.pool_config.proofs.trees.put_inner.Goals as goal
 pub returns-clause-piece : goal.returns-clause-piece
 unfolding inner_bytes
 returns-clause-piece c =
-    puts_next (puts_next (puts_same (ap (λ k. k ∷ []) c.kind_byte.ensures) c.put_u8-at.ensures.piece) c.put_u64-at.ensures.piece) c.put_u8.ensures.piece
+    puts_next (puts_next (puts_same (ap (λ k. k ∷ []) c.kind_byte.ensures) c.put_u8-at.ensures.piece)
+    c.put_u64-at.ensures.piece) c.put_u8.ensures.piece

@@ -5,4 +5,5 @@ use Rattle.pool_config.proofs.trees.put_log.Goals as goal
 
 pub returns-clause-piece : goal.returns-clause-piece
 unfolding log_bytes
-returns-clause-piece c = puts_next (puts_same (ap be32 c.range_count.ensures) c.put_u32-at.ensures.piece) c.put_ranges.ensures.piece
+returns-clause-piece c =
+    puts_next (puts_same (ap be32 c.range_count.ensures) c.put_u32-at.ensures.piece) c.put_ranges.ensures.piece

@@ -9,7 +9,8 @@ pub put_range-stop-requires : goal.put_range-stop-requires
 put_range-stop-requires c =
     omega (
       arith,
-      run_fits c.args.log.now c.args.out.now c.loop-low.out c.args.at c.loop-low.stop c.loop-low.from.0 c.in-Some.low.0 c.in-Some.high.0 (length c.args.out.now) c.loop-low.invariant
+      run_fits c.args.log.now c.args.out.now c.loop-low.out c.args.at c.loop-low.stop c.loop-low.from.0 c.in-Some.low.0
+          c.in-Some.high.0 (length c.args.out.now) c.loop-low.invariant
           (record {
             late = c.in-Some.ensures.from;
             order = c.in-Some.ensures.run.some;
@@ -23,7 +24,8 @@ put_range-stop-requires c =
 
 pub loop-low-preserved : goal.loop-low-preserved
 loop-low-preserved c =
-    run_put c.args.log.now c.args.out.now c.loop-low.out c.put_range-stop.new.out c.args.at c.loop-low.stop c.put_range-stop.result c.loop-low.from.0 c.in-Some.low.0 c.in-Some.high.0
+    run_put c.args.log.now c.args.out.now c.loop-low.out c.put_range-stop.new.out c.args.at c.loop-low.stop
+    c.put_range-stop.result c.loop-low.from.0 c.in-Some.low.0 c.in-Some.high.0
     c.loop-low.invariant
     (record {
       late = c.in-Some.ensures.from;
@@ -36,7 +38,11 @@ loop-low-preserved c =
     c.put_range-stop.ensures.piece c.put_range-stop.ensures.stop
 
 pub returns-clause-piece : goal.returns-clause-piece
-returns-clause-piece c = (all_put c.args.log.now c.args.out.now c.loop-low.out c.args.at c.loop-low.stop c.loop-low.from.0 c.loop-low.invariant c.in_default.ensures.none).0
+returns-clause-piece c =
+    (all_put c.args.log.now c.args.out.now c.loop-low.out c.args.at c.loop-low.stop c.loop-low.from.0
+    c.loop-low.invariant c.in_default.ensures.none).0
 
 pub returns-clause-stop : goal.returns-clause-stop
-returns-clause-stop c = (all_put c.args.log.now c.args.out.now c.loop-low.out c.args.at c.loop-low.stop c.loop-low.from.0 c.loop-low.invariant c.in_default.ensures.none).1
+returns-clause-stop c =
+    (all_put c.args.log.now c.args.out.now c.loop-low.out c.args.at c.loop-low.stop c.loop-low.from.0
+    c.loop-low.invariant c.in_default.ensures.none).1

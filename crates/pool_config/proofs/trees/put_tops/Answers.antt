@@ -10,7 +10,9 @@ use Rattle.pool_config.proofs.Rooms.{room_more, room_within}
 use Rattle.pool_config.proofs.trees.put_tops.Goals as goal
 
 pub put_top-stop-requires-clause-fit : goal.put_top-stop-requires-clause-fit
-put_top-stop-requires-clause-fit c = all_at_item fits mirror_vdevs c.args.tops.now c.loop-top.top-index c.top-item.result (omega arith) c.top-item.is c.requires.fit
+put_top-stop-requires-clause-fit c =
+    all_at_item fits mirror_vdevs c.args.tops.now c.loop-top.top-index c.top-item.result (omega arith) c.top-item.is
+    c.requires.fit
 
 pub put_top-stop-requires-clause-room : goal.put_top-stop-requires-clause-room
 put_top-stop-requires-clause-room c =
@@ -24,7 +26,8 @@ put_top-stop-requires-clause-room c =
 
 pub loop-top-preserved : goal.loop-top-preserved
 loop-top-preserved c = record {
-  piece = puts_item (λ top. top_bytes (top_seen top)) c.args.tops.now c.loop-top.top-index c.top-item.result (omega arith) c.top-item.is c.loop-top.invariant.piece c.put_top-stop.ensures.piece;
+  piece = puts_item (λ top. top_bytes (top_seen top)) c.args.tops.now c.loop-top.top-index c.top-item.result
+      (omega arith) c.top-item.is c.loop-top.invariant.piece c.put_top-stop.ensures.piece;
   stop = omega (
     arith,
     c.loop-top.invariant.stop,
@@ -37,6 +40,9 @@ pub returns-clause-piece : goal.returns-clause-piece
 unfolding tops_bytes
 returns-clause-piece c =
     let tops = c.args.tops.now in
-    let all : flat_map (λ (top : Top). top_bytes (top_seen top)) (take c.loop-top.top-index tops) ≡ flat_map top_bytes (map top_seen tops) =
-    flat_all (λ (top : Top). top_bytes (top_seen top)) tops c.loop-top.top-index (omega arith) ∙ sym (flat_mapped top_bytes top_seen tops) in
-    puts_next (puts_same (ap be32 (sym (length-map tops top_seen))) c.put_u32-stop.ensures.piece) (puts_same all c.loop-top.invariant.piece)
+    let all : flat_map (λ (top : Top). top_bytes (top_seen top)) (take c.loop-top.top-index tops)
+    ≡ flat_map top_bytes (map top_seen tops) =
+    flat_all (λ (top : Top). top_bytes (top_seen top)) tops c.loop-top.top-index (omega arith)
+    ∙ sym (flat_mapped top_bytes top_seen tops) in
+    puts_next (puts_same (ap be32 (sym (length-map tops top_seen))) c.put_u32-stop.ensures.piece)
+    (puts_same all c.loop-top.invariant.piece)

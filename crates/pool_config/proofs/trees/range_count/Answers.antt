@@ -5,4 +5,5 @@ use Rattle.pool_config.proofs.trees.range_count.Goals as goal
 
 pub returns : goal.returns
 unfolding ranges_of
-returns c = sym (upto_counted c.args.log.now (2 ^ 62) c.ranges-2.result (omega arith) c.lies_within.ensures c.ranges-2.ensures.runs)
+returns c = sym (upto_counted c.args.log.now (2 ^ 62) c.ranges-2.result (omega arith) c.lies_within.ensures
+    c.ranges-2.ensures.runs)

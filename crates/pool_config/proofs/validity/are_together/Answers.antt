@@ -8,4 +8,5 @@ pub returns : goal.returns
 unfolding are_together
 returns c =
     c.are_apart.ensures
-    ∙ ap (λ (g : Gathered). are_devices g.names && (are_drawn c.args.c.now.next_guid g.numbers && nat_le (sum g.lengths) 4096)) c.requires
+    ∙ ap (λ (g : Gathered). are_devices g.names && (are_drawn c.args.c.now.next_guid g.numbers
+    && nat_le (sum g.lengths) 4096)) c.requires

@@ -1,4 +1,4 @@
-use Rattle.std.proofs.Common.{Some, None, arith, refl, rules, subst}
+use Rattle.std.proofs.Common.{Some, None, rules, subst}
 use Rattle.bank_core.specs.Calls.{Called}
 use Rattle.bank_core.specs.MemBank.{bank_view}
 use Rattle.bank_core.specs.Memory.{call_as}
