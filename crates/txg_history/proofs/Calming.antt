@@ -2,16 +2,17 @@
 use Rattle.std.proofs.Common.{◌≡◌, ℕ, Bool, true, false, cond, List, [], Option, Some, None, refl, subst, inl}
 use Rattle.sha2.specs.Sha256.{sha256}
 use Rattle.label_store.specs.declared.rule.Head.{Head}
-use Rattle.label_store.specs.declared.uberblock.Uberblock.{Uberblock}
 use Rattle.label_store.specs.Records.{AreUnhurt}
 use Rattle.label_store.specs.Rounds.{config_of}
 use Rattle.label_store.specs.Uberblock.{uberblock_bytes}
 use Rattle.txg_history.specs.Calm.{stable_of}
+use Rattle.txg_history.specs.Events.{Known}
 use Rattle.txg_history.specs.Moves.{ReadsTrue}
 use Rattle.txg_history.specs.Openings.{IsVerifiedOn}
-use Rattle.txg_history.specs.Pools.{Pool, drawn}
-use Rattle.txg_history.specs.Premises.{HoldsLabels, Premises}
+use Rattle.txg_history.specs.Pools.{Pool}
+use Rattle.txg_history.specs.Premises.{AreNotTorn, AreOwnConfigs, AreThere, HasNoClash, HoldsLabels, Premises}
 use Rattle.txg_history.specs.Records.{Rec, IsIn}
+use Rattle.txg_history.specs.Survival.{IsAmong}
 
 shows_stable : (t : Bool) (stable bytes : List ℕ) → cond t (Some stable) None ≡ Some bytes → bytes ≡ stable
 shows_stable true stable bytes e = cc
@@ -29,9 +30,9 @@ pub stable_true : (p : Pool) → ReadsTrue p.sectors (stable_of p)
 stable_true p d s bytes e clean = shows_stable (p.member d) (p.sectors d s).stable bytes e
 
 -- A member's undamaged labels with a record, and nothing that an opening missed.
-pub premises_met : (head_of : List ℕ → Option Head) (p : Pool) (d : ℕ) (r : Rec) → HoldsLabels p d r → p.member d ≡ true → AreUnhurt (p.size d) (p.sectors d) → p.missed ≡ []
-    → ((r : Rec) (e : ℕ) (u : Uberblock) (config : List ℕ) → IsIn r (drawn p) → IsVerifiedOn head_of p.size (stable_of p) p.name e u config
-    → sha256 config ≡ sha256 (config_of r.commit) → config ≡ config_of r.commit)
+pub premises_met : (head_of : List ℕ → Option Head) (p : Pool) (d : ℕ) (r : Rec) → HoldsLabels p d r → p.member d ≡ true
+    → AreUnhurt (p.size d) (p.sectors d) → p.missed ≡ []
+    → AreOwnConfigs head_of p (stable_of p)
     → Premises head_of p (stable_of p)
 premises_met head_of p d r holds member unhurt none sums = record {
   no_clash = record {
@@ -50,4 +51,14 @@ premises_met head_of p d r holds member unhurt none sums = record {
     unhurt = unhurt;
     is_read = λ label s lt lo hi. (_, shows_some (p.member d) _ member);
   };
+}
+
+-- Where no two of the byte strings that are there have one sum, and no ring sector is torn, there is no clash.
+pub no_clash : (head_of : List ℕ → Option Head) (p : Pool) (known : Known) (strings : List (List ℕ))
+    → ((a b : List ℕ) → IsAmong a strings → IsAmong b strings → sha256 a ≡ sha256 b → a ≡ b) → AreThere head_of p known strings → AreNotTorn p known
+    → HasNoClash head_of p known
+no_clash head_of p known strings one there whole = record {
+  sums = λ r d u config i member is v e. one config (config_of r.commit) (there.found d u config v)
+      (there.written r d config i member (subst (λ u. IsVerifiedOn head_of p.size known p.name d u config) is v)) e;
+  rings = whole;
 }

@@ -33,10 +33,12 @@ or_later v vs p r same live (inr b) = inr (later_begun v vs p r same b)
 
 -- What is live behind some events was live before them, or its round began among them with what was accepted before the
 -- last freeze before that.
-pub live_contents : (c : Codec) (vs : List Event) (p : Pool) (r : Rec) → Survives c p → Mays c p vs → IsIn r (pool_after vs p).live → IsIn r p.live ⊎ BegunAt p.written p.group.content vs r
+pub live_contents : (c : Codec) (vs : List Event) (p : Pool) (r : Rec) → Survives c p → Mays c p vs → IsIn r
+    (pool_after vs p).live → IsIn r p.live ⊎ BegunAt p.written p.group.content vs r
 live_contents c [] p r sv mays i = inl i
 live_contents c (Begins q ∷ vs) p r sv mays i =
-    or_later (Begins q) vs p r (λ before a. refl) (λ i. ⊎_elim (λ e. inr (subst (BegunAt p.written p.group.content (Begins q ∷ vs)) (sym e) here)) (λ i. inl i) i)
+    or_later (Begins q) vs p r (λ before a. refl) (λ i. ⊎_elim
+    (λ e. inr (subst (BegunAt p.written p.group.content (Begins q ∷ vs)) (sym e) here)) (λ i. inl i) i)
     (live_contents c vs (after (Begins q) p) r (event_survives c p (Begins q) sv mays.0) mays.1 i)
   where
     here : BegunAt p.written p.group.content (Begins q ∷ vs) q
@@ -52,7 +54,8 @@ live_contents c (v ∷ vs) p r sv mays i =
 
 -- So it is of what an opening finds.
 pub found_contents : (c : Codec) (p : Pool) (vs : List Event) (known : Known) (u : Uberblock) (config : List ℕ) → Survives c p → Mays c p vs
-    → ReadsTrue (pool_after vs p).sectors known → Premises c.head_of (pool_after vs p) known → IsYield c.head_of (pool_after vs p).size known (pool_after vs p).name u config
+    → ReadsTrue (pool_after vs p).sectors known → Premises c.head_of (pool_after vs p) known → IsYield c.head_of
+    (pool_after vs p).size known (pool_after vs p).name u config
     → (f : FindsLive (pool_after vs p) u config) × (IsIn f.found p.live ⊎ BegunAt p.written p.group.content vs f.found)
 found_contents c p vs known u config sv mays true_to premises y =
     let f = yield_live c (pool_after vs p) known u config (history_survives c vs p sv mays) true_to premises y in

@@ -1,5 +1,29 @@
 -- A sector of a device's labels and the part that has it.
-use Rattle.std.proofs.Common.{◌≡◌, ℕ, zero, suc, ◌+◌, ◌-◌, ◌*◌, ◌<◌, ◌≤◌, Bool, true, false, List, Option, Some, None, refl, sym, ap, ◌∙◌, arith, nat_le, nat_lt}
+use Rattle.std.proofs.Common.{
+  ◌≡◌,
+  ℕ,
+  zero,
+  suc,
+  ◌+◌,
+  ◌-◌,
+  ◌*◌,
+  ◌<◌,
+  ◌≤◌,
+  Bool,
+  true,
+  false,
+  List,
+  Option,
+  Some,
+  None,
+  refl,
+  sym,
+  ap,
+  ◌∙◌,
+  arith,
+  nat_le,
+  nat_lt,
+}
 use Rattle.std.specs.Prelude.{slice_get, slice_index}
 use Rattle.std.proofs.lemmas.Bool.Decides.{nat_tests}
 use Rattle.bank_core.specs.Asks.{Reads}
@@ -156,8 +180,10 @@ device_shown size parts s bytes e =
     by false a false b true c d d' f f' = none_shown size parts s bytes (sym (rw (a, b, c) refl) ∙ e)
     by false a false b false c true d f f' =
         let lo = not_lt s (size - 128) c in let hi = is_lt s (size - 64) d in let past = not_lt s 128 b in
-        label_shown size parts 2 (size - 128) (s - (size - 128)) bytes (λ dev. refl) (λ dev. refl) (omega arith) (sym (rw (a, b, c, d) refl) ∙ e) s (omega arith)
+        label_shown size parts 2 (size - 128) (s - (size - 128)) bytes (λ dev. refl) (λ dev. refl) (omega arith)
+        (sym (rw (a, b, c, d) refl) ∙ e) s (omega arith)
     by false a false b false c false d true f =
         let lo = not_lt s (size - 64) d in let hi = is_lt s size f in
-        label_shown size parts 3 (size - 64) (s - (size - 64)) bytes (λ dev. refl) (λ dev. refl) (omega arith) (sym (rw (a, b, c, d, f) refl) ∙ e) s (omega arith)
+        label_shown size parts 3 (size - 64) (s - (size - 64)) bytes (λ dev. refl) (λ dev. refl) (omega arith)
+        (sym (rw (a, b, c, d, f) refl) ∙ e) s (omega arith)
     by false a false b false c false d false f = none_shown size parts s bytes (sym (rw (a, b, c, d, f) refl) ∙ e)

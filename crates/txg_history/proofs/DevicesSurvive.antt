@@ -1,5 +1,31 @@
 -- An opening, a stop, and devices that come to the pool and go, keep the invariant.
-use Rattle.std.proofs.Common.{◌≡◌, ◌⊎◌, ℕ, ◌+◌, ◌≤◌, ◌<◌, ◌^◌, ◌==◌, Bool, true, false, cond, List, [], ◌++◌, Some, refl, sym, ap, ◌∙◌, subst, inl, inr, arith, ⊎_elim}
+use Rattle.std.proofs.Common.{
+  ◌≡◌,
+  ◌⊎◌,
+  ℕ,
+  ◌+◌,
+  ◌≤◌,
+  ◌<◌,
+  ◌^◌,
+  ◌==◌,
+  Bool,
+  true,
+  false,
+  cond,
+  List,
+  [],
+  ◌++◌,
+  Some,
+  refl,
+  sym,
+  ap,
+  ◌∙◌,
+  subst,
+  inl,
+  inr,
+  arith,
+  ⊎_elim,
+}
 use Rattle.std.proofs.lemmas.Bool.Decides.{nat_tests}
 use Rattle.mp_base.specs.declared.number.Guid.{Guid}
 use Rattle.mp_base.specs.declared.place.Key.{Key}
@@ -31,7 +57,8 @@ opens_survive c p r sv live = record {
   labels = sv.labels;
   puts = λ d s bytes is n. true_not_false false n.is_frozen refl;
   cells = sv.cells;
-  current = λ d s bytes is n. sv.cells d s bytes is (record { r = r; is_live = live; k = n.k; cell = n.cell; cell_is = n.cell_is; in_top = n.top_is; has = n.has; at = n.at });
+  current = λ d s bytes is n. sv.cells d s bytes is
+      (record { r = r; is_live = live; k = n.k; cell = n.cell; cell_is = n.cell_is; in_top = n.top_is; has = n.has; at = n.at });
   scanned = λ d s bytes is n. true_not_false false n.running refl;
   rings = sv.rings;
   status_live = sv.status_live;
@@ -68,7 +95,13 @@ opens_survive c p r sv live = record {
   };
   boards = record { reads_first = λ f. absurd (cc); first_top = λ f. absurd (cc); off_board = λ f. absurd (cc); on_board = λ f. absurd (cc) };
   logs = record { now = λ d is leaf. sv.logs.in_records r d live is leaf; in_records = sv.logs.in_records; boarded = λ f. absurd (cc) };
-  unbroken = record { still = λ d g is held. absurd (cc); newest = λ d g is held. absurd (cc); settled_still = λ d g is held. absurd (cc); settled_live = λ d g is held. absurd (cc) };
+  unbroken = record {
+    still = λ d g is held. absurd (cc);
+    newest = λ d g is held. absurd
+        (cc);
+    settled_still = λ d g is held. absurd (cc);
+    settled_live = λ d g is held. absurd (cc);
+  };
   bounds = record { open_one = λ on. absurd (cc); hi_low = λ on. absurd (cc); scrubbed = λ on. absurd (cc) };
   fit = sv.fit;
   pools = sv.pools;
@@ -230,7 +263,8 @@ joins_survive c p d m top sv may = record {
       (λ here. true_not_false (n.r.owes (q.guid e) n.cell.birth) (unknown e here n.r n.is_live n.cell.birth) n.has)
       (λ away was. sv.cells e s bytes was (subst (λ g. NeedsCell p.live g s bytes) (at_away d e m p.guid away) n));
   current = λ e s bytes is n. split e is
-      (λ here. true_not_false (q.owes e n.cell.birth) (ap (λ log. log n.cell.birth) (at_here d e (whole_log p.highest) p.owes here) ∙ held n.k n.cell n.cell_is) n.has)
+      (λ here. true_not_false (q.owes e n.cell.birth) (ap (λ log. log n.cell.birth)
+      (at_here d e (whole_log p.highest) p.owes here) ∙ held n.k n.cell n.cell_is) n.has)
       (λ away was. sv.current e s bytes was (record {
         k = n.k;
         cell = n.cell;
@@ -254,19 +288,23 @@ joins_survive c p d m top sv may = record {
         at = n.at;
       }));
   rings = λ e place is inside. split e is
-      (λ here. subst (λ e. IsKnownRing (drawn p) p.pool (seat q e) (p.sectors e (place_at (p.size e) place)) (q.since e (place_at (p.size e) place))) (same_device d e here)
+      (λ here. subst (λ e. IsKnownRing (drawn p) p.pool (seat q e) (p.sectors e (place_at (p.size e) place))
+      (q.since e (place_at (p.size e) place))) (same_device d e here)
       (new_ring place inside))
-      (λ away was. subst (λ g. IsKnownRing (drawn p) p.pool (record { dev = e; guid = g }) (p.sectors e (place_at (p.size e) place)) (q.since e (place_at (p.size e) place)))
+      (λ away was. subst (λ g. IsKnownRing (drawn p) p.pool (record { dev = e; guid = g })
+      (p.sectors e (place_at (p.size e) place)) (q.since e (place_at (p.size e) place)))
       (sym (at_away d e m p.guid away))
       (subst (λ f. IsKnownRing (drawn p) p.pool (seat p e) (p.sectors e (place_at (p.size e) place)) (f (place_at (p.size e) place)))
       (sym (at_away d e (λ s. []) p.since away)) (sv.rings e place was inside)));
   status_live = λ e is. split e is
       (λ here. subst (IsOf p.live (q.guid e)) (sym (at_here d e Lost p.status here)) tt)
-      (λ away was. subst (IsOf p.live (q.guid e)) (sym (at_away d e Lost p.status away)) (subst (λ g. IsOf p.live g (p.status e)) (sym (at_away d e m p.guid away)) (sv.status_live e was)));
+      (λ away was. subst (IsOf p.live (q.guid e)) (sym (at_away d e Lost p.status away))
+      (subst (λ g. IsOf p.live g (p.status e)) (sym (at_away d e m p.guid away)) (sv.status_live e was)));
   roomy = record {
     sizes = λ e is. split e is (λ here. subst (λ e. 320 ≤ p.size e) (same_device d e here) may.big) (λ away was. sv.roomy.sizes e was);
     rooms = λ e is. split e is
-        (λ here. subst (λ t. p.room t + 256 ≤ p.size e) (sym (at_here d e top p.home here)) (subst (λ e. p.room top + 256 ≤ p.size e) (same_device d e here) may.rooms))
+        (λ here. subst (λ t. p.room t + 256 ≤ p.size e) (sym (at_here d e top p.home here))
+        (subst (λ e. p.room top + 256 ≤ p.size e) (same_device d e here) may.rooms))
         (λ away was. subst (λ t. p.room t + 256 ≤ p.size e) (sym (at_away d e top p.home away)) (sv.roomy.rooms e was));
     guids = λ e is. split e is
         (λ here. subst (λ g. g.0 < 2 ^ 64) (sym (at_here d e m p.guid here)) may.in_range)
@@ -355,17 +393,21 @@ joins_survive c p d m top sv may = record {
     in_log : (logs : Logs) (e g : ℕ) → q.member e ≡ true → (p.member e ≡ true → logs e g ≡ true → p.owes e g ≡ true)
         → at_device d (whole_log p.highest) logs e g ≡ true → at_device d (whole_log p.highest) p.owes e g ≡ true
     in_log logs e g is more has = split e is
-        (λ here. ap (λ log. log g) (at_here d e (whole_log p.highest) p.owes here) ∙ (sym (ap (λ log. log g) (at_here d e (whole_log p.highest) logs here)) ∙ has))
+        (λ here. ap (λ log. log g) (at_here d e (whole_log p.highest) p.owes here)
+        ∙ (sym (ap (λ log. log g) (at_here d e (whole_log p.highest) logs here)) ∙ has))
         (λ away was. ap (λ log. log g) (at_away d e (whole_log p.highest) p.owes away)
         ∙ more was (sym (ap (λ log. log g) (at_away d e (whole_log p.highest) logs away)) ∙ has))
 
     same_d : (d == d) ≡ true
     same_d = grind (arith, nat_tests)
 
-    new_ring : (place : ℕ) → place < 128 → IsKnownRing (drawn p) p.pool (seat q d) (p.sectors d (place_at (p.size d) place)) (q.since d (place_at (p.size d) place))
+    new_ring : (place : ℕ) → place < 128 → IsKnownRing (drawn p) p.pool (seat q d)
+        (p.sectors d (place_at (p.size d) place)) (q.since d (place_at (p.size d) place))
     new_ring place inside =
-        subst (λ g. IsKnownRing (drawn p) p.pool (record { dev = d; guid = g }) (p.sectors d (place_at (p.size d) place)) (q.since d (place_at (p.size d) place)))
+        subst (λ g. IsKnownRing (drawn p) p.pool (record { dev = d; guid = g })
+        (p.sectors d (place_at (p.size d) place)) (q.since d (place_at (p.size d) place)))
         (sym (at_here d d m p.guid same_d))
         (subst (λ f. IsKnownRing (drawn p) p.pool (record { dev = d; guid = m }) (p.sectors d (place_at (p.size d) place)) (f (place_at (p.size d) place)))
         (sym (at_here d d (λ s. []) p.since same_d))
-        (blank_known (drawn p) p.pool (record { dev = d; guid = m }) (p.sectors d (place_at (p.size d) place)) sv.in_range may.in_range (may.rings place inside)))
+        (blank_known (drawn p) p.pool (record { dev = d; guid = m })
+        (p.sectors d (place_at (p.size d) place)) sv.in_range may.in_range (may.rings place inside)))

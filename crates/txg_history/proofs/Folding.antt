@@ -7,7 +7,7 @@ use Rattle.bank_core.specs.Disk.{Noted, run}
 use Rattle.txg_history.specs.Events.{Event, Calls, Joins, Loses, Stops, calls_of, as_events, NeverStops, IsOneRun, TakesNone, Brings, BringsIn}
 use Rattle.txg_history.specs.Moves.{Mays}
 use Rattle.txg_history.specs.Pages.{Codec}
-use Rattle.txg_history.specs.Pools.{Pool, noted_since, other_than, after, pool_after}
+use Rattle.txg_history.specs.Pools.{Pool, since_after, copies_after, other_than, after, pool_after}
 
 -- some events, and more
 pub pool_more : (first second : List Event) (p : Pool) → pool_after (first ++ second) p ≡ pool_after second (pool_after first p)
@@ -46,14 +46,13 @@ pub events_more : (first second : List Noted) → as_events (first ++ second) �
 events_more [] second = refl
 events_more (noted ∷ first) second = ap (λ more. Calls noted ∷ more) (events_more first second)
 
--- what these calls wrote to each sector, before what was written there
-abbrev pub since_after : List Noted → (ℕ → ℕ → List (List ℕ)) → ℕ → ℕ → List (List ℕ)
-since_after [] since = since
-since_after (noted ∷ made) since = since_after made (noted_since noted.call since)
-
 -- a pool behind calls: its devices have made them, and all else is as it was
 abbrev pub with_calls : List Noted → Pool → Pool
-with_calls made p = record p { sectors = run made p.sectors; since = since_after made p.since }
+with_calls made p = record p {
+  sectors = run made p.sectors;
+  since = since_after made p.since;
+  copies = copies_after made p.copies;
+}
 
 pub calls_after : (made : List Noted) (p : Pool) → pool_after (as_events made) p ≡ with_calls made p
 calls_after [] p = refl
@@ -77,7 +76,8 @@ pub kept_along : {A : Type 0} (f : Pool → A) (Kind : Event → Type 0) → ((v
 kept_along f Kind same [] p all = refl
 kept_along f Kind same (v ∷ vs) p all = kept_along f Kind same vs (after v p) all.1 ∙ same v p all.0
 
-pub all_more : (Kind : Event → Type 0) (first second : List Event) → AllByRecursion Kind first → AllByRecursion Kind second → AllByRecursion Kind (first ++ second)
+pub all_more : (Kind : Event → Type 0) (first second : List Event) → AllByRecursion Kind first
+    → AllByRecursion Kind second → AllByRecursion Kind (first ++ second)
 all_more Kind [] second a b = b
 all_more Kind (v ∷ first) second a b = (a.0, all_more Kind first second a.1 b)
 

@@ -1,5 +1,31 @@
 -- Calls, accepted writes, and the moves of a group keep the invariant.
-use Rattle.std.proofs.Common.{◌≡◌, ◌⊎◌, ℕ, ◌+◌, ◌≤◌, ◌<◌, ◌==◌, nat_le, Bool, true, false, not, cond, List, ◌∷◌, Some, refl, sym, ap, ◌∙◌, subst, inl, inr, arith, ⊎_elim}
+use Rattle.std.proofs.Common.{
+  ◌≡◌,
+  ◌⊎◌,
+  ℕ,
+  ◌+◌,
+  ◌≤◌,
+  ◌<◌,
+  ◌==◌,
+  nat_le,
+  Bool,
+  true,
+  false,
+  not,
+  cond,
+  List,
+  ◌∷◌,
+  Some,
+  refl,
+  sym,
+  ap,
+  ◌∙◌,
+  subst,
+  inl,
+  inr,
+  arith,
+  ⊎_elim,
+}
 use Rattle.std.proofs.lemmas.Bool.Decides.{nat_tests}
 use Rattle.mp_base.specs.declared.place.Key.{Key}
 use Rattle.bank_core.specs.Disk.{Sector, Noted, after_call}
@@ -17,7 +43,21 @@ use Rattle.txg_history.specs.Survival.{Survives, IsKnownUber, IsKnownRing, IsTak
 use Rattle.txg_history.proofs.Holding.{noted_all}
 use Rattle.txg_history.proofs.Keeping.{noted_keeps, noted_held, noted_put, noted_copied}
 use Rattle.txg_history.proofs.Listing.{one_key}
-use Rattle.txg_history.proofs.Logging.{by_bool, true_not_false, not_true, at_here, at_away, grown_more, grown_false, grown_in, grown_out, grown_of, cleared_of, cleared_both, cleared_false}
+use Rattle.txg_history.proofs.Logging.{
+  by_bool,
+  true_not_false,
+  not_true,
+  at_here,
+  at_away,
+  grown_more,
+  grown_false,
+  grown_in,
+  grown_out,
+  grown_of,
+  cleared_of,
+  cleared_both,
+  cleared_false,
+}
 use Rattle.txg_history.proofs.Placing.{place_safe, one_of}
 use Rattle.txg_history.proofs.Treeing.{freeze_tree}
 
@@ -114,7 +154,8 @@ drawn_logs c p board frozen on sv leaves = record {
     of d is leaf g (inl new) = (omega (arith, new.1), new.2)
     of d is leaf g (inr old) = let bounds = sv.logs.now d is leaf g old in (bounds.0, omega (arith, bounds.1))
 
-drawn_order : (c : Codec) (p : Pool) (frozen fresh : Bool) → Survives c p → AreInOrder p.acked p.acks p.reads p.live p.given p.missed (p.highest + 1) frozen fresh
+drawn_order : (c : Codec) (p : Pool) (frozen fresh : Bool) → Survives c p
+    → AreInOrder p.acked p.acks p.reads p.live p.given p.missed (p.highest + 1) frozen fresh
 drawn_order c p frozen fresh sv = record {
   acked_live = sv.order.acked_live;
   reads_live = sv.order.reads_live;
@@ -135,7 +176,8 @@ drawn_order c p frozen fresh sv = record {
     above_all n le = omega (arith, le)
 
 -- A group is frozen.
-pub freezes_survive : (c : Codec) (p : Pool) (cells : Cells) (board : ℕ → Bool) → Survives c p → MayFreeze c p cells board → Survives c (after (Freezes cells board) p)
+pub freezes_survive : (c : Codec) (p : Pool) (cells : Cells) (board : ℕ → Bool) → Survives c p
+    → MayFreeze c p cells board → Survives c (after (Freezes cells board) p)
 freezes_survive c p cells board sv m = record {
   labels = sv.labels;
   puts = λ d s bytes is n. true_not_false false n.ended refl;
@@ -191,7 +233,8 @@ freezes_survive c p cells board sv m = record {
     moved : (a b : Cell) → AreAtOne a b → IsFree p b.top b.sector → IsFree p a.top a.sector
     moved a b one free = subst (λ t. IsFree p t a.sector) (sym one.0) (subst (λ s. IsFree p b.top s) (sym one.1) free)
 
-    covered : {cell : Cell} → IsTaken p.reads.cells cell ⊎ (((p.group.frozen ≡ true) × (p.group.begun ≡ true) × IsTaken p.group.cells cell) ⊎ IsPinned p.pinned cell)
+    covered : {cell : Cell} → IsTaken p.reads.cells cell
+        ⊎ (((p.group.frozen ≡ true) × (p.group.begun ≡ true) × IsTaken p.group.cells cell) ⊎ IsPinned p.pinned cell)
         → IsTaken p.reads.cells cell ⊎ (((true ≡ true) × (false ≡ true) × IsTaken cells cell) ⊎ IsPinned p.pinned cell)
     covered (inl t) = inl t
     covered (inr (inl t)) = true_not_false p.group.frozen t.0 m.none
@@ -240,7 +283,8 @@ wrote_survives c p k sv m = record {
 
     put_of : (d s : ℕ) (bytes : List ℕ) → p.member d ≡ true → (n : NeedsPut (after (Wrote k) p) d s bytes) → (t : Bool) → same_key k n.k ≡ t
         → cond t true (p.group.done n.k) ≡ true → IsPut p.group.flushed (p.sectors d s) bytes
-    put_of d s bytes is n true same ended = at_cell d s bytes n.cell n.at (landed_put p.group.flushed (p.sectors d (data_start + n.cell.sector)) n.cell.block m.not_flushed
+    put_of d s bytes is n true same ended = at_cell d s bytes n.cell n.at
+        (landed_put p.group.flushed (p.sectors d (data_start + n.cell.sector)) n.cell.block m.not_flushed
         (m.landed d n.cell is n.on_board (ap p.group.cells (one_key k n.k same) ∙ n.cell_is) n.top_is))
     put_of d s bytes is n false same ended = sv.puts d s bytes is (record {
       is_frozen = n.is_frozen;
@@ -372,7 +416,8 @@ leaves_survive c p d sv m = record {
     first_top = sv.boards.first_top;
     off_board = λ f e g is out low high. by_bool (d == e)
         (λ here. grown_in which p.group.first p.highest p.owes e g here low high)
-        (λ away. grown_more which p.group.first p.highest p.owes e g (sv.boards.off_board f e g is (sym (at_away d e false p.group.board away) ∙ out) low high));
+        (λ away. grown_more which p.group.first p.highest p.owes e g
+        (sv.boards.off_board f e g is (sym (at_away d e false p.group.board away) ∙ out) low high));
     on_board = λ f e g is on low high. let still = still_on d e p.group.board on in
         grown_out which p.group.first p.highest p.owes e g still.1 ∙ sv.boards.on_board f e g is still.0 low high;
   };
@@ -405,7 +450,9 @@ grows_survive c p owes sv m = record {
   labels = sv.labels;
   puts = sv.puts;
   cells = sv.cells;
-  current = λ d s bytes is n. sv.current d s bytes is (read_before p owes d s bytes (λ g less. not_true (p.owes d g) (λ has. true_not_false (owes d g) (m.more d g has) less)) n);
+  current = λ d s bytes is n. sv.current d s bytes is
+      (read_before p owes d s bytes (λ g less. not_true (p.owes d g)
+      (λ has. true_not_false (owes d g) (m.more d g has) less)) n);
   scanned = sv.scanned;
   rings = sv.rings;
   status_live = sv.status_live;
@@ -503,14 +550,16 @@ burns_survive c p sv m = record {
   in_range = sv.in_range;
 }
   where
-    still_has : (d : ℕ) (k : Key) (cell : Cell) → p.reads.cells k ≡ Some cell → ((p.group.first ≤ cell.birth) × (cell.birth ≤ p.highest)) ⊎ (p.owes d cell.birth ≡ false)
+    still_has : (d : ℕ) (k : Key) (cell : Cell) → p.reads.cells k ≡ Some cell
+        → ((p.group.first ≤ cell.birth) × (cell.birth ≤ p.highest)) ⊎ (p.owes d cell.birth ≡ false)
         → p.owes d cell.birth ≡ false
     still_has d k cell is (inl new) =
         let old = sv.one_key.births p.reads k cell sv.order.reads_live is in
         let above = sv.boards.reads_first m in absurd (omega (arith, new.0, old, above))
     still_has d k cell is (inr old) = old
 
-    pinned_now : (t : Bool) (cell : Cell) → p.group.begun ≡ t → IsTaken p.group.cells cell → t ≡ true → IsPinned (cond t (p.group.cells ∷ p.pinned) p.pinned) cell
+    pinned_now : (t : Bool) (cell : Cell) → p.group.begun ≡ t → IsTaken p.group.cells cell → t ≡ true → IsPinned
+        (cond t (p.group.cells ∷ p.pinned) p.pinned) cell
     pinned_now true cell e t on = inl t
     pinned_now false cell e t on = absurd (cc)
 
@@ -518,8 +567,10 @@ burns_survive c p sv m = record {
     pinned_more true cell t = inr t
     pinned_more false cell t = t
 
-    covered : {cell : Cell} → IsTaken p.reads.cells cell ⊎ (((p.group.frozen ≡ true) × (p.group.begun ≡ true) × IsTaken p.group.cells cell) ⊎ IsPinned p.pinned cell)
-        → IsTaken p.reads.cells cell ⊎ (((false ≡ true) × (p.group.begun ≡ true) × IsTaken p.group.cells cell) ⊎ IsPinned (cond p.group.begun (p.group.cells ∷ p.pinned) p.pinned) cell)
+    covered : {cell : Cell} → IsTaken p.reads.cells cell
+        ⊎ (((p.group.frozen ≡ true) × (p.group.begun ≡ true) × IsTaken p.group.cells cell) ⊎ IsPinned p.pinned cell)
+        → IsTaken p.reads.cells cell ⊎ (((false ≡ true) × (p.group.begun ≡ true) × IsTaken p.group.cells cell)
+        ⊎ IsPinned (cond p.group.begun (p.group.cells ∷ p.pinned) p.pinned) cell)
     covered (inl t) = inl t
     covered {cell} (inr (inl t)) = inr (inr (pinned_now p.group.begun cell refl t.2 t.1))
     covered {cell} (inr (inr t)) = inr (inr (pinned_more p.group.begun cell t))

@@ -1,7 +1,29 @@
 -- What a call and a stop leave of a sector that is held, and of a ring's sector.
 use Rattle.std.proofs.Common.{◌≡◌, ◌⊎◌, ℕ, ◌-◌, ◌==◌, ◌&&◌, Bool, true, false, cond, List, ◌∷◌, Option, Some, None, refl, sym, ◌∙◌, subst, inl, inr, is_none}
 use Rattle.bank_core.specs.declared.bank.Fault.{Fault}
-use Rattle.bank_core.specs.Disk.{Sector, Pending, Nothing, Written, Failing, Call, Read, Write, Flush, Admit, Eject, Noted, covers, sectors_in, sector_of, hurt, after_write, after_flush, effect, after_call, IsClean}
+use Rattle.bank_core.specs.Disk.{
+  Sector,
+  Pending,
+  Nothing,
+  Written,
+  Failing,
+  Call,
+  Read,
+  Write,
+  Flush,
+  Admit,
+  Eject,
+  Noted,
+  covers,
+  sectors_in,
+  sector_of,
+  hurt,
+  after_write,
+  after_flush,
+  effect,
+  after_call,
+  IsClean,
+}
 use Rattle.bank_core.specs.Standing.{touches}
 use Rattle.txg_history.specs.Moves.{IsPlain, puts}
 use Rattle.txg_history.specs.Needs.{Held}
@@ -41,7 +63,8 @@ call_held (Admit dev holds) d s x b e h = rw e h
 call_held (Eject dev) d s x b e h = h
 
 -- and a stop: what is clean shows what it held, and what is damaged stays so
-pub stop_held : (x y : Sector) (b : List ℕ) → y.pending ≡ Nothing → (IsClean x → y.stable ≡ x.stable) → (x.damaged ≡ true → y.damaged ≡ true) → Held x b → Held y b
+pub stop_held : (x y : Sector) (b : List ℕ) → y.pending ≡ Nothing → (IsClean x → y.stable ≡ x.stable)
+    → (x.damaged ≡ true → y.damaged ≡ true) → Held x b → Held y b
 stop_held x y b still shows damage h = record { still = still; stands = by_test x.damaged refl h.stands }
   where
     by_test : (t : Bool) → x.damaged ≡ t → (x.stable ≡ b) ⊎ (x.damaged ≡ true) → (y.stable ≡ b) ⊎ (y.damaged ≡ true)
@@ -70,13 +93,19 @@ write_all P fault bytes x since is all = record { stable = all.stable; since_all
 
 flush_all : (P : List ℕ → Type 0) (p : Pending) (x : Sector) (since : List (List ℕ)) → x.pending ≡ p → AreAll P x since → AreAll P (after_flush p x) since
 flush_all P Nothing x since e all = all
-flush_all P (Written b) x since e all = record { stable = all.since_all b (subst (λ p. IsNoted p since) e all.pending); since_all = all.since_all; pending = tt }
+flush_all P (Written b) x since e all = record {
+  stable = all.since_all b
+      (subst (λ p. IsNoted p since) e all.pending);
+  since_all = all.since_all;
+  pending = tt;
+}
 flush_all P (Failing b) x since e all = all
 
 hurt_all : (P : List ℕ → Type 0) (damage : Bool) (x : Sector) (since : List (List ℕ)) → AreAll P x since → AreAll P (hurt damage x) since
 hurt_all P damage x since all = record { stable = all.stable; since_all = all.since_all; pending = all.pending }
 
-write_if : (P : List ℕ → Type 0) (t : Bool) (fault : Option Fault) (bytes : List ℕ) (x : Sector) (since : List (List ℕ)) → (t ≡ true → P bytes) → AreAll P x since
+write_if : (P : List ℕ → Type 0) (t : Bool) (fault : Option Fault) (bytes : List ℕ) (x : Sector) (since : List (List ℕ))
+    → (t ≡ true → P bytes) → AreAll P x since
     → AreAll P (cond t (record { stable = x.stable; pending = after_write fault bytes; damaged = x.damaged }) x) (cond t (bytes ∷ since) since)
 write_if P true fault bytes x since is all = write_all P fault bytes x since (is refl) all
 write_if P false fault bytes x since is all = all
@@ -98,4 +127,5 @@ call_all P (Eject dev) d s x since plain is all = absurd plain
 -- with the damage that comes with it
 pub noted_all : (P : List ℕ → Type 0) (noted : Noted) (d s : ℕ) (x : Sector) (since : ℕ → ℕ → List (List ℕ)) → IsPlain noted.call
     → (touches noted.call d s ≡ true → P (puts noted.call s)) → AreAll P x (since d s) → AreAll P (after_call noted d s x) (noted_since noted.call since d s)
-noted_all P noted d s x since plain is all = call_all P noted.call d s (hurt (noted.damage d s) x) since plain is (hurt_all P (noted.damage d s) x (since d s) all)
+noted_all P noted d s x since plain is all = call_all P noted.call d s (hurt (noted.damage d s) x) since plain is
+    (hurt_all P (noted.damage d s) x (since d s) all)

@@ -1,7 +1,29 @@
 -- What a call, more damage and a stop leave of a sector that keeps a block, or where one has landed or was copied.
 use Rattle.std.proofs.Common.{◌≡◌, ◌⊎◌, ℕ, ◌-◌, ◌==◌, ◌&&◌, Bool, true, false, cond, List, Option, Some, None, refl, sym, subst, inl, inr, is_none}
 use Rattle.bank_core.specs.declared.bank.Fault.{Fault}
-use Rattle.bank_core.specs.Disk.{Sector, Pending, Nothing, Written, Failing, Call, Read, Write, Flush, Admit, Eject, Noted, covers, sectors_in, sector_of, hurt, after_write, after_flush, effect, after_call, IsClean}
+use Rattle.bank_core.specs.Disk.{
+  Sector,
+  Pending,
+  Nothing,
+  Written,
+  Failing,
+  Call,
+  Read,
+  Write,
+  Flush,
+  Admit,
+  Eject,
+  Noted,
+  covers,
+  sectors_in,
+  sector_of,
+  hurt,
+  after_write,
+  after_flush,
+  effect,
+  after_call,
+  IsClean,
+}
 use Rattle.bank_core.specs.Standing.{touches}
 use Rattle.txg_history.specs.Moves.{IsPlain, puts}
 use Rattle.txg_history.specs.Needs.{Held, IsOnTheWay, Keeps, Landed, Copied, IsPut}
@@ -53,17 +75,20 @@ flush_keeps true x b (inr k) = flushed_keeps x.pending x b refl k.1 k.0
 
 pub call_keeps : (call : Call) (d s : ℕ) (x : Sector) (b : List ℕ) → IsPlain call → IsSoft call d s x b → Keeps x b → Keeps (effect call d s x) b
 call_keeps (Read dev at bytes fault) d s x b plain soft k = k
-call_keeps (Write dev at bytes fault) d s x b plain soft k = write_keeps ((dev == d) && covers at (sectors_in bytes) s) fault (sector_of (s - at) bytes) b x soft k
+call_keeps (Write dev at bytes fault) d s x b plain soft k = write_keeps
+    ((dev == d) && covers at (sectors_in bytes) s) fault (sector_of (s - at) bytes) b x soft k
 call_keeps (Flush dev fault) d s x b plain soft k = flush_keeps ((dev == d) && is_none fault) x b k
 call_keeps (Admit dev holds) d s x b plain soft k = absurd plain
 call_keeps (Eject dev) d s x b plain soft k = absurd plain
 
 -- with the damage that comes with it
-pub noted_keeps : (noted : Noted) (d s : ℕ) (x : Sector) (b : List ℕ) → IsPlain noted.call → IsSoft noted.call d s x b → Keeps x b → Keeps (after_call noted d s x) b
+pub noted_keeps : (noted : Noted) (d s : ℕ) (x : Sector) (b : List ℕ) → IsPlain noted.call → IsSoft noted.call d s x b
+    → Keeps x b → Keeps (after_call noted d s x) b
 noted_keeps noted d s x b plain soft k =
     call_keeps noted.call d s (hurt (noted.damage d s) x) b plain (hurt_soft noted.call (noted.damage d s) d s x b soft) (hurt_keeps (noted.damage d s) x b k)
 
-pub stop_keeps : (x y : Sector) (b : List ℕ) → y.pending ≡ Nothing → (IsClean x → y.stable ≡ x.stable) → (x.damaged ≡ true → y.damaged ≡ true) → Keeps x b → Keeps y b
+pub stop_keeps : (x y : Sector) (b : List ℕ) → y.pending ≡ Nothing → (IsClean x → y.stable ≡ x.stable)
+    → (x.damaged ≡ true → y.damaged ≡ true) → Keeps x b → Keeps y b
 stop_keeps x y b still shows damage (inl k) =
     held_keeps y b (stop_held x y b still shows damage (record { still = k.1; stands = inl k.0 }))
 stop_keeps x y b still shows damage (inr k) = inr (damage k.0, on_the_way y.pending b still)
@@ -90,7 +115,8 @@ noted_landed noted d s x b off (inr h) = inr (call_held noted.call d s (hurt (no
 pub noted_held : (noted : Noted) (d s : ℕ) (x : Sector) (b : List ℕ) → touches noted.call d s ≡ false → Held x b → Held (after_call noted d s x) b
 noted_held noted d s x b off h = call_held noted.call d s (hurt (noted.damage d s) x) b off (hurt_held (noted.damage d s) x b h)
 
-pub noted_put : (flushed : Bool) (noted : Noted) (d s : ℕ) (x : Sector) (b : List ℕ) → touches noted.call d s ≡ false → IsPut flushed x b → IsPut flushed (after_call noted d s x) b
+pub noted_put : (flushed : Bool) (noted : Noted) (d s : ℕ) (x : Sector) (b : List ℕ) → touches noted.call d s ≡ false
+    → IsPut flushed x b → IsPut flushed (after_call noted d s x) b
 noted_put true noted d s x b off h = noted_held noted d s x b off h
 noted_put false noted d s x b off h = noted_landed noted d s x b off h
 
@@ -113,7 +139,8 @@ way_copied (Flush dev fault) d s x b plain (inr soft) e = landed_copied (effect 
 way_copied (Admit dev holds) d s x b plain (inr soft) e = absurd plain
 way_copied (Eject dev) d s x b plain (inr soft) e = absurd plain
 
-pub noted_copied : (noted : Noted) (d s : ℕ) (x : Sector) (b : List ℕ) → IsPlain noted.call → IsSoft noted.call d s x b → Copied x b → Copied (after_call noted d s x) b
+pub noted_copied : (noted : Noted) (d s : ℕ) (x : Sector) (b : List ℕ) → IsPlain noted.call → IsSoft noted.call d s x b
+    → Copied x b → Copied (after_call noted d s x) b
 noted_copied noted d s x b plain soft (inl k) = inl (noted_keeps noted d s x b plain soft k)
 noted_copied noted d s x b plain soft (inr e) =
     way_copied noted.call d s (hurt (noted.damage d s) x) b plain (hurt_soft noted.call (noted.damage d s) d s x b soft) e

@@ -1,10 +1,61 @@
 -- What a whole part of one member brings to a sector, through the phase of all.
-use Rattle.std.proofs.Common.{◌≡◌, ◌≢◌, ℕ, zero, suc, ◌+◌, ◌-◌, nat_le, nat_lt, ◌==◌, ◌&&◌, Bool, true, false, cond, List, [], ◌∷◌, length, Some, None, refl, sym, ap, ◌∙◌, subst, inl, inr, arith}
+use Rattle.std.proofs.Common.{
+  ◌≡◌,
+  ◌≢◌,
+  ℕ,
+  zero,
+  suc,
+  ◌+◌,
+  ◌-◌,
+  nat_le,
+  nat_lt,
+  ◌==◌,
+  ◌&&◌,
+  Bool,
+  true,
+  false,
+  cond,
+  List,
+  [],
+  ◌∷◌,
+  length,
+  Some,
+  None,
+  refl,
+  sym,
+  ap,
+  ◌∙◌,
+  subst,
+  inl,
+  inr,
+  arith,
+}
 use Rattle.std.specs.Prelude.{slice_get}
 use Rattle.std.proofs.lemmas.Bool.Decides.{nat_tests}
 use Rattle.bank_core.specs.Asks.{Ask, Writes, Flushes, ask_of, IsPart}
 use Rattle.bank_core.specs.Calls.{fault_of}
-use Rattle.bank_core.specs.Disk.{Sector, Pending, Nothing, Written, Failing, Call, Read, Write, Flush, Admit, Eject, Noted, replay, hurt, effect, after_call, after_flush, covers, sectors_in, sector_of}
+use Rattle.bank_core.specs.Disk.{
+  Sector,
+  Pending,
+  Nothing,
+  Written,
+  Failing,
+  Call,
+  Read,
+  Write,
+  Flush,
+  Admit,
+  Eject,
+  Noted,
+  replay,
+  hurt,
+  effect,
+  after_call,
+  after_flush,
+  covers,
+  sectors_in,
+  sector_of,
+}
 use Rattle.bank_core.specs.Standing.{Untouched}
 use Rattle.bank_core.proofs.Composing.{replay_more}
 use Rattle.label_store.specs.declared.member.Member.{Member}
@@ -24,10 +75,13 @@ untouched_held [] d s x b u h = h
 untouched_held (noted ∷ made) d s x b u h = untouched_held made d s (after_call noted d s x) b u.1 (noted_held noted d s x b u.0 h)
 
 -- A member that ends the phase brings a sector from one state to another, and the turns of the others keep both.
-pub phase_brings : (plan : Member → List Ask) (P Q : Sector → Type 0) (ms : List Member) (was is : List Bool) (made : List Noted) (i : ℕ) (m : Member) (d s : ℕ) (x : Sector)
+pub phase_brings : (plan : Member → List Ask) (P Q : Sector → Type 0) (ms : List Member) (was is : List Bool)
+    (made : List Noted) (i : ℕ) (m : Member) (d s : ℕ) (x : Sector)
     → slice_get ms i ≡ Some m → slice_get is i ≡ Some true
-    → ((j : ℕ) (n : Member) → slice_get ms j ≡ Some n → j ≢ i → (b c : Bool) (mine : List Noted) (y : Sector) → IsTurn (plan n) b c mine → P y → P (replay mine d s y))
-    → ((j : ℕ) (n : Member) → slice_get ms j ≡ Some n → j ≢ i → (b c : Bool) (mine : List Noted) (y : Sector) → IsTurn (plan n) b c mine → Q y → Q (replay mine d s y))
+    → ((j : ℕ) (n : Member) → slice_get ms j ≡ Some n → j ≢ i → (b c : Bool) (mine : List Noted) (y : Sector) → IsTurn
+    (plan n) b c mine → P y → P (replay mine d s y))
+    → ((j : ℕ) (n : Member) → slice_get ms j ≡ Some n → j ≢ i → (b c : Bool) (mine : List Noted) (y : Sector) → IsTurn
+    (plan n) b c mine → Q y → Q (replay mine d s y))
     → ((mine : List Noted) (y : Sector) → IsPart (plan m) mine None → P y → Q (replay mine d s y))
     → IsPhase plan ms was is made → P x → Q (replay made d s x)
 phase_brings plan P Q [] was is made i m d s x e f keep_p keep_q brings ph px = absurd (no_member m e)
@@ -37,13 +91,15 @@ phase_brings plan P Q (n ∷ ms) (b ∷ was) (c ∷ is) made zero m d s x e f ke
     subst (λ calls. Q (replay calls d s x)) (sym ph.2)
     (subst Q (sym (replay_more ph.0 ph.1 d s x))
     (keeps_rest plan Q ms was is ph.1 d s (replay ph.0 d s x) (λ j n' e'. keep_q (suc j) n' e' (omega arith)) ph.4
-    (brings ph.0 x (subst (λ o. IsPart (plan o) ph.0 None) (same_member n m e) (whole_part (plan n) b ph.0 (subst (λ c. IsTurn (plan n) b c ph.0) (same_bool c true f) ph.3))) px)))
+    (brings ph.0 x (subst (λ o. IsPart (plan o) ph.0 None) (same_member n m e)
+    (whole_part (plan n) b ph.0 (subst (λ c. IsTurn (plan n) b c ph.0) (same_bool c true f) ph.3))) px)))
   where
     same_bool : (b c : Bool) → Some b ≡ Some c → b ≡ c
     same_bool b c e = cc
 
     keeps_rest : (plan : Member → List Ask) (Q : Sector → Type 0) (ms : List Member) (was is : List Bool) (made : List Noted) (d s : ℕ) (x : Sector)
-        → ((j : ℕ) (n : Member) → slice_get ms j ≡ Some n → (b c : Bool) (mine : List Noted) (y : Sector) → IsTurn (plan n) b c mine → Q y → Q (replay mine d s y))
+        → ((j : ℕ) (n : Member) → slice_get ms j ≡ Some n → (b c : Bool) (mine : List Noted) (y : Sector) → IsTurn
+        (plan n) b c mine → Q y → Q (replay mine d s y))
         → IsPhase plan ms was is made → Q x → Q (replay made d s x)
     keeps_rest plan Q [] [] [] made d s x keep ph q = subst (λ calls. Q (replay calls d s x)) (sym ph) q
     keeps_rest plan Q [] [] (c ∷ is) made d s x keep ph q = absurd ph
@@ -62,7 +118,8 @@ phase_brings plan P Q (n ∷ ms) (b ∷ was) (c ∷ is) made (suc i) m d s x e f
     (keep_p zero n refl (omega arith) b c ph.0 x ph.3 px)))
 
 -- the one call of a whole part of one ask
-one_call : (ask : Ask) (mine : List Noted) → IsPart (ask ∷ []) mine None → (noted : Noted) × (mine ≡ noted ∷ []) × (ask_of noted.call ≡ ask) × (fault_of noted.call ≡ None)
+one_call : (ask : Ask) (mine : List Noted) → IsPart (ask ∷ []) mine None → (noted : Noted) × (mine ≡ noted ∷ [])
+    × (ask_of noted.call ≡ ask) × (fault_of noted.call ≡ None)
 one_call ask [] part = absurd part
 one_call ask (noted ∷ []) (is, inl (ok, more)) = (noted, refl, is, ok)
 one_call ask (noted ∷ other ∷ more) (is, inl (ok, rest)) = absurd rest
@@ -100,11 +157,18 @@ written_lands dev at block y long one first = of ((dev == dev) && covers at (sec
         at_high : (n : ℕ) → n ≡ 1 → nat_lt at (at + n) ≡ true
         at_high n e = grind (arith, nat_tests)
 
-    of : (t : Bool) → t ≡ true → (cond t (record { stable = y.stable; pending = Written (sector_of (at - at) block); damaged = y.damaged }) y).pending ≡ Written block
+    of : (t : Bool) → t ≡ true → (cond t
+        (record {
+          stable = y.stable;
+          pending = Written (sector_of
+              (at - at) block);
+          damaged = y.damaged;
+        }) y).pending ≡ Written block
     of true e = ap Written first
     of false e = absurd (cc)
 
-pub write_lands : (dev at : ℕ) (block : List ℕ) (mine : List Noted) (y : Sector) → length block ≡ 4096 → sectors_in block ≡ 1 → sector_of (at - at) block ≡ block
+pub write_lands : (dev at : ℕ) (block : List ℕ) (mine : List Noted) (y : Sector) → length block ≡ 4096
+    → sectors_in block ≡ 1 → sector_of (at - at) block ≡ block
     → IsPart (Writes dev at block ∷ []) mine None → Landed (replay mine dev at y) block
 write_lands dev at block mine y long one first part =
     let w = one_call (Writes dev at block) mine part in
@@ -147,6 +211,9 @@ flush_holds dev s b mine y part landed =
     same_dev : ((dev == dev) && true) ≡ true
     same_dev = let e : (dev == dev) ≡ true = grind (arith, nat_tests) in rw e refl
 
-    of : (t : Bool) → t ≡ true → Held (cond t (after_flush y.pending (hurt ((one_call (Flushes dev) mine part).0.damage dev s) y)) (hurt ((one_call (Flushes dev) mine part).0.damage dev s) y)) b
-    of true e = flushed_holds y.pending (hurt ((one_call (Flushes dev) mine part).0.damage dev s) y) b refl (hurt_landed ((one_call (Flushes dev) mine part).0.damage dev s) y b landed)
+    of : (t : Bool) → t ≡ true → Held (cond t
+        (after_flush y.pending (hurt ((one_call (Flushes dev) mine part).0.damage dev s) y))
+        (hurt ((one_call (Flushes dev) mine part).0.damage dev s) y)) b
+    of true e = flushed_holds y.pending (hurt ((one_call (Flushes dev) mine part).0.damage dev s) y) b refl
+        (hurt_landed ((one_call (Flushes dev) mine part).0.damage dev s) y b landed)
     of false e = absurd (cc)

@@ -1,15 +1,15 @@
 -- The members of a turn or a round that failed leave the board.
-use Rattle.std.proofs.Common.{◌≡◌, ℕ, zero, suc, ◌==◌, Bool, true, false, List, [], ◌∷◌, Some, refl, sym, ap, ◌∙◌}
+use Rattle.std.proofs.Common.{◌≡◌, ℕ, zero, suc, ◌==◌, ◌&&◌, ◌||◌, Bool, true, false, cond, List, [], ◌∷◌, Some, refl, sym, ap, ◌∙◌}
 use Rattle.std.specs.Prelude.{slice_get}
 use Rattle.label_store.specs.declared.member.Member.{Member}
 use Rattle.label_store.proofs.Keeping.{same_member, no_member}
 use Rattle.std.proofs.lemmas.Bool.{eq-eqb}
 use Rattle.txg_history.specs.Events.{Leaves, calls_of}
-use Rattle.txg_history.specs.Groups.{Logs, at_device, grown}
+use Rattle.txg_history.specs.Groups.{Logs, at_device, between, grown}
 use Rattle.txg_history.specs.Moves.{Mays}
 use Rattle.txg_history.specs.Pages.{Codec}
 use Rattle.txg_history.specs.Pools.{Pool, after, pool_after}
-use Rattle.txg_history.specs.Turns.{leavers, IsBoardBehind}
+use Rattle.txg_history.specs.Turns.{leavers, fails, IsBoardBehind}
 use Rattle.txg_history.proofs.Logging.{by_bool, true_not_false, at_here, at_away, same_device}
 use Rattle.txg_history.proofs.Folding.{taken_false}
 
@@ -36,7 +36,11 @@ left_owes first last (m ∷ ms) (true ∷ results) owes = left_owes first last m
 left_owes first last (m ∷ ms) (false ∷ results) owes = left_owes first last ms results (grown (λ e. m.dev == e) first last owes)
 
 abbrev pub without : List Member → List Bool → Pool → Pool
-without ms results p = record p { owes = left_owes p.group.first p.highest ms results p.owes; group = record (p.group) { board = left_board ms results p.group.board } }
+without ms results p = record p {
+  owes = left_owes p.group.first p.highest ms results p.owes;
+  group = record
+      (p.group) { board = left_board ms results p.group.board };
+}
 
 pub leavers_pool : (ms : List Member) (results : List Bool) (p : Pool) → pool_after (leavers ms results) p ≡ without ms results p
 leavers_pool [] results p = refl
@@ -87,3 +91,36 @@ board_behind ms results board = record {
   good = λ d i m c is at here on. left_good ms results board d i m c is at here on;
   stays = λ d on good. left_stays ms results board d on good;
 }
+
+or_fails : (e f : Bool) (y : Bool) → cond f false (cond e false y) ≡ cond (e || f) false y
+or_fails true true y = refl
+or_fails true false y = refl
+or_fails false true y = refl
+or_fails false false y = refl
+
+pub left_board_is : (ms : List Member) (results : List Bool) (board : ℕ → Bool) (d : ℕ)
+    → left_board ms results board d ≡ cond (fails ms results d) false (board d)
+left_board_is [] results board d = refl
+left_board_is (m ∷ ms) [] board d = refl
+left_board_is (m ∷ ms) (true ∷ results) board d = left_board_is ms results board d
+left_board_is (m ∷ ms) (false ∷ results) board d =
+    left_board_is ms results (at_device m.dev false board) d ∙ or_fails (m.dev == d) (fails ms results d) (board d)
+
+or_grown : (e f b y : Bool) → cond (f && b) true (cond (e && b) true y) ≡ cond ((e || f) && b) true y
+or_grown true true true y = refl
+or_grown true true false y = refl
+or_grown true false true y = refl
+or_grown true false false y = refl
+or_grown false true true y = refl
+or_grown false true false y = refl
+or_grown false false true y = refl
+or_grown false false false y = refl
+
+pub left_owes_is : (first last : ℕ) (ms : List Member) (results : List Bool) (owes : Logs) (d g : ℕ)
+    → left_owes first last ms results owes d g ≡ grown (fails ms results) first last owes d g
+left_owes_is first last [] results owes d g = refl
+left_owes_is first last (m ∷ ms) [] owes d g = refl
+left_owes_is first last (m ∷ ms) (true ∷ results) owes d g = left_owes_is first last ms results owes d g
+left_owes_is first last (m ∷ ms) (false ∷ results) owes d g =
+    left_owes_is first last ms results (grown (λ e. m.dev == e) first last owes) d g
+    ∙ or_grown (m.dev == d) (fails ms results d) (between first last g) (owes d g)

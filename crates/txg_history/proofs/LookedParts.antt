@@ -1,8 +1,55 @@
 -- What the reads of a look gave: whole sectors, and the stable bytes of the clean ones.
-use Rattle.std.proofs.Common.{◌≡◌, ℕ, zero, suc, ◌+◌, ◌*◌, ◌%◌, ◌<◌, Bool, true, false, cond, List, [], ◌∷◌, ◌++◌, length, Some, None, refl, sym, ap, ◌∙◌, subst, arith}
+use Rattle.std.proofs.Common.{
+  ◌≡◌,
+  ℕ,
+  zero,
+  suc,
+  ◌+◌,
+  ◌*◌,
+  ◌%◌,
+  ◌<◌,
+  Bool,
+  true,
+  false,
+  cond,
+  List,
+  [],
+  ◌∷◌,
+  ◌++◌,
+  length,
+  Some,
+  None,
+  refl,
+  sym,
+  ap,
+  ◌∙◌,
+  subst,
+  arith,
+}
 use Rattle.std.specs.Prelude.{slice_get}
 use Rattle.bank_core.specs.Asks.{Ask, Reads, Writes, Flushes, Admits, Ejects, ask_of, asks_of}
-use Rattle.bank_core.specs.Disk.{Sector, Sectors, Call, Read, Write, Flush, Admit, Eject, Noted, sector_size, sectors_in, sector_of, hurt, effect, replay, run, IsClean, ShowsStable, Answers, AllAnswer}
+use Rattle.bank_core.specs.Disk.{
+  Sector,
+  Sectors,
+  Call,
+  Read,
+  Write,
+  Flush,
+  Admit,
+  Eject,
+  Noted,
+  sector_size,
+  sectors_in,
+  sector_of,
+  hurt,
+  effect,
+  replay,
+  run,
+  IsClean,
+  ShowsStable,
+  Answers,
+  AllAnswer,
+}
 use Rattle.label_store.specs.Newest.{Parts, parts_of, given_by, look_asks, IsLook}
 
 pub same_some : {X : Type 0} (a b : X) → Some a ≡ Some b → a ≡ b
@@ -49,7 +96,8 @@ read_later (Eject dev) d s x is = absurd is
 pub reads_later : (made : List Noted) (d s : ℕ) (x : Sector) → AreReads (asks_of made) → IsLater x (replay made d s x)
 reads_later [] d s x are = record { stable = refl; pending = refl; sound = λ e. e }
 reads_later (noted ∷ made) d s x are =
-    later_more x _ _ (hurt_later (noted.damage d s) x) (later_more (hurt (noted.damage d s) x) _ _ (read_later noted.call d s _ are.0) (reads_later made d s _ are.1))
+    later_more x _ _ (hurt_later (noted.damage d s) x)
+    (later_more (hurt (noted.damage d s) x) _ _ (read_later noted.call d s _ are.0) (reads_later made d s _ are.1))
 
 pub clean_before : (x y : Sector) → IsLater x y → IsClean y → IsClean x
 clean_before x y l c = record { still = sym l.pending ∙ c.still; sound = l.sound c.sound }
@@ -105,7 +153,8 @@ no_given : (part : List ℕ) → None ≡ Some part → ⊥
 no_given part e = cc
 
 -- it is a read that answered Ok
-pub given_is : (call : Call) (part : List ℕ) (dev at n : ℕ) → given_by call ≡ Some part → Reads dev at n ≡ ask_of call → (call ≡ Read dev at part None) × (sectors_in part ≡ n)
+pub given_is : (call : Call) (part : List ℕ) (dev at n : ℕ) → given_by call ≡ Some part → Reads dev at n ≡ ask_of call
+    → (call ≡ Read dev at part None) × (sectors_in part ≡ n)
 given_is (Read dev' at' bytes None) part dev at n e ask =
     let b : bytes ≡ part = same_some bytes part e in
     let same = asked dev dev' at at' n (sectors_in bytes) ask in
@@ -135,7 +184,8 @@ pub looked_call : (size dev : ℕ) (parts : Parts) (mine : List Noted) (k at n :
     → (noted : Noted) × (slice_get mine k ≡ Some noted) × (noted.call ≡ Read dev at part None) × (sectors_in part ≡ n)
 looked_call size dev parts mine k at n part asks are ask got =
     let p = part_call mine k part (ap (λ l. slice_get l k) (sym are) ∙ got) in
-    let same : Reads dev at n ≡ ask_of p.noted.call = same_some (Reads dev at n) (ask_of p.noted.call) (sym ask ∙ ap (λ l. slice_get l k) (sym asks) ∙ p.ask_is) in
+    let same : Reads dev at n ≡ ask_of p.noted.call = same_some (Reads dev at n) (ask_of p.noted.call)
+    (sym ask ∙ ap (λ l. slice_get l k) (sym asks) ∙ p.ask_is) in
     let is = given_is p.noted.call part dev at n p.gives same in
     (p.noted, p.noted_is, is.0, is.1)
 
@@ -151,7 +201,8 @@ part_long size dev parts k at n part l ask got =
 
 -- A part shows what is stable on the clean sectors behind the look.
 pub part_shows : (size dev : ℕ) (parts : Parts) (mine : List Noted) (sectors : Sectors) (k at n : ℕ) (part : List ℕ) → AllAnswer sectors mine
-    → asks_of mine ≡ look_asks dev size → parts ≡ parts_of mine → slice_get (look_asks dev size) k ≡ Some (Reads dev at n) → slice_get parts k ≡ Some (Some part)
+    → asks_of mine ≡ look_asks dev size → parts ≡ parts_of mine → slice_get (look_asks dev size) k ≡ Some
+    (Reads dev at n) → slice_get parts k ≡ Some (Some part)
     → (i : ℕ) → i < n → IsClean (run mine sectors dev (at + i)) → sector_of i part ≡ (run mine sectors dev (at + i)).stable
 part_shows size dev parts mine sectors k at n part answered asks are ask got i lt =
     let c = looked_call size dev parts mine k at n part asks are ask got in
@@ -167,7 +218,8 @@ answer_second [] second sectors a = a
 answer_second (noted ∷ first) second sectors a = answer_second first second _ a.1
 
 -- each device of a look
-pub looked_at : (size : ℕ → ℕ) (devs : List ℕ) (looks : List Parts) (made : List Noted) (sectors : Sectors) → IsLook size devs looks made → AllAnswer sectors made
+pub looked_at : (size : ℕ → ℕ) (devs : List ℕ) (looks : List Parts) (made : List Noted) (sectors : Sectors)
+    → IsLook size devs looks made → AllAnswer sectors made
     → (i d : ℕ) (parts : Parts) → slice_get devs i ≡ Some d → slice_get looks i ≡ Some parts → LookedAt (size d) d parts
 looked_at size [] looks made sectors l a i d parts e f = absurd (cc)
 looked_at size (dev ∷ devs) [] made sectors l a i d parts e f = absurd l

@@ -1,5 +1,35 @@
 -- What was found by the parts of a look is what is verified by the sectors that they show.
-use Rattle.std.proofs.Common.{◌≡◌, ℕ, zero, suc, ◌+◌, ◌*◌, ◌/◌, ◌%◌, ◌<◌, ◌≤◌, ◌==◌, Bool, true, false, List, [], ◌∷◌, ◌++◌, length, take, Option, Some, None, refl, sym, ap, ◌∙◌, subst, arith}
+use Rattle.std.proofs.Common.{
+  ◌≡◌,
+  ℕ,
+  zero,
+  suc,
+  ◌+◌,
+  ◌*◌,
+  ◌/◌,
+  ◌%◌,
+  ◌<◌,
+  ◌≤◌,
+  ◌==◌,
+  Bool,
+  true,
+  false,
+  List,
+  [],
+  ◌∷◌,
+  ◌++◌,
+  length,
+  take,
+  Option,
+  Some,
+  None,
+  refl,
+  sym,
+  ap,
+  ◌∙◌,
+  subst,
+  arith,
+}
 use Rattle.std.specs.Prelude.{slice_get, slice_index, if◌then◌else◌}
 use Rattle.std.proofs.Math.Seq.{take-add}
 use Rattle.std.proofs.lemmas.Bool.Decides.{nat_tests}
@@ -33,7 +63,8 @@ tail_distinct : (dev : ℕ) (devs : List ℕ) → AreDistinct (dev ∷ devs) →
 tail_distinct dev devs apart i j d e a b lt = apart (suc i) (suc j) d e a b (omega arith)
 
 -- What is known of a device of the list is what its parts show.
-pub known_at : (size : ℕ → ℕ) (devs : List ℕ) (looks : List Parts) (i d : ℕ) (parts : Parts) (s : ℕ) → AreDistinct devs → slice_get devs i ≡ Some d → slice_get looks i ≡ Some parts
+pub known_at : (size : ℕ → ℕ) (devs : List ℕ) (looks : List Parts) (i d : ℕ) (parts : Parts) (s : ℕ) → AreDistinct devs
+    → slice_get devs i ≡ Some d → slice_get looks i ≡ Some parts
     → known_by size devs looks d s ≡ device_sector (size d) parts s
 known_at size [] looks i d parts s apart e f = absurd (cc)
 known_at size (dev ∷ devs) [] i d parts s apart e f = absurd (cc)
@@ -56,16 +87,33 @@ pub record IsKnownOf (size : ℕ → ℕ) (devs : List ℕ) (looks : List Parts)
   pub parts_are : slice_get looks i ≡ Some parts
   pub known_is : (s : ℕ) → known_by size devs looks d s ≡ device_sector (size d) parts s
 
-pub known_of : (size : ℕ → ℕ) (devs : List ℕ) (looks : List Parts) (d s : ℕ) (bytes : List ℕ) → known_by size devs looks d s ≡ Some bytes → IsKnownOf size devs looks d
+pub known_of : (size : ℕ → ℕ) (devs : List ℕ) (looks : List Parts) (d s : ℕ) (bytes : List ℕ)
+    → known_by size devs looks d s ≡ Some bytes → IsKnownOf size devs looks d
 known_of size [] looks d s bytes e = absurd (cc)
 known_of size (dev ∷ devs) [] d s bytes e = absurd (cc)
 known_of size (dev ∷ devs) (first ∷ looks) d s bytes e = by_test (dev == d) refl (known_of size devs looks d s bytes)
   where
-    by_test : (t : Bool) → (dev == d) ≡ t → (known_by size devs looks d s ≡ Some bytes → IsKnownOf size devs looks d) → IsKnownOf size (dev ∷ devs) (first ∷ looks) d
-    by_test true t more = record { i = 0; parts = first; dev_is = ap Some (same_test dev d t); parts_are = refl; known_is = λ r. if_so (dev == d) (device_sector (size d) first r) (known_by size devs looks d r) t }
+    by_test : (t : Bool) → (dev == d) ≡ t → (known_by size devs looks d s ≡ Some bytes → IsKnownOf size devs looks d)
+        → IsKnownOf size (dev ∷ devs) (first ∷ looks) d
+    by_test true t more = record {
+      i = 0;
+      parts = first;
+      dev_is = ap Some
+          (same_test dev d t);
+      parts_are = refl;
+      known_is = λ r. if_so (dev == d) (device_sector (size d) first r)
+          (known_by size devs looks d r) t;
+    }
     by_test false t more =
         let k = more (sym (if_not (dev == d) (device_sector (size d) first s) (known_by size devs looks d s) t) ∙ e) in
-        record { i = suc k.i; parts = k.parts; dev_is = k.dev_is; parts_are = k.parts_are; known_is = λ r. if_not (dev == d) (device_sector (size d) first r) (known_by size devs looks d r) t ∙ k.known_is r }
+        record {
+          i = suc k.i;
+          parts = k.parts;
+          dev_is = k.dev_is;
+          parts_are = k.parts_are;
+          known_is = λ r. if_not
+              (dev == d) (device_sector (size d) first r) (known_by size devs looks d r) t ∙ k.known_is r;
+        }
 
 -- the asks of a label's ring and configuration part
 pub ring_ask : (size label dev : ℕ) → label < 4 → slice_get (look_asks dev size) (2 * label) ≡ Some (Reads dev (slice_index (labels_of size) label + 32) 32)
@@ -75,7 +123,8 @@ ring_ask size (suc (suc zero)) dev lt = refl
 ring_ask size (suc (suc (suc zero))) dev lt = refl
 ring_ask size (suc (suc (suc (suc n)))) dev lt = absurd (omega arith)
 
-pub config_ask : (size label dev : ℕ) → label < 4 → slice_get (look_asks dev size) (2 * label + 1) ≡ Some (Reads dev (slice_index (labels_of size) label + 4) 28)
+pub config_ask : (size label dev : ℕ) → label < 4 → slice_get (look_asks dev size) (2 * label + 1) ≡ Some
+    (Reads dev (slice_index (labels_of size) label + 4) 28)
 config_ask size zero dev lt = refl
 config_ask size (suc zero) dev lt = refl
 config_ask size (suc (suc zero)) dev lt = refl
@@ -132,11 +181,13 @@ unfolding sector_size
 fits_in k n m le few = omega arith
 
 -- What the parts verify, the sectors do.
-pub parts_verify : (head_of : List ℕ → Option Head) (size : ℕ → ℕ) (known : Known) (d : ℕ) (parts : Parts) (name : List ℕ) (place : ℕ) (u : Uberblock) (config : List ℕ)
+pub parts_verify : (head_of : List ℕ → Option Head) (size : ℕ → ℕ) (known : Known) (d : ℕ) (parts : Parts)
+    (name : List ℕ) (place : ℕ) (u : Uberblock) (config : List ℕ)
     → 320 ≤ size d → LookedAt (size d) d parts → ((s : ℕ) → known d s ≡ device_sector (size d) parts s) → place < 128
     → IsVerifiedBy head_of parts name place u config → IsVerifiedOn head_of size known name d u config
 parts_verify head_of size known d parts name place u config big looked is inside v =
-    let long : length v.part ≡ 28 * 4096 = part_long (size d) d parts (2 * v.label + 1) _ 28 v.part looked (config_ask (size d) v.label d v.is_label) v.part_is in
+    let long : length v.part ≡ 28 * 4096 = part_long (size d) d parts (2 * v.label + 1) _ 28 v.part looked
+    (config_ask (size d) v.label d v.is_label) v.part_is in
     let part_of : sectors_in v.part ≡ 28 = (long_whole v.part 28 long).1 in
     let shown : (i : ℕ) → i < 28 → known d (config_at (size d) v.label + i) ≡ Some (sector_of i v.part) =
     λ i lt. is (config_at (size d) v.label + i) ∙ part_at_shows (size d) parts v.label i big v.is_label lt ∙ ap (sector_in i) v.part_is in
@@ -145,7 +196,8 @@ parts_verify head_of size known d parts name place u config big looked is inside
       place = place;
       verified = record {
         inside = inside;
-        uberblock = is (place_at (size d) place) ∙ place_shows (size d) parts place big inside ∙ ap (sector_in (place % 32)) v.ring_is ∙ ap Some v.is_uberblock.bytes;
+        uberblock = is (place_at (size d) place) ∙ place_shows (size d) parts place big inside ∙ ap
+            (sector_in (place % 32)) v.ring_is ∙ ap Some v.is_uberblock.bytes;
         label = v.label;
         is_label = v.is_label;
         blob = v.part;
@@ -178,7 +230,8 @@ has_part None i bytes e = absurd (cc)
 has_part (Some None) i bytes e = absurd (cc)
 has_part (Some (Some found)) i bytes e = record { found = found; found_is = refl; bytes_are = same_some (sector_of i found) bytes e }
 
-sector_again : (part : Option (Option (List ℕ))) (found : List ℕ) (i : ℕ) (bytes : List ℕ) → part ≡ Some (Some found) → sector_in i part ≡ Some bytes → sector_of i found ≡ bytes
+sector_again : (part : Option (Option (List ℕ))) (found : List ℕ) (i : ℕ) (bytes : List ℕ) → part ≡ Some (Some found)
+    → sector_in i part ≡ Some bytes → sector_of i found ≡ bytes
 sector_again part found i bytes is e = same_some (sector_of i found) bytes (sym (ap (sector_in i) is) ∙ e)
 
 -- What the sectors verify, the parts do.
@@ -192,13 +245,15 @@ sectors_verify head_of size known d parts name u config big looked is v =
     (sym (place_shows (size d) parts v.place big w.inside) ∙ sym (is (place_at (size d) v.place)) ∙ w.uberblock) in
     let first : config_at (size d) w.label + 0 ≡ config_at (size d) w.label = omega arith in
     let part = has_part (slice_get parts (2 * w.label + 1)) 0 v.is_read.0
-    (sym (part_at_shows (size d) parts w.label 0 big w.is_label (omega arith)) ∙ ap (device_sector (size d) parts) first ∙ sym (is (config_at (size d) w.label)) ∙ v.is_read.1) in
+    (sym (part_at_shows (size d) parts w.label 0 big w.is_label (omega arith)) ∙ ap (device_sector (size d) parts) first
+    ∙ sym (is (config_at (size d) w.label)) ∙ v.is_read.1) in
     let few : sectors_in w.blob ≤ 28 = rec.most in
     let same : (i : ℕ) → i < sectors_in w.blob → sector_of i w.blob ≡ sector_of i part.found =
     λ i lt. sym (sector_again (slice_get parts (2 * w.label + 1)) part.found i (sector_of i w.blob) part.found_is
     (sym (part_at_shows (size d) parts w.label i big w.is_label (omega arith)) ∙ sym (is (config_at (size d) w.label + i)) ∙ w.shown i lt)) in
     let enough : u.length ≤ sectors_in w.blob * sector_size = subst (λ n. u.length ≤ n) (whole_length w.blob rec.whole) rec.within in
-    let long : length part.found ≡ 28 * 4096 = part_long (size d) d parts (2 * w.label + 1) _ 28 part.found looked (config_ask (size d) w.label d w.is_label) part.found_is in
+    let long : length part.found ≡ 28 * 4096 = part_long (size d) d parts (2 * w.label + 1) _ 28 part.found looked
+    (config_ask (size d) w.label d w.is_label) part.found_is in
     let head_is : rec.headed.head ≡ v.head = same_some rec.headed.head v.head (sym rec.headed.reads ∙ v.reads) in
     record {
       ring = ring.found;

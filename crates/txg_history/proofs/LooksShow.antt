@@ -1,5 +1,37 @@
 -- The laws of looks at devices: what was found, that it is true, and which devices were read whole.
-use Rattle.std.proofs.Common.{◌≡◌, ℕ, zero, suc, ◌+◌, ◌-◌, ◌*◌, ◌/◌, ◌%◌, ◌<◌, ◌≤◌, ◌==◌, Bool, true, false, List, [], ◌∷◌, ◌++◌, length, get_or, Option, Some, None, refl, sym, ap, ◌∙◌, subst, arith, ⊎_elim}
+use Rattle.std.proofs.Common.{
+  ◌≡◌,
+  ℕ,
+  zero,
+  suc,
+  ◌+◌,
+  ◌-◌,
+  ◌*◌,
+  ◌/◌,
+  ◌%◌,
+  ◌<◌,
+  ◌≤◌,
+  ◌==◌,
+  Bool,
+  true,
+  false,
+  List,
+  [],
+  ◌∷◌,
+  ◌++◌,
+  length,
+  get_or,
+  Option,
+  Some,
+  None,
+  refl,
+  sym,
+  ap,
+  ◌∙◌,
+  subst,
+  arith,
+  ⊎_elim,
+}
 use Rattle.std.specs.Prelude.{slice_get, slice_index}
 use Rattle.std.proofs.lemmas.Bool.{cases_lt}
 use Rattle.std.proofs.lemmas.List.{map-append}
@@ -19,11 +51,23 @@ use Rattle.txg_history.specs.Looks.{sector_in, label_sector, device_sector, know
 use Rattle.txg_history.specs.Moves.{ReadsTrue}
 use Rattle.txg_history.specs.Openings.{IsVerifiedOn, IsYield, IsReadWhole}
 use Rattle.txg_history.proofs.DeviceSectors.{ring_sector, config_sector, label_of_device, device_shown}
-use Rattle.txg_history.proofs.LookedParts.{same_some, part_shows, answer_first, answer_second, looked_at, AreReads, look_reads, IsLater, reads_later, clean_before}
+use Rattle.txg_history.proofs.LookedParts.{
+  same_some,
+  part_shows,
+  answer_first,
+  answer_second,
+  looked_at,
+  AreReads,
+  look_reads,
+  IsLater,
+  reads_later,
+  clean_before,
+}
 use Rattle.txg_history.proofs.LooksFound.{same_test, alike, if_so, if_not, known_at, known_of, parts_verify, sectors_verify, ring_ask, config_ask}
 
 -- What is verified on a device by its sectors is a candidate.
-pub verified_candidate : (head_of : List ℕ → Option Head) (size : ℕ → ℕ) (devs : List ℕ) (looks : List Parts) (made : List Noted) (sectors : Sectors) (name : List ℕ) (d : ℕ) (u : Uberblock) (config : List ℕ)
+pub verified_candidate : (head_of : List ℕ → Option Head) (size : ℕ → ℕ) (devs : List ℕ) (looks : List Parts)
+    (made : List Noted) (sectors : Sectors) (name : List ℕ) (d : ℕ) (u : Uberblock) (config : List ℕ)
     → IsLook size devs looks made → HaveRoom size devs → AllAnswer sectors made → IsVerifiedOn head_of size (known_by size devs looks) name d u config
     → (n : ℕ) × (n < 128 * length devs) × IsCandidate head_of looks name n u config
 verified_candidate head_of size devs looks made sectors name d u config l room answered v =
@@ -44,8 +88,10 @@ verified_candidate head_of size devs looks made sectors name d u config l room a
     )
 
 -- A candidate is verified on its device by what was read there.
-pub candidate_verified : (head_of : List ℕ → Option Head) (size : ℕ → ℕ) (devs : List ℕ) (looks : List Parts) (made : List Noted) (sectors : Sectors) (name : List ℕ) (n : ℕ) (u : Uberblock) (config : List ℕ)
-    → IsLook size devs looks made → AreDistinct devs → HaveRoom size devs → AllAnswer sectors made → n < 128 * length devs → IsCandidate head_of looks name n u config
+pub candidate_verified : (head_of : List ℕ → Option Head) (size : ℕ → ℕ) (devs : List ℕ) (looks : List Parts)
+    (made : List Noted) (sectors : Sectors) (name : List ℕ) (n : ℕ) (u : Uberblock) (config : List ℕ)
+    → IsLook size devs looks made → AreDistinct devs → HaveRoom size devs → AllAnswer sectors made
+    → n < 128 * length devs → IsCandidate head_of looks name n u config
     → (d : ℕ) × IsVerifiedOn head_of size (known_by size devs looks) name d u config
 candidate_verified head_of size devs looks made sectors name n u config l apart room answered lt c =
     let low : n / 128 < length devs = omega arith in
@@ -58,18 +104,22 @@ candidate_verified head_of size devs looks made sectors name n u config l apart 
     )
 
 -- The best of the parts is what an opening takes.
-pub best_yields : (head_of : List ℕ → Option Head) (size : ℕ → ℕ) (devs : List ℕ) (looks : List Parts) (made : List Noted) (sectors : Sectors) (name : List ℕ) (found : Found)
+pub best_yields : (head_of : List ℕ → Option Head) (size : ℕ → ℕ) (devs : List ℕ) (looks : List Parts)
+    (made : List Noted) (sectors : Sectors) (name : List ℕ) (found : Found)
     → IsLook size devs looks made → AreDistinct devs → HaveRoom size devs → AllAnswer sectors made → IsBest head_of looks name (128 * length devs) (Some found)
     → (u : Uberblock) × (found.number ≡ u.number) × (found.pool ≡ u.pool) × IsYield head_of size (known_by size devs looks) name u found.blob.items
 best_yields head_of size devs looks made sectors name found l apart room answered best =
-    let on = candidate_verified head_of size devs looks made sectors name best.place best.u found.blob.items l apart room answered best.inside best.candidate in (
+    let on = candidate_verified head_of size devs looks made sectors name best.place best.u found.blob.items l apart room
+    answered best.inside best.candidate in (
       best.u,
       best.number_is,
       best.pool_is,
       record {
         d = on.0;
         verified = on.1;
-        greatest = λ e v other is. let c = verified_candidate head_of size devs looks made sectors name e v other l room answered is in best.greatest c.0 v other c.1 c.2;
+        greatest = λ e v other is.
+            let c = verified_candidate head_of size devs looks made sectors name e v other l room answered is in
+            best.greatest c.0 v other c.1 c.2;
       },
     )
 
@@ -94,7 +144,8 @@ all_reads size (dev ∷ devs) (parts ∷ looks) made l =
     (reads_more (asks_of l.0) (asks_of l.1) (subst AreReads (sym l.3) (look_reads dev (size dev))) (all_reads size devs looks l.1 l.5)))
 
 -- What one device showed is stable there, where it is clean behind the look.
-device_true : (size dev : ℕ) (parts : Parts) (mine : List Noted) (sectors : Sectors) → AllAnswer sectors mine → asks_of mine ≡ look_asks dev size → parts ≡ parts_of mine
+device_true : (size dev : ℕ) (parts : Parts) (mine : List Noted) (sectors : Sectors) → AllAnswer sectors mine
+    → asks_of mine ≡ look_asks dev size → parts ≡ parts_of mine
     → (s : ℕ) (bytes : List ℕ) → device_sector size parts s ≡ Some bytes → IsClean (run mine sectors dev s) → bytes ≡ (run mine sectors dev s).stable
 device_true size dev parts mine sectors answered asks are s bytes e clean =
     let sh = device_shown size parts s bytes e in
@@ -102,7 +153,8 @@ device_true size dev parts mine sectors answered asks are s bytes e clean =
     (subst (λ r. IsClean (run mine sectors dev r)) sh.sector_is clean) ∙ ap (λ r. (run mine sectors dev r).stable) (sym sh.sector_is)
 
 -- What a look showed is what is stable on the clean sectors behind it.
-pub looks_true : (size : ℕ → ℕ) (devs : List ℕ) (looks : List Parts) (made : List Noted) (sectors : Sectors) → IsLook size devs looks made → AllAnswer sectors made
+pub looks_true : (size : ℕ → ℕ) (devs : List ℕ) (looks : List Parts) (made : List Noted) (sectors : Sectors)
+    → IsLook size devs looks made → AllAnswer sectors made
     → ReadsTrue (run made sectors) (known_by size devs looks)
 looks_true size [] looks made sectors l answered d s bytes e clean = absurd (cc)
 looks_true size (dev ∷ devs) [] made sectors l answered d s bytes e clean = absurd (cc)
@@ -111,12 +163,15 @@ looks_true size (dev ∷ devs) (parts ∷ looks) made sectors l answered d s byt
     by_test (dev == d) refl both (subst IsClean both clean) (subst (AllAnswer sectors) l.2 answered)
     (looks_true size devs looks l.1 (run l.0 sectors) l.5 (answer_second l.0 l.1 sectors (subst (AllAnswer sectors) l.2 answered)) d s bytes)
   where
-    by_test : (t : Bool) → (dev == d) ≡ t → run made sectors d s ≡ run l.1 (run l.0 sectors) d s → IsClean (run l.1 (run l.0 sectors) d s) → AllAnswer sectors (l.0 ++ l.1)
+    by_test : (t : Bool) → (dev == d) ≡ t → run made sectors d s ≡ run l.1 (run l.0 sectors) d s → IsClean
+        (run l.1 (run l.0 sectors) d s) → AllAnswer sectors (l.0 ++ l.1)
         → (known_by size devs looks d s ≡ Some bytes → IsClean (run l.1 (run l.0 sectors) d s) → bytes ≡ (run l.1 (run l.0 sectors) d s).stable)
         → bytes ≡ (run made sectors d s).stable
     by_test true t both clean answered more =
-        let later : IsLater (run l.0 sectors d s) (run l.1 (run l.0 sectors) d s) = reads_later l.1 d s (run l.0 sectors d s) (all_reads size devs looks l.1 l.5) in
-        let shown : device_sector (size d) parts s ≡ Some bytes = sym (if_so (dev == d) (device_sector (size d) parts s) (known_by size devs looks d s) t) ∙ e in
+        let later : IsLater (run l.0 sectors d s) (run l.1 (run l.0 sectors) d s) = reads_later l.1 d s
+        (run l.0 sectors d s) (all_reads size devs looks l.1 l.5) in
+        let shown : device_sector (size d) parts s ≡ Some bytes = sym
+        (if_so (dev == d) (device_sector (size d) parts s) (known_by size devs looks d s) t) ∙ e in
         let asks : asks_of l.0 ≡ look_asks d (size d) = subst (λ x. asks_of l.0 ≡ look_asks x (size x)) (same_test dev d t) l.3 in
         device_true (size d) d parts l.0 sectors (answer_first l.0 l.1 sectors answered) asks l.4 s bytes shown (clean_before _ _ later clean)
         ∙ sym later.stable ∙ ap (λ x. x.stable) (sym both)
@@ -124,7 +179,8 @@ looks_true size (dev ∷ devs) (parts ∷ looks) made sectors l answered d s byt
         more (sym (if_not (dev == d) (device_sector (size d) parts s) (known_by size devs looks d s) t) ∙ e) clean ∙ ap (λ x. x.stable) (sym both)
 
 -- a read that was asked and didn't fail gave its part
-asked_one : (call : Call) (dev at n : ℕ) → Reads dev at n ≡ ask_of call → (device_of call ≡ dev → fault_of call ≡ None) → (part : List ℕ) × (given_by call ≡ Some part)
+asked_one : (call : Call) (dev at n : ℕ) → Reads dev at n ≡ ask_of call → (device_of call ≡ dev → fault_of call ≡ None)
+    → (part : List ℕ) × (given_by call ≡ Some part)
 asked_one (Read dev' at' bytes fault) dev at n e fine = of fault (fine (same_dev dev dev' at at' n (sectors_in bytes) e))
   where
     same_dev : (dev dev' at at' n n' : ℕ) → Reads dev at n ≡ Reads dev' at' n' → dev' ≡ dev
@@ -138,7 +194,8 @@ asked_one (Flush dev' fault) dev at n e fine = absurd (cc)
 asked_one (Admit dev' holds) dev at n e fine = absurd (cc)
 asked_one (Eject dev') dev at n e fine = absurd (cc)
 
-asked_given : (made : List Noted) (k dev at n : ℕ) → slice_get (asks_of made) k ≡ Some (Reads dev at n) → NoneFailed dev made → (part : List ℕ) × (slice_get (parts_of made) k ≡ Some (Some part))
+asked_given : (made : List Noted) (k dev at n : ℕ) → slice_get (asks_of made) k ≡ Some (Reads dev at n)
+    → NoneFailed dev made → (part : List ℕ) × (slice_get (parts_of made) k ≡ Some (Some part))
 asked_given [] k dev at n e fine = absurd (cc)
 asked_given (noted ∷ made) zero dev at n e fine =
     let g = asked_one noted.call dev at n (same_some (Reads dev at n) (ask_of noted.call) (sym e)) fine.0 in (g.0, ap Some g.1)
@@ -188,7 +245,8 @@ other_test : (dev d : ℕ) → Some dev ≡ Some d → (dev == d) ≡ false → 
 other_test dev d e t = let same : (dev == d) ≡ true = subst (λ x. (dev == x) ≡ true) (same_some dev d e) (alike dev) in absurd (cc)
 
 -- A device of the list on which no read failed was read whole.
-pub looks_whole : (size : ℕ → ℕ) (devs : List ℕ) (looks : List Parts) (made : List Noted) (i d : ℕ) → IsLook size devs looks made → slice_get devs i ≡ Some d → 320 ≤ size d
+pub looks_whole : (size : ℕ → ℕ) (devs : List ℕ) (looks : List Parts) (made : List Noted) (i d : ℕ)
+    → IsLook size devs looks made → slice_get devs i ≡ Some d → 320 ≤ size d
     → NoneFailed d made → IsReadWhole (size d) (known_by size devs looks d)
 looks_whole size [] looks made i d l at big fine label s lt lo hi = absurd (cc)
 looks_whole size (dev ∷ devs) [] made i d l at big fine label s lt lo hi = absurd l

@@ -1,11 +1,46 @@
 -- Each event that a pool may have keeps the invariant.
-use Rattle.txg_history.specs.Events.{Event, Calls, Accepts, Freezes, Wrote, Flushed, Draws, Leaves, Grows, Burns, Begins, Third, Ends, Acks, Looks, Opens, Joins, Loses, Scans, Passes, Drops, Clears, Rests, Stops}
+use Rattle.txg_history.specs.Events.{
+  Event,
+  Calls,
+  Accepts,
+  Freezes,
+  Wrote,
+  Flushed,
+  Draws,
+  Leaves,
+  Grows,
+  Burns,
+  Begins,
+  Third,
+  Ends,
+  Acks,
+  Looks,
+  Opens,
+  Joins,
+  Loses,
+  Scans,
+  Passes,
+  Drops,
+  Clears,
+  Rests,
+  Stops,
+}
 use Rattle.txg_history.specs.Moves.{May}
 use Rattle.txg_history.specs.Pages.{Codec}
 use Rattle.txg_history.specs.Pools.{Pool, after}
 use Rattle.txg_history.specs.Survival.{Survives}
 use Rattle.txg_history.proofs.DevicesSurvive.{opens_survive, joins_survive, loses_survive, stops_survive}
-use Rattle.txg_history.proofs.GroupsSurvive.{calls_survive, accepts_survive, freezes_survive, wrote_survives, flushed_survives, draws_survive, leaves_survive, grows_survive, burns_survive}
+use Rattle.txg_history.proofs.GroupsSurvive.{
+  calls_survive,
+  accepts_survive,
+  freezes_survive,
+  wrote_survives,
+  flushed_survives,
+  draws_survive,
+  leaves_survive,
+  grows_survive,
+  burns_survive,
+}
 use Rattle.txg_history.proofs.RoundsSurvive.{begins_survive, third_survives, ends_survives, acks_survive}
 use Rattle.txg_history.proofs.ScansSurvive.{scans_survive, passes_survive, drops_survive, clears_survive, rests_survive}
 

@@ -14,6 +14,7 @@ use Rattle.txg_history.specs.Survival.{Survives}
 use Rattle.txg_history.specs.Tracking.{MayBegin, Keeps, KeepsLabels, MayBeginNear, IsNotBelow, KeepsNear}
 use Rattle.txg_history.proofs.Listing.{only_one, new_or}
 use Rattle.txg_history.proofs.Logging.{true_not_false, at_away, same_device}
+use Rattle.txg_history.proofs.Tracked.{third_even}
 use Rattle.txg_history.proofs.Moving.{event_survives}
 
 -- two numbers less than 32 apart have two slots
@@ -44,7 +45,8 @@ map_holds p q m (Even r) f h = f r h
 map_holds p q m Lost f h = absurd h
 
 -- where nothing of this changes
-same_near : (p q : Pool) (d : ℕ) (m : Guid) (acked : Rec) (status : Status) → q.member d ≡ p.member d → q.guid d ≡ p.guid d → q.acked ≡ p.acked → q.status d ≡ p.status d
+same_near : (p q : Pool) (d : ℕ) (m : Guid) (acked : Rec) (status : Status) → q.member d ≡ p.member d
+    → q.guid d ≡ p.guid d → q.acked ≡ p.acked → q.status d ≡ p.status d
     → q.live ≡ p.live → ((r : Rec) → Holds p m r → Holds q m r) → IsNear p d m acked status → IsNear q d m acked status
 same_near p q d m acked status a b e s l f t = record {
   member = a ∙ t.member;
@@ -116,7 +118,8 @@ begins_near c p d m acked status q sv drawn t may = record {
   number = t.number;
   acked_is = t.acked_is;
   status_is = ap (λ s. cond (takes_part q (p.guid d)) (begun s q) s) t.status_is
-      ∙ part_same (takes_part q (p.guid d)) status _ (λ takes. begun_same status q (may_begin c p d m acked status q sv drawn t (may (subst (λ g. takes_part q g ≡ true) t.number takes))));
+      ∙ part_same (takes_part q (p.guid d)) status _ (λ takes. begun_same status q
+      (may_begin c p d m acked status q sv drawn t (may (subst (λ g. takes_part q g ≡ true) t.number takes))));
   holds = map_holds p (after (Begins q) p) m status (λ r h. begins_holds p m q r h) t.holds;
   near = λ r i takes. new_or (λ r. takes_part r m ≡ true → number_of r < number_of acked + 32) q r p.live (λ takes. near_number acked status q (may takes))
       (λ i takes. t.near r i takes) i takes;
@@ -161,7 +164,8 @@ ends_holds p d e m acked status q t may here =
     map_even : status ≡ Even q → HoldsSome p m (Odd q)
     map_even e = subst (HoldsSome p m) e t.holds
 
-acks_near : (p : Pool) (d : ℕ) (m : Guid) (acked : Rec) (status : Status) (q : Rec) → IsNear p d m acked status → MayAck p q → takes_part q m ≡ true → IsNear (after (Acks q) p) d m q (Odd q)
+acks_near : (p : Pool) (d : ℕ) (m : Guid) (acked : Rec) (status : Status) (q : Rec) → IsNear p d m acked status
+    → MayAck p q → takes_part q m ≡ true → IsNear (after (Acks q) p) d m q (Odd q)
 acks_near p d m acked status q t may takes =
     let part : takes_part q (p.guid d) ≡ true = subst (λ g. takes_part q g ≡ true) (sym t.number) takes in
     record {
@@ -186,7 +190,8 @@ loses_near p d e m acked status t ne = record {
   near = t.near;
 }
 
-joins_near : (p : Pool) (d e : ℕ) (m n : Guid) (top : ℕ) (acked : Rec) (status : Status) → IsNear p d m acked status → e ≢ d → m.0 ≢ n.0 → IsNear (after (Joins e n top) p) d m acked status
+joins_near : (p : Pool) (d e : ℕ) (m n : Guid) (top : ℕ) (acked : Rec) (status : Status) → IsNear p d m acked status
+    → e ≢ d → m.0 ≢ n.0 → IsNear (after (Joins e n top) p) d m acked status
 joins_near p d e m n top acked status t ne other = record {
   member = at_away e d true (other_than n p.guid p.member) away
       ∙ (ap (λ b. cond b false (p.member d)) (other_device (p.guid d).0 n.0 (λ same. other (sym (ap (λ g. g.0) t.number) ∙ same))) ∙ t.member);
@@ -200,7 +205,8 @@ joins_near p d e m n top acked status t ne other = record {
     away : (e == d) ≡ false
     away = other_device e d ne
 
-opens_near : (p : Pool) (d : ℕ) (m : Guid) (acked : Rec) (status : Status) (r : Rec) → IsNear p d m acked status → IsNotBelow status r → IsNear (after (Opens r) p) d m acked status
+opens_near : (p : Pool) (d : ℕ) (m : Guid) (acked : Rec) (status : Status) (r : Rec) → IsNear p d m acked status
+    → IsNotBelow status r → IsNear (after (Opens r) p) d m acked status
 opens_near p d m acked status r t low = record {
   member = t.member;
   number = t.number;
@@ -211,12 +217,14 @@ opens_near p d m acked status r t low = record {
 }
 
 -- So each round takes another slot.
-near_keeps : (c : Codec) (vs : List Event) (p : Pool) (d : ℕ) (m : Guid) (acked : Rec) (status : Status) → Survives c p → IsNear p d m acked status → Mays c p vs
+near_keeps : (c : Codec) (vs : List Event) (p : Pool) (d : ℕ) (m : Guid) (acked : Rec) (status : Status) → Survives c p
+    → IsNear p d m acked status → Mays c p vs
     → KeepsNear d m acked status vs → Keeps d m status vs
 near_keeps c [] p d m acked status sv t mays near = tt
 near_keeps c (Freezes cells board ∷ vs) p d m acked status sv t mays near =
     near_keeps c vs (after (Freezes cells board) p) d m acked status (event_survives c p (Freezes cells board) sv mays.0)
-    (same_near p (after (Freezes cells board) p) d m acked status refl refl refl refl refl (λ r. drawn_holds p (after (Freezes cells board) p) m r refl refl) t) mays.1 near
+    (same_near p (after (Freezes cells board) p) d m acked status refl refl refl refl refl
+    (λ r. drawn_holds p (after (Freezes cells board) p) m r refl refl) t) mays.1 near
 near_keeps c (Draws ∷ vs) p d m acked status sv t mays near =
     near_keeps c vs (after Draws p) d m acked status (event_survives c p Draws sv mays.0)
     (same_near p (after Draws p) d m acked status refl refl refl refl refl (λ r. drawn_holds p (after Draws p) m r refl refl) t) mays.1 near
@@ -225,10 +233,12 @@ near_keeps c (Burns ∷ vs) p d m acked status sv t mays near =
     (same_near p (after Burns p) d m acked status refl refl refl refl refl (λ r. thawed_holds p (after Burns p) m r refl refl refl) t) mays.1 near
 near_keeps c (Stops sectors size ∷ vs) p d m acked status sv t mays near =
     near_keeps c vs (after (Stops sectors size) p) d m acked status (event_survives c p (Stops sectors size) sv mays.0)
-    (same_near p (after (Stops sectors size) p) d m acked status refl refl refl refl refl (λ r. thawed_holds p (after (Stops sectors size) p) m r refl refl refl) t) mays.1 near
+    (same_near p (after (Stops sectors size) p) d m acked status refl refl refl refl refl
+    (λ r. thawed_holds p (after (Stops sectors size) p) m r refl refl refl) t) mays.1 near
 near_keeps c (Begins q ∷ vs) p d m acked status sv t mays near = (
   λ takes. may_begin c p d m acked status q sv mays.0 t (near.0 takes),
-  near_keeps c vs (after (Begins q) p) d m acked status (event_survives c p (Begins q) sv mays.0) (begins_near c p d m acked status q sv mays.0 t near.0) mays.1 near.1,
+  near_keeps c vs (after (Begins q) p) d m acked status (event_survives c p (Begins q) sv mays.0)
+      (begins_near c p d m acked status q sv mays.0 t near.0) mays.1 near.1,
 )
 near_keeps c (Third q e ∷ vs) p d m acked status sv t mays near =
     near_keeps c vs (after (Third q e) p) d m acked _ (event_survives c p (Third q e) sv mays.0)
@@ -236,19 +246,32 @@ near_keeps c (Third q e ∷ vs) p d m acked status sv t mays near =
 near_keeps c (Ends q e ∷ vs) p d m acked status sv t mays near =
     near_keeps c vs (after (Ends q e) p) d m acked _ (event_survives c p (Ends q e) sv mays.0)
     (stands_near p d e m acked status (Odd q) t (ends_holds p d e m acked status q t mays.0)) mays.1 near
-near_keeps c (Acks q ∷ vs) p d m acked status sv t mays near =
-    (near.0, near_keeps c vs (after (Acks q) p) d m q (Odd q) (event_survives c p (Acks q) sv mays.0) (acks_near p d m acked status q t mays.0 near.0) mays.1 near.1)
+near_keeps c (Acks q ∷ vs) p d m acked status sv t mays near = (
+  near.0,
+  near_keeps c vs (after (Acks q) p) d m q (Odd q) (event_survives c p (Acks q) sv mays.0)
+      (acks_near p d m acked status q t mays.0 near.0) mays.1 near.1,
+)
 near_keeps c (Opens r ∷ vs) p d m acked status sv t mays near =
     near_keeps c vs (after (Opens r) p) d m acked status (event_survives c p (Opens r) sv mays.0) (opens_near p d m acked status r t near.0) mays.1 near.1
-near_keeps c (Joins e n top ∷ vs) p d m acked status sv t mays near =
-    (near.0, near.1, near_keeps c vs (after (Joins e n top) p) d m acked status (event_survives c p (Joins e n top) sv mays.0) (joins_near p d e m n top acked status t near.0 near.1) mays.1 near.2)
-near_keeps c (Loses e ∷ vs) p d m acked status sv t mays near =
-    (near.0, near_keeps c vs (after (Loses e) p) d m acked status (event_survives c p (Loses e) sv mays.0) (loses_near p d e m acked status t near.0) mays.1 near.1)
+near_keeps c (Joins e n top ∷ vs) p d m acked status sv t mays near = (
+  near.0,
+  near.1,
+  near_keeps c vs (after (Joins e n top) p) d m acked status
+      (event_survives c p (Joins e n top) sv mays.0)
+      (joins_near p d e m n top acked status t near.0 near.1) mays.1 near.2,
+)
+near_keeps c (Loses e ∷ vs) p d m acked status sv t mays near = (
+  near.0,
+  near_keeps c vs (after (Loses e) p) d m acked status (event_survives c p (Loses e) sv mays.0)
+      (loses_near p d e m acked status t near.0) mays.1 near.1,
+)
 near_keeps c (v ∷ vs) p d m acked status sv t mays near =
-    near_keeps c vs (after v p) d m acked status (event_survives c p v sv mays.0) (same_near p (after v p) d m acked status refl refl refl refl refl (λ r h. h) t) mays.1 near
+    near_keeps c vs (after v p) d m acked status (event_survives c p v sv mays.0)
+    (same_near p (after v p) d m acked status refl refl refl refl refl (λ r h. h) t) mays.1 near
 
 -- From an acknowledgement on, in whose round the member takes part, the rule by numbers gives the rule by slots.
-pub near_labels : (c : Codec) (p : Pool) (d : ℕ) (q : Rec) (vs : List Event) → Survives c p → p.member d ≡ true → takes_part q (p.guid d) ≡ true → Mays c p (Acks q ∷ vs)
+pub near_labels : (c : Codec) (p : Pool) (d : ℕ) (q : Rec) (vs : List Event) → Survives c p → p.member d ≡ true
+    → takes_part q (p.guid d) ≡ true → Mays c p (Acks q ∷ vs)
     → KeepsNear d (p.guid d) q (Odd q) vs → KeepsLabels (after (Acks q) p) d vs
 near_labels c p d q vs sv member takes mays near =
     subst (λ status. Keeps d (p.guid d) status vs) (sym odd)
@@ -263,3 +286,24 @@ near_labels c p d q vs sv member takes mays near =
   where
     odd : (after (Acks q) p).status d ≡ Odd q
     odd = ap (λ b. cond b (p.status d) Lost) takes ∙ mays.0.all d member takes
+
+-- So it does from a third phase on, whatever the labels held before.
+pub near_again : (c : Codec) (p : Pool) (d : ℕ) (q : Rec) (vs : List Event) → Survives c p → p.member d ≡ true → Mays c p (Third q d ∷ vs)
+    → ((r : Rec) → IsIn r p.live → takes_part r (p.guid d) ≡ true → number_of r < number_of p.acked + 32)
+    → KeepsNear d (p.guid d) p.acked (Even q) vs → KeepsLabels (after (Third q d) p) d vs
+near_again c p d q vs sv member mays numbers near =
+    subst (λ status. Keeps d (p.guid d) status vs) (sym even)
+    (near_keeps c vs (after (Third q d) p) d (p.guid d) p.acked (Even q) (event_survives c p (Third q d) sv mays.0) (record {
+      member = member;
+      number = refl;
+      acked_is = refl;
+      status_is = even;
+      holds = (stand.is_live, stand.takes, (let e = stand.number_is in omega (arith, e)), λ f n. true_not_false p.group.fresh n stand.taken);
+      near = numbers;
+    }) mays.1 near)
+  where
+    stand : MayStand p q d
+    stand = mays.0 member
+
+    even : (after (Third q d) p).status d ≡ Even q
+    even = third_even p q d

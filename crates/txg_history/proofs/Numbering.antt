@@ -1,9 +1,12 @@
 -- The invariant goes by devices one by one, so it holds under other numbers too.
-use Rattle.std.proofs.Common.{ℕ}
-use Rattle.txg_history.specs.Numbering.{renumbered}
+use Rattle.std.proofs.Common.{◌≡◌, ℕ, ◌+◌, Bool, refl, ap, ◌∙◌}
+use Rattle.txg_history.specs.Numbering.{renumbered, AreOnePool}
 use Rattle.txg_history.specs.Pages.{Codec}
 use Rattle.txg_history.specs.Pools.{Pool}
+use Rattle.txg_history.specs.Premises.{HoldsLabels, HasGoodLeaf}
+use Rattle.txg_history.specs.Records.{Rec, Cell, data_start}
 use Rattle.txg_history.specs.Survival.{Survives}
+use Rattle.txg_history.specs.Tracking.{HasPromise}
 
 pub renumbered_survives : (c : Codec) (p : Pool) (was : ℕ → ℕ) → Survives c p → Survives c (renumbered was p)
 renumbered_survives c p was sv = record {
@@ -70,4 +73,50 @@ renumbered_survives c p was sv = record {
   fit = sv.fit;
   pools = sv.pools;
   in_range = sv.in_range;
+}
+
+pub renumbered_one : (p : Pool) (was : ℕ → ℕ) → AreOnePool p (renumbered was p)
+renumbered_one p was = record {
+  name = refl;
+  pool = refl;
+  room = refl;
+  acked = refl;
+  acks = refl;
+  live = refl;
+  given = refl;
+  missed = refl;
+  reads = refl;
+  opened = refl;
+  written = refl;
+  highest = refl;
+  frozen = refl;
+  first = refl;
+  cells = refl;
+  content = refl;
+  done = refl;
+  flushed = refl;
+  fresh = refl;
+  begun = refl;
+  pinned = refl;
+  running = refl;
+  hi = refl;
+  passed = refl;
+}
+
+pub renumbered_promises : (p : Pool) (was : ℕ → ℕ) (d : ℕ) → HasPromise p (was d) → HasPromise (renumbered was p) d
+renumbered_promises p was d has = record { is_member = has.is_member; promised = has.promised; status_is = has.status_is }
+
+pub renumbered_holds : (p : Pool) (was : ℕ → ℕ) (d : ℕ) (r : Rec) → HoldsLabels p (was d) r → HoldsLabels (renumbered was p) d r
+renumbered_holds p was d r holds = record { is_live = holds.is_live; takes = holds.takes; ring = λ s bytes is. holds.ring s bytes is; part = holds.part }
+
+-- A leaf that has a page has it under its new number.
+pub renumbered_good : (p : Pool) (was : ℕ → ℕ) (r : Rec) (cell : Cell) (answering : ℕ → Bool) → (good : HasGoodLeaf p r cell answering)
+    → (d : ℕ) → was d ≡ good.d → HasGoodLeaf (renumbered was p) r cell (λ e. answering (was e))
+renumbered_good p was r cell answering good d is = record {
+  d = d;
+  is_member = ap p.member is ∙ good.is_member;
+  top_is = ap (λ e. r.tops (p.guid e)) is ∙ good.top_is;
+  has = ap (λ e. r.owes (p.guid e) cell.birth) is ∙ good.has;
+  unhurt = ap (λ e. (p.sectors e (data_start + cell.sector)).damaged) is ∙ good.unhurt;
+  answers = ap answering is ∙ good.answers;
 }

@@ -1,5 +1,5 @@
 -- A good leaf of a page has it, and says so where it is read.
-use Rattle.std.proofs.Common.{◌≡◌, ◌≢◌, ◌⊎◌, ℕ, ◌+◌, ◌≤◌, Bool, true, false, List, Option, Some, None, refl, ap, ◌∙◌, inl, inr}
+use Rattle.std.proofs.Common.{◌≡◌, ◌≢◌, ◌⊎◌, ℕ, ◌+◌, ◌≤◌, Bool, false, List, Option, Some, None, refl, ap, ◌∙◌, inl, inr}
 use Rattle.sha2.specs.Sha256.{sha256}
 use Rattle.txg_history.specs.Events.{Known}
 use Rattle.txg_history.specs.Moves.{ReadsTrue}
@@ -13,10 +13,21 @@ use Rattle.txg_history.proofs.Logging.{true_not_false}
 use Rattle.txg_history.proofs.Showing.{kept_clean}
 use Rattle.mp_base.specs.declared.place.Key.{Key}
 
-pub good_kept : (p : Pool) (r : Rec) (k : Key) (cell : Cell) (answering : ℕ → Bool) → IsIn r p.live → r.cells k ≡ Some cell → (good : HasGoodLeaf p r cell answering)
+pub good_kept : (p : Pool) (r : Rec) (k : Key) (cell : Cell) (answering : ℕ → Bool) → IsIn r p.live
+    → r.cells k ≡ Some cell → (good : HasGoodLeaf p r cell answering)
     → IsKeptAt p good.d (data_start + cell.sector) cell.block
 good_kept p r k cell answering i at good =
-    inl (record { r = r; is_live = i; k = k; cell = cell; cell_is = at; in_top = good.top_is; has = good.has; at = record { sector_is = refl; bytes_are = refl } })
+    inl
+    (record {
+      r = r;
+      is_live = i;
+      k = k;
+      cell = cell;
+      cell_is = at;
+      in_top = good.top_is;
+      has = good.has;
+      at = record { sector_is = refl; bytes_are = refl };
+    })
 
 -- Where each page has a good leaf, each is found.
 pub good_found : (c : Codec) (p : Pool) (r : Rec) (answering : ℕ → Bool) (known : Known) (found : Key → Option (List ℕ)) → Survives c p → IsIn r p.live
@@ -30,10 +41,12 @@ good_found c p r answering known found sv live pages true_to searched level inde
 
     right : (bytes : List ℕ) → known good.d (data_start + cell.sector) ≡ Some bytes → bytes ≡ cell.block
     right bytes shown =
-        let clean = kept_clean c p good.d (data_start + cell.sector) cell.block sv good.is_member (good_kept p r (key level index) cell answering live at good) good.unhurt in
+        let clean = kept_clean c p good.d (data_start + cell.sector) cell.block sv good.is_member
+        (good_kept p r (key level index) cell answering live at good) good.unhurt in
         true_to good.d (data_start + cell.sector) bytes shown (record { still = clean.1; sound = good.unhurt }) ∙ clean.0
 
-    not_missed : (answering good.d ≡ false) ⊎ ((bytes : List ℕ) × (known good.d (data_start + cell.sector) ≡ Some bytes) × (sha256 bytes ≢ sha256 cell.block)) → ⊥
+    not_missed : (answering good.d ≡ false) ⊎ ((bytes : List ℕ) × (known good.d (data_start + cell.sector) ≡ Some bytes)
+        × (sha256 bytes ≢ sha256 cell.block)) → ⊥
     not_missed (inl silent) = true_not_false (answering good.d) good.answers silent
     not_missed (inr (bytes, shown, other)) = other (ap sha256 (right bytes shown))
 

@@ -18,7 +18,8 @@ pinned_none (cells ∷ more) cell (inl t) none = taken_none cells cell t none.0
 pinned_none (cells ∷ more) cell (inr t) none = pinned_none more cell t none.1
 
 -- While the pool is open, no place of a live record is free.
-pub place_safe : (c : Codec) (p : Pool) → Survives c p → (r : Rec) (k : Key) (cell : Cell) → IsIn r p.live → r.cells k ≡ Some cell → IsFree p cell.top cell.sector → ⊥
+pub place_safe : (c : Codec) (p : Pool) → Survives c p → (r : Rec) (k : Key) (cell : Cell) → IsIn r p.live
+    → r.cells k ≡ Some cell → IsFree p cell.top cell.sector → ⊥
 place_safe c p sv r k cell i is free = of (sv.cover free.opened r k cell i is)
   where
     of : IsTaken p.reads.cells cell ⊎ (((p.group.frozen ≡ true) × (p.group.begun ≡ true) × IsTaken p.group.cells cell) ⊎ IsPinned p.pinned cell) → ⊥
@@ -43,7 +44,8 @@ pub one_of : (cells : Cells) (j k : Key) (a b : Cell) → j ≡ k → cells j �
 one_of cells j k a b same at bt = (same, same_cell a b (sym at ∙ (ap cells same ∙ bt)))
 
 -- A place of a top lies between the labels of each of the top's leaves.
-pub place_between : (c : Codec) (p : Pool) (d : ℕ) (cell : Cell) → Survives c p → p.member d ≡ true → IsMapped p.room cell → (cell.top ≡ 0) ⊎ (cell.top ≡ p.home d)
+pub place_between : (c : Codec) (p : Pool) (d : ℕ) (cell : Cell) → Survives c p → p.member d ≡ true
+    → IsMapped p.room cell → (cell.top ≡ 0) ⊎ (cell.top ≡ p.home d)
     → data_start + cell.sector + 128 < p.size d
 place_between c p d cell sv is m (inl none) = let some = top_some p.room cell sv.roomy.no_top m in absurd (omega (arith, some, none))
 place_between c p d cell sv is m (inr home) =
@@ -77,7 +79,8 @@ all_between c p sv = record {
     reads = sv.order.reads_live
 
     by_need : (d s : ℕ) (bytes : List ℕ) → p.member d ≡ true
-        → NeedsCell p.live (p.guid d) s bytes ⊎ (NeedsRead p.reads p.in_top p.owes d s bytes ⊎ NeedsScan p.scan p.reads p.in_top d s bytes) → (128 ≤ s) × (s + 128 < p.size d)
+        → NeedsCell p.live (p.guid d) s bytes ⊎ (NeedsRead p.reads p.in_top p.owes d s bytes
+        ⊎ NeedsScan p.scan p.reads p.in_top d s bytes) → (128 ≤ s) × (s + 128 < p.size d)
     by_need d s bytes is (inl n) = of d s bytes n.cell is n.at (sv.one_key.mapped n.r n.k n.cell n.is_live n.cell_is)
         (⊎_elim (λ none. inl (sym n.in_top ∙ none)) (λ home. inr (sym n.in_top ∙ home)) (sv.placed.in_records n.r d n.is_live is))
     by_need d s bytes is (inr (inl n)) = of d s bytes n.cell is n.at (sv.one_key.mapped p.reads n.k n.cell reads n.cell_is) (by_tree d n.cell is n.top_is)

@@ -1,5 +1,33 @@
 -- Pages that are read back from the root's pointer on give the record's pointers, or bytes with another's sum.
-use Rattle.std.proofs.Common.{◌≡◌, ◌≢◌, ◌⊎◌, ℕ, zero, suc, ◌+◌, ◌*◌, ◌/◌, ◌%◌, ◌<◌, ◌≤◌, List, [], ◌∷◌, Option, Some, None, refl, sym, ap, ◌∙◌, subst, arith, inl, inr, ⊎_elim}
+use Rattle.std.proofs.Common.{
+  ◌≡◌,
+  ◌≢◌,
+  ◌⊎◌,
+  ℕ,
+  zero,
+  suc,
+  ◌+◌,
+  ◌*◌,
+  ◌/◌,
+  ◌%◌,
+  ◌<◌,
+  ◌≤◌,
+  List,
+  [],
+  ◌∷◌,
+  Option,
+  Some,
+  None,
+  refl,
+  sym,
+  ap,
+  ◌∙◌,
+  subst,
+  arith,
+  inl,
+  inr,
+  ⊎_elim,
+}
 use Rattle.std.proofs.lemmas.Bool.{cases_eq}
 use Rattle.sha2.specs.Sha256.{sha256}
 use Rattle.mp_base.specs.declared.place.Key.{Key}
@@ -37,7 +65,8 @@ all_or P Q (suc n) each = ⊎_elim (λ all. ⊎_elim (λ last. inl (λ i lt. by_
     by_last all last i lt (inr ne) = all i (omega (arith, lt, ne))
 
 -- A page whose pointer is right gives the right pointers below it, or other bytes with its sum.
-page_right : (c : Codec) (cells : Cells) (config : List ℕ) (found : Key → Option (List ℕ)) (got : Key → Option Sum) (level index : ℕ) → IsTree c cells → IsReadBack c config found got
+page_right : (c : Codec) (cells : Cells) (config : List ℕ) (found : Key → Option (List ℕ)) (got : Key → Option Sum)
+    (level index : ℕ) → IsTree c cells → IsReadBack c config found got
     → level < 3 → got (key (suc level) index) ≡ sum_of (cells (key (suc level) index))
     → ((j : ℕ) → j < 64 → got (key level (64 * index + j)) ≡ sum_of (cells (key level (64 * index + j)))) ⊎ ClashesAt cells found
 page_right c cells config found got level index tree back low right = of (cells (key (suc level) index)) refl right
@@ -47,28 +76,44 @@ page_right c cells config found got level index tree back low right = of (cells 
     of None at is = inl (λ j lt. back.holes level index j low lt is ∙ sym (ap sum_of (tree.holes level index j low lt at)))
     of (Some cell) at is = by_bytes (same_or page.0 cell.block)
       where
-        page : (bytes : List ℕ) × (found (key (suc level) index) ≡ Some bytes) × (sha256 bytes ≡ sha256 cell.block) × ((j : ℕ) → j < 64 → got (key level (64 * index + j)) ≡ c.pointer bytes j)
+        page : (bytes : List ℕ) × (found (key (suc level) index) ≡ Some bytes) × (sha256 bytes ≡ sha256 cell.block)
+            × ((j : ℕ) → j < 64 → got (key level (64 * index + j)) ≡ c.pointer bytes j)
         page = back.pages level index (record { birth = cell.birth; top = cell.top; sector = cell.sector; sum = sha256 cell.block }) low is
 
-        by_bytes : (page.0 ≡ cell.block) ⊎ (page.0 ≢ cell.block) → ((j : ℕ) → j < 64 → got (key level (64 * index + j)) ≡ sum_of (cells (key level (64 * index + j)))) ⊎ ClashesAt cells found
+        by_bytes : (page.0 ≡ cell.block) ⊎ (page.0 ≢ cell.block)
+            → ((j : ℕ) → j < 64 → got (key level (64 * index + j)) ≡ sum_of (cells (key level (64 * index + j))))
+            ⊎ ClashesAt cells found
         by_bytes (inl same) = inl (λ j lt. page.3 j lt ∙ (ap (λ bytes. c.pointer bytes j) same ∙ tree.pages level index cell low at j lt))
-        by_bytes (inr other) = inr (record { page = key (suc level) index; cell = cell; cell_is = at; bytes = page.0; bytes_are = page.1; clash = record { other = other; same_sum = page.2 } })
+        by_bytes (inr other) = inr
+            (record {
+              page = key
+                  (suc level) index;
+              cell = cell;
+              cell_is = at;
+              bytes = page.0;
+              bytes_are = page.1;
+              clash = record { other = other; same_sum = page.2 };
+            })
 
 -- what is right of a level
 abbrev AreRight : (cells : Cells) → (got : Key → Option Sum) → (level : ℕ) → Type 0
 AreRight cells got level = (index : ℕ) → index < width level → got (key level index) ≡ sum_of (cells (key level index))
 
-level_below : (c : Codec) (cells : Cells) (config : List ℕ) (found : Key → Option (List ℕ)) (got : Key → Option Sum) (level : ℕ) → IsTree c cells → IsReadBack c config found got → level < 3
-    → ((index : ℕ) → index < width level → index / 64 < width (suc level)) → AreRight cells got (suc level) ⊎ ClashesAt cells found → AreRight cells got level ⊎ ClashesAt cells found
+level_below : (c : Codec) (cells : Cells) (config : List ℕ) (found : Key → Option (List ℕ)) (got : Key → Option Sum)
+    (level : ℕ) → IsTree c cells → IsReadBack c config found got → level < 3
+    → ((index : ℕ) → index < width level → index / 64 < width (suc level)) → AreRight cells got (suc level)
+    ⊎ ClashesAt cells found → AreRight cells got level ⊎ ClashesAt cells found
 level_below c cells config found got level tree back low inside (inr clash) = inr clash
 level_below c cells config found got level tree back low inside (inl above) =
     ⊎_elim (λ all. inl (λ index lt. by_place all index lt)) (λ clash. inr clash)
     (all_or (λ i. (j : ℕ) → j < 64 → got (key level (64 * i + j)) ≡ sum_of (cells (key level (64 * i + j)))) (ClashesAt cells found) (width (suc level))
     (λ i lt. page_right c cells config found got level i tree back low (above i lt)))
   where
-    by_place : ((i : ℕ) → i < width (suc level) → (j : ℕ) → j < 64 → got (key level (64 * i + j)) ≡ sum_of (cells (key level (64 * i + j)))) → (index : ℕ) → index < width level
+    by_place : ((i : ℕ) → i < width (suc level) → (j : ℕ) → j < 64 → got (key level (64 * i + j)) ≡ sum_of
+        (cells (key level (64 * i + j)))) → (index : ℕ) → index < width level
         → got (key level index) ≡ sum_of (cells (key level index))
-    by_place all index lt = subst (λ n. got (key level n) ≡ sum_of (cells (key level n))) (whole index) (all (index / 64) (inside index lt) (index % 64) (rest index))
+    by_place all index lt = subst (λ n. got (key level n) ≡ sum_of (cells (key level n))) (whole index)
+        (all (index / 64) (inside index lt) (index % 64) (rest index))
       where
         whole : (n : ℕ) → 64 * (n / 64) + n % 64 ≡ n
         whole n = omega arith
@@ -77,8 +122,10 @@ level_below c cells config found got level tree back low inside (inl above) =
         rest n = omega arith
 
 -- All pointers of a tree, level by level from the root on.
-pub all_right : (c : Codec) (cells : Cells) (config : List ℕ) (found : Key → Option (List ℕ)) (got : Key → Option Sum) → IsTree c cells → c.root config ≡ sum_of (cells (key 3 0))
-    → IsReadBack c config found got → ((level index : ℕ) → level ≤ 3 → index < width level → got (key level index) ≡ sum_of (cells (key level index))) ⊎ ClashesAt cells found
+pub all_right : (c : Codec) (cells : Cells) (config : List ℕ) (found : Key → Option (List ℕ)) (got : Key → Option Sum)
+    → IsTree c cells → c.root config ≡ sum_of (cells (key 3 0))
+    → IsReadBack c config found got → ((level index : ℕ) → level ≤ 3 → index < width level → got
+    (key level index) ≡ sum_of (cells (key level index))) ⊎ ClashesAt cells found
 all_right c cells config found got tree root back = by_levels three two one none
   where
     three : AreRight cells got 3 ⊎ ClashesAt cells found
@@ -105,7 +152,8 @@ all_right c cells config found got tree root back = by_levels three two one none
     at_level d b a z (suc (suc (suc (suc n)))) index le lt = absurd (omega (arith, le))
 
     by_levels : AreRight cells got 3 ⊎ ClashesAt cells found → AreRight cells got 2 ⊎ ClashesAt cells found → AreRight cells got 1 ⊎ ClashesAt cells found
-        → AreRight cells got 0 ⊎ ClashesAt cells found → ((level index : ℕ) → level ≤ 3 → index < width level → got (key level index) ≡ sum_of (cells (key level index))) ⊎ ClashesAt cells found
+        → AreRight cells got 0 ⊎ ClashesAt cells found → ((level index : ℕ) → level ≤ 3 → index < width level → got
+        (key level index) ≡ sum_of (cells (key level index))) ⊎ ClashesAt cells found
     by_levels (inl d) (inl b) (inl a) (inl z) = inl (at_level d b a z)
     by_levels (inr clash) two one none = inr clash
     by_levels (inl d) (inr clash) one none = inr clash
@@ -121,7 +169,8 @@ numbered_fits c p r sv i some = of (sv.fit r i).0
     of (inr fits) = fits
 
 -- What an opening reads back of a live record.
-pub live_read_back : (c : Codec) (p : Pool) (r : Rec) (config : List ℕ) (found : Key → Option (List ℕ)) (got : Key → Option Sum) → Survives c p → IsIn r p.live → 1 ≤ number_of r
+pub live_read_back : (c : Codec) (p : Pool) (r : Rec) (config : List ℕ) (found : Key → Option (List ℕ))
+    (got : Key → Option Sum) → Survives c p → IsIn r p.live → 1 ≤ number_of r
     → config ≡ config_of r.commit → IsReadBack c config found got
     → ((level index : ℕ) → level ≤ 3 → index < width level → got (key level index) ≡ sum_of (r.cells (key level index))) ⊎ ClashesAt r.cells found
 live_read_back c p r config found got sv i some same back =

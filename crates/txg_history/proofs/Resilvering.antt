@@ -1,5 +1,37 @@
 -- A disk's week: a leaf is away from a commit, comes back, and a resilver brings it what it missed.
-use Rattle.std.proofs.Common.{◌≡◌, ℕ, zero, suc, ◌+◌, ◌*◌, ◌≤◌, ◌<◌, ◌==◌, nat_le, Bool, true, false, cond, List, [], ◌∷◌, ◌++◌, length, Option, Some, None, refl, sym, ap, ◌∙◌, subst, inl, inr, arith, ⊎_elim}
+use Rattle.std.proofs.Common.{
+  ◌≡◌,
+  ℕ,
+  zero,
+  suc,
+  ◌+◌,
+  ◌*◌,
+  ◌≤◌,
+  ◌<◌,
+  ◌==◌,
+  nat_le,
+  Bool,
+  true,
+  false,
+  cond,
+  List,
+  [],
+  ◌∷◌,
+  ◌++◌,
+  length,
+  Option,
+  Some,
+  None,
+  refl,
+  sym,
+  ap,
+  ◌∙◌,
+  subst,
+  inl,
+  inr,
+  arith,
+  ⊎_elim,
+}
 use Rattle.std.specs.Prelude.{slice_get}
 use Rattle.std.proofs.lemmas.Bool.Decides.{nat_tests}
 use Rattle.mp_base.specs.declared.place.Key.{Key}
@@ -8,12 +40,11 @@ use Rattle.label_store.specs.Seats.{AreApart}
 use Rattle.label_store.proofs.Keeping.{same_member, no_member}
 use Rattle.txg_history.specs.Events.{Event, calls_of, Calls, Freezes, Wrote, Flushed, Scans, Passes, Clears}
 use Rattle.txg_history.specs.Groups.{same_key, no_log, at_device}
-use Rattle.txg_history.specs.Moves.{IsSparing, IsLeafOf, IsDrawnUp, MayFreeze, MayScan, MayPass, Mays}
+use Rattle.txg_history.specs.Moves.{IsSparing, WasCopied, IsLeafOf, IsDrawnUp, MayFreeze, MayScan, MayPass, Mays}
 use Rattle.txg_history.specs.Places.{IsFree}
-use Rattle.txg_history.specs.Needs.{Copied}
 use Rattle.txg_history.specs.Pages.{Codec, sum_of}
 use Rattle.txg_history.specs.Pools.{Pool, seat, after, pool_after}
-use Rattle.txg_history.specs.Records.{Rec, Cell, key, cell_over, block_of, laid_over, number_of, data_start}
+use Rattle.txg_history.specs.Records.{Rec, Cell, key, cell_over, block_of, laid_over, number_of}
 use Rattle.txg_history.specs.Rounds.{IsRoundEvents, RoundEnds}
 use Rattle.txg_history.specs.Scans.{up_to}
 use Rattle.txg_history.specs.Survival.{Survives}
@@ -24,7 +55,8 @@ use Rattle.txg_history.proofs.Listing.{one_key, same_cell, laid_of}
 use Rattle.txg_history.proofs.Logging.{true_not_false, at_here, same_device}
 use Rattle.txg_history.proofs.Moving.{event_survives}
 use Rattle.txg_history.proofs.RoundMoves.{round_may, round_ends}
-use Rattle.txg_history.proofs.Showing.{copy_lands, clear_may}
+use Rattle.txg_history.proofs.Copying.{step_copies}
+use Rattle.txg_history.proofs.Showing.{clear_may}
 use Rattle.txg_history.proofs.Surviving.{history_survives}
 use Rattle.txg_history.proofs.Turning.{write_turn_may, flush_turn_may}
 use Rattle.txg_history.proofs.Writing.{copy_sparing}
@@ -37,7 +69,7 @@ only_is cell other k e = of (same_key root_key k) refl e
     of true is e = (sym (one_key root_key k is), same_cell cell other e)
     of false is e = absurd (cc)
 
-same_test : (d : ℕ) → (d == d) ≡ true
+pub same_test : (d : ℕ) → (d == d) ≡ true
 same_test d = grind (arith, nat_tests)
 
 -- no level but the root's has a key
@@ -58,7 +90,8 @@ week_freezes c p a b cell w = record {
   inside = λ k other e. subst (λ cell. cell.sector < p.room cell.top) (only_is cell other k e).1 w.inside;
   apart = λ j k x y ex ey one. (only_is cell x j ex).0 ∙ sym (only_is cell y k ey).0;
   dirty = record {
-    up = λ level index j other low lt e. absurd (let same = ap (λ k. k.level) (only_is cell other (key level (64 * index + j)) e).0 in omega (arith, low, same));
+    up = λ level index j other low lt e. absurd (let same = ap (λ k. k.level)
+        (only_is cell other (key level (64 * index + j)) e).0 in omega (arith, low, same));
     pages = λ level index other low e j lt. subst (λ cell. c.pointer cell.block j ≡ None) (only_is cell other (key (suc level) index) e).1 (w.holes j lt)
         ∙ sym (ap sum_of (both_none level (64 * index + j) low));
   };
@@ -70,21 +103,27 @@ week_freezes c p a b cell w = record {
     both_none level index low = ap (λ x. cell_over x (p.reads.cells (key level index))) (below_none cell level index low) ∙ w.none (key level index)
 
     top_of_a : (t : ℕ) → p.in_top a ≡ t → 1 ≤ t
-    top_of_a zero e = absurd (let inside : cell.sector < p.room 0 = subst (λ t. cell.sector < p.room t) (sym w.a_top ∙ e) w.inside in omega (arith, inside, w.survives.roomy.no_top))
+    top_of_a zero e = absurd (let inside : cell.sector < p.room 0 = subst (λ t. cell.sector < p.room t)
+        (sym w.a_top ∙ e) w.inside in omega (arith, inside, w.survives.roomy.no_top))
     top_of_a (suc t) e = omega arith
 
 -- the list of a alone
-alone : (p q : Pool) (a : ℕ) (Which : ℕ → Type 0) → q.member ≡ p.member → q.guid ≡ p.guid → Which a → ((d : ℕ) → q.member d ≡ true → Which d → a ≡ d) → AreJust q Which (seat q a ∷ [])
+pub alone : (p q : Pool) (a : ℕ) (Which : ℕ → Type 0) → q.member ≡ p.member → q.guid ≡ p.guid → Which a
+    → ((d : ℕ) → q.member d ≡ true → Which d → a ≡ d) → AreJust q Which (seat q a ∷ [])
 alone p q a Which m g is only = record {
   seated = λ i n at member. of i n at;
   all = λ d member which. (0, ap (λ d. Some (seat q d)) (only d member which));
 }
   where
     of : (i : ℕ) (n : Member) → slice_get (seat q a ∷ []) i ≡ Some n → (n ≡ seat q n.dev) × Which n.dev
-    of zero n at = (sym (same_member (seat q a) n at) ∙ ap (λ n. seat q n.dev) (same_member (seat q a) n at), subst (λ n. Which n.dev) (same_member (seat q a) n at) is)
+    of zero n at = (
+      sym (same_member (seat q a) n at) ∙ ap (λ n. seat q n.dev) (same_member (seat q a) n at),
+      subst
+          (λ n. Which n.dev) (same_member (seat q a) n at) is,
+    )
     of (suc i) n at = absurd (no_member n at)
 
-one_apart : (m : Member) → AreApart (m ∷ [])
+pub one_apart : (m : Member) → AreApart (m ∷ [])
 one_apart m zero zero x y ex ey lt = absurd (omega (arith, lt))
 one_apart m zero (suc j) x y ex ey lt = absurd (no_member y ey)
 one_apart m (suc i) j x y ex ey lt = absurd (no_member x ex)
@@ -92,9 +131,11 @@ one_apart m (suc i) j x y ex ey lt = absurd (no_member x ex)
 -- The commit up to its round is allowed.
 pub week_commits : (c : Codec) (p : Pool) (a b : ℕ) (cell : Cell) → IsWeek c p a b cell → Mays c p (until_round a cell)
 week_commits c p a b cell w =
-    mays_more c (Freezes (only_root cell) (λ d. a == d) ∷ []) (Calls (writes_well a cell) ∷ Wrote root_key ∷ Calls (flushes_well a) ∷ Flushed ∷ []) p (freeze, tt)
+    mays_more c (Freezes (only_root cell) (λ d. a == d) ∷ [])
+    (Calls (writes_well a cell) ∷ Wrote root_key ∷ Calls (flushes_well a) ∷ Flushed ∷ []) p (freeze, tt)
     (mays_more c (Calls (writes_well a cell) ∷ Wrote root_key ∷ []) (Calls (flushes_well a) ∷ Flushed ∷ []) p1 written
-    (flush_turn_may c p2 (seat p2 a ∷ []) (true ∷ []) (Calls (flushes_well a) ∷ Flushed ∷ []) (history_survives c (Calls (writes_well a cell) ∷ Wrote root_key ∷ []) p1 sv1 written) refl
+    (flush_turn_may c p2 (seat p2 a ∷ []) (true ∷ []) (Calls (flushes_well a) ∷ Flushed ∷ [])
+    (history_survives c (Calls (writes_well a cell) ∷ Wrote root_key ∷ []) p1 sv1 written) refl
     (λ k other e. ap (λ k. cond (same_key root_key k) true false) (only_is cell other k e).0)
     (alone p p2 a (OnBoard p2) refl refl (same_test a) (λ d member on. same_device a d on)) (one_apart (seat p2 a))
     (record { made = flushes_well a ∷ []; phase = (flushes_well a ∷ [], [], refl, (None, (refl, inl (refl, refl)), refl), refl); all = refl })))
@@ -151,8 +192,8 @@ resilver_may c p b cell w = ((scan, (copy, (pass, clear))), cleared)
     sv2 : Survives c p2
     sv2 = event_survives c p1 (Calls (writes_well b cell)) sv1 copy
 
-    copied : Copied (p2.sectors b (data_start + cell.sector)) cell.block
-    copied = copy_lands (writes_well b cell) [] b (data_start + cell.sector) cell.block p1.sectors refl w.long tt
+    copied : WasCopied p2 b cell
+    copied = step_copies p1 (writes_well b cell) [] b cell refl w.long tt
 
     pass : MayPass p2 root_key no_log
     pass = record {
@@ -164,7 +205,7 @@ resilver_may c p b cell w = ((scan, (copy, (pass, clear))), cleared)
       next = λ j other up new at low. w.only j other at;
       more = λ d g has. has;
       only = λ d g has. inl has;
-      each = λ d is on top. inr (inr (subst (λ d. Copied (p2.sectors d (data_start + cell.sector)) cell.block) (same_device b d on) copied));
+      each = λ d is on top. inr (inr (subst (λ d. WasCopied p2 d cell) (same_device b d on) copied));
     }
 
     p3 : Pool
@@ -186,14 +227,16 @@ resilver_may c p b cell w = ((scan, (copy, (pass, clear))), cleared)
         low_out false e = absurd (cc)
 
 -- The whole week.
-pub week_may : (c : Codec) (p : Pool) (a b : ℕ) (cell : Cell) (q : Rec) (vs : List Event) → IsWeek c p a b cell → IsDrawnUp c (pool_after (until_round a cell) p) q
+pub week_may : (c : Codec) (p : Pool) (a b : ℕ) (cell : Cell) (q : Rec) (vs : List Event) → IsWeek c p a b cell
+    → IsDrawnUp c (pool_after (until_round a cell) p) q
     → IsLeafOf (pool_after (until_round a cell) p) q b
     → IsRoundEvents (pool_after (until_round a cell) p).size q (seat (pool_after (until_round a cell) p) a ∷ []) (true ∷ []) vs
     → Mays c p (until_round a cell ++ (vs ++ resilver b (number_of q) cell))
     × ((pool_after (until_round a cell ++ vs) p).owes b cell.birth ≡ true)
     × ((pool_after (until_round a cell ++ (vs ++ resilver b (number_of q) cell)) p).owes b cell.birth ≡ false)
 week_may c p a b cell q vs w drawn knows round = (
-  mays_more c (until_round a cell) (vs ++ resilver b (number_of q) cell) p commit (mays_more c vs (resilver b (number_of q) cell) p3 may (subst (λ n. Mays c p4 (resilver b n cell)) hi back.0)),
+  mays_more c (until_round a cell) (vs ++ resilver b (number_of q) cell) p commit
+      (mays_more c vs (resilver b (number_of q) cell) p3 may (subst (λ n. Mays c p4 (resilver b n cell)) hi back.0)),
   ap (λ x. x.owes b cell.birth) (pool_more (until_round a cell) vs p) ∙ (ap (λ owes. owes b cell.birth) (ends.owes refl) ∙ owed),
   ap (λ x. x.owes b cell.birth) (pool_more (until_round a cell) (vs ++ resilver b (number_of q) cell) p ∙ pool_more vs (resilver b (number_of q) cell) p3)
       ∙ subst (λ n. (pool_after (resilver b n cell) p4).owes b cell.birth ≡ false) hi back.1,

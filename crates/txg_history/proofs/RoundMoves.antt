@@ -1,5 +1,37 @@
 -- A round of a record that is drawn up is allowed, event by event, and what it leaves of the pool.
-use Rattle.std.proofs.Common.{◌≡◌, ℕ, ◌⊎◌, ◌+◌, ◌^◌, ◌<◌, ◌≤◌, not, zero, suc, Bool, true, false, List, [], ◌∷◌, ◌++◌, map, Some, None, refl, sym, ap, ◌∙◌, subst, arith, inl, inr, append-nil}
+use Rattle.std.proofs.Common.{
+  ◌≡◌,
+  ◌≢◌,
+  ℕ,
+  ◌⊎◌,
+  ◌+◌,
+  ◌^◌,
+  ◌<◌,
+  ◌≤◌,
+  not,
+  zero,
+  suc,
+  Bool,
+  true,
+  false,
+  List,
+  [],
+  ◌∷◌,
+  ◌++◌,
+  map,
+  Some,
+  None,
+  refl,
+  sym,
+  ap,
+  ◌∙◌,
+  subst,
+  arith,
+  inl,
+  inr,
+  append-nil,
+  ⊎_elim,
+}
 use Rattle.std.specs.Prelude.{slice_get}
 use Rattle.std.proofs.lemmas.Bool.{and_parts}
 use Rattle.bank_core.specs.Disk.{Sectors, Noted, run, sectors_in}
@@ -15,24 +47,24 @@ use Rattle.label_store.specs.Seats.{AreApart}
 use Rattle.label_store.specs.Uberblock.{uberblock_bytes}
 use Rattle.label_store.proofs.Keeping.{others, phase_spares, phase_lands, phase_was}
 use Rattle.label_store.proofs.Places.{label_is, config_elsewhere_even, ring_elsewhere, ring_spares_config, even_lands, ring_lands, uberblock_sectors}
-use Rattle.txg_history.specs.Events.{Event, Begins, calls_of, as_events}
-use Rattle.txg_history.specs.Labels.{Odd, Even}
+use Rattle.txg_history.specs.Events.{Event, Begins, Acks, calls_of, as_events}
+use Rattle.txg_history.specs.Labels.{Status, Odd, Even}
 use Rattle.txg_history.specs.Moves.{IsLeafOf, IsDrawnUp, MayAck, Mays}
 use Rattle.txg_history.specs.Needs.{NeedsLabel}
-use Rattle.txg_history.specs.Pools.{Pool, after, pool_after, seat}
+use Rattle.txg_history.specs.Pools.{Pool, after, pool_after, seat, noted_since, since_after, noted_copies, copies_after}
 use Rattle.txg_history.specs.Records.{Rec, IsNoLeaf, number_of, takes_part}
-use Rattle.txg_history.specs.Rounds.{all_true, acks_or, IsRoundEvents, RoundEnds}
+use Rattle.txg_history.specs.Rounds.{all_true, acks_or, behind_round, IsStatusBehind, IsRoundEvents, RoundEnds}
 use Rattle.txg_history.specs.Turns.{AreJust, OnBoard}
 use Rattle.txg_history.specs.Survival.{Survives}
-use Rattle.txg_history.proofs.Folding.{since_after, with_calls, pool_more, calls_then, mays_more, mays_calls, calls_more, calls_are}
-use Rattle.txg_history.proofs.Leaving.{leavers_may, leavers_pool, board_behind}
+use Rattle.txg_history.proofs.Folding.{with_calls, pool_more, calls_then, mays_more, mays_calls, calls_more, calls_are}
+use Rattle.txg_history.proofs.Leaving.{without, leavers_may, leavers_pool, board_behind, left_board_is, left_owes_is}
 use Rattle.txg_history.proofs.Logging.{by_bool, true_not_false}
 use Rattle.txg_history.proofs.Placing.{AreBetween, all_between}
 use Rattle.txg_history.proofs.RoundParts.{IsSeated, by_device, few_of, first_sparing, second_sparing, member_range}
 use Rattle.txg_history.proofs.RoundShapes.{acks_no_call}
 use Rattle.txg_history.proofs.RoundsSurvive.{begins_survive}
 use Rattle.txg_history.proofs.Sparing.{phase_may, still_sparing}
-use Rattle.txg_history.proofs.Thirds.{AreReady, thirds_may, turns_pool, thirds_turns, thirds_result, thirds_odd}
+use Rattle.txg_history.proofs.Thirds.{AreReady, thirds_may, turns_pool, thirds_turns, thirds_result, thirds_away, thirds_odd, thirds_failed}
 
 -- A round's setting: the pool, the record, and the members on the board.
 record Setting (codec : Codec) (p : Pool) (q : Rec) (ms : List Member) : Type 0 where
@@ -50,7 +82,8 @@ has_in true u e f g = absurd (cc)
 has_in false u e f g = cc
 
 -- A member on the board takes part in a record that is drawn up, and one that takes part is on the board.
-pub board_takes : (codec : Codec) (p : Pool) (q : Rec) (d : ℕ) → Survives codec p → IsDrawnUp codec p q → p.member d ≡ true → p.group.board d ≡ true → takes_part q (p.guid d) ≡ true
+pub board_takes : (codec : Codec) (p : Pool) (q : Rec) (d : ℕ) → Survives codec p → IsDrawnUp codec p q
+    → p.member d ≡ true → p.group.board d ≡ true → takes_part q (p.guid d) ≡ true
 board_takes codec p q d sv m is on = of (m.leaves d is)
   where
     of : IsLeafOf p q d ⊎ (IsNoLeaf q (p.guid d) × (p.group.board d ≡ false)) → takes_part q (p.guid d) ≡ true
@@ -58,7 +91,8 @@ board_takes codec p q d sv m is on = of (m.leaves d is)
         (subst (λ n. p.owes d n ≡ false) (sym m.number_is) (sv.boards.on_board m.frozen d p.highest is on (sv.boards.first_top m.frozen) (omega arith)))
     of (inr none) = true_not_false (p.group.board d) on none.1
 
-pub takes_board : (codec : Codec) (p : Pool) (q : Rec) (d : ℕ) → Survives codec p → IsDrawnUp codec p q → p.member d ≡ true → takes_part q (p.guid d) ≡ true → p.group.board d ≡ true
+pub takes_board : (codec : Codec) (p : Pool) (q : Rec) (d : ℕ) → Survives codec p → IsDrawnUp codec p q
+    → p.member d ≡ true → takes_part q (p.guid d) ≡ true → p.group.board d ≡ true
 takes_board codec p q d sv m is takes = by_bool (p.group.board d) (λ on. on) (λ out. absurd (of out (m.leaves d is)))
   where
     of : p.group.board d ≡ false → IsLeafOf p q d ⊎ (IsNoLeaf q (p.guid d) × (p.group.board d ≡ false)) → ⊥
@@ -66,7 +100,8 @@ takes_board codec p q d sv m is takes = by_bool (p.group.board d) (λ on. on) (�
         (subst (λ n. p.owes d n ≡ true) (sym m.number_is) (sv.boards.off_board m.frozen d p.highest is out (sv.boards.first_top m.frozen) (omega arith))) takes
     of out (inr none) = has_in (q.owes (p.guid d) (number_of q)) true (none.0.all (number_of q)) refl takes
 
-seated_of : (codec : Codec) (p : Pool) (q : Rec) (ms : List Member) → Setting codec p q ms → (j : ℕ) (m : Member) → slice_get ms j ≡ Some m → p.member m.dev ≡ true → IsSeated p q m
+seated_of : (codec : Codec) (p : Pool) (q : Rec) (ms : List Member) → Setting codec p q ms → (j : ℕ) (m : Member)
+    → slice_get ms j ≡ Some m → p.member m.dev ≡ true → IsSeated p q m
 seated_of codec p q ms s j m e is = let at = s.members.seated j m e is in record {
   is_member = is;
   takes = board_takes codec p q m.dev s.survives s.drawn_up is at.1;
@@ -93,7 +128,8 @@ front_stands : (codec : Codec) (p : Pool) (q : Rec) (ms : List Member) (results 
     → (s : ℕ) (bytes : List ℕ) → NeedsLabel (seat p m.dev) (Even q) s bytes → Stands (run r.second (run r.first p.sectors) m.dev s) bytes
 front_stands codec p q ms results vs st r j m at on is s bytes (inl (e, b)) =
     subst (λ t. Stands (run r.second (run r.first p.sectors) m.dev t) bytes) (sym there)
-    (subst (Stands (run r.second (run r.first p.sectors) m.dev (0 + (32 + slot_of (number_of q))))) (ap (λ n. uberblock_bytes (uberblock_of q.commit n)) seated.seat_is ∙ sym b)
+    (subst (Stands (run r.second (run r.first p.sectors) m.dev (0 + (32 + slot_of (number_of q)))))
+    (ap (λ n. uberblock_bytes (uberblock_of q.commit n)) seated.seat_is ∙ sym b)
     (phase_lands (second_plan p.size q.commit) ms r.in_first r.in_second r.second j m m.dev (0 + (32 + slot_of (number_of q))) _ _ at on
     (λ i n e' ne. ring_elsewhere n.dev (p.size n.dev) (uberblock_of q.commit n) m.dev _ (others ms j i m n st.apart at e' ne))
     (λ mine y part. ring_lands m.dev (p.size m.dev) (uberblock_of q.commit m) mine y seated.big
@@ -107,7 +143,8 @@ front_stands codec p q ms results vs st r j m at on is s bytes (inl (e, b)) =
 front_stands codec p q ms results vs st r j m at on is s bytes (inr (i, lt, e, b)) =
     subst (λ t. Stands (run r.second (run r.first p.sectors) m.dev t) bytes) (sym e)
     (subst (Stands (run r.second (run r.first p.sectors) m.dev (4 + i))) (sym b)
-    (untouched_stands r.second m.dev (4 + i) _ _ (second_off_part codec p q ms r.in_first r.in_second r.second m.dev i st is (omega (arith, lt, few)) r.uberblocks)
+    (untouched_stands r.second m.dev (4 + i) _ _
+    (second_off_part codec p q ms r.in_first r.in_second r.second m.dev i st is (omega (arith, lt, few)) r.uberblocks)
     (phase_lands (first_plan p.size q.commit) ms (map (λ n. true) ms) r.in_first r.first j m m.dev (4 + i) _ _ at
     (phase_was (second_plan p.size q.commit) ms r.in_first r.in_second r.second j on r.uberblocks)
     (λ i' n e' ne. config_elsewhere_even n.dev (p.size n.dev) q.commit.blob m.dev _ (others ms j i' m n st.apart at e' ne))
@@ -184,14 +221,16 @@ may_ack codec p q ms results vs st r all =
       logs = λ d g is leaf owed. same_log d g leaf owed (st.drawn_up.leaves d is);
     })
   where
-    same_log : (d g : ℕ) → 1 ≤ q.tops (p.guid d) → q.owes (p.guid d) g ≡ true → IsLeafOf p q d ⊎ (IsNoLeaf q (p.guid d) × (p.group.board d ≡ false)) → p.owes d g ≡ true
+    same_log : (d g : ℕ) → 1 ≤ q.tops (p.guid d) → q.owes (p.guid d) g ≡ true → IsLeafOf p q d
+        ⊎ (IsNoLeaf q (p.guid d) × (p.group.board d ≡ false)) → p.owes d g ≡ true
     same_log d g leaf owed (inl of) = sym (of.log_is g) ∙ owed
     same_log d g leaf owed (inr none) = absurd (omega (arith, leaf, none.0.no_top))
 
 still_frozen : (codec : Codec) (p : Pool) (q : Rec) (ms : List Member) (results : List Bool) (vs : List Event) → Setting codec p q ms
     → (r : IsRoundEvents p.size q ms results vs) → (pool_after r.thirds (front q r.first r.second p)).group.frozen ≡ true
 still_frozen codec p q ms results vs st r =
-    ap (λ x. x.group.frozen) (turns_pool r.thirds (front q r.first r.second p) (thirds_turns (third_plan p.size q.commit) q ms r.in_second results r.thirds r.copies))
+    ap (λ x. x.group.frozen) (turns_pool r.thirds (front q r.first r.second p)
+    (thirds_turns (third_plan p.size q.commit) q ms r.in_second results r.thirds r.copies))
     ∙ st.drawn_up.frozen
 
 round_allowed : (codec : Codec) (p : Pool) (q : Rec) (ms : List Member) (results : List Bool) (vs : List Event) → Setting codec p q ms
@@ -209,7 +248,8 @@ round_allowed codec p q ms results vs st r =
           (second_sparing codec p q m st.survives (begun_between codec p q ms st) st.drawn_up.fits (seated_of codec p q ms st j m e))) r.uberblocks)
           (mays_more codec r.thirds (acks_or (all_true results) q ms results) (front q r.first r.second p)
           (thirds_may codec q ms r.in_second results r.thirds (front q r.first r.second p) (front_ready codec p q ms results vs st r) r.copies)
-          (acks_may codec q ms results (all_true results) (pool_after r.thirds (front q r.first r.second p)) (still_frozen codec p q ms results vs st r) (may_ack codec p q ms results vs st r)))),
+          (acks_may codec q ms results (all_true results) (pool_after r.thirds (front q r.first r.second p))
+          (still_frozen codec p q ms results vs st r) (may_ack codec p q ms results vs st r)))),
     )
 
 -- A round of a record that is drawn up is allowed.
@@ -244,16 +284,61 @@ abbrev before_ack : (q : Rec) (first second : List Noted) (thirds : List Event) 
 before_ack q first second thirds p = record (front q first second p) {
   sectors = run (calls_of thirds) (run second (run first p.sectors));
   since = since_after (calls_of thirds) (front q first second p).since;
+  copies = copies_after (calls_of thirds) (front q first second p).copies;
   status = (pool_after thirds (front q first second p)).status;
 }
 
 sectors_behind : (first second third : List Noted) (sectors : Sectors) → run third (run second (run first sectors)) ≡ run (first ++ (second ++ third)) sectors
 sectors_behind first second third sectors = sym (run_more first (second ++ third) sectors ∙ run_more second third (run first sectors))
 
+-- the labels' promises before a round's last events
+record AreAtEnd (p : Pool) (q : Rec) (ms : List Member) (results : List Bool) (status : ℕ → Status) : Type 0 where
+  others : (d : ℕ) → ((i : ℕ) (m : Member) → slice_get ms i ≡ Some m → m.dev ≢ d) → status d ≡ (after (Begins q) p).status d
+  ended : (i : ℕ) (m : Member) → AreApart ms → slice_get ms i ≡ Some m → slice_get results i ≡ Some true → status m.dev ≡ Odd q
+  failed : (i : ℕ) (m : Member) → AreApart ms → slice_get ms i ≡ Some m → slice_get results i ≡ Some false
+      → (status m.dev ≡ (after (Begins q) p).status m.dev) ⊎ (status m.dev ≡ Even q)
+
+at_end : (size : ℕ → ℕ) (p : Pool) (q : Rec) (ms : List Member) (results : List Bool) (vs : List Event) → (r : IsRoundEvents size q ms results vs)
+    → AreAtEnd p q ms results (pool_after r.thirds (front q r.first r.second p)).status
+at_end size p q ms results vs r = record {
+  others = λ d ne. thirds_away (third_plan size q.commit) q ms r.in_second results r.thirds (front q r.first r.second p) d ne r.copies;
+  ended = λ i m apart e on. thirds_odd (third_plan size q.commit) q ms r.in_second results r.thirds (front q r.first r.second p) i m apart e on r.copies;
+  failed = λ i m apart e off. thirds_failed (third_plan size q.commit) q ms r.in_second results r.thirds (front q r.first r.second p) i m apart e off r.copies;
+}
+
+status_behind : (p behind : Pool) (q : Rec) (whole : Bool) (ms : List Member) (results : List Bool) (status : ℕ → Status)
+    → ((d : ℕ) → behind.status d ≡ behind_round whole q (p.guid d) (status d)) → AreAtEnd p q ms results status
+    → IsStatusBehind p behind q whole ms results
+status_behind p behind q whole ms results status is at = record {
+  others = λ d ne. is d ∙ ap (behind_round whole q (p.guid d)) (at.others d ne);
+  ended = λ i m apart e on. is m.dev ∙ ap (behind_round whole q (p.guid m.dev)) (at.ended i m apart e on);
+  failed = λ i m apart e off. ⊎_elim (λ same. inl (is m.dev ∙ ap (behind_round whole q (p.guid m.dev)) same))
+      (λ even. inr (is m.dev ∙ ap (behind_round whole q (p.guid m.dev)) even)) (at.failed i m apart e off);
+}
+
+since_more : (first second : List Noted) (since : ℕ → ℕ → List (List ℕ)) → since_after (first ++ second) since ≡ since_after second (since_after first since)
+since_more [] second since = refl
+since_more (noted ∷ first) second since = since_more first second (noted_since noted.call since)
+
+since_behind : (first second third : List Noted) (since : ℕ → ℕ → List (List ℕ))
+    → since_after third (since_after second (since_after first since)) ≡ since_after (first ++ (second ++ third)) since
+since_behind first second third since = sym (since_more first (second ++ third) since ∙ since_more second third (since_after first since))
+
+copies_more : (first second : List Noted) (copies : ℕ → ℕ → List (List ℕ))
+    → copies_after (first ++ second) copies ≡ copies_after second (copies_after first copies)
+copies_more [] second copies = refl
+copies_more (noted ∷ first) second copies = copies_more first second (noted_copies noted.call copies)
+
+copies_behind : (first second third : List Noted) (copies : ℕ → ℕ → List (List ℕ))
+    → copies_after third (copies_after second (copies_after first copies)) ≡ copies_after (first ++ (second ++ third)) copies
+copies_behind first second third copies = sym (copies_more first (second ++ third) copies ∙ copies_more second third (copies_after first copies))
+
 -- with its acknowledgement, or without the members that failed
-acknowledges : (p : Pool) (q : Rec) (first second : List Noted) (thirds : List Event) (whole : Bool) (ms : List Member) (results : List Bool) → all_true results ≡ whole
+acknowledges : (p : Pool) (q : Rec) (first second : List Noted) (thirds : List Event) (whole : Bool) (ms : List Member)
+    (results : List Bool) → all_true results ≡ whole
+    → AreAtEnd p q ms results (pool_after thirds (front q first second p)).status
     → RoundEnds p (pool_after (acks_or whole q ms results) (before_ack q first second thirds p)) q whole ms results (first ++ (second ++ calls_of thirds))
-acknowledges p q first second thirds true ms results all = record {
+acknowledges p q first second thirds true ms results all at = record {
   name = refl;
   pool = refl;
   member = refl;
@@ -264,6 +349,12 @@ acknowledges p q first second thirds true ms results all = record {
   written = refl;
   highest = refl;
   sectors = sectors_behind first second (calls_of thirds) p.sectors;
+  since = since_behind first second (calls_of thirds) p.since;
+  copies = copies_behind first second (calls_of thirds) p.copies;
+  acks = refl;
+  given = refl;
+  status = status_behind p (after (Acks q) (before_ack q first second thirds p)) q true ms results
+      (pool_after thirds (front q first second p)).status (λ d. refl) at;
   acked = refl;
   reads = refl;
   opened = refl;
@@ -287,12 +378,15 @@ acknowledges p q first second thirds true ms results all = record {
     good = λ d i m c is at here on. all_at results i c all on;
     stays = λ d on good. on;
   };
+  board_is = λ d. refl;
   owes = λ e. refl;
+  owes_is = λ e. absurd (cc);
   drawn_q = inl refl;
   drawn_in = λ r i. i;
 }
-acknowledges p q first second thirds false ms results all =
-    subst (λ x. RoundEnds p x q false ms results (first ++ (second ++ calls_of thirds))) (sym (leavers_pool ms results (before_ack q first second thirds p))) (record {
+acknowledges p q first second thirds false ms results all at =
+    subst (λ x. RoundEnds p x q false ms results (first ++ (second ++ calls_of thirds)))
+    (sym (leavers_pool ms results (before_ack q first second thirds p))) (record {
       name = refl;
       pool = refl;
       member = refl;
@@ -303,6 +397,12 @@ acknowledges p q first second thirds false ms results all =
       written = refl;
       highest = refl;
       sectors = sectors_behind first second (calls_of thirds) p.sectors;
+      since = since_behind first second (calls_of thirds) p.since;
+      copies = copies_behind first second (calls_of thirds) p.copies;
+      acks = refl;
+      given = refl;
+      status = status_behind p (without ms results (before_ack q first second thirds p)) q false ms results
+          (pool_after thirds (front q first second p)).status (λ d. refl) at;
       acked = refl;
       reads = refl;
       opened = refl;
@@ -322,7 +422,9 @@ acknowledges p q first second thirds false ms results all =
       fresh = refl;
       begun = refl;
       board = board_behind ms results p.group.board;
+      board_is = λ d. left_board_is ms results p.group.board d;
       owes = λ e. absurd (cc);
+      owes_is = λ e d g. left_owes_is p.group.first p.highest ms results p.owes d g;
       drawn_q = inl refl;
       drawn_in = λ r i. i;
     })
@@ -334,5 +436,7 @@ round_ends size p q members results vs r =
     subst (λ x. RoundEnds p x q (all_true results) members results (calls_of vs))
     (sym (round_pool size p q members results vs r ∙ ap (pool_after (acks_or (all_true results) q members results))
     (turns_pool r.thirds (front q r.first r.second p) (thirds_turns (third_plan size q.commit) q members r.in_second results r.thirds r.copies))))
-    (subst (RoundEnds p (pool_after (acks_or (all_true results) q members results) (before_ack q r.first r.second r.thirds p)) q (all_true results) members results)
-    (sym (round_calls size q members results vs r)) (acknowledges p q r.first r.second r.thirds (all_true results) members results refl))
+    (subst (RoundEnds p (pool_after (acks_or (all_true results) q members results)
+    (before_ack q r.first r.second r.thirds p)) q (all_true results) members results)
+    (sym (round_calls size q members results vs r)) (acknowledges p q r.first r.second r.thirds
+    (all_true results) members results refl (at_end size p q members results vs r)))

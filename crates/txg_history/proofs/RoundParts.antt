@@ -1,5 +1,38 @@
 -- Each part of a round spares what is needed while it is made.
-use Rattle.std.proofs.Common.{◌≡◌, ◌≢◌, ℕ, ◌+◌, ◌-◌, ◌*◌, ◌/◌, ◌%◌, ◌^◌, ◌<◌, ◌≤◌, ◌==◌, ◌&&◌, nat_le, nat_lt, cond, Bool, true, false, List, length, take, drop, refl, sym, ap, ◌∙◌, subst, arith, inl, inr, ⊎_elim}
+use Rattle.std.proofs.Common.{
+  ◌≡◌,
+  ◌≢◌,
+  ℕ,
+  ◌+◌,
+  ◌-◌,
+  ◌*◌,
+  ◌/◌,
+  ◌%◌,
+  ◌^◌,
+  ◌<◌,
+  ◌≤◌,
+  ◌==◌,
+  ◌&&◌,
+  nat_le,
+  nat_lt,
+  cond,
+  Bool,
+  true,
+  false,
+  List,
+  length,
+  take,
+  drop,
+  refl,
+  sym,
+  ap,
+  ◌∙◌,
+  subst,
+  arith,
+  inl,
+  inr,
+  ⊎_elim,
+}
 use Rattle.std.proofs.lemmas.Bool.{cases_eq, eqb-false, and_parts, leb-true, ltb-true}
 use Rattle.std.proofs.lemmas.List.{take_all}
 use Rattle.bank_core.specs.Disk.{covers, sectors_in, sector_of, sector_size}
@@ -10,7 +43,16 @@ use Rattle.label_store.specs.Records.{place_at}
 use Rattle.label_store.specs.Rounds.{uberblock_of, first_plan, second_plan, third_plan}
 use Rattle.label_store.specs.Uberblock.{IsInRange, uberblock_bytes, fields_of}
 use Rattle.label_store.proofs.Fields.{fields_are, is_of_fields}
-use Rattle.label_store.proofs.Places.{label_is, even_spares_ring, odd_spares_ring, config_elsewhere_even, config_elsewhere_odd, ring_elsewhere, length-uberblock, uberblock_sectors}
+use Rattle.label_store.proofs.Places.{
+  label_is,
+  even_spares_ring,
+  odd_spares_ring,
+  config_elsewhere_even,
+  config_elsewhere_odd,
+  ring_elsewhere,
+  length-uberblock,
+  uberblock_sectors,
+}
 use Rattle.txg_history.specs.Events.{Begins}
 use Rattle.txg_history.specs.Labels.{Status, Odd, Even, Lost, begun}
 use Rattle.mp_base.specs.declared.number.Guid.{Guid}
@@ -23,7 +65,19 @@ use Rattle.txg_history.proofs.Placing.{AreBetween}
 use Rattle.txg_history.specs.Pools.{Pool, after, drawn, seat}
 use Rattle.txg_history.specs.Records.{Rec, IsIn, number_of, takes_part, data_start}
 use Rattle.txg_history.specs.Survival.{Fits, IsFit, IsKnownUber, IsOf, Survives}
-use Rattle.txg_history.proofs.RoundPlaces.{InFront, FrontRing, FrontPart, FrontData, InBack, BackRing, BackPart, BackData, first_spares, second_spares, third_spares}
+use Rattle.txg_history.proofs.RoundPlaces.{
+  InFront,
+  FrontRing,
+  FrontPart,
+  FrontData,
+  InBack,
+  BackRing,
+  BackPart,
+  BackData,
+  first_spares,
+  second_spares,
+  third_spares,
+}
 use Rattle.txg_history.proofs.Sparing.{spared_lay}
 
 -- A member of the pool, on its device, that takes part in the round. A device in the list that the pool has lost is no member.
@@ -63,8 +117,10 @@ pub taken_fits : (c : Codec) (name : List ℕ) (pool : Guid) (r : Rec) (m : Guid
 taken_fits c name pool r m ((inl e), tree) takes = true_not_false (takes_part r m) takes (ap (λ r. takes_part r m) e)
 taken_fits c name pool r m ((inr fits), tree) takes = fits
 
-odd_few : (c : Codec) (p : Pool) (d : ℕ) (status : Status) (r : Rec) → Survives c p → status ≡ Odd r → IsOf p.live (p.guid d) status → sectors_in r.commit.blob ≤ 28
-odd_few c p d status r sv e is = let of = subst (IsOf p.live (p.guid d)) e is in few_of c p.name p.pool r (taken_fits c p.name p.pool r (p.guid d) (sv.fit r of.0) of.1)
+odd_few : (c : Codec) (p : Pool) (d : ℕ) (status : Status) (r : Rec) → Survives c p → status ≡ Odd r → IsOf p.live
+    (p.guid d) status → sectors_in r.commit.blob ≤ 28
+odd_few c p d status r sv e is = let of = subst (IsOf p.live (p.guid d)) e is in few_of c p.name p.pool r
+    (taken_fits c p.name p.pool r (p.guid d) (sv.fit r of.0) of.1)
 
 -- what is needed of a member that takes part, behind the beginning of the round
 needs_front : (c : Codec) (p : Pool) (q : Rec) (d s : ℕ) (bytes : List ℕ) → Survives c p → takes_part q (p.guid d) ≡ true → p.member d ≡ true
@@ -101,11 +157,14 @@ label_sparing p asks b plain label inside known = record {
   known = known;
 }
 
-pub first_sparing : (c : Codec) (p : Pool) (q : Rec) (m : Member) → Survives c p → AreBetween (after (Begins q) p) → Fits c p.name p.pool q → (p.member m.dev ≡ true → IsSeated p q m)
+pub first_sparing : (c : Codec) (p : Pool) (q : Rec) (m : Member) → Survives c p → AreBetween (after (Begins q) p)
+    → Fits c p.name p.pool q → (p.member m.dev ≡ true → IsSeated p q m)
     → AreSparing (after (Begins q) p) (first_plan p.size q.commit m)
 first_sparing c p q m sv between fits seated = label_sparing (after (Begins q) p) (first_plan p.size q.commit m) between tt
-    (λ d. by_device (λ e. (s : ℕ) (bytes : List ℕ) → p.member e ≡ true → NeedsLabel (seat p e) ((after (Begins q) p).status e) s bytes → Spares (first_plan p.size q.commit m) e s) m.dev d
-    (λ s bytes is n. first_spares m.dev (p.size m.dev) (slot_of (number_of q)) q.commit.blob m.dev s (seated is).big few (needs_front c p q m.dev s bytes sv (seated is).takes is n))
+    (λ d. by_device (λ e. (s : ℕ) (bytes : List ℕ) → p.member e ≡ true → NeedsLabel (seat p e)
+    ((after (Begins q) p).status e) s bytes → Spares (first_plan p.size q.commit m) e s) m.dev d
+    (λ s bytes is n. first_spares m.dev (p.size m.dev) (slot_of (number_of q)) q.commit.blob m.dev s (seated is).big few
+    (needs_front c p q m.dev s bytes sv (seated is).takes is n))
     (λ ne s bytes is n. config_elsewhere_even m.dev (p.size m.dev) q.commit.blob d s ne))
     (λ d. by_device (λ e. (s : ℕ) → p.member e ≡ true → 128 ≤ s → s + 128 < p.size e → Spares (first_plan p.size q.commit m) e s) m.dev d
     (λ s is low high. first_spares m.dev (p.size m.dev) (slot_of (number_of q)) q.commit.blob m.dev s (seated is).big few (FrontData low high))
@@ -141,11 +200,14 @@ known_new p q m bytes is_in range seat_is e v is =
 pub member_range : (c : Codec) (p : Pool) (q : Rec) (m : Member) → Fits c p.name p.pool q → IsSeated p q m → IsInRange (uberblock_of q.commit m)
 member_range c p q m fits seated = (fits.is_record m seated.in_range).in_range
 
-pub second_sparing : (c : Codec) (p : Pool) (q : Rec) (m : Member) → Survives c p → AreBetween (after (Begins q) p) → Fits c p.name p.pool q → (p.member m.dev ≡ true → IsSeated p q m)
+pub second_sparing : (c : Codec) (p : Pool) (q : Rec) (m : Member) → Survives c p → AreBetween (after (Begins q) p)
+    → Fits c p.name p.pool q → (p.member m.dev ≡ true → IsSeated p q m)
     → AreSparing (after (Begins q) p) (second_plan p.size q.commit m)
 second_sparing c p q m sv between fits seated = label_sparing (after (Begins q) p) (second_plan p.size q.commit m) between tt
-    (λ d. by_device (λ e. (s : ℕ) (bytes : List ℕ) → p.member e ≡ true → NeedsLabel (seat p e) ((after (Begins q) p).status e) s bytes → Spares (second_plan p.size q.commit m) e s) m.dev d
-    (λ s bytes is n. second_spares m.dev (p.size m.dev) (uberblock_of q.commit m) m.dev s (seated is).big (one is) (needs_front c p q m.dev s bytes sv (seated is).takes is n))
+    (λ d. by_device (λ e. (s : ℕ) (bytes : List ℕ) → p.member e ≡ true → NeedsLabel (seat p e)
+    ((after (Begins q) p).status e) s bytes → Spares (second_plan p.size q.commit m) e s) m.dev d
+    (λ s bytes is n. second_spares m.dev (p.size m.dev) (uberblock_of q.commit m) m.dev s (seated is).big (one is)
+    (needs_front c p q m.dev s bytes sv (seated is).takes is n))
     (λ ne s bytes is n. ring_elsewhere m.dev (p.size m.dev) (uberblock_of q.commit m) d s ne))
     (λ d. by_device (λ e. (s : ℕ) → p.member e ≡ true → 128 ≤ s → s + 128 < p.size e → Spares (second_plan p.size q.commit m) e s) m.dev d
     (λ s is low high. second_spares m.dev (p.size m.dev) (uberblock_of q.commit m) m.dev s (seated is).big (one is) (FrontData low high))
@@ -161,7 +223,8 @@ second_sparing c p q m sv between fits seated = label_sparing (after (Begins q) 
         ),
       ),
     ))
-    (λ ne other. spared_lay (Known d) (second_plan p.size q.commit m) d (place_at (p.size d) place) (ring_elsewhere m.dev (p.size m.dev) (uberblock_of q.commit m) d _ ne)) is)
+    (λ ne other. spared_lay (Known d) (second_plan p.size q.commit m) d (place_at (p.size d) place)
+    (ring_elsewhere m.dev (p.size m.dev) (uberblock_of q.commit m) d _ ne)) is)
   where
     Known : (d : ℕ) → List ℕ → Type 0
     Known d = IsKnownUber (drawn (after (Begins q) p)) p.pool (seat p d)
@@ -182,10 +245,12 @@ second_sparing c p q m sv between fits seated = label_sparing (after (Begins q) 
         (one_there m.dev (label + (32 + slot_of (number_of q))) m.dev s (uberblock_bytes (uberblock_of q.commit m))
         (length-uberblock (uberblock_of q.commit m) (range here).sum) (one here) aimed)
 
-pub third_sparing : (c : Codec) (p : Pool) (q : Rec) (m : Member) → AreBetween p → Fits c p.name p.pool q → (p.member m.dev ≡ true → IsSeated p q m) → p.status m.dev ≡ Even q
+pub third_sparing : (c : Codec) (p : Pool) (q : Rec) (m : Member) → AreBetween p → Fits c p.name p.pool q
+    → (p.member m.dev ≡ true → IsSeated p q m) → p.status m.dev ≡ Even q
     → AreSparing p (third_plan p.size q.commit m)
 third_sparing c p q m between fits seated status = label_sparing p (third_plan p.size q.commit m) between tt
-    (λ d. by_device (λ e. (s : ℕ) (bytes : List ℕ) → p.member e ≡ true → NeedsLabel (seat p e) (p.status e) s bytes → Spares (third_plan p.size q.commit m) e s) m.dev d
+    (λ d. by_device (λ e. (s : ℕ) (bytes : List ℕ) → p.member e ≡ true → NeedsLabel (seat p e) (p.status e) s bytes
+    → Spares (third_plan p.size q.commit m) e s) m.dev d
     (λ s bytes is n. third_spares m.dev (p.size m.dev) q.commit.blob m.dev s (seated is).big few
     (label_back (seat p m.dev) q (p.size m.dev) s bytes few (subst (λ st. NeedsLabel (seat p m.dev) st s bytes) status n)))
     (λ ne s bytes is n. config_elsewhere_odd m.dev (p.size m.dev) q.commit.blob d s ne))

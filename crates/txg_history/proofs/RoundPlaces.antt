@@ -68,9 +68,11 @@ moved asks d s s' e sp = subst (Spares asks d) (sym e) sp
 pub first_spares : (dev size slot : ℕ) (blob : List ℕ) (d s : ℕ) → 320 ≤ size → sectors_in blob ≤ 28 → InFront size slot s
     → Spares (config_plan dev (even_labels size) blob) d s
 first_spares dev size slot blob d s big few (FrontRing t lt ne e) =
-    moved (config_plan dev (even_labels size) blob) d s (0 + (32 + t)) (omega arith) (even_spares_ring dev size blob d 0 t big few (label_is size 0 (omega arith)) lt)
+    moved (config_plan dev (even_labels size) blob) d s (0 + (32 + t)) (omega arith)
+    (even_spares_ring dev size blob d 0 t big few (label_is size 0 (omega arith)) lt)
 first_spares dev size slot blob d s big few (FrontPart i lt e) =
-    moved (config_plan dev (even_labels size) blob) d s (64 + 4 + i) (omega arith) (even_spares_config dev size blob d 64 i big few (label_is size 1 (omega arith)) (omega arith) (omega arith) lt)
+    moved (config_plan dev (even_labels size) blob) d s (64 + 4 + i) (omega arith)
+    (even_spares_config dev size blob d 64 i big few (label_is size 1 (omega arith)) (omega arith) (omega arith) lt)
 first_spares dev size slot blob d s big few (FrontData low high) = even_spares_data dev size blob d s big few low high
 
 pub second_spares : (dev size : ℕ) (u : Uberblock) (d s : ℕ) → 320 ≤ size → sectors_in (uberblock_bytes u) ≡ 1 → InFront size (u.number.0 % 32) s
@@ -84,7 +86,9 @@ second_spares dev size u d s big one (FrontData low high) = ring_spares_data dev
 pub third_spares : (dev size : ℕ) (blob : List ℕ) (d s : ℕ) → 320 ≤ size → sectors_in blob ≤ 28 → InBack size s
     → Spares (config_plan dev (odd_labels size) blob) d s
 third_spares dev size blob d s big few (BackRing t lt e) =
-    moved (config_plan dev (odd_labels size) blob) d s (0 + (32 + t)) (omega arith) (odd_spares_ring dev size blob d 0 t big few (label_is size 0 (omega arith)) lt)
+    moved (config_plan dev (odd_labels size) blob) d s (0 + (32 + t)) (omega arith)
+    (odd_spares_ring dev size blob d 0 t big few (label_is size 0 (omega arith)) lt)
 third_spares dev size blob d s big few (BackPart i lt e) =
-    moved (config_plan dev (odd_labels size) blob) d s (0 + 4 + i) (omega arith) (odd_spares_config dev size blob d 0 i big few (label_is size 0 (omega arith)) (omega arith) (omega arith) lt)
+    moved (config_plan dev (odd_labels size) blob) d s (0 + 4 + i) (omega arith)
+    (odd_spares_config dev size blob d 0 i big few (label_is size 0 (omega arith)) (omega arith) (omega arith) lt)
 third_spares dev size blob d s big few (BackData low high) = odd_spares_data dev size blob d s big few low high

@@ -50,7 +50,8 @@ round_marked size q members results made r =
       Begins q ∷ (as_events r.first ++ (as_events r.second ++ (marked.0 ++ acks))),
       calls_then_of r.first (as_events r.second ++ (marked.0 ++ acks))
           ∙ ap (λ l. r.first ++ l) (calls_then_of r.second (marked.0 ++ acks)
-          ∙ ap (λ l. r.second ++ l) (calls_more marked.0 acks ∙ ap (λ l. calls_of marked.0 ++ l) (acks_no_call (all_true results) q members results) ∙ append-nil (calls_of marked.0) ∙ marked.1))
+          ∙ ap (λ l. r.second ++ l) (calls_more marked.0 acks ∙ ap (λ l. calls_of marked.0 ++ l)
+          (acks_no_call (all_true results) q members results) ∙ append-nil (calls_of marked.0) ∙ marked.1))
           ∙ sym r.all,
       record {
         first = r.first;

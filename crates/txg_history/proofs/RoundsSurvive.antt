@@ -1,5 +1,32 @@
 -- The moves of a round keep the invariant: it begins, a third phase begins and ends, and it is acknowledged.
-use Rattle.std.proofs.Common.{◌≡◌, ◌⊎◌, ℕ, ◌+◌, ◌≤◌, ◌<◌, ◌==◌, Bool, true, false, cond, List, [], ◌∷◌, ◌++◌, Some, None, refl, sym, ap, ◌∙◌, subst, inl, inr, arith, ⊎_elim}
+use Rattle.std.proofs.Common.{
+  ◌≡◌,
+  ◌⊎◌,
+  ℕ,
+  ◌+◌,
+  ◌≤◌,
+  ◌<◌,
+  ◌==◌,
+  Bool,
+  true,
+  false,
+  cond,
+  List,
+  [],
+  ◌∷◌,
+  ◌++◌,
+  Some,
+  None,
+  refl,
+  sym,
+  ap,
+  ◌∙◌,
+  subst,
+  inl,
+  inr,
+  arith,
+  ⊎_elim,
+}
 use Rattle.mp_base.specs.declared.number.Guid.{Guid}
 use Rattle.mp_base.specs.declared.place.Key.{Key}
 use Rattle.bank_core.specs.Disk.{Sector}
@@ -30,7 +57,8 @@ begun_needs m (Odd r) q s bytes n = by_test (slot_of (number_of r) == slot_of (n
 begun_needs m (Even r) q s bytes n = absurd n
 begun_needs m Lost q s bytes n = absurd n
 
-part_needs : (m : Member) (t : Bool) (status : Status) (q : Rec) (s : ℕ) (bytes : List ℕ) → NeedsLabel m (cond t (begun status q) status) s bytes → NeedsLabel m status s bytes
+part_needs : (m : Member) (t : Bool) (status : Status) (q : Rec) (s : ℕ) (bytes : List ℕ) → NeedsLabel m
+    (cond t (begun status q) status) s bytes → NeedsLabel m status s bytes
 part_needs m true status q s bytes n = begun_needs m status q s bytes n
 part_needs m false status q s bytes n = n
 
@@ -93,23 +121,26 @@ drawn_kept c p q d k cell sv m is at top has = of (m.leaves d is)
         held true e put = put
         held false e put = absurd (cc)
 
-        by_laid : (p.group.cells k ≡ Some cell) ⊎ ((p.group.cells k ≡ None) × (p.reads.cells k ≡ Some cell)) → Keeps (p.sectors d (data_start + cell.sector)) cell.block
-        by_laid (inl new) = held_keeps (p.sectors d (data_start + cell.sector)) cell.block (held p.group.flushed m.flushed (sv.puts d (data_start + cell.sector) cell.block is (record {
-          is_frozen = m.frozen;
-          on_board = on_board new;
-          k = k;
-          cell = cell;
-          cell_is = new;
-          top_is = top_now;
-          ended = sv.come_to.flushed_all m.frozen m.flushed k cell new;
-          at = record { sector_is = refl; bytes_are = refl };
-        })))
+        by_laid : (p.group.cells k ≡ Some cell) ⊎ ((p.group.cells k ≡ None) × (p.reads.cells k ≡ Some cell)) → Keeps
+            (p.sectors d (data_start + cell.sector)) cell.block
+        by_laid (inl new) = held_keeps (p.sectors d (data_start + cell.sector)) cell.block
+            (held p.group.flushed m.flushed (sv.puts d (data_start + cell.sector) cell.block is (record {
+              is_frozen = m.frozen;
+              on_board = on_board new;
+              k = k;
+              cell = cell;
+              cell_is = new;
+              top_is = top_now;
+              ended = sv.come_to.flushed_all m.frozen m.flushed k cell new;
+              at = record { sector_is = refl; bytes_are = refl };
+            })))
         by_laid (inr (none, old)) = sv.current d (data_start + cell.sector) cell.block is
             (record { k = k; cell = cell; cell_is = old; top_is = top_now; has = lacks; at = record { sector_is = refl; bytes_are = refl } })
     of (inr none) = true_not_false (q.owes (p.guid d) cell.birth) (none.0.all cell.birth) has
 
 -- A key of a new record is one of the group or of the record that the pool reads.
-drawn_laid : (c : Codec) (p : Pool) (q : Rec) (k : Key) (cell : Cell) → IsDrawnUp c p q → q.cells k ≡ Some cell → (p.group.cells k ≡ Some cell) ⊎ (p.reads.cells k ≡ Some cell)
+drawn_laid : (c : Codec) (p : Pool) (q : Rec) (k : Key) (cell : Cell) → IsDrawnUp c p q → q.cells k ≡ Some cell
+    → (p.group.cells k ≡ Some cell) ⊎ (p.reads.cells k ≡ Some cell)
 drawn_laid c p q k cell m is = ⊎_elim (λ new. inl new) (λ old. inr old.1) (laid_of p.group.cells p.reads.cells k cell (sym (m.cells_are k) ∙ is))
 
 swap_one : {j k : Key} {a b : Cell} → AreOne k j b a → AreOne j k a b
@@ -118,7 +149,8 @@ swap_one one = (sym one.0, sym one.1)
 swap_at : (a b : Cell) → AreAtOne a b → AreAtOne b a
 swap_at a b one = (sym one.0, sym one.1)
 
-drawn_one_key : (c : Codec) (p : Pool) (q : Rec) → Survives c p → IsDrawnUp c p q → HaveOneKey p.room (q ∷ p.live) p.group.frozen true p.group.first p.group.cells
+drawn_one_key : (c : Codec) (p : Pool) (q : Rec) → Survives c p → IsDrawnUp c p q → HaveOneKey p.room
+    (q ∷ p.live) p.group.frozen true p.group.first p.group.cells
 drawn_one_key c p q sv m = record {
   mapped = λ r k cell i at. new_or (λ r. r.cells k ≡ Some cell → IsMapped p.room cell) q r p.live
       (λ at. ⊎_elim (λ new. sv.one_key.group_mapped m.frozen k cell new) (λ old. sv.one_key.mapped p.reads k cell reads old) (drawn_laid c p q k cell m at))
@@ -135,7 +167,8 @@ drawn_one_key c p q sv m = record {
   group_one = λ f r j k a b i at bt one. (
     refl,
     new_or (λ r. r.cells j ≡ Some a → AreOne j k a b) q r p.live
-        (λ at. ⊎_elim (λ new. sv.one_key.group_apart f j k a b new bt one) (λ old. (sv.one_key.group_one f p.reads j k a b reads old bt one).1) (drawn_laid c p q j a m at))
+        (λ at. ⊎_elim (λ new. sv.one_key.group_apart f j k a b new bt one)
+        (λ old. (sv.one_key.group_one f p.reads j k a b reads old bt one).1) (drawn_laid c p q j a m at))
         (λ i at. (sv.one_key.group_one f r j k a b i at bt one).1) i at,
   );
 }
@@ -170,7 +203,8 @@ pub begins_survive : (c : Codec) (p : Pool) (q : Rec) → Survives c p → IsDra
 begins_survive c p q sv m = record {
   labels = λ d s bytes is n. sv.labels d s bytes is (part_needs (seat p d) (takes_part q (p.guid d)) (p.status d) q s bytes n);
   puts = sv.puts;
-  cells = λ d s bytes is n. new_or (λ r. r.cells n.k ≡ Some n.cell → r.tops (p.guid d) ≡ n.cell.top → r.owes (p.guid d) n.cell.birth ≡ false → Keeps (p.sectors d s) bytes) q n.r p.live
+  cells = λ d s bytes is n. new_or (λ r. r.cells n.k ≡ Some n.cell → r.tops (p.guid d) ≡ n.cell.top → r.owes
+      (p.guid d) n.cell.birth ≡ false → Keeps (p.sectors d s) bytes) q n.r p.live
       (λ at top has. at_cell (λ s b. Keeps (p.sectors d s) b) n.cell s bytes n.at (drawn_kept c p q d n.k n.cell sv m is at top has))
       (λ i at top has. sv.cells d s bytes is (record { r = n.r; is_live = i; k = n.k; cell = n.cell; cell_is = at; in_top = top; has = has; at = n.at }))
       n.is_live n.cell_is n.in_top n.has;
@@ -182,9 +216,11 @@ begins_survive c p q sv m = record {
       (more_live q p.live (p.guid d) (p.status d) (sv.status_live d is));
   roomy = sv.roomy;
   placed = record {
-    in_records = λ r d i is. new_or (λ r. (r.tops (p.guid d) ≡ 0) ⊎ (r.tops (p.guid d) ≡ p.home d)) q r p.live (top_of d is (m.leaves d is)) (λ i. sv.placed.in_records r d i is) i;
+    in_records = λ r d i is. new_or (λ r. (r.tops (p.guid d) ≡ 0) ⊎ (r.tops (p.guid d) ≡ p.home d)) q r p.live
+        (top_of d is (m.leaves d is)) (λ i. sv.placed.in_records r d i is) i;
     in_tree = sv.placed.in_tree;
-    newest = λ f b r rest d e is. subst (λ r. (r.tops (p.guid d) ≡ p.in_top d) ⊎ (r.tops (p.guid d) ≡ 0)) (same_head q r p.live rest e) (top_new d (m.leaves d is));
+    newest = λ f b r rest d e is. subst (λ r. (r.tops (p.guid d) ≡ p.in_top d) ⊎ (r.tops (p.guid d) ≡ 0))
+        (same_head q r p.live rest e) (top_new d (m.leaves d is));
   };
   one_key = drawn_one_key c p q sv m;
   cover = λ is r k cell i at. new_or (λ r. r.cells k ≡ Some cell → Covered cell) q r p.live (λ at. drawn_covered k cell (drawn_laid c p q k cell m at))
@@ -195,7 +231,8 @@ begins_survive c p q sv m = record {
     not_below = λ r i. new_or (λ r. number_of p.acked ≤ number_of r) q r p.live low (λ i. sv.order.not_below r i) i;
     acked_top = sv.order.acked_top;
     reads_top = sv.order.reads_top;
-    live_top = λ r i. new_or (λ r. (number_of r ≤ p.highest) ⊎ IsIn r p.missed) q r p.live (inl (let le : number_of q ≤ p.highest = omega (arith, m.number_is) in le)) (λ i. sv.order.live_top r i) i;
+    live_top = λ r i. new_or (λ r. (number_of r ≤ p.highest) ⊎ IsIn r p.missed) q r p.live
+        (inl (let le : number_of q ≤ p.highest = omega (arith, m.number_is) in le)) (λ i. sv.order.live_top r i) i;
     newest_above = λ q' rest e r i. ⊎_elim (λ lt. inl (above_new q' rest e (number_of r) lt)) (λ missed. inr missed)
         (sv.order.fresh_above m.frozen m.fresh r (subst (IsIn r) (sym (same_rest q q' p.live rest e)) i));
     given_below = sv.order.given_below;
@@ -212,7 +249,8 @@ begins_survive c p q sv m = record {
   boards = sv.boards;
   logs = record {
     now = sv.logs.now;
-    in_records = λ r d i is leaf. new_or (λ r. 1 ≤ r.tops (p.guid d) → IsLog (number_of r) (r.owes (p.guid d))) q r p.live (λ leaf. log_of d is leaf (m.leaves d is))
+    in_records = λ r d i is leaf. new_or (λ r. 1 ≤ r.tops (p.guid d) → IsLog (number_of r)
+        (r.owes (p.guid d))) q r p.live (λ leaf. log_of d is leaf (m.leaves d is))
         (λ i leaf. sv.logs.in_records r d i is leaf) i leaf;
     boarded = sv.logs.boarded;
   };
@@ -224,7 +262,9 @@ begins_survive c p q sv m = record {
         (λ i. sv.unbroken.settled_live d g is held r i) i;
   };
   bounds = sv.bounds;
-  fit = λ r i. new_or (IsFit c p.name p.pool) q r p.live (inr m.fits, tree_same c q.cells (laid_over p.group.cells p.reads.cells) m.cells_are (sv.come_to.tree m.frozen)) (λ i. sv.fit r i) i;
+  fit = λ r i. new_or (IsFit c p.name p.pool) q r p.live
+      (inr m.fits, tree_same c q.cells (laid_over p.group.cells p.reads.cells) m.cells_are (sv.come_to.tree m.frozen))
+      (λ i. sv.fit r i) i;
   pools = λ r i. new_or (λ r. r.commit.pool ≡ p.pool) q r (drawn p) m.fits.pool_is (λ i. sv.pools r i) i;
   in_range = sv.in_range;
 }
@@ -232,7 +272,9 @@ begins_survive c p q sv m = record {
     Covered : Cell → Type 0
     Covered cell = IsTaken p.reads.cells cell ⊎ (((p.group.frozen ≡ true) × (true ≡ true) × IsTaken p.group.cells cell) ⊎ IsPinned p.pinned cell)
 
-    covered : {cell : Cell} → IsTaken p.reads.cells cell ⊎ (((p.group.frozen ≡ true) × (p.group.begun ≡ true) × IsTaken p.group.cells cell) ⊎ IsPinned p.pinned cell) → Covered cell
+    covered : {cell : Cell} → IsTaken p.reads.cells cell
+        ⊎ (((p.group.frozen ≡ true) × (p.group.begun ≡ true) × IsTaken p.group.cells cell) ⊎ IsPinned p.pinned cell)
+        → Covered cell
     covered (inl t) = inl t
     covered (inr (inl t)) = inr (inl (t.0, refl, t.2))
     covered (inr (inr t)) = inr (inr t)
@@ -247,7 +289,8 @@ begins_survive c p q sv m = record {
     above_new : (q' : Rec) (rest : List Rec) → q ∷ p.live ≡ q' ∷ rest → (n : ℕ) → n < p.highest → n < number_of q'
     above_new q' rest e n lt = omega (arith, lt, m.number_is, ap number_of (same_head q q' p.live rest e))
 
-    top_of : (d : ℕ) → p.member d ≡ true → IsLeafOf p q d ⊎ (IsNoLeaf q (p.guid d) × (p.group.board d ≡ false)) → (q.tops (p.guid d) ≡ 0) ⊎ (q.tops (p.guid d) ≡ p.home d)
+    top_of : (d : ℕ) → p.member d ≡ true → IsLeafOf p q d ⊎ (IsNoLeaf q (p.guid d) × (p.group.board d ≡ false))
+        → (q.tops (p.guid d) ≡ 0) ⊎ (q.tops (p.guid d) ≡ p.home d)
     top_of d is (inl leaf) = ⊎_elim (λ none. inl (leaf.top_is ∙ none)) (λ home. inr (leaf.top_is ∙ home)) (sv.placed.in_tree d is)
     top_of d is (inr none) = inl none.0.no_top
 
@@ -255,7 +298,8 @@ begins_survive c p q sv m = record {
     top_new d (inl leaf) = inl leaf.top_is
     top_new d (inr none) = inr none.0.no_top
 
-    log_of : (d : ℕ) → p.member d ≡ true → 1 ≤ q.tops (p.guid d) → IsLeafOf p q d ⊎ (IsNoLeaf q (p.guid d) × (p.group.board d ≡ false)) → IsLog (number_of q) (q.owes (p.guid d))
+    log_of : (d : ℕ) → p.member d ≡ true → 1 ≤ q.tops (p.guid d) → IsLeafOf p q d
+        ⊎ (IsNoLeaf q (p.guid d) × (p.group.board d ≡ false)) → IsLog (number_of q) (q.owes (p.guid d))
     log_of d is leaf (inl of) = λ g has.
         let bounds = sv.logs.now d is (omega (arith, leaf, of.top_is)) g (sym (of.log_is g) ∙ has) in (bounds.0, omega (arith, bounds.1, m.number_is))
     log_of d is leaf (inr none) = absurd (omega (arith, leaf, none.0.no_top))
@@ -266,7 +310,8 @@ begins_survive c p q sv m = record {
 
 -- A member's labels come to hold a record: the status is another.
 at_held : (p : Pool) (status : Status) (d e s : ℕ) (bytes : List ℕ) → (p.member d ≡ true → NeedsLabel (seat p d) status s bytes → Held (p.sectors d s) bytes)
-    → (NeedsLabel (seat p e) (p.status e) s bytes → Held (p.sectors e s) bytes) → p.member e ≡ true → NeedsLabel (seat p e) (at_device d status p.status e) s bytes → Held (p.sectors e s) bytes
+    → (NeedsLabel (seat p e) (p.status e) s bytes → Held (p.sectors e s) bytes) → p.member e ≡ true → NeedsLabel
+    (seat p e) (at_device d status p.status e) s bytes → Held (p.sectors e s) bytes
 at_held p status d e s bytes here away is n = by_bool (d == e)
     (λ same. subst (λ e. p.member e ≡ true → NeedsLabel (seat p e) status s bytes → Held (p.sectors e s) bytes) (same_device d e same) here is
     (subst (λ st. NeedsLabel (seat p e) st s bytes) (at_here d e status p.status same) n))
@@ -311,8 +356,39 @@ third_survives c p q d sv m = stands_survive c p d (Even q) sv (λ member. (m me
 
 pub ends_survives : (c : Codec) (p : Pool) (q : Rec) (d : ℕ) → Survives c p → (p.member d ≡ true → MayEnd p q d) → Survives c (after (Ends q d) p)
 ends_survives c p q d sv m = stands_survive c p d (Odd q) sv
-    (λ member s bytes n. ⊎_elim (λ ring. sv.labels d s bytes member (subst (λ st. NeedsLabel (seat p d) st s bytes) (sym (m member).began) (inl ring))) (λ part. (m member).held s bytes part) n)
+    (λ member s bytes n. ⊎_elim (λ ring. sv.labels d s bytes member
+    (subst (λ st. NeedsLabel (seat p d) st s bytes) (sym (m member).began) (inl ring)))
+    (λ part. (m member).held s bytes part) n)
     (λ member. subst (IsOf p.live (p.guid d)) (m member).began (sv.status_live d member))
+
+-- A key of the acknowledged record stands under a top on a leaf of its top.
+acked_leaf : (c : Codec) (p : Pool) (q : Rec) → Survives c p → MayAck p q → (d : ℕ) (k : Key) (cell : Cell) → q.cells k ≡ Some cell
+    → q.tops (p.guid d) ≡ cell.top → 1 ≤ q.tops (p.guid d)
+acked_leaf c p q sv m d k cell at top =
+    let live : IsIn q p.live = subst (IsIn q) (sym m.newest) (inl refl) in
+    let some = top_some p.room cell sv.roomy.no_top (sv.one_key.mapped q k cell live at) in omega (arith, some, top)
+
+-- A leaf of the acknowledged record stood in the tree as it does in the record.
+acked_stands : (c : Codec) (p : Pool) (q : Rec) → Survives c p → MayAck p q → (d : ℕ) → p.member d ≡ true → 1 ≤ q.tops (p.guid d)
+    → p.in_top d ≡ q.tops (p.guid d)
+acked_stands c p q sv m d is leaf =
+    ⊎_elim (λ e. sym e) (λ none. absurd (omega (arith, leaf, none))) (sv.placed.newest m.frozen m.begun q m.rest d m.newest is)
+
+pub acked_tree : (c : Codec) (p : Pool) (q : Rec) → Survives c p → MayAck p q → (d : ℕ) (k : Key) (cell : Cell) → p.member d ≡ true
+    → q.cells k ≡ Some cell → q.tops (p.guid d) ≡ cell.top → p.in_top d ≡ cell.top
+acked_tree c p q sv m d k cell is at top = acked_stands c p q sv m d is (acked_leaf c p q sv m d k cell at top) ∙ top
+
+-- A key that the scan had to come past was one of the record that the pool read.
+pub acked_cell : (c : Codec) (p : Pool) (q : Rec) → Survives c p → MayAck p q → (k : Key) (cell : Cell) → p.scan.running ≡ true
+    → cell.birth ≤ p.scan.hi → q.cells k ≡ Some cell → p.reads.cells k ≡ Some cell
+acked_cell c p q sv m k cell on low at =
+    of (laid_of p.group.cells p.reads.cells k cell (sym (sv.come_to.newest m.frozen m.begun q m.rest m.newest k) ∙ at))
+  where
+    of : (p.group.cells k ≡ Some cell) ⊎ ((p.group.cells k ≡ None) × (p.reads.cells k ≡ Some cell)) → p.reads.cells k ≡ Some cell
+    of (inl new) =
+        let born = sv.one_key.group_births m.frozen k cell new in
+        let hi = sv.bounds.hi_low on in let lt = sv.boards.reads_first m.frozen in absurd (omega (arith, born, hi, lt, low))
+    of (inr old) = old.1
 
 -- A round is acknowledged.
 pub acks_survive : (c : Codec) (p : Pool) (q : Rec) → Survives c p → MayAck p q → Survives c (after (Acks q) p)
@@ -327,7 +403,8 @@ acks_survive c p q sv m = record {
     cell = n.cell;
     cell_is = n.cell_is;
     in_top = n.top_is;
-    has = not_true (q.owes (p.guid d) n.cell.birth) (λ owed. true_not_false (p.owes d n.cell.birth) (m.logs d n.cell.birth is (leaf_of d n.k n.cell n.cell_is n.top_is) owed) n.has);
+    has = not_true (q.owes (p.guid d) n.cell.birth) (λ owed. true_not_false (p.owes d n.cell.birth)
+        (m.logs d n.cell.birth is (leaf_of d n.k n.cell n.cell_is n.top_is) owed) n.has);
     at = n.at;
   });
   scanned = λ d s bytes is n. sv.scanned d s bytes is (record {
@@ -335,7 +412,7 @@ acks_survive c p q sv m = record {
     is_eligible = n.is_eligible;
     k = n.k;
     cell = n.cell;
-    cell_is = old_cell n.k n.cell n.running n.low n.cell_is;
+    cell_is = acked_cell c p q sv m n.k n.cell n.running n.low n.cell_is;
     top_is = tree_now d is (leaf_of d n.k n.cell n.cell_is n.top_is) ∙ n.top_is;
     is_passed = n.is_passed;
     low = n.low;
@@ -422,23 +499,14 @@ acks_survive c p q sv m = record {
     below n lt = let above = above_acked in omega (arith, lt, above)
 
     leaf_of : (d : ℕ) (k : Key) (cell : Cell) → q.cells k ≡ Some cell → q.tops (p.guid d) ≡ cell.top → 1 ≤ q.tops (p.guid d)
-    leaf_of d k cell at top = let some = top_some p.room cell sv.roomy.no_top (sv.one_key.mapped q k cell live at) in omega (arith, some, top)
+    leaf_of d k cell at top = acked_leaf c p q sv m d k cell at top
 
     -- a leaf of the record stands in the tree of now as it did
     tree_now : (d : ℕ) → p.member d ≡ true → 1 ≤ q.tops (p.guid d) → p.in_top d ≡ q.tops (p.guid d)
-    tree_now d is leaf = ⊎_elim (λ e. sym e) (λ none. absurd (omega (arith, leaf, none))) (sv.placed.newest m.frozen m.begun q m.rest d m.newest is)
+    tree_now d is leaf = acked_stands c p q sv m d is leaf
 
-    -- a key that the scan had to come past was one of the record that the pool read
-    old_cell : (k : Key) (cell : Cell) → p.scan.running ≡ true → cell.birth ≤ p.scan.hi → q.cells k ≡ Some cell → p.reads.cells k ≡ Some cell
-    old_cell k cell on low at = of (laid_of p.group.cells p.reads.cells k cell (sym (sv.come_to.newest m.frozen m.begun q m.rest m.newest k) ∙ at))
-      where
-        of : (p.group.cells k ≡ Some cell) ⊎ ((p.group.cells k ≡ None) × (p.reads.cells k ≡ Some cell)) → p.reads.cells k ≡ Some cell
-        of (inl new) =
-            let born = sv.one_key.group_births m.frozen k cell new in
-            let hi = sv.bounds.hi_low on in let lt = sv.boards.reads_first m.frozen in absurd (omega (arith, born, hi, lt, low))
-        of (inr old) = old.1
-
-    kept_needs : (d : ℕ) (t : Bool) (s : ℕ) (bytes : List ℕ) → NeedsLabel (seat p d) (cond t (p.status d) Lost) s bytes → NeedsLabel (seat p d) (p.status d) s bytes
+    kept_needs : (d : ℕ) (t : Bool) (s : ℕ) (bytes : List ℕ) → NeedsLabel (seat p d) (cond t (p.status d) Lost) s bytes
+        → NeedsLabel (seat p d) (p.status d) s bytes
     kept_needs d true s bytes n = n
     kept_needs d false s bytes n = absurd n
 

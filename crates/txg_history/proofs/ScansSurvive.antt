@@ -5,7 +5,7 @@ use Rattle.std.proofs.lemmas.Bool.Decides.{nat_tests}
 use Rattle.mp_base.specs.declared.place.Key.{Key}
 use Rattle.txg_history.specs.Events.{Scans, Passes, Drops, Clears, Rests}
 use Rattle.txg_history.specs.Groups.{Logs, at_device}
-use Rattle.txg_history.specs.Moves.{MayScan, MayPass, MayClear}
+use Rattle.txg_history.specs.Moves.{WasCopied, MayScan, MayPass, MayClear}
 use Rattle.txg_history.specs.Needs.{Keeps, Copied, IsAt}
 use Rattle.txg_history.specs.Pages.{Codec}
 use Rattle.txg_history.specs.Pools.{Pool, after, kept_in}
@@ -60,7 +60,8 @@ passes_survive c p k scrub sv m = record {
         not_scrubbed = not_true (p.scan.scrub d n.cell.birth) (λ has. true_not_false (scrub d n.cell.birth) (m.more d n.cell.birth has) n.not_scrubbed);
         at = n.at;
       }))
-      (λ new. at_sector d s bytes n.cell n.at (here d is n.is_eligible n.k n.cell n.cell_is n.top_is n.not_scrubbed (m.next n.k n.cell n.is_passed new n.cell_is n.low)));
+      (λ new. at_sector d s bytes n.cell n.at (here d is n.is_eligible n.k n.cell n.cell_is n.top_is n.not_scrubbed
+      (m.next n.k n.cell n.is_passed new n.cell_is n.low)));
   rings = sv.rings;
   status_live = sv.status_live;
   roomy = sv.roomy;
@@ -76,18 +77,21 @@ passes_survive c p k scrub sv m = record {
     open_one = sv.bounds.open_one;
     hi_low = sv.bounds.hi_low;
     scrubbed = λ on d g has. ⊎_elim (λ old. sv.bounds.scrubbed on d g old)
-        (λ new. let born = (sv.one_key.mapped p.reads k m.cell sv.order.reads_live m.cell_is).born in (omega (arith, born, new), omega (arith, m.low, new))) (m.only d g has);
+        (λ new. let born = (sv.one_key.mapped p.reads k m.cell sv.order.reads_live m.cell_is).born in
+        (omega (arith, born, new), omega (arith, m.low, new))) (m.only d g has);
   };
   fit = sv.fit;
   pools = sv.pools;
   in_range = sv.in_range;
 }
   where
-    at_sector : (d s : ℕ) (bytes : List ℕ) (cell : Cell) → IsAt cell s bytes → Copied (p.sectors d (data_start + cell.sector)) cell.block → Copied (p.sectors d s) bytes
+    at_sector : (d s : ℕ) (bytes : List ℕ) (cell : Cell) → IsAt cell s bytes → Copied
+        (p.sectors d (data_start + cell.sector)) cell.block → Copied (p.sectors d s) bytes
     at_sector d s bytes cell at copied =
         subst (λ t. Copied (p.sectors d t) bytes) (sym at.sector_is) (subst (λ b. Copied (p.sectors d (data_start + cell.sector)) b) (sym at.bytes_are) copied)
 
-    here : (d : ℕ) → p.member d ≡ true → p.scan.eligible d ≡ true → (j : Key) (cell : Cell) → p.reads.cells j ≡ Some cell → p.in_top d ≡ cell.top → scrub d cell.birth ≡ false → j ≡ k
+    here : (d : ℕ) → p.member d ≡ true → p.scan.eligible d ≡ true → (j : Key) (cell : Cell)
+        → p.reads.cells j ≡ Some cell → p.in_top d ≡ cell.top → scrub d cell.birth ≡ false → j ≡ k
         → Copied (p.sectors d (data_start + cell.sector)) cell.block
     here d is on j cell at top clean same = subst (λ cell. Copied (p.sectors d (data_start + cell.sector)) cell.block) one
         (of (m.each d is on (top ∙ ap (λ cell. cell.top) (sym one))))
@@ -98,7 +102,7 @@ passes_survive c p k scrub sv m = record {
         birth : m.cell.birth ≡ cell.birth
         birth = ap (λ cell. cell.birth) one
 
-        of : (p.owes d m.cell.birth ≡ false) ⊎ ((scrub d m.cell.birth ≡ true) ⊎ Copied (p.sectors d (data_start + m.cell.sector)) m.cell.block)
+        of : (p.owes d m.cell.birth ≡ false) ⊎ ((scrub d m.cell.birth ≡ true) ⊎ WasCopied p d m.cell)
             → Copied (p.sectors d (data_start + m.cell.sector)) m.cell.block
         of (inl lacks) = inl (sv.current d (data_start + m.cell.sector) m.cell.block is (record {
           k = k;
@@ -109,7 +113,7 @@ passes_survive c p k scrub sv m = record {
           at = record { sector_is = refl; bytes_are = refl };
         }))
         of (inr (inl failed)) = true_not_false (scrub d m.cell.birth) failed (ap (scrub d) birth ∙ clean)
-        of (inr (inr copied)) = copied
+        of (inr (inr copied)) = copied.is_copied
 
 -- A leaf is no longer eligible.
 pub drops_survive : (c : Codec) (p : Pool) (d : ℕ) → Survives c p → Survives c (after (Drops d) p)
@@ -181,7 +185,8 @@ clears_survive c p d sv m = record {
   puts = sv.puts;
   cells = sv.cells;
   current = λ e s bytes is n. by_bool (d == e)
-      (λ here. subst (λ e. p.member e ≡ true → p.in_top e ≡ n.cell.top → scanned_log p.scan d (p.owes d) n.cell.birth ≡ false → Keeps (p.sectors e s) bytes) (same_device d e here)
+      (λ here. subst (λ e. p.member e ≡ true → p.in_top e ≡ n.cell.top → scanned_log p.scan d
+      (p.owes d) n.cell.birth ≡ false → Keeps (p.sectors e s) bytes) (same_device d e here)
       (λ is top has. kept s bytes is n.k n.cell n.cell_is top n.at has) is n.top_is
       (sym (ap (λ log. log n.cell.birth) (at_here d e (scanned_log p.scan d (p.owes d)) p.owes here)) ∙ n.has))
       (λ away. sv.current e s bytes is (record {
@@ -270,15 +275,18 @@ clears_survive c p d sv m = record {
         of true has = inl has
         of false has = inr has
 
-    in_bounds : (e : ℕ) → p.member e ≡ true → 1 ≤ p.in_top e → (g : ℕ) → (d == e) ≡ true → (p.scan.scrub d g ≡ true) ⊎ (p.owes d g ≡ true) → (1 ≤ g) × (g ≤ p.highest)
+    in_bounds : (e : ℕ) → p.member e ≡ true → 1 ≤ p.in_top e → (g : ℕ) → (d == e) ≡ true → (p.scan.scrub d g ≡ true)
+        ⊎ (p.owes d g ≡ true) → (1 ≤ g) × (g ≤ p.highest)
     in_bounds e is leaf g here (inl failed) =
         let bounds = sv.bounds.scrubbed m.running d g failed in
         let hi = sv.bounds.hi_low m.running in let top = sv.order.reads_top in (bounds.0, omega (arith, bounds.1, hi, top))
     in_bounds e is leaf g here (inr owed) = sv.logs.now e is leaf g (ap (λ e. p.owes e g) (sym (same_device d e here)) ∙ owed)
 
-    still_held : (e g : ℕ) (logs : Logs) → (logs e g ≡ true → p.owes e g ≡ true) → at_device d (kept_in log (logs d)) logs e g ≡ true → at_device d log p.owes e g ≡ true
+    still_held : (e g : ℕ) (logs : Logs) → (logs e g ≡ true → p.owes e g ≡ true) → at_device d
+        (kept_in log (logs d)) logs e g ≡ true → at_device d log p.owes e g ≡ true
     still_held e g logs more held = by_bool (d == e)
-        (λ here. ap (λ l. l g) (at_here d e log p.owes here) ∙ (and_parts (log g) (logs d g) (sym (ap (λ l. l g) (at_here d e (kept_in log (logs d)) logs here)) ∙ held)).0)
+        (λ here. ap (λ l. l g) (at_here d e log p.owes here)
+        ∙ (and_parts (log g) (logs d g) (sym (ap (λ l. l g) (at_here d e (kept_in log (logs d)) logs here)) ∙ held)).0)
         (λ away. ap (λ l. l g) (at_away d e log p.owes away) ∙ more (sym (ap (λ l. l g) (at_away d e (kept_in log (logs d)) logs away)) ∙ held))
 
     was_held : (e g : ℕ) (logs : Logs) → at_device d (kept_in log (logs d)) logs e g ≡ true → logs e g ≡ true

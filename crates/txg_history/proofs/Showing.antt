@@ -1,8 +1,59 @@
 -- A read of a block that a leaf has to have gives it, or the sector is damaged.
-use Rattle.std.proofs.Common.{◌≡◌, ◌≢◌, ℕ, ◌+◌, ◌-◌, ◌≤◌, ◌==◌, ◌&&◌, Bool, true, false, cond, List, [], ◌∷◌, length, Some, None, is_none, refl, sym, ap, ◌∙◌, subst, inl, inr, arith}
+use Rattle.std.proofs.Common.{
+  ◌≡◌,
+  ◌≢◌,
+  ℕ,
+  ◌+◌,
+  ◌-◌,
+  ◌≤◌,
+  ◌==◌,
+  ◌&&◌,
+  Bool,
+  true,
+  false,
+  cond,
+  List,
+  [],
+  ◌∷◌,
+  length,
+  Some,
+  None,
+  is_none,
+  refl,
+  sym,
+  ap,
+  ◌∙◌,
+  subst,
+  inl,
+  inr,
+  arith,
+}
 use Rattle.bank_core.specs.Asks.{Flushes, ask_of}
 use Rattle.bank_core.specs.Calls.{fault_of}
-use Rattle.bank_core.specs.Disk.{Sector, Sectors, Nothing, Call, Read, Write, Flush, Admit, Eject, Noted, Answers, IsClean, as_found, hurt, effect, after_call, after_flush, replay, run, sectors_in, sector_of, covers}
+use Rattle.bank_core.specs.Disk.{
+  Sector,
+  Sectors,
+  Nothing,
+  Call,
+  Read,
+  Write,
+  Flush,
+  Admit,
+  Eject,
+  Noted,
+  Answers,
+  IsClean,
+  as_found,
+  hurt,
+  effect,
+  after_call,
+  after_flush,
+  replay,
+  run,
+  sectors_in,
+  sector_of,
+  covers,
+}
 use Rattle.bank_core.specs.Standing.{Untouched}
 use Rattle.bank_core.proofs.Blocks.{block_sectors}
 use Rattle.txg_history.specs.Events.{Calls, Clears}
@@ -36,7 +87,8 @@ unhurt false was e = e
 
 -- A read that answered, of a sector that is undamaged behind it, gives the block.
 pub read_right : (c : Codec) (p : Pool) (noted : Noted) (d s : ℕ) (bytes block : List ℕ) → Survives c p → p.member d ≡ true → IsKeptAt p d s block
-    → noted.call ≡ Read d s bytes None → length bytes ≡ 4096 → Answers (as_found noted p.sectors) noted.call → ((after (Calls noted) p).sectors d s).damaged ≡ false → bytes ≡ block
+    → noted.call ≡ Read d s bytes None → length bytes ≡ 4096 → Answers (as_found noted p.sectors) noted.call
+    → ((after (Calls noted) p).sectors d s).damaged ≡ false → bytes ≡ block
 read_right c p noted d s bytes block sv is kept call long answers sound =
     let clean = keeps_clean (p.sectors d s) block (kept_keeps c p d s block sv is kept) (unhurt (noted.damage d s) (p.sectors d s).damaged still_sound) in
     sym (first_bytes 0 bytes long refl) ∙ (shown clean.1 ∙ clean.0)
@@ -57,7 +109,8 @@ read_right c p noted d s bytes block sv is kept call long answers sound =
 
 -- So other bytes show the damage.
 pub read_damage : (c : Codec) (p : Pool) (noted : Noted) (d s : ℕ) (bytes block : List ℕ) → Survives c p → p.member d ≡ true → IsKeptAt p d s block
-    → noted.call ≡ Read d s bytes None → length bytes ≡ 4096 → Answers (as_found noted p.sectors) noted.call → bytes ≢ block → ((after (Calls noted) p).sectors d s).damaged ≡ true
+    → noted.call ≡ Read d s bytes None → length bytes ≡ 4096 → Answers (as_found noted p.sectors) noted.call
+    → bytes ≢ block → ((after (Calls noted) p).sectors d s).damaged ≡ true
 read_damage c p noted d s bytes block sv is kept call long answers other = by_bool ((after (Calls noted) p).sectors d s).damaged (λ damaged. damaged)
     (λ sound. absurd (other (read_right c p noted d s bytes block sv is kept call long answers sound)))
 

@@ -60,8 +60,10 @@ call_sparing p call ask asks is sp = record {
   plain = plain_first call asks (subst (λ a. ArePlain (a ∷ asks)) (sym is) sp.plain);
   firm = λ d s bytes member needs. spared d s (sp.firm d s bytes member needs).0;
   soft = λ d s bytes member needs. inl (spared d s (sp.soft d s bytes member needs).0);
-  true_to = λ r d k cell i member at top touched. laid (λ bytes. bytes ≡ cell.block) d (data_start + cell.sector) (sp.true_to r d k cell i member at top).0 touched;
-  known = λ d place member inside touched. laid (IsKnownUber (drawn p) p.pool (seat p d)) d (place_at (p.size d) place) (sp.known d place member inside).0 touched;
+  true_to = λ r d k cell i member at top touched. laid (λ bytes. bytes ≡ cell.block) d (data_start + cell.sector)
+      (sp.true_to r d k cell i member at top).0 touched;
+  known = λ d place member inside touched. laid (IsKnownUber (drawn p) p.pool (seat p d)) d (place_at (p.size d) place)
+      (sp.known d place member inside).0 touched;
 }
   where
     spared : (d s : ℕ) → aims ask d s ≡ false → touches call d s ≡ false
@@ -119,7 +121,8 @@ elsewhere_sparing p asks e = record {
   firm = λ d s bytes member needs. e.1 d s member;
   soft = λ d s bytes member needs. e.1 d s member;
   true_to = λ r d k cell i member at top. spared_lay (λ bytes. bytes ≡ cell.block) asks d (data_start + cell.sector) (e.1 d (data_start + cell.sector) member);
-  known = λ d place member inside. spared_lay (IsKnownUber (drawn p) p.pool (seat p d)) asks d (place_at (p.size d) place) (e.1 d (place_at (p.size d) place) member);
+  known = λ d place member inside. spared_lay (IsKnownUber (drawn p) p.pool (seat p d)) asks d
+      (place_at (p.size d) place) (e.1 d (place_at (p.size d) place) member);
 }
 
 plain_more : (first second : List Ask) → ArePlain first → ArePlain second → ArePlain (first ++ second)
@@ -140,8 +143,11 @@ sparing_more p first second a b = record {
   plain = plain_more first second a.plain b.plain;
   firm = λ d s bytes member needs. spares_more first second d s (a.firm d s bytes member needs) (b.firm d s bytes member needs);
   soft = λ d s bytes member needs. spares_more first second d s (a.soft d s bytes member needs) (b.soft d s bytes member needs);
-  true_to = λ r d k cell i member at top. lay_more (λ bytes. bytes ≡ cell.block) d (data_start + cell.sector) first second (a.true_to r d k cell i member at top) (b.true_to r d k cell i member at top);
-  known = λ d place member inside. lay_more (IsKnownUber (drawn p) p.pool (seat p d)) d (place_at (p.size d) place) first second (a.known d place member inside) (b.known d place member inside);
+  true_to = λ r d k cell i member at top. lay_more (λ bytes. bytes ≡ cell.block) d
+      (data_start + cell.sector) first second (a.true_to r d k cell i member at top)
+      (b.true_to r d k cell i member at top);
+  known = λ d place member inside. lay_more (IsKnownUber (drawn p) p.pool (seat p d)) d
+      (place_at (p.size d) place) first second (a.known d place member inside) (b.known d place member inside);
 }
 
 writes_nothing : (asks : List Ask) → WriteNothing asks → ArePlain asks × ((d s : ℕ) → Spares asks d s)

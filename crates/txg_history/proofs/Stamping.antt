@@ -1,5 +1,36 @@
 -- A pool whose members were stamped begins with the invariant, and a stamp leaves what that wants.
-use Rattle.std.proofs.Common.{◌≡◌, ◌≢◌, ◌⊎◌, ℕ, zero, suc, ◌/◌, ◌%◌, ◌^◌, ◌<◌, ◌≤◌, ◌==◌, ◌&&◌, Bool, false, List, [], ◌∷◌, ◌++◌, Option, Some, None, refl, sym, ap, ◌∙◌, subst, inl, inr, arith}
+use Rattle.std.proofs.Common.{
+  ◌≡◌,
+  ◌≢◌,
+  ◌⊎◌,
+  ℕ,
+  zero,
+  suc,
+  ◌/◌,
+  ◌%◌,
+  ◌^◌,
+  ◌<◌,
+  ◌≤◌,
+  ◌==◌,
+  ◌&&◌,
+  Bool,
+  false,
+  List,
+  [],
+  ◌∷◌,
+  ◌++◌,
+  Option,
+  Some,
+  None,
+  refl,
+  sym,
+  ap,
+  ◌∙◌,
+  subst,
+  inl,
+  inr,
+  arith,
+}
 use Rattle.std.proofs.lemmas.Bool.Decides.{nat_tests}
 use Rattle.mp_base.specs.declared.number.Guid.{Guid}
 use Rattle.mp_base.specs.declared.place.Key.{Key}
@@ -28,7 +59,8 @@ use Rattle.txg_history.proofs.Listing.{only_one}
 use Rattle.txg_history.proofs.Logging.{true_not_false}
 
 -- A ring's sector as a stamp leaves it has no other uberblock than the one that gives the identity.
-pub blank_known : (records : List Rec) (pool : Guid) (m : Member) (x : Sector) → pool.0 < 2 ^ 64 → m.guid.0 < 2 ^ 64 → IsBlank x pool m.guid → IsKnownRing records pool m x []
+pub blank_known : (records : List Rec) (pool : Guid) (m : Member) (x : Sector) → pool.0 < 2 ^ 64 → m.guid.0 < 2 ^ 64
+    → IsBlank x pool m.guid → IsKnownRing records pool m x []
 blank_known records pool m x p g blank = record {
   stable = λ u is. of u is blank.stands;
   written = λ bytes among. absurd among;
@@ -60,7 +92,8 @@ stamped_survives c name pool member guid size room home sectors st = record {
   cells = λ d s bytes is n. absurd (nothing_in pool n.r n.k n.cell n.is_live n.cell_is);
   current = λ d s bytes is n. absurd (no_cell n.cell n.cell_is);
   scanned = λ d s bytes is n. true_not_false false n.running refl;
-  rings = λ d place is inside. blank_known (nothing pool ∷ []) pool (record { dev = d; guid = guid d }) (sectors d (place_at (size d) place)) st.in_range (st.guids d is) (st.rings d place is inside);
+  rings = λ d place is inside. blank_known (nothing pool ∷ []) pool (record { dev = d; guid = guid d })
+      (sectors d (place_at (size d) place)) st.in_range (st.guids d is) (st.rings d place is inside);
   status_live = λ d is. tt;
   roomy = record { sizes = st.sizes; rooms = st.rooms; guids = st.guids; no_top = st.no_top };
   placed = record {
@@ -100,12 +133,26 @@ stamped_survives c name pool member guid size room home sectors st = record {
   boards = record { reads_first = λ f. absurd (cc); first_top = λ f. absurd (cc); off_board = λ f. absurd (cc); on_board = λ f. absurd (cc) };
   logs = record {
     now = λ d is leaf g has. absurd (cc);
-    in_records = λ r d i is leaf. only_one (λ r. 1 ≤ r.tops (guid d) → IsLog (number_of r) (r.owes (guid d))) (nothing pool) r (λ leaf. absurd (omega (arith, leaf))) i leaf;
+    in_records = λ r d i is leaf. only_one (λ r. 1 ≤ r.tops (guid d) → IsLog (number_of r) (r.owes (guid d)))
+        (nothing pool) r (λ leaf. absurd (omega (arith, leaf))) i leaf;
     boarded = λ f. absurd (cc);
   };
-  unbroken = record { still = λ d g is held. absurd (cc); newest = λ d g is held. absurd (cc); settled_still = λ d g is held. absurd (cc); settled_live = λ d g is held. absurd (cc) };
+  unbroken = record {
+    still = λ d g is held. absurd (cc);
+    newest = λ d g is held. absurd
+        (cc);
+    settled_still = λ d g is held. absurd (cc);
+    settled_live = λ d g is held. absurd (cc);
+  };
   bounds = record { open_one = λ on. absurd (cc); hi_low = λ on. absurd (cc); scrubbed = λ on. absurd (cc) };
-  fit = λ r i. only_one (IsFit c name pool) (nothing pool) r (inl refl, record { pages = λ level index cell low at. absurd (no_cell cell at); holes = λ level index j low lt none. refl }) i;
+  fit = λ r i. only_one (IsFit c name pool) (nothing pool) r (
+    inl refl,
+    record {
+      pages = λ level index cell low at. absurd
+          (no_cell cell at);
+      holes = λ level index j low lt none. refl;
+    },
+  ) i;
   pools = λ r i. only_one (λ r. r.commit.pool ≡ pool) (nothing pool) r refl i;
   in_range = st.in_range;
 }
@@ -139,7 +186,8 @@ stamp_elsewhere dev size pool member made outcome d s ne part =
     (spares_more (label_writes dev (labels_of size) 32 u) (Flushes dev ∷ []) d s (writes_elsewhere dev (labels_of size) 32 u d s ne) (refl, tt)))
 
 -- What is blank stays so behind calls that put nothing there.
-pub untouched_blank : (made : List Noted) (d s : ℕ) (x : Sector) (pool member : Guid) → Untouched made d s → IsBlank x pool member → IsBlank (replay made d s x) pool member
+pub untouched_blank : (made : List Noted) (d s : ℕ) (x : Sector) (pool member : Guid) → Untouched made d s
+    → IsBlank x pool member → IsBlank (replay made d s x) pool member
 untouched_blank made d s x pool member u blank = of blank.stands
   where
     stays : (b : List ℕ) → x.stable ≡ b → Stands (replay made d s x) b

@@ -38,7 +38,15 @@ above_in n r (q ∷ rs) i = by_test (nat_lt n (number_of q)) refl (λ j. above_i
 
 -- a miss among later events
 later_missed : (v : Event) (vs : List Event) (p : Pool) (r : Rec) → WasMissed (after v p) vs r → WasMissed p (v ∷ vs) r
-later_missed v vs p r w = record { before = v ∷ w.before; opened = w.opened; later = w.later; all = ap (λ l. v ∷ l) w.all; was_live = w.was_live; lower = w.lower }
+later_missed v vs p r w = record {
+  before = v ∷ w.before;
+  opened = w.opened;
+  later = w.later;
+  all = ap
+      (λ l. v ∷ l) w.all;
+  was_live = w.was_live;
+  lower = w.lower;
+}
 
 more_missed : (v : Event) (vs : List Event) (p : Pool) (r : Rec) → IsIn r p.missed ⊎ WasMissed (after v p) vs r → IsIn r p.missed ⊎ WasMissed p (v ∷ vs) r
 more_missed v vs p r (inl i) = inl i
@@ -60,15 +68,19 @@ missed_by (v ∷ vs) p r i = more_missed v vs p r (missed_by vs (after v p) r i)
 
 -- Where each missed record that is found, and isn't below the acknowledged one, was acknowledged, there is no stray.
 pub no_stray : (c : Codec) (p : Pool) (known : Known) → Survives c p
-    → ((d : ℕ) (u : Uberblock) (config : List ℕ) → p.member d ≡ false → IsVerifiedOn c.head_of p.size known p.name d u config → (r : Rec) × IsDrawnRecord p u config r)
-    → ((d : ℕ) (u : Uberblock) (config : List ℕ) (r : Rec) → IsVerifiedOn c.head_of p.size known p.name d u config → IsDrawnRecord p u config r → IsIn r p.missed
+    → ((d : ℕ) (u : Uberblock) (config : List ℕ) → p.member d ≡ false
+    → IsVerifiedOn c.head_of p.size known p.name d u config → (r : Rec) × IsDrawnRecord p u config r)
+    → ((d : ℕ) (u : Uberblock) (config : List ℕ) (r : Rec) → IsVerifiedOn c.head_of p.size known p.name d u config
+    → IsDrawnRecord p u config r → IsIn r p.missed
     → number_of p.acked ≤ number_of r → WasAcked p r) → HasNoStray c.head_of p known
 no_stray c p known sv others were = record {
   others = others;
-  passed = λ d u config r v is given missed. by_number (nat_lt (number_of r) (number_of p.acked)) refl (λ above. acked_below c p r sv (were d u config r v is missed above));
+  passed = λ d u config r v is given missed. by_number (nat_lt (number_of r) (number_of p.acked)) refl
+      (λ above. acked_below c p r sv (were d u config r v is missed above));
 }
   where
-    by_number : {r : Rec} (t : Bool) → nat_lt (number_of r) (number_of p.acked) ≡ t → (number_of p.acked ≤ number_of r → (number_of r < number_of p.acked) ⊎ HasTwin p r)
+    by_number : {r : Rec} (t : Bool) → nat_lt (number_of r) (number_of p.acked) ≡ t
+        → (number_of p.acked ≤ number_of r → (number_of r < number_of p.acked) ⊎ HasTwin p r)
         → (number_of r < number_of p.acked) ⊎ HasTwin p r
     by_number {r} true is above = inl (let lt : number_of r < number_of p.acked = grind (arith, nat_tests) in lt)
     by_number {r} false is above = above (let le : number_of p.acked ≤ number_of r = grind (arith, nat_tests) in le)

@@ -74,7 +74,7 @@ survives_sound c p sv = record {
 }
 
 -- an event of a history was allowed where it came
-may_at : (c : Codec) (vs : List Event) (p : Pool) (k : ℕ) (v : Event) → Mays c p vs → slice_get vs k ≡ Some v → May c (pool_after (take k vs) p) v
+pub may_at : (c : Codec) (vs : List Event) (p : Pool) (k : ℕ) (v : Event) → Mays c p vs → slice_get vs k ≡ Some v → May c (pool_after (take k vs) p) v
 may_at c [] p k v may at = absurd (cc)
 may_at c (w ∷ vs) p zero v may at = subst (May c p) (same w v at) may.0
   where

@@ -50,7 +50,8 @@ suspended_may c p cells board d sv m = ((m, (refl, (refl, (refl, tt)))), λ e g 
         by_two (inl new) = absurd (out (new.1, (let high = new.2 in omega (arith, high))))
         by_two (inr old) = by_one (grown_of (off board) first first p.owes e g old)
 
-        by_three : ((off (pool_after (Freezes cells board ∷ Leaves d ∷ []) p).group.board e ≡ true) × (first + 1 ≤ g) × (g ≤ first + 1)) ⊎ (two e g ≡ true) → p.owes e g ≡ true
+        by_three : ((off (pool_after (Freezes cells board ∷ Leaves d ∷ []) p).group.board e ≡ true) × (first + 1 ≤ g)
+            × (g ≤ first + 1)) ⊎ (two e g ≡ true) → p.owes e g ≡ true
         by_three (inl new) = absurd (out ((let low = new.1 in omega (arith, low)), new.2))
         by_three (inr old) = by_two (grown_of (λ e. d == e) first first one e g old)
 
@@ -62,18 +63,22 @@ suspended_may c p cells board d sv m = ((m, (refl, (refl, (refl, tt)))), λ e g 
     same e g is leaf = of (between first (first + 1) g) refl
       where
         of : (t : Bool) → between first (first + 1) g ≡ t → cond t false (three e g) ≡ p.owes e g
-        of true inside = sym (not_true (p.owes e g) (λ has. let bounds = sv.logs.now e is leaf g has in let low = (of_between first (first + 1) g inside).0 in omega (arith, bounds.1, low)))
+        of true inside = sym (not_true (p.owes e g)
+            (λ has. let bounds = sv.logs.now e is leaf g has in let low = (of_between first
+            (first + 1) g inside).0 in omega (arith, bounds.1, low)))
         of false out = unlike (three e g) (p.owes e g)
             (back e g (λ range. true_not_false (between first (first + 1) g) (is_between first (first + 1) g range.0 range.1) out)) (on e g)
 
 -- A round in which a leaf failed, a further number, and a round again over those that are left.
 pub further_may : (c : Codec) (p : Pool) (q again : Rec) (members left : List Member) (results others : List Bool) (vs more : List Event)
     → Survives c p → IsDrawnUp c p q → AreJust p (OnBoard p) members → AreApart members → IsRoundEvents p.size q members results vs → all_true results ≡ false
-    → IsDrawnUp c (pool_after (vs ++ Draws ∷ []) p) again → AreJust (pool_after (vs ++ Draws ∷ []) p) (OnBoard (pool_after (vs ++ Draws ∷ []) p)) left → AreApart left
+    → IsDrawnUp c (pool_after (vs ++ Draws ∷ []) p) again → AreJust (pool_after (vs ++ Draws ∷ []) p)
+    (OnBoard (pool_after (vs ++ Draws ∷ []) p)) left → AreApart left
     → IsRoundEvents (pool_after (vs ++ Draws ∷ []) p).size again left others more → Mays c p ((vs ++ Draws ∷ []) ++ more)
 further_may c p q again members left results others vs more sv drawn just apart round failed drawn_again just_left apart_left round_again =
     mays_more c (vs ++ Draws ∷ []) more p first
-    (round_may c (pool_after (vs ++ Draws ∷ []) p) again left others more (history_survives c (vs ++ Draws ∷ []) p sv first) drawn_again just_left apart_left round_again)
+    (round_may c (pool_after (vs ++ Draws ∷ []) p) again left others more
+    (history_survives c (vs ++ Draws ∷ []) p sv first) drawn_again just_left apart_left round_again)
   where
     ends : RoundEnds p (pool_after vs p) q (all_true results) members results (calls_of vs)
     ends = round_ends p.size p q members results vs round

@@ -1,5 +1,31 @@
 -- The third phase of a round: its moves are allowed, and each member that ends it holds the new record.
-use Rattle.std.proofs.Common.{◌≡◌, ◌≢◌, ℕ, ◌+◌, ◌≤◌, zero, suc, cond, Bool, true, false, List, [], ◌∷◌, ◌++◌, Some, refl, sym, ap, ◌∙◌, subst, arith, inl}
+use Rattle.std.proofs.Common.{
+  ◌≡◌,
+  ◌≢◌,
+  ◌⊎◌,
+  ℕ,
+  ◌+◌,
+  ◌≤◌,
+  zero,
+  suc,
+  cond,
+  Bool,
+  true,
+  false,
+  List,
+  [],
+  ◌∷◌,
+  ◌++◌,
+  Some,
+  refl,
+  sym,
+  ap,
+  ◌∙◌,
+  subst,
+  arith,
+  inl,
+  inr,
+}
 use Rattle.std.specs.Prelude.{slice_get}
 use Rattle.std.specs.List.{AllByRecursion}
 use Rattle.std.proofs.lemmas.Bool.{ne_eqb, eq-eqb}
@@ -18,13 +44,13 @@ use Rattle.txg_history.specs.Events.{Event, Calls, Third, Ends, calls_of, as_eve
 use Rattle.txg_history.specs.Labels.{Status, Odd, Even}
 use Rattle.txg_history.specs.Moves.{MayStand, MayEnd, Mays}
 use Rattle.txg_history.specs.Needs.{Held, InPart, odd_part, NeedsLabel}
-use Rattle.txg_history.specs.Pools.{Pool, after, pool_after, seat}
+use Rattle.txg_history.specs.Pools.{Pool, after, pool_after, seat, since_after, copies_after}
 use Rattle.txg_history.specs.Groups.{at_device}
 use Rattle.txg_history.proofs.Placing.{AreBetween}
 use Rattle.txg_history.specs.Records.{Rec, IsIn, number_of}
 use Rattle.txg_history.specs.Rounds.{ends_if, IsThirds}
 use Rattle.txg_history.specs.Survival.{Fits}
-use Rattle.txg_history.proofs.Folding.{all_more, all_calls, since_after, with_calls, calls_then, mays_calls}
+use Rattle.txg_history.proofs.Folding.{all_more, all_calls, with_calls, calls_then, mays_calls}
 use Rattle.txg_history.proofs.RoundParts.{IsSeated, few_of, third_sparing}
 use Rattle.txg_history.proofs.Sparing.{turn_may}
 
@@ -45,7 +71,12 @@ pub record AreReady (codec : Codec) (p : Pool) (q : Rec) (ms : List Member) (was
 
 -- a pool behind calls and other statuses
 abbrev pub turned : List Noted → (ℕ → Status) → Pool → Pool
-turned made status p = record p { sectors = run made p.sectors; since = since_after made p.since; status = status }
+turned made status p = record p {
+  sectors = run made p.sectors;
+  since = since_after made p.since;
+  copies = copies_after made p.copies;
+  status = status;
+}
 
 seated_turned : (p : Pool) (q : Rec) (m : Member) (made : List Noted) (status : ℕ → Status) → IsSeated p q m → IsSeated (turned made status p) q m
 seated_turned p q m made status s = record { is_member = s.is_member; takes = s.takes; big = s.big; in_range = s.in_range; seat_is = s.seat_is }
@@ -176,18 +207,23 @@ turns_ends : (c : Bool) (q : Rec) (d : ℕ) (vs : List Event) → AllByRecursion
 turns_ends true q d vs t = (tt, t)
 turns_ends false q d vs t = t
 
-pub thirds_turns : (plan : Member → List Ask) (q : Rec) (ms : List Member) (was is : List Bool) (vs : List Event) → IsThirds plan q ms was is vs → AllByRecursion IsOfTurn vs
+pub thirds_turns : (plan : Member → List Ask) (q : Rec) (ms : List Member) (was is : List Bool) (vs : List Event)
+    → IsThirds plan q ms was is vs → AllByRecursion IsOfTurn vs
 thirds_turns plan q [] [] [] vs t = subst (AllByRecursion IsOfTurn) (sym t) tt
 thirds_turns plan q [] [] (c ∷ is) vs t = absurd t
 thirds_turns plan q [] (b ∷ was) is vs t = absurd t
 thirds_turns plan q (m ∷ ms) [] is vs t = absurd t
 thirds_turns plan q (m ∷ ms) (b ∷ was) [] vs t = absurd t
-thirds_turns plan q (m ∷ ms) (true ∷ was) (c ∷ is) vs t = subst (AllByRecursion IsOfTurn) (sym t.2)
-    (tt, all_more IsOfTurn (as_events t.0) (ends_if c q m.dev ++ t.1) (all_calls IsOfTurn (λ noted. tt) t.0) (turns_ends c q m.dev t.1 (thirds_turns plan q ms was is t.1 t.4)))
+thirds_turns plan q (m ∷ ms) (true ∷ was) (c ∷ is) vs t = subst (AllByRecursion IsOfTurn) (sym t.2) (
+  tt,
+  all_more IsOfTurn (as_events t.0) (ends_if c q m.dev ++ t.1) (all_calls IsOfTurn (λ noted. tt) t.0)
+      (turns_ends c q m.dev t.1 (thirds_turns plan q ms was is t.1 t.4)),
+)
 thirds_turns plan q (m ∷ ms) (false ∷ was) (c ∷ is) vs t = thirds_turns plan q ms was is vs t.1
 
 -- each member has a result
-pub thirds_result : (plan : Member → List Ask) (q : Rec) (ms : List Member) (was is : List Bool) (vs : List Event) (i : ℕ) (m : Member) → slice_get ms i ≡ Some m
+pub thirds_result : (plan : Member → List Ask) (q : Rec) (ms : List Member) (was is : List Bool) (vs : List Event)
+    (i : ℕ) (m : Member) → slice_get ms i ≡ Some m
     → IsThirds plan q ms was is vs → (c : Bool) × (slice_get is i ≡ Some c)
 thirds_result plan q [] was is vs i m e t = absurd (no_member m e)
 thirds_result plan q (n ∷ ms) [] is vs i m e t = absurd t
@@ -200,7 +236,7 @@ away : (d e : ℕ) (x : Status) (f : ℕ → Status) → d ≢ e → at_device d
 away d e x f ne = ap (λ t. cond t x (f e)) (ne_eqb d e ne)
 
 -- a device of no such member keeps its status
-thirds_away : (plan : Member → List Ask) (q : Rec) (ms : List Member) (was is : List Bool) (vs : List Event) (p : Pool) (d : ℕ)
+pub thirds_away : (plan : Member → List Ask) (q : Rec) (ms : List Member) (was is : List Bool) (vs : List Event) (p : Pool) (d : ℕ)
     → ((j : ℕ) (m : Member) → slice_get ms j ≡ Some m → m.dev ≢ d) → IsThirds plan q ms was is vs → (pool_after vs p).status d ≡ p.status d
 thirds_away plan q [] [] [] vs p d ne t = ap (λ l. (pool_after l p).status d) t
 thirds_away plan q [] [] (c ∷ is) vs p d ne t = absurd t
@@ -251,3 +287,47 @@ thirds_odd plan q (n ∷ ms) (true ∷ was) (false ∷ is) vs p (suc i) m apart 
     ∙ thirds_odd plan q ms was is t.1 (with_calls t.0 (after (Third q n.dev) p)) i m (apart_rest n ms apart) e on t.4
 thirds_odd plan q (n ∷ ms) (false ∷ was) (c ∷ is) vs p (suc i) m apart e on t =
     thirds_odd plan q ms was is vs p i m (apart_rest n ms apart) e on t.1
+
+was_or : {x y z w e : Status} → x ≡ y → z ≡ w → (y ≡ z) ⊎ (y ≡ e) → (x ≡ w) ⊎ (x ≡ e)
+was_or xy zw (inl yz) = inl (xy ∙ yz ∙ zw)
+was_or xy zw (inr ye) = inr (xy ∙ ye)
+
+-- One that fails in it has it in the even labels at most.
+pub thirds_failed : (plan : Member → List Ask) (q : Rec) (ms : List Member) (was is : List Bool) (vs : List Event) (p : Pool)
+    (i : ℕ) (m : Member) → AreApart ms → slice_get ms i ≡ Some m → slice_get is i ≡ Some false → IsThirds plan q ms was is vs
+    → ((pool_after vs p).status m.dev ≡ p.status m.dev) ⊎ ((pool_after vs p).status m.dev ≡ Even q)
+thirds_failed plan q [] was is vs p i m apart e off t = absurd (no_member m e)
+thirds_failed plan q (n ∷ ms) [] is vs p i m apart e off t = absurd t
+thirds_failed plan q (n ∷ ms) (b ∷ was) [] vs p i m apart e off t = absurd t
+thirds_failed plan q (n ∷ ms) (true ∷ was) (true ∷ is) vs p zero m apart e off t = absurd (on off)
+  where
+    on : Some true ≡ Some false → ⊥
+    on e = cc
+thirds_failed plan q (n ∷ ms) (true ∷ was) (false ∷ is) vs p zero m apart e off t =
+    inr (subst (λ x. (pool_after vs p).status x.dev ≡ Even q) (same_member n m e)
+    (ap (λ l. (pool_after l p).status n.dev) t.2
+    ∙ ap (λ x. x.status n.dev) (calls_then t.0 t.1 (after (Third q n.dev) p))
+    ∙ thirds_away plan q ms was is t.1 (with_calls t.0 (after (Third q n.dev) p)) n.dev
+    (λ j o f. others (n ∷ ms) zero (suc j) n o apart refl f (omega arith)) t.4
+    ∙ ap (λ t. cond t (Even q) (p.status n.dev)) (eq-eqb n.dev n.dev refl)))
+thirds_failed plan q (n ∷ ms) (false ∷ was) (c ∷ is) vs p zero m apart e off t =
+    inl (subst (λ x. (pool_after vs p).status x.dev ≡ p.status x.dev) (same_member n m e)
+    (thirds_away plan q ms was is vs p n.dev (λ j o f. others (n ∷ ms) zero (suc j) n o apart refl f (omega arith)) t.1))
+thirds_failed plan q (n ∷ ms) (true ∷ was) (true ∷ is) vs p (suc i) m apart e off t =
+    was_or (ap (λ l. (pool_after l p).status m.dev) t.2
+    ∙ ap (λ x. x.status m.dev) (calls_then t.0 (Ends q n.dev ∷ t.1) (after (Third q n.dev) p)))
+    (away n.dev m.dev (Odd q) (at_device n.dev (Even q) p.status) ne ∙ away n.dev m.dev (Even q) p.status ne)
+    (thirds_failed plan q ms was is t.1 (after (Ends q n.dev) (with_calls t.0 (after (Third q n.dev) p))) i m (apart_rest n ms apart) e off t.4)
+  where
+    ne : n.dev ≢ m.dev
+    ne = λ same. others (n ∷ ms) zero (suc i) n m apart refl e (omega arith) (sym same)
+thirds_failed plan q (n ∷ ms) (true ∷ was) (false ∷ is) vs p (suc i) m apart e off t =
+    was_or (ap (λ l. (pool_after l p).status m.dev) t.2
+    ∙ ap (λ x. x.status m.dev) (calls_then t.0 t.1 (after (Third q n.dev) p)))
+    (away n.dev m.dev (Even q) p.status ne)
+    (thirds_failed plan q ms was is t.1 (with_calls t.0 (after (Third q n.dev) p)) i m (apart_rest n ms apart) e off t.4)
+  where
+    ne : n.dev ≢ m.dev
+    ne = λ same. others (n ∷ ms) zero (suc i) n m apart refl e (omega arith) (sym same)
+thirds_failed plan q (n ∷ ms) (false ∷ was) (c ∷ is) vs p (suc i) m apart e off t =
+    thirds_failed plan q ms was is vs p i m (apart_rest n ms apart) e off t.1

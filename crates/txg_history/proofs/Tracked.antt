@@ -15,7 +15,7 @@ use Rattle.txg_history.specs.Records.{Rec, number_of, takes_part}
 use Rattle.txg_history.specs.Moves.{May}
 use Rattle.txg_history.specs.Survival.{Survives, IsOf}
 use Rattle.txg_history.specs.Tracking.{MayBegin, Keeps, KeepsLabels, HasPromise}
-use Rattle.txg_history.proofs.Logging.{at_away}
+use Rattle.txg_history.proofs.Logging.{at_here, at_away}
 
 -- the labels hold some record
 abbrev IsSome : Status → Type 0
@@ -43,7 +43,8 @@ part_same : (b : Bool) (status : Status) (q : Rec) → (b ≡ true → begun sta
 part_same true status q same = same refl
 part_same false status q same = refl
 
-begins_tracked : (p : Pool) (d : ℕ) (m : Guid) (status : Status) (q : Rec) → IsTracked p d m status → (takes_part q m ≡ true → MayBegin status q) → IsTracked (after (Begins q) p) d m status
+begins_tracked : (p : Pool) (d : ℕ) (m : Guid) (status : Status) (q : Rec) → IsTracked p d m status
+    → (takes_part q m ≡ true → MayBegin status q) → IsTracked (after (Begins q) p) d m status
 begins_tracked p d m status q t may = record {
   member = t.member;
   number = t.number;
@@ -66,7 +67,8 @@ stands_tracked p d e m status new t is = record {
   some = some_if (e == d) new status is t.some;
 }
 
-acks_tracked : (p : Pool) (d : ℕ) (m : Guid) (status : Status) (q : Rec) → IsTracked p d m status → MayAck p q → takes_part q m ≡ true → IsTracked (after (Acks q) p) d m (Odd q)
+acks_tracked : (p : Pool) (d : ℕ) (m : Guid) (status : Status) (q : Rec) → IsTracked p d m status → MayAck p q
+    → takes_part q m ≡ true → IsTracked (after (Acks q) p) d m (Odd q)
 acks_tracked p d m status q t may takes =
     let part : takes_part q (p.guid d) ≡ true = subst (λ g. takes_part q g ≡ true) (sym t.number) takes in
     record { member = t.member; number = t.number; status_is = ap (λ b. cond b (p.status d) Lost) part ∙ may.all d t.member part; some = tt }
@@ -82,7 +84,8 @@ loses_tracked p d e m status t ne = record {
   some = t.some;
 }
 
-joins_tracked : (p : Pool) (d e : ℕ) (m n : Guid) (top : ℕ) (status : Status) → IsTracked p d m status → e ≢ d → m.0 ≢ n.0 → IsTracked (after (Joins e n top) p) d m status
+joins_tracked : (p : Pool) (d e : ℕ) (m n : Guid) (top : ℕ) (status : Status) → IsTracked p d m status → e ≢ d
+    → m.0 ≢ n.0 → IsTracked (after (Joins e n top) p) d m status
 joins_tracked p d e m n top status t ne other = record {
   member = at_away e d true (other_than n p.guid p.member) off
       ∙ (ap (λ b. cond b false (p.member d)) (other_device (p.guid d).0 n.0 (λ same. other (sym (ap (λ g. g.0) t.number) ∙ same))) ∙ t.member);
@@ -99,11 +102,13 @@ promise_of p d m (Odd r) t = record { is_member = t.member; promised = r; status
 promise_of p d m (Even r) t = record { is_member = t.member; promised = r; status_is = inr t.status_is }
 promise_of p d m Lost t = absurd t.some
 
-same_tracked : (p q : Pool) (d : ℕ) (m : Guid) (status : Status) → q.member d ≡ p.member d → q.guid d ≡ p.guid d → q.status d ≡ p.status d → IsTracked p d m status → IsTracked q d m status
+same_tracked : (p q : Pool) (d : ℕ) (m : Guid) (status : Status) → q.member d ≡ p.member d → q.guid d ≡ p.guid d
+    → q.status d ≡ p.status d → IsTracked p d m status → IsTracked q d m status
 same_tracked p q d m status a b s t = record { member = a ∙ t.member; number = b ∙ t.number; status_is = s ∙ t.status_is; some = t.some }
 
 -- They keep a record through all such events.
-tracked : (c : Codec) (vs : List Event) (p : Pool) (d : ℕ) (m : Guid) (status : Status) → IsTracked p d m status → Mays c p vs → Keeps d m status vs → HasPromise (pool_after vs p) d
+tracked : (c : Codec) (vs : List Event) (p : Pool) (d : ℕ) (m : Guid) (status : Status) → IsTracked p d m status
+    → Mays c p vs → Keeps d m status vs → HasPromise (pool_after vs p) d
 tracked c [] p d m status t mays keeps = promise_of p d m status t
 tracked c (Begins q ∷ vs) p d m status t mays keeps = tracked c vs (after (Begins q) p) d m status (begins_tracked p d m status q t keeps.0) mays.1 keeps.1
 tracked c (Third q e ∷ vs) p d m status t mays keeps =
@@ -127,7 +132,8 @@ labels_stay c p d vs has mays keeps =
 -- And from an acknowledgement on, in whose round the member takes part.
 pub labels_stay_since : (c : Codec) (p : Pool) (d : ℕ) (q : Rec) (vs : List Event) → p.member d ≡ true → takes_part q (p.guid d) ≡ true → Mays c p (Acks q ∷ vs)
     → KeepsLabels (after (Acks q) p) d vs → HasPromise (pool_after (Acks q ∷ vs) p) d
-labels_stay_since c p d q vs member takes mays keeps = labels_stay c (after (Acks q) p) d vs (record { is_member = member; promised = q; status_is = inl odd }) mays.1 keeps
+labels_stay_since c p d q vs member takes mays keeps = labels_stay c (after (Acks q) p) d vs
+    (record { is_member = member; promised = q; status_is = inl odd }) mays.1 keeps
   where
     odd : (after (Acks q) p).status d ≡ Odd q
     odd = ap (λ b. cond b (p.status d) Lost) takes ∙ mays.0.all d member takes
@@ -160,3 +166,13 @@ promise_holds c p d sv has = of has.status_is
 pub cut_phase_ends : (c : Codec) (p : Pool) (q : Rec) (d : ℕ) → Survives c p → p.status d ≡ Even q
     → ((s : ℕ) (bytes : List ℕ) → InPart odd_part q s bytes → Held (p.sectors d s) bytes) → May c p (Ends q d)
 cut_phase_ends c p q d sv e odd is = record { began = e; held = odd }
+
+-- behind its beginning a third phase has the record in the even labels
+pub third_even : (p : Pool) (q : Rec) (d : ℕ) → (after (Third q d) p).status d ≡ Even q
+third_even p q d = at_here d d (Even q) p.status (let same : (d == d) ≡ true = grind (arith, nat_tests) in same)
+
+-- From a third phase on the labels go on promising a record.
+pub labels_again : (c : Codec) (p : Pool) (d : ℕ) (q : Rec) (vs : List Event) → p.member d ≡ true → Mays c p (Third q d ∷ vs)
+    → KeepsLabels (after (Third q d) p) d vs → HasPromise (pool_after (Third q d ∷ vs) p) d
+labels_again c p d q vs member mays keeps = labels_stay c (after (Third q d) p) d vs
+    (record { is_member = member; promised = q; status_is = inr (third_even p q d) }) mays.1 keeps

@@ -31,7 +31,8 @@ freeze_tree c new old tree dirty = record {
         → IsPageOf c cell.block (laid_over new old) level index
     page level index cell low (inl is) = dirty.pages level index cell low is
     page level index cell low (inr (none, is)) = λ j lt.
-        tree.pages level index cell low is j lt ∙ sym (ap sum_of (as_old new old (key level (64 * index + j)) (unlaid c new old level index j dirty low lt none)))
+        tree.pages level index cell low is j lt ∙ sym (ap sum_of
+        (as_old new old (key level (64 * index + j)) (unlaid c new old level index j dirty low lt none)))
 
     hole : (level index j : ℕ) → level < 3 → j < 64 → (x : Option Cell) → new (key (suc level) index) ≡ x → cell_over x (old (key (suc level) index)) ≡ None
         → laid_over new old (key level (64 * index + j)) ≡ None

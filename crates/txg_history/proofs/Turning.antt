@@ -1,5 +1,34 @@
 -- A write turn and the flush turn are allowed, whichever of their calls fail, and what they leave.
-use Rattle.std.proofs.Common.{◌≡◌, ◌≢◌, ℕ, zero, suc, ◌+◌, ◌-◌, ◌==◌, ◌&&◌, Bool, true, false, cond, List, [], ◌∷◌, ◌++◌, map, length, Some, refl, sym, ap, ◌∙◌, subst, inr, arith, append-nil}
+use Rattle.std.proofs.Common.{
+  ◌≡◌,
+  ◌≢◌,
+  ℕ,
+  zero,
+  suc,
+  ◌+◌,
+  ◌-◌,
+  ◌==◌,
+  ◌&&◌,
+  Bool,
+  true,
+  false,
+  cond,
+  List,
+  [],
+  ◌∷◌,
+  ◌++◌,
+  map,
+  length,
+  Some,
+  refl,
+  sym,
+  ap,
+  ◌∙◌,
+  subst,
+  inr,
+  arith,
+  append-nil,
+}
 use Rattle.std.specs.Prelude.{slice_get}
 use Rattle.std.proofs.lemmas.Bool.{and_left, ne_eqb}
 use Rattle.mp_base.specs.declared.place.Key.{Key}
@@ -23,7 +52,7 @@ use Rattle.txg_history.specs.Survival.{Survives, IsKnownUber}
 use Rattle.txg_history.specs.Turns.{AreJust, OnBoard, OnTop, write_plan, flush_plan, leavers, IsTurnEvents, IsWriteTurn, IsFlushTurn, TurnEnds}
 use Rattle.txg_history.proofs.Folding.{with_calls, pool_more, calls_then, calls_more, calls_are, mays_more, mays_calls}
 use Rattle.txg_history.proofs.Landing.{untouched_landed, untouched_held, phase_brings, write_lands, flush_holds}
-use Rattle.txg_history.proofs.Leaving.{leavers_no_call, leavers_pool, leavers_may, without, left_before, left_good, board_behind}
+use Rattle.txg_history.proofs.Leaving.{leavers_no_call, leavers_pool, leavers_may, without, left_before, left_good, board_behind, left_board_is, left_owes_is}
 use Rattle.txg_history.proofs.Listing.{same_cell}
 use Rattle.txg_history.proofs.RoundParts.{first_bytes}
 use Rattle.txg_history.proofs.Sparing.{spared_lay, phase_may}
@@ -36,11 +65,13 @@ pub turn_marked : (plan : Member → List Ask) (mark : Event) (members : List Me
 turn_marked plan mark members results made no_call ph = (
   as_events made ++ (leavers members results ++ (mark ∷ [])),
   calls_more (as_events made) (leavers members results ++ (mark ∷ [])) ∙ ap (λ l. l ++ calls_of (leavers members results ++ (mark ∷ []))) (calls_are made)
-      ∙ ap (λ l. made ++ l) (calls_more (leavers members results) (mark ∷ []) ∙ ap (λ l. l ++ calls_of (mark ∷ [])) (leavers_no_call members results) ∙ no_call) ∙ append-nil made,
+      ∙ ap (λ l. made ++ l) (calls_more (leavers members results) (mark ∷ []) ∙ ap (λ l. l ++ calls_of (mark ∷ []))
+      (leavers_no_call members results) ∙ no_call) ∙ append-nil made,
   record { made = made; phase = ph; all = refl },
 )
 
-pub write_marked : (k : Key) (cell : Cell) (members : List Member) (results : List Bool) (made : List Noted) → IsPhase (write_plan cell) members (map (λ m. true) members) results made
+pub write_marked : (k : Key) (cell : Cell) (members : List Member) (results : List Bool) (made : List Noted) → IsPhase
+    (write_plan cell) members (map (λ m. true) members) results made
     → (vs : List Event) × (calls_of vs ≡ made) × IsWriteTurn k cell members results vs
 write_marked k cell members results made ph = turn_marked (write_plan cell) (Wrote k) members results made refl ph
 
@@ -52,8 +83,10 @@ flush_marked members results made ph = turn_marked flush_plan Flushed members re
 turn_calls : (plan : Member → List Ask) (mark : Event) (members : List Member) (results : List Bool) (vs : List Event) → calls_of (mark ∷ []) ≡ []
     → (t : IsTurnEvents plan mark members results vs) → calls_of vs ≡ t.made
 turn_calls plan mark members results vs no_call t =
-    ap calls_of t.all ∙ calls_more (as_events t.made) (leavers members results ++ (mark ∷ [])) ∙ ap (λ l. l ++ calls_of (leavers members results ++ (mark ∷ []))) (calls_are t.made)
-    ∙ ap (λ l. t.made ++ l) (calls_more (leavers members results) (mark ∷ []) ∙ ap (λ l. l ++ calls_of (mark ∷ [])) (leavers_no_call members results) ∙ no_call) ∙ append-nil t.made
+    ap calls_of t.all ∙ calls_more (as_events t.made) (leavers members results ++ (mark ∷ [])) ∙ ap
+    (λ l. l ++ calls_of (leavers members results ++ (mark ∷ []))) (calls_are t.made)
+    ∙ ap (λ l. t.made ++ l) (calls_more (leavers members results) (mark ∷ []) ∙ ap (λ l. l ++ calls_of (mark ∷ []))
+    (leavers_no_call members results) ∙ no_call) ∙ append-nil t.made
 
 -- before its mark
 abbrev turned : List Noted → List Member → List Bool → Pool → Pool
@@ -84,7 +117,8 @@ phase_result plan (n ∷ ms) (b ∷ was) (c ∷ is) made zero m e p = (c, refl)
 phase_result plan (n ∷ ms) (b ∷ was) (c ∷ is) made (suc i) m e p = phase_result plan ms was is p.1 i m e p.4
 
 -- a member that is on the board behind a turn made its part
-made_part : (p : Pool) (plan : Member → List Ask) (Which : ℕ → Type 0) (members : List Member) (results : List Bool) (made : List Noted) (d : ℕ) → AreJust p Which members
+made_part : (p : Pool) (plan : Member → List Ask) (Which : ℕ → Type 0) (members : List Member) (results : List Bool)
+    (made : List Noted) (d : ℕ) → AreJust p Which members
     → IsPhase plan members (map (λ m. true) members) results made → p.member d ≡ true → Which d → (turned made members results p).group.board d ≡ true
     → (i : ℕ) × (slice_get members i ≡ Some (seat p d)) × (slice_get results i ≡ Some true)
 made_part p plan Which members results made d just ph is which on =
@@ -102,7 +136,8 @@ write_turn_may c p k cell members results vs sv frozen unflushed at undone just 
     (record {
       frozen = frozen;
       not_flushed = unflushed;
-      landed = λ d other is on at' top. subst (λ cell. Landed (run t.made p.sectors d (data_start + cell.sector)) cell.block) (same_cell cell other (sym at ∙ at'))
+      landed = λ d other is on at' top. subst (λ cell. Landed
+          (run t.made p.sectors d (data_start + cell.sector)) cell.block) (same_cell cell other (sym at ∙ at'))
           (lands d is on (top ∙ ap (λ cell. cell.top) (same_cell other cell (sym at' ∙ at))));
     })
   where
@@ -115,14 +150,18 @@ write_turn_may c p k cell members results vs sv frozen unflushed at undone just 
     first : (at : ℕ) → sector_of (at - at) cell.block ≡ cell.block
     first at = first_bytes (at - at) cell.block long (omega arith)
 
-    lands : (d : ℕ) → p.member d ≡ true → (turned t.made members results p).group.board d ≡ true → p.in_top d ≡ cell.top → Landed (run t.made p.sectors d (data_start + cell.sector)) cell.block
+    lands : (d : ℕ) → p.member d ≡ true → (turned t.made members results p).group.board d ≡ true → p.in_top d ≡ cell.top
+        → Landed (run t.made p.sectors d (data_start + cell.sector)) cell.block
     lands d is on top =
-        let part = made_part p (write_plan cell) (OnTop p cell.top) members results t.made d just t.phase is (left_before members results p.group.board d on, top) on in
-        phase_brings (write_plan cell) (λ y. Unit {0}) (λ y. Landed y cell.block) members (map (λ m. true) members) results t.made part.0 (seat p d) d (data_start + cell.sector)
+        let part = made_part p (write_plan cell) (OnTop p cell.top) members results t.made d just t.phase is
+        (left_before members results p.group.board d on, top) on in
+        phase_brings (write_plan cell) (λ y. Unit {0}) (λ y. Landed y cell.block) members
+        (map (λ m. true) members) results t.made part.0 (seat p d) d (data_start + cell.sector)
         (p.sectors d (data_start + cell.sector)) part.1 part.2
         (λ j n e ne b r mine y turn u. tt)
         (λ j n e ne b r mine y turn l. untouched_landed mine d (data_start + cell.sector) y cell.block
-        (turn_spares (write_plan cell n) b r mine d (data_start + cell.sector) (λ on. (elsewhere n (others members part.0 j (seat p d) n apart part.1 e ne), tt)) turn) l)
+        (turn_spares (write_plan cell n) b r mine d (data_start + cell.sector)
+        (λ on. (elsewhere n (others members part.0 j (seat p d) n apart part.1 e ne), tt)) turn) l)
         (λ mine y whole u. write_lands d (data_start + cell.sector) cell.block mine y long one (first (data_start + cell.sector)) whole) t.phase tt
       where
         elsewhere : (n : Member) → n.dev ≢ d → ((n.dev == d) && covers (data_start + cell.sector) (sectors_in cell.block) (data_start + cell.sector)) ≡ false
@@ -153,7 +192,8 @@ flush_turn_may c p members results vs sv frozen all just apart t =
     holds d s bytes is n =
         let on = left_before members results p.group.board d n.on_board in
         let part = made_part p flush_plan (OnBoard p) members results t.made d just t.phase is on n.on_board in
-        phase_brings flush_plan (λ y. Landed y bytes) (λ y. Held y bytes) members (map (λ m. true) members) results t.made part.0 (seat p d) d s (p.sectors d s) part.1 part.2
+        phase_brings flush_plan (λ y. Landed y bytes) (λ y. Held y bytes) members
+        (map (λ m. true) members) results t.made part.0 (seat p d) d s (p.sectors d s) part.1 part.2
         (λ j m e ne b r mine y turn l. untouched_landed mine d s y bytes (turn_spares (flush_plan m) b r mine d s (λ on. (refl, tt)) turn) l)
         (λ j m e ne b r mine y turn h. untouched_held mine d s y bytes (turn_spares (flush_plan m) b r mine d s (λ on. (refl, tt)) turn) h)
         (λ mine y whole l. flush_holds d s bytes mine y whole l) t.phase
@@ -169,7 +209,11 @@ flush_turn_may c p members results vs sv frozen all just apart t =
         })))
 
 turn_leaves : (p : Pool) (mark : Event) (made : List Noted) (members : List Member) (results : List Bool) (done : Key → Bool) (flushed : Bool)
-    → after mark (turned made members results p) ≡ record (turned made members results p) { group = record ((turned made members results p).group) { done = done; flushed = flushed } }
+    → after mark (turned made members results p) ≡ record
+    (turned made members results p) {
+      group = record
+          ((turned made members results p).group) { done = done; flushed = flushed };
+    }
     → TurnEnds p (after mark (turned made members results p)) members results done flushed made
 turn_leaves p mark made members results done flushed e = subst (λ q. TurnEnds p q members results done flushed made) (sym e) (record {
   name = refl;
@@ -180,7 +224,10 @@ turn_leaves p mark made members results done flushed e = subst (λ q. TurnEnds p
   room = refl;
   home = refl;
   sectors = refl;
+  since = refl;
+  copies = refl;
   acked = refl;
+  acks = refl;
   live = refl;
   given = refl;
   missed = refl;
@@ -202,6 +249,8 @@ turn_leaves p mark made members results done flushed e = subst (λ q. TurnEnds p
   begun = refl;
   done_is = refl;
   flushed_is = refl;
+  owes_is = λ d g. left_owes_is p.group.first p.highest members results p.owes d g;
+  board_is = λ d. left_board_is members results p.group.board d;
   board = board_behind members results p.group.board;
 })
 
@@ -209,7 +258,8 @@ turn_leaves p mark made members results done flushed e = subst (λ q. TurnEnds p
 pub write_turn_ends : (p : Pool) (k : Key) (cell : Cell) (members : List Member) (results : List Bool) (vs : List Event) → IsWriteTurn k cell members results vs
     → TurnEnds p (pool_after vs p) members results (λ j. cond (same_key k j) true (p.group.done j)) p.group.flushed (calls_of vs)
 write_turn_ends p k cell members results vs t =
-    subst (λ q. TurnEnds p q members results (λ j. cond (same_key k j) true (p.group.done j)) p.group.flushed (calls_of vs)) (sym (turn_pool (write_plan cell) (Wrote k) members results vs p t))
+    subst (λ q. TurnEnds p q members results (λ j. cond (same_key k j) true (p.group.done j)) p.group.flushed
+    (calls_of vs)) (sym (turn_pool (write_plan cell) (Wrote k) members results vs p t))
     (subst (TurnEnds p (after (Wrote k) (turned t.made members results p)) members results (λ j. cond (same_key k j) true (p.group.done j)) p.group.flushed)
     (sym (turn_calls (write_plan cell) (Wrote k) members results vs refl t)) (turn_leaves p (Wrote k) t.made members results _ _ refl))
 
@@ -229,7 +279,8 @@ flush_mends c p members results vs i d q t at on even landed =
   where
     holds : (s : ℕ) (bytes : List ℕ) → InPart odd_part q s bytes → Held (run t.made p.sectors d s) bytes
     holds s bytes part =
-        phase_brings flush_plan (λ y. Landed y bytes) (λ y. Held y bytes) members (map (λ m. true) members) results t.made i (seat p d) d s (p.sectors d s) at on
+        phase_brings flush_plan (λ y. Landed y bytes) (λ y. Held y bytes) members
+        (map (λ m. true) members) results t.made i (seat p d) d s (p.sectors d s) at on
         (λ j m e ne b r mine y turn l. untouched_landed mine d s y bytes (turn_spares (flush_plan m) b r mine d s (λ on. (refl, tt)) turn) l)
         (λ j m e ne b r mine y turn h. untouched_held mine d s y bytes (turn_spares (flush_plan m) b r mine d s (λ on. (refl, tt)) turn) h)
         (λ mine y whole l. flush_holds d s bytes mine y whole l) t.phase (landed s bytes part)

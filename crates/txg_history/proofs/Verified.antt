@@ -43,7 +43,8 @@ has_it p d r holds = of holds.part
     ring : Held (p.sectors d (32 + slot_of (number_of r))) (uberblock_bytes (uberblock_of r.commit (seat p d)))
     ring = holds.ring (32 + slot_of (number_of r)) (uberblock_bytes (uberblock_of r.commit (seat p d))) (refl, refl)
 
-    of : ((s : ℕ) (bytes : List ℕ) → InPart odd_part r s bytes → Held (p.sectors d s) bytes) ⊎ ((s : ℕ) (bytes : List ℕ) → InPart even_part r s bytes → Held (p.sectors d s) bytes)
+    of : ((s : ℕ) (bytes : List ℕ) → InPart odd_part r s bytes → Held (p.sectors d s) bytes)
+        ⊎ ((s : ℕ) (bytes : List ℕ) → InPart even_part r s bytes → Held (p.sectors d s) bytes)
         → HasIt p d r
     of (inl odd) = record { ring = ring; label = 1; is_label = omega arith; part = λ i lt. odd (68 + i) (sector_of i r.commit.blob) (i, lt, refl, refl) }
     of (inr even) = record { ring = ring; label = 0; is_label = omega arith; part = λ i lt. even (4 + i) (sector_of i r.commit.blob) (i, lt, refl, refl) }

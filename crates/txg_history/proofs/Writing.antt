@@ -1,5 +1,40 @@
 -- Which blocks a pool may write at a place: fresh ones of the frozen group, and those of its keys again.
-use Rattle.std.proofs.Common.{◌≡◌, ◌≢◌, ◌⊎◌, ℕ, zero, suc, ◌+◌, ◌-◌, ◌/◌, ◌%◌, ◌<◌, ◌≤◌, ◌==◌, ◌&&◌, nat_le, nat_lt, Bool, true, false, List, [], ◌∷◌, length, Option, Some, refl, sym, ap, ◌∙◌, subst, inl, inr, arith, ⊎_elim}
+use Rattle.std.proofs.Common.{
+  ◌≡◌,
+  ◌≢◌,
+  ◌⊎◌,
+  ℕ,
+  zero,
+  suc,
+  ◌+◌,
+  ◌-◌,
+  ◌/◌,
+  ◌%◌,
+  ◌<◌,
+  ◌≤◌,
+  ◌==◌,
+  ◌&&◌,
+  nat_le,
+  nat_lt,
+  Bool,
+  true,
+  false,
+  List,
+  [],
+  ◌∷◌,
+  length,
+  Option,
+  Some,
+  refl,
+  sym,
+  ap,
+  ◌∙◌,
+  subst,
+  inl,
+  inr,
+  arith,
+  ⊎_elim,
+}
 use Rattle.std.specs.Prelude.{slice_index}
 use Rattle.std.proofs.lemmas.Bool.{and_left, and_parts, cases_eq, leb-true, ltb-true, ne_eqb}
 use Rattle.std.proofs.lemmas.Bool.Decides.{nat_tests}
@@ -26,7 +61,8 @@ use Rattle.txg_history.proofs.RoundPlaces.{outside_one}
 use Rattle.txg_history.proofs.Sparing.{spared_lay}
 
 -- what the labels need lies in them
-label_below : (c : Codec) (p : Pool) (d : ℕ) (status : Status) (s : ℕ) (bytes : List ℕ) → Survives c p → IsOf p.live (p.guid d) status → NeedsLabel (seat p d) status s bytes → s < 128
+label_below : (c : Codec) (p : Pool) (d : ℕ) (status : Status) (s : ℕ) (bytes : List ℕ) → Survives c p → IsOf p.live
+    (p.guid d) status → NeedsLabel (seat p d) status s bytes → s < 128
 label_below c p d (Odd r) s bytes sv of (inl (e, b)) = omega arith
 label_below c p d (Odd r) s bytes sv of (inr (i, lt, e, b)) =
     let few = few_of c p.name p.pool r (taken_fits c p.name p.pool r (p.guid d) (sv.fit r of.0) of.1) in omega arith
@@ -57,7 +93,8 @@ pub record IsBlockAt (p : Pool) (dev at : ℕ) (block : List ℕ) : Type 0 where
   pub low : 128 ≤ at
   pub high : at + 128 < p.size dev
   pub no_put : (bytes : List ℕ) → NeedsPut p dev at bytes → ⊥
-  pub true_to : (r : Rec) (k : Key) (cell : Cell) → IsIn r p.live → r.cells k ≡ Some cell → p.in_top dev ≡ cell.top → data_start + cell.sector ≡ at → block ≡ cell.block
+  pub true_to : (r : Rec) (k : Key) (cell : Cell) → IsIn r p.live → r.cells k ≡ Some cell → p.in_top dev ≡ cell.top
+      → data_start + cell.sector ≡ at → block ≡ cell.block
 
 away_from : (dev at d s : ℕ) (block : List ℕ) → dev ≢ d → ((dev == d) && covers at (sectors_in block) s) ≡ false
 away_from dev at d s block ne = and_left (dev == d) (covers at (sectors_in block) s) (ne_eqb dev d ne)
@@ -77,7 +114,9 @@ there_is dev at d s block one is =
 off_label : (c : Codec) (p : Pool) (dev at s : ℕ) (block bytes : List ℕ) → Survives c p → sectors_in block ≡ 1 → p.member dev ≡ true → IsBlockAt p dev at block
     → NeedsLabel (seat p dev) (p.status dev) s bytes → ((dev == dev) && covers at (sectors_in block) s) ≡ false
 off_label c p dev at s block bytes sv one is b n =
-    outside_one dev at dev s block one (inl (let low = b.low in let below = label_below c p dev (p.status dev) s bytes sv (sv.status_live dev is) n in omega (arith, low, below)))
+    outside_one dev at dev s block one (inl
+    (let low = b.low in let below = label_below c p dev (p.status dev) s bytes sv (sv.status_live dev is) n in
+    omega (arith, low, below)))
 
 off_put : (p : Pool) (dev at s : ℕ) (block bytes : List ℕ) → sectors_in block ≡ 1 → IsBlockAt p dev at block → NeedsPut p dev s bytes
     → ((dev == dev) && covers at (sectors_in block) s) ≡ false
@@ -86,7 +125,9 @@ off_put p dev at s block bytes one b n = outside_one dev at dev s block one (off
 off_ring : (p : Pool) (dev at place : ℕ) (block : List ℕ) → sectors_in block ≡ 1 → place < 128 → IsBlockAt p dev at block
     → ((dev == dev) && covers at (sectors_in block) (place_at (p.size dev) place)) ≡ false
 off_ring p dev at place block one inside b =
-    outside_one dev at dev (place_at (p.size dev) place) block one (ring_off_data (p.size dev) at (place / 32) (place % 32) (ring_of (p.size dev) place inside) (slot_below place) b.low b.high)
+    outside_one dev at dev (place_at (p.size dev) place) block one
+    (ring_off_data (p.size dev) at (place / 32) (place % 32) (ring_of (p.size dev) place inside)
+    (slot_below place) b.low b.high)
 
 -- A write that spares all that is needed.
 pub write_spares : (c : Codec) (p : Pool) (dev at : ℕ) (block : List ℕ) → Survives c p → length block ≡ 4096 → (p.member dev ≡ true → IsBlockAt p dev at block)
@@ -118,8 +159,10 @@ write_spares c p dev at block sv long b no_soft = record {
         (b (ap p.member there.0 ∙ is)).true_to r k cell i at_cell (ap p.in_top there.0 ∙ top) (sym there.1)
 
 -- A call that writes there again what is needed, where the sector is damaged or nothing is needed.
-pub again_sparing : (c : Codec) (p : Pool) (dev at : ℕ) (block : List ℕ) (fault : Option Fault) → Survives c p → length block ≡ 4096 → (p.member dev ≡ true → IsBlockAt p dev at block)
-    → (p.member dev ≡ true → (bytes : List ℕ) → NeedsSoft p dev at bytes → ((p.sectors dev at).damaged ≡ true) × (block ≡ bytes)) → IsSparing p (Write dev at block fault)
+pub again_sparing : (c : Codec) (p : Pool) (dev at : ℕ) (block : List ℕ) (fault : Option Fault) → Survives c p
+    → length block ≡ 4096 → (p.member dev ≡ true → IsBlockAt p dev at block)
+    → (p.member dev ≡ true → (bytes : List ℕ) → NeedsSoft p dev at bytes → ((p.sectors dev at).damaged ≡ true)
+    × (block ≡ bytes)) → IsSparing p (Write dev at block fault)
 again_sparing c p dev at block fault sv long b again = record {
   plain = tt;
   firm = λ d. by_device (λ e. (s : ℕ) (bytes : List ℕ) → p.member e ≡ true → NeedsFirm p e s bytes → touches call e s ≡ false) dev d
@@ -165,21 +208,25 @@ one_place : (c : Codec) (p : Pool) (r : Rec) (d : ℕ) (a b : Cell) → Survives
 one_place c p r d a b sv is i ma mb top in_top e = (b_home ∙ sym a_home, omega (arith, e))
   where
     a_home : a.top ≡ p.home d
-    a_home = ⊎_elim (λ none. absurd (let some = top_some p.room a sv.roomy.no_top ma in omega (arith, some, none, top))) (λ home. sym top ∙ home) (sv.placed.in_tree d is)
+    a_home = ⊎_elim (λ none. absurd (let some = top_some p.room a sv.roomy.no_top ma in omega (arith, some, none, top)))
+        (λ home. sym top ∙ home) (sv.placed.in_tree d is)
 
     b_home : b.top ≡ p.home d
-    b_home = ⊎_elim (λ none. absurd (let some = top_some p.room b sv.roomy.no_top mb in omega (arith, some, none, in_top))) (λ home. sym in_top ∙ home) (sv.placed.in_records r d i is)
+    b_home = ⊎_elim (λ none. absurd (let some = top_some p.room b sv.roomy.no_top mb in
+        omega (arith, some, none, in_top))) (λ home. sym in_top ∙ home) (sv.placed.in_records r d i is)
 
 same_place : (a b : Cell) (t : ℕ) → t ≡ a.top → t ≡ b.top → data_start + a.sector ≡ data_start + b.sector → AreAtOne b a
 same_place a b t at bt e = (sym bt ∙ at, omega (arith, e))
 
 -- A key that the frozen group has yet to write may be written to a leaf of its top: no live record stands there yet.
-pub fresh_sparing : (c : Codec) (p : Pool) (k : Key) (cell : Cell) (dev : ℕ) → Survives c p → p.group.frozen ≡ true → p.group.flushed ≡ false → p.group.cells k ≡ Some cell
+pub fresh_sparing : (c : Codec) (p : Pool) (k : Key) (cell : Cell) (dev : ℕ) → Survives c p → p.group.frozen ≡ true
+    → p.group.flushed ≡ false → p.group.cells k ≡ Some cell
     → p.group.done k ≡ false → (p.member dev ≡ true → p.in_top dev ≡ cell.top) → AreSparing p (Writes dev (data_start + cell.sector) cell.block ∷ [])
 fresh_sparing c p k cell dev sv frozen unflushed at undone top = write_spares c p dev (data_start + cell.sector) cell.block sv mapped.long
     (λ is. record {
       low = omega arith;
-      high = place_between c p dev cell sv is mapped (⊎_elim (λ none. inl (sym (top is) ∙ none)) (λ home. inr (sym (top is) ∙ home)) (sv.placed.in_tree dev is));
+      high = place_between c p dev cell sv is mapped (⊎_elim (λ none. inl (sym (top is) ∙ none))
+          (λ home. inr (sym (top is) ∙ home)) (sv.placed.in_tree dev is));
       no_put = λ bytes n. true_not_false (p.group.done k) (ap p.group.done (sym (put_one is bytes n).0) ∙ n.ended) undone;
       true_to = λ r j b i bt in_top e. absurd (not_live r j b i bt (same_place cell b (p.in_top dev) (top is) in_top (sym e)));
     })
@@ -189,7 +236,8 @@ fresh_sparing c p k cell dev sv frozen unflushed at undone top = write_spares c 
     mapped = sv.one_key.group_mapped frozen k cell at
 
     not_live : (r : Rec) (j : Key) (b : Cell) → IsIn r p.live → r.cells j ≡ Some b → AreAtOne b cell → ⊥
-    not_live r j b i bt one = true_not_false p.group.flushed (sv.come_to.begun_flushed frozen (sv.one_key.group_one frozen r j k b cell i bt at one).0) unflushed
+    not_live r j b i bt one = true_not_false p.group.flushed
+        (sv.come_to.begun_flushed frozen (sv.one_key.group_one frozen r j k b cell i bt at one).0) unflushed
 
     put_one : p.member dev ≡ true → (bytes : List ℕ) → (n : NeedsPut p dev (data_start + cell.sector) bytes) → AreOne n.k k n.cell cell
     put_one is bytes n = sv.one_key.group_apart frozen n.k k n.cell cell n.cell_is at (same_place cell n.cell (p.in_top dev) (top is) n.top_is n.at.sector_is)
@@ -197,8 +245,10 @@ fresh_sparing c p k cell dev sv frozen unflushed at undone top = write_spares c 
     soft : p.member dev ≡ true → (bytes : List ℕ) → NeedsSoft p dev (data_start + cell.sector) bytes → ⊥
     soft is bytes (inl n) = not_live n.r n.k n.cell n.is_live n.cell_is
         (one_place c p n.r dev cell n.cell sv is n.is_live mapped (sv.one_key.mapped n.r n.k n.cell n.is_live n.cell_is) (top is) n.in_top n.at.sector_is)
-    soft is bytes (inr (inl n)) = not_live p.reads n.k n.cell sv.order.reads_live n.cell_is (same_place cell n.cell (p.in_top dev) (top is) n.top_is n.at.sector_is)
-    soft is bytes (inr (inr n)) = not_live p.reads n.k n.cell sv.order.reads_live n.cell_is (same_place cell n.cell (p.in_top dev) (top is) n.top_is n.at.sector_is)
+    soft is bytes (inr (inl n)) = not_live p.reads n.k n.cell sv.order.reads_live n.cell_is
+        (same_place cell n.cell (p.in_top dev) (top is) n.top_is n.at.sector_is)
+    soft is bytes (inr (inr n)) = not_live p.reads n.k n.cell sv.order.reads_live n.cell_is
+        (same_place cell n.cell (p.in_top dev) (top is) n.top_is n.at.sector_is)
 
 -- At the place of a key that the pool reads, on a leaf of its top, stands no other live record's key, and none of the group.
 record AtRead (p : Pool) (k : Key) (cell : Cell) (dev : ℕ) : Type 0 where
@@ -207,18 +257,22 @@ record AtRead (p : Pool) (k : Key) (cell : Cell) (dev : ℕ) : Type 0 where
   by_read : (bytes : List ℕ) → (n : NeedsRead p.reads p.in_top p.owes dev (data_start + cell.sector) bytes) → n.cell ≡ cell
   by_scan : (bytes : List ℕ) → (n : NeedsScan p.scan p.reads p.in_top dev (data_start + cell.sector) bytes) → n.cell ≡ cell
 
-at_read : (c : Codec) (p : Pool) (k : Key) (cell : Cell) (dev : ℕ) → Survives c p → p.reads.cells k ≡ Some cell → p.member dev ≡ true → p.in_top dev ≡ cell.top → AtRead p k cell dev
+at_read : (c : Codec) (p : Pool) (k : Key) (cell : Cell) (dev : ℕ) → Survives c p → p.reads.cells k ≡ Some cell
+    → p.member dev ≡ true → p.in_top dev ≡ cell.top → AtRead p k cell dev
 at_read c p k cell dev sv at is top = record {
   block_at = record {
     low = omega arith;
     high = place_between c p dev cell sv is mapped (⊎_elim (λ none. inl (sym top ∙ none)) (λ home. inr (sym top ∙ home)) (sv.placed.in_tree dev is));
     no_put = λ bytes n. not_group n.k n.cell n.is_frozen n.cell_is (same_place n.cell cell (p.in_top dev) n.top_is top (sym n.at.sector_is));
-    true_to = λ r j b i bt in_top e. sym (ap (λ cell. cell.block) (sv.one_key.one r p.reads j k b cell i reads bt at (same_place cell b (p.in_top dev) top in_top (sym e))).1);
+    true_to = λ r j b i bt in_top e. sym (ap (λ cell. cell.block)
+        (sv.one_key.one r p.reads j k b cell i reads bt at (same_place cell b (p.in_top dev) top in_top (sym e))).1);
   };
   by_cell = λ bytes n. (sv.one_key.one n.r p.reads n.k k n.cell cell n.is_live reads n.cell_is at
       (one_place c p n.r dev cell n.cell sv is n.is_live mapped (sv.one_key.mapped n.r n.k n.cell n.is_live n.cell_is) top n.in_top n.at.sector_is)).1;
-  by_read = λ bytes n. (sv.one_key.one p.reads p.reads n.k k n.cell cell reads reads n.cell_is at (same_place cell n.cell (p.in_top dev) top n.top_is n.at.sector_is)).1;
-  by_scan = λ bytes n. (sv.one_key.one p.reads p.reads n.k k n.cell cell reads reads n.cell_is at (same_place cell n.cell (p.in_top dev) top n.top_is n.at.sector_is)).1;
+  by_read = λ bytes n. (sv.one_key.one p.reads p.reads n.k k n.cell cell reads reads n.cell_is at
+      (same_place cell n.cell (p.in_top dev) top n.top_is n.at.sector_is)).1;
+  by_scan = λ bytes n. (sv.one_key.one p.reads p.reads n.k k n.cell cell reads reads n.cell_is at
+      (same_place cell n.cell (p.in_top dev) top n.top_is n.at.sector_is)).1;
 }
   where
     reads : IsIn p.reads p.live
@@ -236,8 +290,10 @@ at_read c p k cell dev sv at is top = record {
 
 -- A key that the pool reads may be written again over a damaged sector.
 pub heal_sparing : (c : Codec) (p : Pool) (k : Key) (cell : Cell) (dev : ℕ) (fault : Option Fault) → Survives c p → p.reads.cells k ≡ Some cell
-    → (p.member dev ≡ true → (p.in_top dev ≡ cell.top) × ((p.sectors dev (data_start + cell.sector)).damaged ≡ true)) → IsSparing p (Write dev (data_start + cell.sector) cell.block fault)
-heal_sparing c p k cell dev fault sv at leaf = again_sparing c p dev (data_start + cell.sector) cell.block fault sv (sv.one_key.mapped p.reads k cell sv.order.reads_live at).long
+    → (p.member dev ≡ true → (p.in_top dev ≡ cell.top) × ((p.sectors dev (data_start + cell.sector)).damaged ≡ true))
+    → IsSparing p (Write dev (data_start + cell.sector) cell.block fault)
+heal_sparing c p k cell dev fault sv at leaf = again_sparing c p dev (data_start + cell.sector) cell.block fault sv
+    (sv.one_key.mapped p.reads k cell sv.order.reads_live at).long
     (λ is. (at_read c p k cell dev sv at is (leaf is).0).block_at)
     (λ is bytes n. ((leaf is).1, same is bytes n))
   where
@@ -248,9 +304,11 @@ heal_sparing c p k cell dev fault sv at leaf = again_sparing c p dev (data_start
 
 -- And to a leaf for which its birth is settled, where the scan that runs hasn't come past it there.
 pub copy_sparing : (c : Codec) (p : Pool) (k : Key) (cell : Cell) (dev : ℕ) (fault : Option Fault) → Survives c p → p.reads.cells k ≡ Some cell
-    → (p.member dev ≡ true → (p.in_top dev ≡ cell.top) × (p.settled dev cell.birth ≡ true) × (NeedsScan p.scan p.reads p.in_top dev (data_start + cell.sector) cell.block → ⊥))
+    → (p.member dev ≡ true → (p.in_top dev ≡ cell.top) × (p.settled dev cell.birth ≡ true)
+    × (NeedsScan p.scan p.reads p.in_top dev (data_start + cell.sector) cell.block → ⊥))
     → IsSparing p (Write dev (data_start + cell.sector) cell.block fault)
-copy_sparing c p k cell dev fault sv at leaf = again_sparing c p dev (data_start + cell.sector) cell.block fault sv (sv.one_key.mapped p.reads k cell sv.order.reads_live at).long
+copy_sparing c p k cell dev fault sv at leaf = again_sparing c p dev (data_start + cell.sector) cell.block fault sv
+    (sv.one_key.mapped p.reads k cell sv.order.reads_live at).long
     (λ is. (at_read c p k cell dev sv at is (leaf is).0).block_at)
     (λ is bytes n. absurd (none is bytes n))
   where
@@ -261,7 +319,8 @@ copy_sparing c p k cell dev fault sv at leaf = again_sparing c p dev (data_start
         (subst (λ cell. n.r.owes (p.guid dev) cell.birth ≡ true) (sym same) (sv.unbroken.settled_live dev cell.birth is (leaf is).1 n.r n.is_live)) n.has
     none is bytes (inr (inl n)) =
         let same = (at_read c p k cell dev sv at is (leaf is).0).by_read bytes n in
-        true_not_false (p.owes dev n.cell.birth) (subst (λ cell. p.owes dev cell.birth ≡ true) (sym same) (sv.unbroken.settled_still dev cell.birth is (leaf is).1)) n.has
+        true_not_false (p.owes dev n.cell.birth) (subst (λ cell. p.owes dev cell.birth ≡ true) (sym same)
+        (sv.unbroken.settled_still dev cell.birth is (leaf is).1)) n.has
     none is bytes (inr (inr n)) =
         let same = (at_read c p k cell dev sv at is (leaf is).0).by_scan bytes n in
         (leaf is).2 (subst (NeedsScan p.scan p.reads p.in_top dev (data_start + cell.sector)) (n.at.bytes_are ∙ ap (λ cell. cell.block) same) n)

@@ -26,17 +26,20 @@ ring_known records pool m x since bytes ring (inl e) = subst (IsKnownUber record
 ring_known records pool m x since bytes ring (inr among) = ring.written bytes among
 
 -- A correct uberblock that was found on a member gives the member's identity.
-pub identity_is : (c : Codec) (p : Pool) (known : Known) (d place : ℕ) (u : Uberblock) (bytes : List ℕ) → Survives c p → HasNoClash c.head_of p known → p.member d ≡ true → place < 128
+pub identity_is : (c : Codec) (p : Pool) (known : Known) (d place : ℕ) (u : Uberblock) (bytes : List ℕ) → Survives c p
+    → HasNoClash c.head_of p known → p.member d ≡ true → place < 128
     → known d (place_at (p.size d) place) ≡ Some bytes → IsUberblock u bytes → (u.pool ≡ p.pool) × (u.member ≡ p.guid d)
 identity_is c p known d place u bytes sv clash is inside read correct =
     of (ring_known (drawn p) p.pool (seat p d) _ _ bytes (sv.rings d place is inside) (clash.rings d place bytes u is inside read correct) u correct)
   where
-    of : ((r : Rec) × IsIn r (drawn p) × (u ≡ uberblock_of r.commit (seat p d))) ⊎ (u ≡ blank_uberblock p.pool (p.guid d)) → (u.pool ≡ p.pool) × (u.member ≡ p.guid d)
+    of : ((r : Rec) × IsIn r (drawn p) × (u ≡ uberblock_of r.commit (seat p d)))
+        ⊎ (u ≡ blank_uberblock p.pool (p.guid d)) → (u.pool ≡ p.pool) × (u.member ≡ p.guid d)
     of (inl one) = (ap (λ u. u.pool) one.2 ∙ sv.pools one.0 one.1, ap (λ u. u.member) one.2)
     of (inr e) = (ap (λ u. u.pool) e, ap (λ u. u.member) e)
 
 -- What is verified on a member is a drawn record.
-pub verified_drawn : (c : Codec) (p : Pool) (known : Known) (d : ℕ) (u : Uberblock) (config : List ℕ) → Survives c p → HasNoClash c.head_of p known → p.member d ≡ true
+pub verified_drawn : (c : Codec) (p : Pool) (known : Known) (d : ℕ) (u : Uberblock) (config : List ℕ) → Survives c p
+    → HasNoClash c.head_of p known → p.member d ≡ true
     → IsVerifiedOn c.head_of p.size known p.name d u config → (r : Rec) × IsDrawnRecord p u config r
 verified_drawn c p known d u config sv clash member v =
     of (ring_known (drawn p) p.pool (seat p d) _ _ (uberblock_bytes u) (sv.rings d v.place member v.verified.inside)
@@ -45,12 +48,13 @@ verified_drawn c p known d u config sv clash member v =
     correct : IsUberblock u (uberblock_bytes u)
     correct = record { in_range = v.verified.is_record.in_range; bytes = refl }
 
-    of : ((r : Rec) × IsIn r (drawn p) × (u ≡ uberblock_of r.commit (seat p d))) ⊎ (u ≡ blank_uberblock p.pool (p.guid d)) → (r : Rec) × IsDrawnRecord p u config r
+    of : ((r : Rec) × IsIn r (drawn p) × (u ≡ uberblock_of r.commit (seat p d)))
+        ⊎ (u ≡ blank_uberblock p.pool (p.guid d)) → (r : Rec) × IsDrawnRecord p u config r
     of (inl uber) = (
       uber.0,
       record {
         is_drawn = uber.1;
-        config_is = clash.sums uber.0 d u config uber.1 v (v.verified.is_record.sum ∙ ap (λ w. w.sum) uber.2);
+        config_is = clash.sums uber.0 d u config uber.1 member uber.2 v (v.verified.is_record.sum ∙ ap (λ w. w.sum) uber.2);
         number_is = ap (λ w. w.number) uber.2;
         pool_is = ap (λ w. w.pool) uber.2 ∙ sv.pools uber.0 uber.1;
       },
@@ -79,10 +83,12 @@ drawn_live c p known d u config r sv stray v is above (inr given) = by_rule (sv.
     by_rule (inr missed) = twin (stray.passed d u config r v is given missed)
 
 -- What an opening takes is a live record, at least as new as the acknowledged one.
-pub yield_live : (c : Codec) (p : Pool) (known : Known) (u : Uberblock) (config : List ℕ) → Survives c p → ReadsTrue p.sectors known → Premises c.head_of p known
+pub yield_live : (c : Codec) (p : Pool) (known : Known) (u : Uberblock) (config : List ℕ) → Survives c p
+    → ReadsTrue p.sectors known → Premises c.head_of p known
     → IsYield c.head_of p.size known p.name u config → FindsLive p u config
 yield_live c p known u config sv true_to premises y =
-    of (drawn_live c p known y.d u config drawn_one.0 sv premises.no_stray y.verified drawn_one.1 above (in_append drawn_one.0 p.live p.given drawn_one.1.is_drawn))
+    of (drawn_live c p known y.d u config drawn_one.0 sv premises.no_stray y.verified drawn_one.1 above
+    (in_append drawn_one.0 p.live p.given drawn_one.1.is_drawn))
   where
     drawn_one : (r : Rec) × IsDrawnRecord p u config r
     drawn_one = anywhere_drawn c p known y.d u config sv premises (p.member y.d) refl y.verified
@@ -119,5 +125,10 @@ yield_live c p known u config sv true_to premises y =
 pub finds_some : (c : Codec) (p : Pool) (known : Known) → Survives c p → ReadsTrue p.sectors known → Premises c.head_of p known
     → (d : ℕ) × (u : Uberblock) × (config : List ℕ) × IsVerifiedOn c.head_of p.size known p.name d u config
 finds_some c p known sv true_to premises =
-    let good = premises.sound_labels in
-    (premises.good, uberblock_of good.promised.commit (seat p premises.good), config_of good.promised.commit, good_verified c p known premises.good sv true_to good)
+    let good = premises.sound_labels in (
+      premises.good,
+      uberblock_of good.promised.commit
+          (seat p premises.good),
+      config_of good.promised.commit,
+      good_verified c p known premises.good sv true_to good,
+    )

@@ -1,9 +1,12 @@
+pub mod Branches
 pub mod Calm
 pub mod Contents
+pub mod Copies
 pub mod Events
 pub mod Groups
 pub mod Labels
 pub mod Looks
+pub mod Losses
 pub mod Moves
 pub mod Needs
 pub mod Numbering

@@ -7,7 +7,33 @@ use Rattle.bank_core.specs.Standing.{touches}
 use Rattle.label_store.specs.declared.uberblock.Uberblock.{Uberblock}
 use Rattle.label_store.specs.Records.{place_at}
 use Rattle.label_store.specs.Uberblock.{IsUberblock}
-use Rattle.txg_history.specs.Events.{Event, Known, Calls, Accepts, Freezes, Wrote, Flushed, Draws, Leaves, Grows, Burns, Begins, Third, Ends, Acks, Looks, Opens, Joins, Loses, Scans, Passes, Drops, Clears, Rests, Stops}
+use Rattle.txg_history.specs.Events.{
+  Event,
+  Known,
+  Calls,
+  Accepts,
+  Freezes,
+  Wrote,
+  Flushed,
+  Draws,
+  Leaves,
+  Grows,
+  Burns,
+  Begins,
+  Third,
+  Ends,
+  Acks,
+  Looks,
+  Opens,
+  Joins,
+  Loses,
+  Scans,
+  Passes,
+  Drops,
+  Clears,
+  Rests,
+  Stops,
+}
 use Rattle.txg_history.specs.Groups.{Logs}
 use Rattle.txg_history.specs.Labels.{Odd, Even}
 use Rattle.txg_history.specs.Needs.{Held, Keeps, Landed, Copied, InPart, odd_part, NeedsLabel, NeedsPut, NeedsScan, NeedsFirm, NeedsSoft}
@@ -151,8 +177,15 @@ pub record MayScan (p : Pool) (hi : ℕ) : Type 0 where
   pub opened : p.opened ≡ true
   pub hi_low : hi ≤ number_of p.reads
 
+-- Since the scan came past its last key, so in this step of it, a call that answered Ok wrote the cell's block to its place
+-- on the leaf, and nothing undid it: it is on the way or stands there, or the sector is damaged.
+pub record WasCopied (p : Pool) (d : ℕ) (cell : Cell) : Type 0 where
+  pub written : IsAmong cell.block (p.copies d (data_start + cell.sector))
+  pub is_copied : Copied (p.sectors d (data_start + cell.sector)) cell.block
+
 -- A scan may come past a key: it is the next one of the record that the pool reads, born up to hi. Each eligible leaf of
--- its top has it, or it was copied there, or its birth is in the leaf's SCRUB log, which grew by no other group.
+-- its top has it by its log, or it was copied there in this step, or its birth is in the leaf's SCRUB log, which grew by no
+-- other group.
 pub record MayPass (p : Pool) (k : Key) (scrub : Logs) : Type 0 where
   pub running : p.scan.running ≡ true
   pub cell : Cell
@@ -163,7 +196,7 @@ pub record MayPass (p : Pool) (k : Key) (scrub : Logs) : Type 0 where
   pub more : (d g : ℕ) → p.scan.scrub d g ≡ true → scrub d g ≡ true
   pub only : (d g : ℕ) → scrub d g ≡ true → (p.scan.scrub d g ≡ true) ⊎ (g ≡ cell.birth)
   pub each : (d : ℕ) → p.member d ≡ true → p.scan.eligible d ≡ true → p.in_top d ≡ cell.top
-      → (p.owes d cell.birth ≡ false) ⊎ ((scrub d cell.birth ≡ true) ⊎ Copied (p.sectors d (data_start + cell.sector)) cell.block)
+      → (p.owes d cell.birth ≡ false) ⊎ ((scrub d cell.birth ≡ true) ⊎ WasCopied p d cell)
 
 -- The scan's end may clear an eligible leaf's log: each key up to hi was passed, and nothing that was copied to the leaf
 -- is on the way any more.

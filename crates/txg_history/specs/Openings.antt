@@ -6,6 +6,7 @@ use Rattle.label_store.specs.Layout.{labels_of}
 use Rattle.label_store.specs.Records.{IsVerified, config_at}
 use Rattle.label_store.specs.Rounds.{config_of}
 use Rattle.txg_history.specs.Events.{Known}
+use Rattle.txg_history.specs.Pages.{Codec}
 use Rattle.txg_history.specs.Pools.{Pool, drawn}
 use Rattle.txg_history.specs.Records.{Rec, IsIn, number_of}
 
@@ -44,3 +45,8 @@ pub record FindsLive (p : Pool) (u : Uberblock) (config : List ℕ) : Type 0 whe
   pub number_is : u.number ≡ found.commit.number
   pub pool_is : u.pool ≡ p.pool
   pub not_below : number_of p.acked ≤ number_of found
+
+-- An opening finds a record of the name, and whatever it may take is live.
+pub record Finds (c : Codec) (p : Pool) (known : Known) : Type 0 where
+  pub some : (d : ℕ) × (u : Uberblock) × (config : List ℕ) × IsVerifiedOn c.head_of p.size known p.name d u config
+  pub each : (u : Uberblock) (config : List ℕ) → IsYield c.head_of p.size known p.name u config → FindsLive p u config

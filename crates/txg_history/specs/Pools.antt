@@ -1,9 +1,34 @@
 -- A pool and its devices as a history leaves them: a fold over the history's events.
-use Rattle.std.specs.Prelude.{ℕ, ◌+◌, ◌-◌, ◌==◌, ◌&&◌, Bool, true, false, cond, List, [], ◌∷◌, ◌++◌}
+use Rattle.std.specs.Prelude.{ℕ, ◌+◌, ◌-◌, ◌==◌, ◌&&◌, Bool, true, false, cond, List, [], ◌∷◌, ◌++◌, Some, None}
 use Rattle.mp_base.specs.declared.number.Guid.{Guid}
-use Rattle.bank_core.specs.Disk.{Call, Read, Write, Flush, Admit, Eject, Sectors, run, covers, sectors_in, sector_of}
+use Rattle.bank_core.specs.Disk.{Call, Noted, Read, Write, Flush, Admit, Eject, Sectors, run, covers, sectors_in, sector_of}
 use Rattle.label_store.specs.declared.member.Member.{Member}
-use Rattle.txg_history.specs.Events.{Event, Calls, Accepts, Freezes, Wrote, Flushed, Draws, Leaves, Grows, Burns, Begins, Third, Ends, Acks, Looks, Opens, Joins, Loses, Scans, Passes, Drops, Clears, Rests, Stops}
+use Rattle.txg_history.specs.Events.{
+  Event,
+  Calls,
+  Accepts,
+  Freezes,
+  Wrote,
+  Flushed,
+  Draws,
+  Leaves,
+  Grows,
+  Burns,
+  Begins,
+  Third,
+  Ends,
+  Acks,
+  Looks,
+  Opens,
+  Joins,
+  Loses,
+  Scans,
+  Passes,
+  Drops,
+  Clears,
+  Rests,
+  Stops,
+}
 use Rattle.txg_history.specs.Groups.{Group, frozen_group, thawed, no_group, same_key, at_device, Logs, between, grown, cleared, off, no_log}
 use Rattle.txg_history.specs.Labels.{Status, Odd, Even, Lost, begun}
 use Rattle.txg_history.specs.Records.{Rec, Cells, number_of, takes_part, block_at, nothing, above, rest_of}
@@ -22,6 +47,8 @@ pub record Pool : Type 0 where
   pub sectors : Sectors
   -- what was written to each sector in this run
   pub since : ℕ → ℕ → List (List ℕ)
+  -- what was written there by calls that answered Ok since a scan came past its last key
+  pub copies : ℕ → ℕ → List (List ℕ)
   -- the last acknowledged record, and all that were acknowledged ever
   pub acked : Rec
   pub acks : List Rec
@@ -67,6 +94,25 @@ noted_since (Flush dev fault) since d s = since d s
 noted_since (Admit dev holds) since d s = since d s
 noted_since (Eject dev) since d s = since d s
 
+-- what these calls, the oldest first, wrote to each sector, before what was written there
+abbrev pub since_after : List Noted → (ℕ → ℕ → List (List ℕ)) → ℕ → ℕ → List (List ℕ)
+since_after [] since = since
+since_after (noted ∷ made) since = since_after made (noted_since noted.call since)
+
+-- the same of calls that answered Ok
+abbrev pub noted_copies : Call → (ℕ → ℕ → List (List ℕ)) → ℕ → ℕ → List (List ℕ)
+noted_copies (Read dev at bytes fault) copies d s = copies d s
+noted_copies (Write dev at bytes None) copies d s =
+    cond ((dev == d) && covers at (sectors_in bytes) s) (sector_of (s - at) bytes ∷ copies d s) (copies d s)
+noted_copies (Write dev at bytes (Some fault)) copies d s = copies d s
+noted_copies (Flush dev fault) copies d s = copies d s
+noted_copies (Admit dev holds) copies d s = copies d s
+noted_copies (Eject dev) copies d s = copies d s
+
+abbrev pub copies_after : List Noted → (ℕ → ℕ → List (List ℕ)) → ℕ → ℕ → List (List ℕ)
+copies_after [] copies = copies
+copies_after (noted ∷ made) copies = copies_after made (noted_copies noted.call copies)
+
 -- a member but where it has this number
 abbrev pub other_than : (m : Guid) → (guid : ℕ → Guid) → (member : ℕ → Bool) → ℕ → Bool
 other_than m guid member e = cond ((guid e).0 == m.0) false (member e)
@@ -83,7 +129,11 @@ kept_in log held g = log g && held g
 -- acknowledged round promises nothing any more, since the record that its labels hold is given up. A device that is
 -- brought in takes its member number from each other device.
 abbrev pub after : Event → Pool → Pool
-after (Calls noted) p = record p { sectors = run (noted ∷ []) p.sectors; since = noted_since noted.call p.since }
+after (Calls noted) p = record p {
+  sectors = run (noted ∷ []) p.sectors;
+  since = noted_since noted.call p.since;
+  copies = noted_copies noted.call p.copies;
+}
 after (Accepts a block) p = record p { written = λ x. cond (a == x) block (p.written x) }
 after (Freezes cells board) p = record p {
   highest = p.highest + 1;
@@ -159,8 +209,11 @@ after (Joins d m top) p = record p {
   scan = record (p.scan) { eligible = at_device d false p.scan.eligible };
 }
 after (Loses d) p = record p { member = at_device d false p.member; status = at_device d Lost p.status }
-after (Scans hi eligible) p = record p { scan = started hi eligible }
-after (Passes k scrub) p = record p { scan = record (p.scan) { passed = up_to k; scrub = scrub } }
+after (Scans hi eligible) p = record p { scan = started hi eligible; copies = λ d s. [] }
+after (Passes k scrub) p = record p {
+  scan = record (p.scan) { passed = up_to k; scrub = scrub };
+  copies = λ d s. [];
+}
 after (Drops d) p = record p { scan = record (p.scan) { eligible = at_device d false p.scan.eligible } }
 after (Clears d) p = record p {
   owes = at_device d (scanned_log p.scan d (p.owes d)) p.owes;
@@ -193,6 +246,7 @@ stamped name pool member guid size room home sectors = record {
   home = home;
   sectors = sectors;
   since = λ d s. [];
+  copies = λ d s. [];
   acked = nothing pool;
   acks = nothing pool ∷ [];
   live = nothing pool ∷ [];

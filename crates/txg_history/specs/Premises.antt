@@ -6,23 +6,40 @@ use Rattle.mp_base.specs.declared.place.Key.{Key}
 use Rattle.label_store.specs.declared.rule.Head.{Head}
 use Rattle.label_store.specs.declared.uberblock.Uberblock.{Uberblock}
 use Rattle.label_store.specs.Records.{AreUnhurt, place_at}
-use Rattle.label_store.specs.Rounds.{config_of}
+use Rattle.label_store.specs.Rounds.{config_of, uberblock_of}
 use Rattle.label_store.specs.Uberblock.{IsUberblock}
 use Rattle.txg_history.specs.Events.{Event, Known, Looks, Opens}
 use Rattle.txg_history.specs.Needs.{Held, InRing, InPart, even_part, odd_part}
 use Rattle.txg_history.specs.Openings.{IsVerifiedOn, IsReadWhole, IsDrawnRecord}
+use Rattle.txg_history.specs.Pages.{Codec}
 use Rattle.txg_history.specs.Pools.{Pool, after, pool_after, drawn, seat}
 use Rattle.txg_history.specs.Records.{Rec, Cell, IsIn, number_of, takes_part, key, data_start}
 use Rattle.txg_history.specs.Survival.{IsAmong}
 
--- No clash: no configuration that was found has the sum of another that was drawn, and no ring sector that
--- was found holds a correct uberblock that neither stood there nor was written there in this run.
+-- A configuration that was found on a member beside a drawn record's uberblock, and has its sum, is that record's. So nothing
+-- is asked of a record that no uberblock of its round has reached.
+abbrev pub AreOwnConfigs : (List ℕ → Option Head) → Pool → Known → Type 0
+AreOwnConfigs head_of p known = (r : Rec) (d : ℕ) (u : Uberblock) (config : List ℕ) → IsIn r (drawn p) → p.member d ≡ true
+    → u ≡ uberblock_of r.commit (seat p d) → IsVerifiedOn head_of p.size known p.name d u config
+    → sha256 config ≡ sha256 (config_of r.commit) → config ≡ config_of r.commit
+
+-- each correct uberblock that was found in a member's ring stood there, or was written there in this run
+abbrev pub AreNotTorn : Pool → Known → Type 0
+AreNotTorn p known = (d place : ℕ) (bytes : List ℕ) (u : Uberblock) → p.member d ≡ true → place < 128
+    → known d (place_at (p.size d) place) ≡ Some bytes → IsUberblock u bytes
+    → (bytes ≡ (p.sectors d (place_at (p.size d) place)).stable) ⊎ IsAmong bytes (p.since d (place_at (p.size d) place))
+
+-- The list has the byte strings that are there: each configuration that was found, and that of each drawn record whose uberblock was.
+pub record AreThere (head_of : List ℕ → Option Head) (p : Pool) (known : Known) (strings : List (List ℕ)) : Type 0 where
+  pub found : (d : ℕ) (u : Uberblock) (config : List ℕ) → IsVerifiedOn head_of p.size known p.name d u config → IsAmong config strings
+  pub written : (r : Rec) (d : ℕ) (config : List ℕ) → IsIn r (drawn p) → p.member d ≡ true
+      → IsVerifiedOn head_of p.size known p.name d (uberblock_of r.commit (seat p d)) config
+      → IsAmong (config_of r.commit) strings
+
+-- No clash: neither of two configurations with one sum, nor of a torn ring sector that is a correct uberblock by chance.
 pub record HasNoClash (head_of : List ℕ → Option Head) (p : Pool) (known : Known) : Type 0 where
-  pub sums : (r : Rec) (d : ℕ) (u : Uberblock) (config : List ℕ) → IsIn r (drawn p) → IsVerifiedOn head_of p.size known p.name d u config
-      → sha256 config ≡ sha256 (config_of r.commit) → config ≡ config_of r.commit
-  pub rings : (d place : ℕ) (bytes : List ℕ) (u : Uberblock) → p.member d ≡ true → place < 128 → known d (place_at (p.size d) place) ≡ Some bytes
-      → IsUberblock u bytes
-      → (bytes ≡ (p.sectors d (place_at (p.size d) place)).stable) ⊎ IsAmong bytes (p.since d (place_at (p.size d) place))
+  pub sums : AreOwnConfigs head_of p known
+  pub rings : AreNotTorn p known
 
 -- two records that no reader tells apart: one configuration and one number
 pub record AreTwins (r s : Rec) : Type 0 where
@@ -49,6 +66,11 @@ pub record WasMissed (p : Pool) (vs : List Event) (r : Rec) : Type 0 where
   pub all : vs ≡ before ++ (Opens opened ∷ later)
   pub was_live : IsIn r (pool_after before p).live
   pub lower : number_of opened < number_of r
+
+-- each record of the name that is verified on a device which isn't a member's is one of this pool's
+abbrev pub AreOurs : Codec → Pool → Known → Type 0
+AreOurs c p known = (d : ℕ) (u : Uberblock) (config : List ℕ) → p.member d ≡ false → IsVerifiedOn c.head_of p.size known p.name d u config
+    → (r : Rec) × IsDrawnRecord p u config r
 
 -- No stray: no record of the name on a device that isn't a member's but those of this pool; and none that
 -- was given up though an opening missed it, with a number not below the acknowledged one's, but where a live record is the very same.
@@ -102,6 +124,26 @@ pub record IsSearched (p : Pool) (r : Rec) (answering : ℕ → Bool) (known : K
   pub summed : (k : Key) (cell : Cell) (bytes : List ℕ) → r.cells k ≡ Some cell → found k ≡ Some bytes → sha256 bytes ≡ sha256 cell.block
   pub missed : (k : Key) (cell : Cell) (d : ℕ) → r.cells k ≡ Some cell → found k ≡ None → p.member d ≡ true → r.tops (p.guid d) ≡ cell.top
       → (answering d ≡ false) ⊎ ((bytes : List ℕ) × (known d (data_start + cell.sector) ≡ Some bytes) × (sha256 bytes ≢ sha256 cell.block))
+
+-- By what was read of its rings this device has the identity of a member of the pool: a correct uberblock gives it.
+pub record HasIdentity (p : Pool) (known : Known) (d : ℕ) (m : Guid) : Type 0 where
+  pub place : ℕ
+  pub inside : place < 128
+  pub bytes : List ℕ
+  pub is_read : known d (place_at (p.size d) place) ≡ Some bytes
+  pub u : Uberblock
+  pub correct : IsUberblock u bytes
+  pub pool_is : u.pool ≡ p.pool
+  pub member_is : u.member ≡ m
+
+-- In a user's words: no device that the pool has lost, or never had, is handed in under the name of a leaf of the found record
+-- with that leaf's identity on it. `under` tells under which leaf's name a device is handed in.
+abbrev pub AreNamesKept : Pool → Rec → Known → (under : ℕ → Guid → Bool) → Type 0
+AreNamesKept p r known under = (d : ℕ) (m : Guid) → under d m ≡ true → 1 ≤ r.tops m → HasIdentity p known d m → p.member d ≡ true
+
+-- the devices that an opening takes for leaves: each is handed in under the leaf's name, and has its identity
+abbrev pub AreClaims : Pool → Known → (under claims : ℕ → Guid → Bool) → Type 0
+AreClaims p known under claims = (d : ℕ) (m : Guid) → claims d m ≡ true → (under d m ≡ true) × HasIdentity p known d m
 
 -- No twin: each device that is handed in under the name of a leaf of the found record, and has that leaf's identity,
 -- is the one that the history has there.

@@ -8,7 +8,8 @@ use Rattle.txg_history.specs.Records.{Rec, Cell, IsIn, data_start}
 
 -- the leaf on this device keeps each key of its top that was born in group g
 abbrev pub IsWhole : Pool → Rec → (d g : ℕ) → (top : ℕ) → Type 0
-IsWhole p r d g top = (k : Key) (cell : Cell) → r.cells k ≡ Some cell → cell.birth ≡ g → cell.top ≡ top → Keeps (p.sectors d (data_start + cell.sector)) cell.block
+IsWhole p r d g top = (k : Key) (cell : Cell) → r.cells k ≡ Some cell → cell.birth ≡ g → cell.top ≡ top → Keeps
+    (p.sectors d (data_start + cell.sector)) cell.block
 
 pub record IsSound (p : Pool) : Type 0 where
   -- each leaf of a live record has each group that its log there lacks

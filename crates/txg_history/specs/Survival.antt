@@ -134,7 +134,8 @@ pub record AreInOrder (acked : Rec) (acks : List Rec) (reads : Rec) (live given 
 
 -- What the frozen group has come to. Its keys over those that the pool reads are a tree of pages, and answer what a read
 -- answered at the freeze; the newest record, where one of its rounds was begun, has just these.
-pub record HasComeTo (c : Codec) (frozen flushed begun : Bool) (group : Cells) (done : Key → Bool) (content : ℕ → List ℕ) (reads : Rec) (live : List Rec) : Type 0 where
+pub record HasComeTo (c : Codec) (frozen flushed begun : Bool) (group : Cells) (done : Key → Bool)
+    (content : ℕ → List ℕ) (reads : Rec) (live : List Rec) : Type 0 where
   pub flushed_all : frozen ≡ true → flushed ≡ true → (k : Key) (cell : Cell) → group k ≡ Some cell → done k ≡ true
   pub begun_flushed : frozen ≡ true → begun ≡ true → flushed ≡ true
   pub tree : frozen ≡ true → IsTree c (laid_over group reads.cells)
@@ -153,7 +154,8 @@ abbrev pub IsLog : (highest : ℕ) → (ℕ → Bool) → Type 0
 IsLog highest log = (g : ℕ) → log g ≡ true → (1 ≤ g) × (g ≤ highest)
 
 -- Logs of leaves have groups that were drawn, and a leaf on the board is one of the tree.
-pub record AreLogs (member : ℕ → Bool) (guid : ℕ → Guid) (in_top : ℕ → ℕ) (owes : Logs) (highest : ℕ) (live : List Rec) (frozen : Bool) (board : ℕ → Bool) : Type 0 where
+pub record AreLogs (member : ℕ → Bool) (guid : ℕ → Guid) (in_top : ℕ → ℕ) (owes : Logs) (highest : ℕ) (live : List Rec)
+    (frozen : Bool) (board : ℕ → Bool) : Type 0 where
   pub now : (d : ℕ) → member d ≡ true → 1 ≤ in_top d → IsLog highest (owes d)
   pub in_records : (r : Rec) (d : ℕ) → IsIn r live → member d ≡ true → 1 ≤ r.tops (guid d) → IsLog (number_of r) (r.owes (guid d))
   pub boarded : frozen ≡ true → (d : ℕ) → member d ≡ true → board d ≡ true → 1 ≤ in_top d

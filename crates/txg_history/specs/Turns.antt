@@ -1,12 +1,13 @@
 -- The events of a write turn and of a flush turn of the frozen group, and what they leave.
-use Rattle.std.specs.Prelude.{◌≡◌, ℕ, ◌+◌, Bool, true, false, List, [], ◌∷◌, ◌++◌, map, Some, slice_get}
+use Rattle.std.specs.Prelude.{◌≡◌, ℕ, ◌+◌, ◌==◌, ◌||◌, Bool, true, false, cond, List, [], ◌∷◌, ◌++◌, map, Some, slice_get}
 use Rattle.mp_base.specs.declared.place.Key.{Key}
 use Rattle.bank_core.specs.Asks.{Ask, Writes, Flushes}
 use Rattle.bank_core.specs.Disk.{Noted, run}
 use Rattle.label_store.specs.declared.member.Member.{Member}
 use Rattle.label_store.specs.Phases.{IsPhase}
 use Rattle.txg_history.specs.Events.{Event, Wrote, Flushed, Leaves, as_events}
-use Rattle.txg_history.specs.Pools.{Pool, seat}
+use Rattle.txg_history.specs.Groups.{grown}
+use Rattle.txg_history.specs.Pools.{Pool, seat, since_after, copies_after}
 use Rattle.txg_history.specs.Records.{Cell, data_start}
 
 -- The list has each member of the pool of this kind, under its own number, and no other member. It may have devices that
@@ -36,6 +37,13 @@ leavers (m ∷ ms) [] = []
 leavers (m ∷ ms) (true ∷ results) = leavers ms results
 leavers (m ∷ ms) (false ∷ results) = Leaves m.dev ∷ leavers ms results
 
+-- the device is one of theirs
+abbrev pub fails : List Member → (results : List Bool) → ℕ → Bool
+fails [] results d = false
+fails (m ∷ ms) [] d = false
+fails (m ∷ ms) (true ∷ results) d = fails ms results d
+fails (m ∷ ms) (false ∷ results) d = (m.dev == d) || fails ms results d
+
 -- The events of a turn: the calls, the members that failed leave the board, and the mark.
 pub record IsTurnEvents (plan : Member → List Ask) (mark : Event) (members : List Member) (results : List Bool) (vs : List Event) : Type 0 where
   pub made : List Noted
@@ -52,7 +60,8 @@ IsFlushTurn members results vs = IsTurnEvents flush_plan Flushed members results
 pub record IsBoardBehind (was is : ℕ → Bool) (members : List Member) (results : List Bool) : Type 0 where
   pub before : (d : ℕ) → is d ≡ true → was d ≡ true
   pub good : (d i : ℕ) (m : Member) (c : Bool) → is d ≡ true → slice_get members i ≡ Some m → m.dev ≡ d → slice_get results i ≡ Some c → c ≡ true
-  pub stays : (d : ℕ) → was d ≡ true → ((i : ℕ) (m : Member) (c : Bool) → slice_get members i ≡ Some m → m.dev ≡ d → slice_get results i ≡ Some c → c ≡ true) → is d ≡ true
+  pub stays : (d : ℕ) → was d ≡ true → ((i : ℕ) (m : Member) (c : Bool) → slice_get members i ≡ Some m → m.dev ≡ d
+      → slice_get results i ≡ Some c → c ≡ true) → is d ≡ true
 
 -- What a turn leaves of a pool, by its calls: what it changed of the group, and all else is as it was.
 pub record TurnEnds (p behind : Pool) (members : List Member) (results : List Bool) (done : Key → Bool) (flushed : Bool) (made : List Noted) : Type 0 where
@@ -64,7 +73,10 @@ pub record TurnEnds (p behind : Pool) (members : List Member) (results : List Bo
   pub room : behind.room ≡ p.room
   pub home : behind.home ≡ p.home
   pub sectors : behind.sectors ≡ run made p.sectors
+  pub since : behind.since ≡ since_after made p.since
+  pub copies : behind.copies ≡ copies_after made p.copies
   pub acked : behind.acked ≡ p.acked
+  pub acks : behind.acks ≡ p.acks
   pub live : behind.live ≡ p.live
   pub given : behind.given ≡ p.given
   pub missed : behind.missed ≡ p.missed
@@ -86,4 +98,7 @@ pub record TurnEnds (p behind : Pool) (members : List Member) (results : List Bo
   pub begun : behind.group.begun ≡ p.group.begun
   pub done_is : behind.group.done ≡ done
   pub flushed_is : behind.group.flushed ≡ flushed
+  -- who failed is off the board, and owes each number drawn for the group
+  pub owes_is : (d g : ℕ) → behind.owes d g ≡ grown (fails members results) p.group.first p.highest p.owes d g
+  pub board_is : (d : ℕ) → behind.group.board d ≡ cond (fails members results d) false (p.group.board d)
   pub board : IsBoardBehind p.group.board behind.group.board members results

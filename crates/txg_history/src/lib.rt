@@ -5,17 +5,22 @@
 mod contents;
 mod histories;
 mod labels;
+mod members;
+mod moments;
 mod moves;
 mod openings;
 mod pages;
 mod refusals;
 mod rounds;
+mod scans;
 mod turns;
 mod writes;
 
 pub use contents::{members_are_brought_in, records_have_what_was_accepted};
 pub use histories::small_histories_are_allowed;
 pub use labels::labels_stay_sound;
+pub use members::devices_are_lost_by_stamps;
+pub use moments::moments_are_fronts;
 pub use moves::{
     devices_may_be_numbered_anew, histories_keep_their_records, stamped_pools_survive,
 };
@@ -26,5 +31,6 @@ pub use openings::{
 pub use pages::pages_are_read_back;
 pub use refusals::wrong_moves_are_refused;
 pub use rounds::rounds_may_be_made;
+pub use scans::scans_clear_only_copied_groups;
 pub use turns::{empty_groups_may_be_frozen, flush_turns_may_be_made, write_turns_may_be_made};
 pub use writes::{keys_may_be_written_again, plans_may_be_made, reads_show_the_block};

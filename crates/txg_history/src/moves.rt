@@ -7,12 +7,15 @@ ghost use Rattle.label_store.specs.Plans.{stamp_plan};
 ghost use Rattle.label_store.specs.Records.{place_at};
 ghost use Rattle.txg_history.specs.Events.{Event, Calls};
 ghost use Rattle.txg_history.specs.Moves.{AreUnforged, IsTrueTo, MayStop, Mays};
-ghost use Rattle.txg_history.specs.Numbering.{renumbered};
+ghost use Rattle.txg_history.specs.Numbering.{renumbered, AreOnePool};
 ghost use Rattle.txg_history.specs.Pages.{Codec};
 ghost use Rattle.txg_history.specs.Pools.{Pool, pool_after, stamped};
+ghost use Rattle.txg_history.specs.Premises.{HoldsLabels, HasGoodLeaf};
+ghost use Rattle.txg_history.specs.Records.{Rec, Cell};
 ghost use Rattle.txg_history.specs.Sound.{IsSound};
 ghost use Rattle.txg_history.specs.Stamps.{IsBlank, AreStamped};
 ghost use Rattle.txg_history.specs.Survival.{Survives};
+ghost use Rattle.txg_history.specs.Tracking.{HasPromise};
 
 /// A history keeps what a live record needs, at each of its moments, over any number of stops. It computes
 /// nothing: its clauses are the law.
@@ -41,13 +44,22 @@ pub fn histories_keep_their_records()
 pub fn stamped_pools_survive()
     ensures begins { (c : Codec) (name : List ℕ) (pool : Guid) (member : ℕ → Bool) (guid : ℕ → Guid) (size room home : ℕ → ℕ) (sectors : Sectors)
         → AreStamped pool member guid size room home sectors → Survives c (stamped name pool member guid size room home sectors) }
-    ensures stamps { (dev size : ℕ) (pool member : Guid) (made : List Noted) (sectors : Sectors) → 320 ≤ size → IsPart (stamp_plan dev size pool member) made None
+    ensures stamps { (dev size : ℕ) (pool member : Guid) (made : List Noted) (sectors : Sectors) → 320 ≤ size → IsPart
+        (stamp_plan dev size pool member) made None
         → (place : ℕ) → place < 128 → IsBlank (run made sectors dev (place_at size place)) pool member }
 {}
 
-/// The invariant of a pool doesn't depend on the numbers of its devices. It computes nothing: its clause is the law.
+/// A pool doesn't depend on the numbers of its devices. It computes nothing: its clauses are the law.
 ///
-/// So the next run may have the devices under other numbers: device d then has what device `was d` had.
+/// So the next run may have the devices under other numbers: device d then has what device `was d` had, by definition, as
+/// its membership, its top and its log. `survives`: the invariant holds. `same`: all that isn't told by devices is as it was,
+/// so the laws of what is live, of its contents and of strays go on from there. `promises` and `holds`: labels that promise a record, or
+/// hold one, do so under the new number. `pages`: so does a good leaf of a page.
 pub fn devices_may_be_numbered_anew()
-    ensures { (c : Codec) (p : Pool) (was : ℕ → ℕ) → Survives c p → Survives c (renumbered was p) }
+    ensures survives { (c : Codec) (p : Pool) (was : ℕ → ℕ) → Survives c p → Survives c (renumbered was p) }
+    ensures same { (p : Pool) (was : ℕ → ℕ) → AreOnePool p (renumbered was p) }
+    ensures promises { (p : Pool) (was : ℕ → ℕ) (d : ℕ) → HasPromise p (was d) → HasPromise (renumbered was p) d }
+    ensures holds { (p : Pool) (was : ℕ → ℕ) (d : ℕ) (r : Rec) → HoldsLabels p (was d) r → HoldsLabels (renumbered was p) d r }
+    ensures pages { (p : Pool) (was : ℕ → ℕ) (r : Rec) (cell : Cell) (answering : ℕ → Bool) → (good : HasGoodLeaf p r cell answering)
+        → (d : ℕ) → was d ≡ good.d → HasGoodLeaf (renumbered was p) r cell (λ e. answering (was e)) }
 {}

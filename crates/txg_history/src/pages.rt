@@ -23,11 +23,13 @@ ghost use Rattle.txg_history.specs.Survival.{Fits, Survives};
 /// bytes of its sum.
 pub fn pages_are_read_back()
     ensures freezes { (c : Codec) (new old : Cells) → IsTree c old → AreDirty c new old → IsTree c (laid_over new old) }
-    ensures back { (c : Codec) (p : Pool) (r : Rec) (config : List ℕ) (found : Key → Option (List ℕ)) (got : Key → Option Sum) → Survives c p → IsIn r p.live → 1 ≤ number_of r
+    ensures back { (c : Codec) (p : Pool) (r : Rec) (config : List ℕ) (found : Key → Option (List ℕ))
+        (got : Key → Option Sum) → Survives c p → IsIn r p.live → 1 ≤ number_of r
         → config ≡ config_of r.commit → IsReadBack c config found got
         → ((level index : ℕ) → level ≤ 3 → index < width level → got (key level index) ≡ sum_of (r.cells (key level index))) ⊎ ClashesAt r.cells found }
     ensures config { (c : Codec) (p : Pool) (r : Rec) → Survives c p → IsIn r p.live → 1 ≤ number_of r → Fits c p.name p.pool r }
-    ensures good { (p : Pool) (r : Rec) (k : Key) (cell : Cell) (answering : ℕ → Bool) → IsIn r p.live → r.cells k ≡ Some cell → (good : HasGoodLeaf p r cell answering)
+    ensures good { (p : Pool) (r : Rec) (k : Key) (cell : Cell) (answering : ℕ → Bool) → IsIn r p.live
+        → r.cells k ≡ Some cell → (good : HasGoodLeaf p r cell answering)
         → IsKeptAt p good.d (data_start + cell.sector) cell.block }
     ensures found { (c : Codec) (p : Pool) (r : Rec) (answering : ℕ → Bool) (known : Known) (found : Key → Option (List ℕ)) → Survives c p → IsIn r p.live
         → HasGoodPages p r answering → ReadsTrue p.sectors known → IsSearched p r answering known found

@@ -22,7 +22,8 @@ ghost use Rattle.txg_history.specs.Turns.{AreJust, OnBoard, OnTop, write_plan, f
 /// under the key's top, each on a device of its own. That no live record has a key at that place follows from the
 /// invariant. `ends`: what its events leave of the pool.
 pub fn write_turns_may_be_made()
-    ensures marked { (k : Key) (cell : Cell) (members : List Member) (results : List Bool) (made : List Noted) → IsPhase (write_plan cell) members (map (λ m. true) members) results made
+    ensures marked { (k : Key) (cell : Cell) (members : List Member) (results : List Bool) (made : List Noted) → IsPhase
+        (write_plan cell) members (map (λ m. true) members) results made
         → (vs : List Event) × (calls_of vs ≡ made) × IsWriteTurn k cell members results vs }
     ensures allowed { (c : Codec) (p : Pool) (k : Key) (cell : Cell) (members : List Member) (results : List Bool) (vs : List Event)
         → Survives c p → p.group.frozen ≡ true → p.group.flushed ≡ false → p.group.cells k ≡ Some cell → p.group.done k ≡ false

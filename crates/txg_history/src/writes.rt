@@ -6,10 +6,10 @@ ghost use Rattle.bank_core.specs.Asks.{Ask, IsPart};
 ghost use Rattle.bank_core.specs.Disk.{Nothing, Sectors, Read, Write, Flush, Noted, Answers, as_found, run};
 ghost use Rattle.bank_core.specs.Standing.{Untouched};
 ghost use Rattle.txg_history.specs.Events.{Calls, Clears, as_events};
-ghost use Rattle.txg_history.specs.Moves.{IsSparing, Mays};
-ghost use Rattle.txg_history.specs.Needs.{Copied, NeedsScan};
+ghost use Rattle.txg_history.specs.Moves.{IsSparing, WasCopied, Mays};
+ghost use Rattle.txg_history.specs.Needs.{NeedsScan};
 ghost use Rattle.txg_history.specs.Pages.{Codec};
-ghost use Rattle.txg_history.specs.Pools.{Pool, after};
+ghost use Rattle.txg_history.specs.Pools.{Pool, after, pool_after};
 ghost use Rattle.txg_history.specs.Reads.{IsKeptAt, NoneHeals};
 ghost use Rattle.txg_history.specs.Records.{Cell, data_start};
 ghost use Rattle.txg_history.specs.Sparing.{AreSparing, AreElsewhere, WriteNothing};
@@ -20,7 +20,8 @@ ghost use Rattle.txg_history.specs.Survival.{Survives};
 /// `allowed`: the calls of such a plan, up to the first that fails. `reading`: a plan that only reads and flushes is
 /// one. `elsewhere`: so is a plan that aims at no member's device.
 pub fn plans_may_be_made()
-    ensures allowed { (c : Codec) (p : Pool) (plan : List Ask) (made : List Noted) (outcome : Option Fault) → AreSparing p plan → IsPart plan made outcome → Mays c p (as_events made) }
+    ensures allowed { (c : Codec) (p : Pool) (plan : List Ask) (made : List Noted) (outcome : Option Fault)
+        → AreSparing p plan → IsPart plan made outcome → Mays c p (as_events made) }
     ensures reading { (p : Pool) (plan : List Ask) → WriteNothing plan → AreSparing p plan }
     ensures elsewhere { (p : Pool) (plan : List Ask) → AreElsewhere p plan → AreSparing p plan }
 {}
@@ -40,8 +41,9 @@ pub fn keys_may_be_written_again()
         → (p.member d ≡ true → (p.in_top d ≡ cell.top) × (p.settled d cell.birth ≡ true)
         × (NeedsScan p.scan p.reads p.in_top d (data_start + cell.sector) cell.block → ⊥))
         → IsSparing p (Write d (data_start + cell.sector) cell.block fault) }
-    ensures copied { (noted : Noted) (made : List Noted) (d s : ℕ) (block : List ℕ) (sectors : Sectors) → noted.call ≡ Write d s block None → length block ≡ 4096
-        → Untouched made d s → Copied (run (noted ∷ made) sectors d s) block }
+    ensures copied { (p : Pool) (noted : Noted) (made : List Noted) (d : ℕ) (cell : Cell)
+        → noted.call ≡ Write d (data_start + cell.sector) cell.block None → length cell.block ≡ 4096
+        → Untouched made d (data_start + cell.sector) → WasCopied (pool_after (as_events (noted ∷ made)) p) d cell }
     ensures clears { (c : Codec) (p : Pool) (d : ℕ) (noted : Noted) → Survives c p → p.scan.running ≡ true → p.scan.eligible d ≡ true
         → ((k : Key) (cell : Cell) → p.reads.cells k ≡ Some cell → cell.birth ≤ p.scan.hi → p.scan.passed k ≡ true) → noted.call ≡ Flush d None
         → Mays c p (Calls noted ∷ Clears d ∷ []) }
@@ -54,7 +56,8 @@ pub fn keys_may_be_written_again()
 /// that is undamaged behind it, gives it. `damage`: so a read that answered other bytes shows that the sector is
 /// damaged. `stays`: it is so until a flush of the device.
 pub fn reads_show_the_block()
-    ensures clean { (c : Codec) (p : Pool) (d s : ℕ) (block : List ℕ) → Survives c p → p.member d ≡ true → IsKeptAt p d s block → (p.sectors d s).damaged ≡ false
+    ensures clean { (c : Codec) (p : Pool) (d s : ℕ) (block : List ℕ) → Survives c p → p.member d ≡ true
+        → IsKeptAt p d s block → (p.sectors d s).damaged ≡ false
         → ((p.sectors d s).stable ≡ block) × ((p.sectors d s).pending ≡ Nothing) }
     ensures right { (c : Codec) (p : Pool) (noted : Noted) (d s : ℕ) (bytes block : List ℕ) → Survives c p → p.member d ≡ true → IsKeptAt p d s block
         → noted.call ≡ Read d s bytes None → length bytes ≡ 4096 → Answers (as_found noted p.sectors) noted.call
@@ -62,5 +65,6 @@ pub fn reads_show_the_block()
     ensures damage { (c : Codec) (p : Pool) (noted : Noted) (d s : ℕ) (bytes block : List ℕ) → Survives c p → p.member d ≡ true → IsKeptAt p d s block
         → noted.call ≡ Read d s bytes None → length bytes ≡ 4096 → Answers (as_found noted p.sectors) noted.call
         → bytes ≢ block → ((after (Calls noted) p).sectors d s).damaged ≡ true }
-    ensures stays { (made : List Noted) (d s : ℕ) (sectors : Sectors) → NoneHeals made d → (sectors d s).damaged ≡ true → (run made sectors d s).damaged ≡ true }
+    ensures stays { (made : List Noted) (d s : ℕ) (sectors : Sectors) → NoneHeals made d → (sectors d s).damaged ≡ true
+        → (run made sectors d s).damaged ≡ true }
 {}

@@ -1,0 +1,83 @@
+-- Writes may be taken and leaves may go offline: their walks from their rows.
+use Rattle.std.proofs.Common.{◌≡◌, ◌⊎◌, inl, inr, ⊎_elim, ℕ, ◌==◌, Bool, true, false, cond, Option, Some, None, List, [], ◌∷◌, ◌++◌, map, refl, sym, ap, ◌∙◌, subst, arith}
+use Rattle.std.specs.List.{AllByRecursion, find}
+use Rattle.std.specs.Str.{bytes_eq}
+use Rattle.std.proofs.lemmas.Bool.Decides.{nat_tests}
+use Rattle.txg_history.specs.Pages.{Codec}
+use Rattle.txg_history.specs.Pools.{Pool}
+use Rattle.txg_history.proofs.Logging.{by_bool, same_device, true_not_false}
+use Rattle.pool_moves.specs.AwayRows.{WriteReply, RowWrite, OfflineReply, is_offline, leave_if, gone, OfflineLeaf, OfflineBy, leaf_named, RowOffline}
+use Rattle.pool_moves.specs.Keeping.{IsElsewhere, AreSeatsApart, IsAway, IsOfFound, IsFoundAt, HasFound, Kept, Walks}
+use Rattle.pool_moves.specs.Leaves.{OwnLeaf, LeafSeen, Seat, At, Adrift, Told, told, dev_if, leaf_seen}
+use Rattle.pool_moves.specs.Moves.{Move, Puts, Leave, Sets, after_moves}
+use Rattle.pool_moves.specs.States.{PoolSeen, PoolState, Side, seen}
+use Rattle.pool_moves.proofs.Boarding.{found_alone}
+use Rattle.pool_moves.proofs.FreeWalks.{walks_more}
+use Rattle.pool_moves.proofs.FreezeWalks.{found_elsewhere}
+
+-- A write is taken.
+pub write_walks : (c : Codec) (s : PoolState) (t : Side) (a : ℕ) (block : List ℕ) (vs : List Move) (reply : WriteReply) → RowWrite s a block vs reply → Walks c t vs
+write_walks c s t a block vs reply (inl row) = subst (Walks c t) (sym row.1) (((tt, tt), tt), tt)
+write_walks c s t a block vs reply (inr row) = subst (Walks c t) (sym row.1) tt
+
+-- A leaf that is on the board is one of a frozen group that the run has found.
+abbrev IsBoarded : (frozen : Bool) → List Seat → LeafSeen → Type 0
+IsBoarded frozen seats leaf = leaf.on ≡ true → (frozen ≡ true) × ((d : ℕ) → leaf.dev ≡ Some d → HasFound d seats)
+
+on_of : (frozen on : Bool) → cond frozen on false ≡ true → frozen ≡ true
+on_of true on is = refl
+on_of false on is = absurd (cc)
+
+dev_found : (found : Bool) (e d : ℕ) → dev_if found e ≡ Some d → ((d == e) ≡ true) × (found ≡ true)
+dev_found true e d is = (let same : e ≡ d = cc in subst (λ n. (n == e) ≡ true) same (let here : (e == e) ≡ true = grind (arith, nat_tests) in here), refl)
+dev_found false e d is = absurd (cc)
+
+boarded_leaf : (f r : Bool) (p : Pool) (all : List Seat) (seat : Seat) → IsAway seat → ((d : ℕ) → IsFoundAt d seat → HasFound d all) → IsBoarded f all (leaf_seen f r (told p) seat)
+boarded_leaf f r p all (At e found own) away up on = (on_of f (p.group.board e) on, λ d dev. up d (dev_found found e d dev))
+boarded_leaf f r p all (Adrift leaf) away up on = true_not_false leaf.on on away.1
+
+-- the leaf that is found by a test is one of them
+found_leaf : (test : LeafSeen → Bool) (f r : Bool) (p : Pool) (all seats : List Seat) (leaf : LeafSeen) → AllByRecursion IsAway seats → ((d : ℕ) → HasFound d seats → HasFound d all)
+    → find test (map (leaf_seen f r (told p)) seats) ≡ Some leaf → IsBoarded f all leaf
+found_leaf test f r p all [] leaf away up is = absurd (cc)
+found_leaf test f r p all (seat ∷ seats) leaf away up is = by_bool (test (leaf_seen f r (told p) seat))
+    (λ yes. subst (IsBoarded f all) (let same : leaf_seen f r (told p) seat ≡ leaf = some_same (leaf_seen f r (told p) seat) leaf (sym (ap (λ t. cond t (Some (leaf_seen f r (told p) seat)) (find test (map (leaf_seen f r (told p)) seats))) yes) ∙ is) in same)
+        (boarded_leaf f r p all seat away.0 (λ d at. up d (inl at))))
+    (λ no. found_leaf test f r p all seats leaf away.1 (λ d has. up d (inr has)) (sym (ap (λ t. cond t (Some (leaf_seen f r (told p) seat)) (find test (map (leaf_seen f r (told p)) seats))) no) ∙ is))
+  where
+    some_same : (a b : LeafSeen) → Some a ≡ Some b → a ≡ b
+    some_same a b e = cc
+
+-- no leaf that the run has not found is at the device of one that it has
+only_found : (d : ℕ) (seats : List Seat) → AreSeatsApart seats → HasFound d seats → AllByRecursion (IsOfFound (λ e. d == e)) seats
+only_found d [] apart has = absurd has
+only_found d (At e found own ∷ seats) apart (inl is) =
+    ((λ un. true_not_false found is.1 un), found_alone d seats (subst (λ n. AllByRecursion (IsElsewhere n) seats) (sym (same_device d e is.0)) apart.0))
+only_found d (At e found own ∷ seats) apart (inr has) =
+    ((λ un. by_bool (d == e) (λ same. found_elsewhere d seats (subst (λ n. AllByRecursion (IsElsewhere n) seats) (sym (same_device d e same)) apart.0) has) (λ off. off)), only_found d seats apart.1 has)
+only_found d (Adrift leaf ∷ seats) apart (inl is) = absurd is
+only_found d (Adrift leaf ∷ seats) apart (inr has) = (tt, only_found d seats apart has)
+
+leave_walk : (c : Codec) (t : Side) (on : Bool) (dev : Option ℕ) → AreSeatsApart t.seats → (on ≡ true → (t.pool.group.frozen ≡ true) × ((d : ℕ) → dev ≡ Some d → HasFound d t.seats))
+    → Walks c t (leave_if on dev)
+leave_walk c t true (Some d) apart is = let at = is refl in (((at.0, tt), (at.0, only_found d t.seats apart (at.1 d refl))), tt)
+leave_walk c t true None apart is = tt
+leave_walk c t false dev apart is = tt
+
+offline_leaf : (c : Codec) (already : Bool) (s : PoolState) (t : Side) (leaf : LeafSeen) (temporary : Bool) (vs : List Move) (reply : OfflineReply) → Kept c s t
+    → IsBoarded t.pool.group.frozen t.seats leaf → OfflineLeaf already s leaf temporary vs reply → Walks c t vs
+offline_leaf c true s t leaf temporary vs reply kept on row = subst (Walks c t) (sym row.0) ((tt, tt), tt)
+offline_leaf c false s t leaf temporary vs reply kept on (inl row) = subst (Walks c t) (sym row.2) tt
+offline_leaf c false s t leaf temporary vs reply kept on (inr row) = subst (Walks c t) (sym row.1)
+    (walks_more c (leave_if leaf.on leaf.dev) (Sets leaf.guid (gone temporary leaf.own) ∷ []) t (leave_walk c t leaf.on leaf.dev kept.apart on) ((tt, tt), tt))
+
+offline_by : (c : Codec) (found : Option LeafSeen) (s : PoolState) (t : Side) (temporary : Bool) (vs : List Move) (reply : OfflineReply) → Kept c s t
+    → ((leaf : LeafSeen) → found ≡ Some leaf → IsBoarded t.pool.group.frozen t.seats leaf) → OfflineBy found s temporary vs reply → Walks c t vs
+offline_by c None s t temporary vs reply kept on row = subst (Walks c t) (sym row.0) tt
+offline_by c (Some leaf) s t temporary vs reply kept on row = offline_leaf c (is_offline leaf.own.mode) s t leaf temporary vs reply kept (on leaf refl) row
+
+-- A leaf goes offline, also in the middle of a group.
+pub offline_walks : (c : Codec) (s : PoolState) (t : Side) (name : List ℕ) (temporary : Bool) (vs : List Move) (reply : OfflineReply) → Kept c s t → RowOffline s name temporary vs reply → Walks c t vs
+offline_walks c s t name temporary vs reply kept row = offline_by c (leaf_named name s.core.leaves) s t temporary vs reply kept
+    (λ leaf is. found_leaf (λ leaf. bytes_eq leaf.own.name name) t.pool.group.frozen t.pool.scan.running t.pool t.seats t.seats leaf kept.away (λ d has. has)
+    (sym (ap (λ core. leaf_named name core.leaves) kept.core) ∙ is)) row

@@ -1,0 +1,154 @@
+-- Free moves, one after another, and what the history gets of them.
+use Rattle.std.proofs.Common.{◌≡◌, ℕ, ◌==◌, Bool, true, false, List, [], ◌∷◌, ◌++◌, map, refl, sym, ap, ◌∙◌, subst, append-nil, append_assoc}
+use Rattle.std.specs.List.{AllByRecursion}
+use Rattle.bank_core.specs.Disk.{Noted}
+use Rattle.label_store.specs.declared.member.Member.{Member}
+use Rattle.txg_history.specs.Events.{Event, Calls, Leaves, as_events}
+use Rattle.txg_history.specs.Moves.{Mays}
+use Rattle.txg_history.specs.Pages.{Codec}
+use Rattle.txg_history.specs.Pools.{Pool, pool_after}
+use Rattle.txg_history.specs.Turns.{leavers}
+use Rattle.txg_history.proofs.Folding.{mays_first, mays_second, pool_more}
+use Rattle.pool_moves.specs.Keeping.{IsOfFound, Admits, Walks}
+use Rattle.pool_moves.specs.Leaves.{Seat, At, Adrift}
+use Rattle.pool_moves.specs.Moves.{Move, Makes, Puts, Freeze, Wrote_key, Flushed_all, Draw, Leave, Widen, Burn, Starts, Copies, Copied, Commits, Sets, Finds, Lose, Comes, Goes, Returns, Scan_from, Pass, Drop, Clear, Rest, seat_step, seats_by, events_of, after_move, after_moves}
+use Rattle.pool_moves.specs.States.{Side}
+use Rattle.pool_moves.specs.TurnRows.{turn_moves}
+use Rattle.pool_moves.specs.Walking.{events_along, AreAdmitted, IsFree, as_moves, leave_moves}
+use Rattle.pool_moves.proofs.Keeping.{all_map, all_same, seat_cases}
+
+-- A walk is moves that the history allows and the state admits.
+pub walk_of : (c : Codec) (vs : List Move) (t : Side) → Mays c t.pool (events_along vs t) → AreAdmitted t vs → Walks c t vs
+walk_of c [] t may ok = tt
+walk_of c (v ∷ vs) t may ok = ((mays_first c (events_of v t.pool) (events_along vs (after_move v t)) t.pool may, ok.0),
+    walk_of c vs (after_move v t) (mays_second c (events_of v t.pool) (events_along vs (after_move v t)) t.pool may) ok.1)
+
+pub walks_more : (c : Codec) (vs ws : List Move) (t : Side) → Walks c t vs → Walks c (after_moves vs t) ws → Walks c t (vs ++ ws)
+walks_more c [] ws t a b = b
+walks_more c (v ∷ vs) ws t a b = (a.0, walks_more c vs ws (after_move v t) a.1 b)
+
+pub moves_more : (vs ws : List Move) (t : Side) → after_moves (vs ++ ws) t ≡ after_moves ws (after_moves vs t)
+moves_more [] ws t = refl
+moves_more (v ∷ vs) ws t = moves_more vs ws (after_move v t)
+
+pub pool_along : (vs : List Move) (t : Side) → (after_moves vs t).pool ≡ pool_after (events_along vs t) t.pool
+pool_along [] t = refl
+pool_along (v ∷ vs) t = pool_along vs (after_move v t) ∙ sym (pool_more (events_of v t.pool) (events_along vs (after_move v t)) t.pool)
+
+pub events_more : (vs ws : List Move) (t : Side) → events_along (vs ++ ws) t ≡ events_along vs t ++ events_along ws (after_moves vs t)
+events_more [] ws t = refl
+events_more (v ∷ vs) ws t = ap (λ l. events_of v t.pool ++ l) (events_more vs ws (after_move v t))
+    ∙ sym (append_assoc (events_of v t.pool) (events_along vs (after_move v t)) (events_along ws (after_moves vs (after_move v t))))
+
+-- Free moves.
+free_frozen : (v : Move) (t : Side) → IsFree t.seats v → (after_move v t).pool.group.frozen ≡ t.pool.group.frozen
+free_frozen (Makes noted) t free = refl
+free_frozen (Puts a block) t free = refl
+free_frozen (Wrote_key k) t free = refl
+free_frozen Flushed_all t free = refl
+free_frozen Draw t free = refl
+free_frozen (Leave d) t free = refl
+free_frozen (Starts draft) t free = refl
+free_frozen (Copies draft d) t free = refl
+free_frozen (Copied draft d) t free = refl
+free_frozen (Sets m own) t free = refl
+free_frozen v t free = absurd free
+
+free_admitted : (v : Move) (t : Side) → t.pool.group.frozen ≡ true → IsFree t.seats v → Admits t v
+free_admitted (Makes noted) t f free = tt
+free_admitted (Puts a block) t f free = tt
+free_admitted (Wrote_key k) t f free = f
+free_admitted Flushed_all t f free = f
+free_admitted Draw t f free = f
+free_admitted (Leave d) t f free = (f, free)
+free_admitted (Starts draft) t f free = f
+free_admitted (Copies draft d) t f free = tt
+free_admitted (Copied draft d) t f free = tt
+free_admitted (Sets m own) t f free = tt
+free_admitted v t f free = absurd free
+
+found_stays : (which : ℕ → Bool) (v : Move) (t : Side) → IsFree t.seats v → AllByRecursion (IsOfFound which) t.seats → AllByRecursion (IsOfFound which) (seats_by v t)
+found_stays which (Makes noted) t free all = all
+found_stays which (Puts a block) t free all = all
+found_stays which (Wrote_key k) t free all = all
+found_stays which Flushed_all t free all = all
+found_stays which Draw t free all = all_map (IsOfFound which) (IsOfFound which) (seat_step Draw t.pool)
+    (seat_cases (λ seat. IsOfFound which seat → IsOfFound which (seat_step Draw t.pool seat)) (λ d found own is. is) (λ leaf is. tt)) t.seats all
+found_stays which (Leave d) t free all = all_map (IsOfFound which) (IsOfFound which) (seat_step (Leave d) t.pool)
+    (seat_cases (λ seat. IsOfFound which seat → IsOfFound which (seat_step (Leave d) t.pool seat)) (λ d found own is. is) (λ leaf is. tt)) t.seats all
+found_stays which (Starts draft) t free all = all
+found_stays which (Copies draft d) t free all = all
+found_stays which (Copied draft d) t free all = all
+found_stays which (Sets m own) t free all = all_map (IsOfFound which) (IsOfFound which) (seat_step (Sets m own) t.pool)
+    (seat_cases (λ seat. IsOfFound which seat → IsOfFound which (seat_step (Sets m own) t.pool seat)) (λ d found was is. is) (λ leaf is. tt)) t.seats all
+found_stays which v t free all = absurd free
+
+free_stays : (v w : Move) (t : Side) → IsFree t.seats v → IsFree t.seats w → IsFree (seats_by v t) w
+free_stays v (Makes noted) t free is = tt
+free_stays v (Puts a block) t free is = tt
+free_stays v (Wrote_key k) t free is = tt
+free_stays v Flushed_all t free is = tt
+free_stays v Draw t free is = tt
+free_stays v (Leave d) t free is = found_stays (λ e. d == e) v t free is
+free_stays v (Starts draft) t free is = tt
+free_stays v (Copies draft d) t free is = tt
+free_stays v (Copied draft d) t free is = tt
+free_stays v (Sets m own) t free is = tt
+free_stays v w t free is = absurd is
+
+pub free_walk : (vs : List Move) (t : Side) → t.pool.group.frozen ≡ true → AllByRecursion (IsFree t.seats) vs → AreAdmitted t vs
+free_walk [] t f all = tt
+free_walk (v ∷ vs) t f all = (free_admitted v t f all.0,
+    free_walk vs (after_move v t) (free_frozen v t all.0 ∙ f) (all_same (IsFree t.seats) (IsFree (seats_by v t)) (λ w is. free_stays v w t all.0 is) vs all.1))
+
+-- behind free moves a group is still frozen
+pub frozen_along : (vs : List Move) (t : Side) → AllByRecursion (IsFree t.seats) vs → (after_moves vs t).pool.group.frozen ≡ t.pool.group.frozen
+frozen_along [] t all = refl
+frozen_along (v ∷ vs) t all = frozen_along vs (after_move v t) (all_same (IsFree t.seats) (IsFree (seats_by v t)) (λ w is. free_stays v w t all.0 is) vs all.1) ∙ free_frozen v t all.0
+
+-- and another free move is still free
+pub free_along : (vs : List Move) (w : Move) (t : Side) → AllByRecursion (IsFree t.seats) vs → IsFree t.seats w → IsFree (after_moves vs t).seats w
+free_along [] w t all is = is
+free_along (v ∷ vs) w t all is = free_along vs w (after_move v t) (all_same (IsFree t.seats) (IsFree (seats_by v t)) (λ x free. free_stays v x t all.0 free) vs all.1) (free_stays v w t all.0 is)
+
+-- free, and then more
+pub free_then : (vs ws : List Move) (t : Side) → t.pool.group.frozen ≡ true → AllByRecursion (IsFree t.seats) vs → AreAdmitted (after_moves vs t) ws → AreAdmitted t (vs ++ ws)
+free_then [] ws t f all ok = ok
+free_then (v ∷ vs) ws t f all ok = (free_admitted v t f all.0,
+    free_then vs ws (after_move v t) (free_frozen v t all.0 ∙ f) (all_same (IsFree t.seats) (IsFree (seats_by v t)) (λ w is. free_stays v w t all.0 is) vs all.1) ok)
+
+pub all_append : {A : Type 0} (P : A → Type 0) (xs ys : List A) → AllByRecursion P xs → AllByRecursion P ys → AllByRecursion P (xs ++ ys)
+all_append P [] ys a b = b
+all_append P (x ∷ xs) ys a b = (a.0, all_append P xs ys a.1 b)
+
+-- Calls are free, and so are leaves of members whose devices are no unfound leaf's.
+pub calls_free : (seats : List Seat) (made : List Noted) → AllByRecursion (IsFree seats) (as_moves made)
+calls_free seats [] = tt
+calls_free seats (noted ∷ made) = (tt, calls_free seats made)
+
+pub leaves_free : (seats : List Seat) (ms : List Member) (results : List Bool) → AllByRecursion (λ m. AllByRecursion (IsOfFound (λ e. m.dev == e)) seats) ms
+    → AllByRecursion (IsFree seats) (leave_moves ms results)
+leaves_free seats [] results all = tt
+leaves_free seats (m ∷ ms) [] all = tt
+leaves_free seats (m ∷ ms) (true ∷ results) all = leaves_free seats ms results all.1
+leaves_free seats (m ∷ ms) (false ∷ results) all = (all.0, leaves_free seats ms results all.1)
+
+-- What the history gets of calls and of leaves, and of more moves behind them.
+pub calls_along : (made : List Noted) (ws : List Move) (t : Side) → events_along (as_moves made ++ ws) t ≡ as_events made ++ events_along ws (after_moves (as_moves made) t)
+calls_along [] ws t = refl
+calls_along (noted ∷ made) ws t = ap (λ l. Calls noted ∷ l) (calls_along made ws (after_move (Makes noted) t))
+
+pub leaves_along : (ms : List Member) (results : List Bool) (ws : List Move) (t : Side)
+    → events_along (leave_moves ms results ++ ws) t ≡ leavers ms results ++ events_along ws (after_moves (leave_moves ms results) t)
+leaves_along [] results ws t = refl
+leaves_along (m ∷ ms) [] ws t = refl
+leaves_along (m ∷ ms) (true ∷ results) ws t = leaves_along ms results ws t
+leaves_along (m ∷ ms) (false ∷ results) ws t = ap (λ l. Leaves m.dev ∷ l) (leaves_along ms results ws (after_move (Leave m.dev) t))
+
+-- a turn's moves are a turn's events
+pub turn_along : (made : List Noted) (ms : List Member) (results : List Bool) (mark : Move) (v : Event) (t : Side) → ((p : Pool) → events_of mark p ≡ v ∷ [])
+    → events_along (turn_moves made ms results mark) t ≡ as_events made ++ (leavers ms results ++ (v ∷ []))
+turn_along made ms results mark v t is =
+    calls_along made (leave_moves ms results ++ (mark ∷ [])) t
+    ∙ ap (λ l. as_events made ++ l) (leaves_along ms results (mark ∷ []) (after_moves (as_moves made) t)
+    ∙ ap (λ l. leavers ms results ++ l) (append-nil (events_of mark (after_moves (leave_moves ms results) (after_moves (as_moves made) t)).pool) ∙ is (after_moves (leave_moves ms results) (after_moves (as_moves made) t)).pool))

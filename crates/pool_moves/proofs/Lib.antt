@@ -1,0 +1,13 @@
+pub mod AwayWalks
+pub mod Boarding
+pub mod CommitWalks
+pub mod Drafting
+pub mod FreeWalks
+pub mod FreezeWalks
+pub mod Keeping
+pub mod LineWalks
+pub mod Making
+pub mod ReadWalks
+pub mod RoundWalks
+pub mod Seeing
+pub mod TurnWalks

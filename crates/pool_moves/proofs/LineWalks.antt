@@ -1,0 +1,210 @@
+-- Turns and syncs may be made: their walks from their rows.
+use Rattle.std.proofs.Common.{◌≡◌, ◌⊎◌, inl, inr, ⊎_elim, ℕ, ◌≤◌, ◌==◌, Bool, true, false, cond, Option, Some, None, List, [], ◌∷◌, ◌++◌, refl, sym, ap, ◌∙◌, subst}
+use Rattle.std.specs.List.{AllByRecursion, find}
+use Rattle.bank_core.specs.Asks.{Ask}
+use Rattle.bank_core.specs.Disk.{Noted}
+use Rattle.label_store.specs.declared.member.Member.{Member}
+use Rattle.label_store.specs.Rounds.{third_plan}
+use Rattle.txg_history.specs.Pages.{Codec}
+use Rattle.pool_moves.specs.Boards.{board_of, board_under, emptied}
+use Rattle.pool_moves.specs.Keeping.{Kept, Walks}
+use Rattle.pool_moves.specs.Leaves.{LeafSeen, Seat}
+use Rattle.pool_moves.specs.LineRows.{IsSized, TurnReply, Write, Flush, Round, Committed, sets_failed, has_number, count_moves, EndsBy, EndsTurn, IsTurnOf, IsWritePart, IsFlushPart, IsRoundPart, StartsBy, TurnBy, RowTurn, AreTurns, moves_in, EndsGroup, CommitsOpen, SyncBy, RowSync}
+use Rattle.pool_moves.specs.Moves.{Draft, Move, Makes, Freeze, Wrote_key, Flushed_all, Burn, Draw, Commits, Sets, steps, after_move, after_moves}
+use Rattle.pool_moves.specs.States.{PoolSeen, PoolState, Side}
+use Rattle.pool_moves.specs.TurnRows.{turn_moves, ended, IsThirdMoves, RowWriteTurn, RowFlushTurn, RowRound}
+use Rattle.pool_moves.specs.Walking.{as_moves, leave_moves}
+use Rattle.pool_moves.proofs.Boarding.{is_frozen}
+use Rattle.pool_moves.proofs.FreeWalks.{walks_more, all_append}
+use Rattle.pool_moves.proofs.FreezeWalks.{freeze_walks}
+use Rattle.pool_moves.proofs.Keeping.{walk_keeps}
+use Rattle.pool_moves.proofs.RoundWalks.{round_walks}
+use Rattle.pool_moves.proofs.TurnWalks.{write_turn_walks, flush_turn_walks}
+
+-- The run has the devices as the history has them, behind moves too.
+size_step : (v : Move) (t : Side) → (after_move v t).pool.size ≡ t.pool.size
+size_step (Makes noted) t = refl
+size_step v t = refl
+
+size_along : (vs : List Move) (t : Side) → (after_moves vs t).pool.size ≡ t.pool.size
+size_along [] t = refl
+size_along (v ∷ vs) t = size_along vs (after_move v t) ∙ size_step v t
+
+pub sized_along : (size : ℕ → ℕ) (vs : List Move) (t : Side) → IsSized size t → IsSized size (after_moves vs t)
+sized_along size vs t same d one = ap (λ f. f d) (size_along vs t) ∙ same d one
+
+-- Moves of what no event tells always may be made.
+abbrev pub IsSet : Move → Type 0
+IsSet (Sets m own) = Unit {0}
+IsSet v = ⊥
+
+pub sets_walk : (c : Codec) (vs : List Move) (t : Side) → AllByRecursion IsSet vs → Walks c t vs
+sets_walk c [] t all = tt
+sets_walk c (Sets m own ∷ vs) t all = ((tt, tt), sets_walk c vs (after_move (Sets m own) t) all.1)
+sets_walk c (v ∷ vs) t all = absurd all.0
+
+failed_sets : (found : Option LeafSeen) → AllByRecursion IsSet (sets_failed found)
+failed_sets None = tt
+failed_sets (Some leaf) = (tt, tt)
+
+counts_set : (leaves : List LeafSeen) (ms : List Member) (results : List Bool) → AllByRecursion IsSet (count_moves leaves ms results)
+counts_set leaves [] results = tt
+counts_set leaves (m ∷ ms) [] = tt
+counts_set leaves (m ∷ ms) (true ∷ results) = counts_set leaves ms results
+counts_set leaves (m ∷ ms) (false ∷ results) = all_append IsSet (sets_failed (find (has_number m.guid) leaves)) (count_moves leaves ms results) (failed_sets (find (has_number m.guid) leaves)) (counts_set leaves ms results)
+
+-- a part with its counts
+counted : (c : Codec) (t : Side) (part : List Move) (leaves : List LeafSeen) (ms : List Member) (results : List Bool) → Walks c t part → Walks c t (part ++ count_moves leaves ms results)
+counted c t part leaves ms results walks = walks_more c part (count_moves leaves ms results) t walks (sets_walk c (count_moves leaves ms results) (after_moves part t) (counts_set leaves ms results))
+
+-- Moves within a group leave it frozen.
+abbrev IsWithin : Move → Type 0
+IsWithin (Freeze cells board) = ⊥
+IsWithin Burn = ⊥
+IsWithin (Commits draft) = ⊥
+IsWithin v = Unit {0}
+
+within_step : (v : Move) (t : Side) → IsWithin v → (after_move v t).pool.group.frozen ≡ t.pool.group.frozen
+within_step (Freeze cells board) t is = absurd is
+within_step Burn t is = absurd is
+within_step (Commits draft) t is = absurd is
+within_step v t is = refl
+
+still_frozen : (vs : List Move) (t : Side) → AllByRecursion IsWithin vs → (after_moves vs t).pool.group.frozen ≡ t.pool.group.frozen
+still_frozen [] t all = refl
+still_frozen (v ∷ vs) t all = still_frozen vs (after_move v t) all.1 ∙ within_step v t all.0
+
+calls_within : (made : List Noted) → AllByRecursion IsWithin (as_moves made)
+calls_within [] = tt
+calls_within (noted ∷ made) = (tt, calls_within made)
+
+leaves_within : (ms : List Member) (results : List Bool) → AllByRecursion IsWithin (leave_moves ms results)
+leaves_within [] results = tt
+leaves_within (m ∷ ms) [] = tt
+leaves_within (m ∷ ms) (true ∷ results) = leaves_within ms results
+leaves_within (m ∷ ms) (false ∷ results) = (tt, leaves_within ms results)
+
+sets_within : (vs : List Move) → AllByRecursion IsSet vs → AllByRecursion IsWithin vs
+sets_within [] all = tt
+sets_within (Sets m own ∷ vs) all = (tt, sets_within vs all.1)
+sets_within (v ∷ vs) all = absurd all.0
+
+ended_within : (c : Bool) (draft : Draft) (d : ℕ) → AllByRecursion IsWithin (ended c draft d)
+ended_within true draft d = (tt, tt)
+ended_within false draft d = tt
+
+thirds_within : (plan : Member → List Ask) (draft : Draft) (ms : List Member) (was is : List Bool) (vs : List Move) → IsThirdMoves plan draft ms was is vs → AllByRecursion IsWithin vs
+thirds_within plan draft [] [] [] vs r = subst (AllByRecursion IsWithin) (sym r) tt
+thirds_within plan draft (m ∷ ms) (true ∷ was) (c ∷ is) vs r = subst (AllByRecursion IsWithin) (sym r.2)
+    (tt, all_append IsWithin (as_moves r.0) (ended c draft m.dev ++ r.1) (calls_within r.0)
+    (all_append IsWithin (ended c draft m.dev) r.1 (ended_within c draft m.dev) (thirds_within plan draft ms was is r.1 r.4)))
+thirds_within plan draft (m ∷ ms) (false ∷ was) (c ∷ is) vs r = thirds_within plan draft ms was is vs r.1
+thirds_within plan draft [] [] (c ∷ is) vs r = absurd r
+thirds_within plan draft [] (b ∷ was) is vs r = absurd r
+thirds_within plan draft (m ∷ ms) [] is vs r = absurd r
+thirds_within plan draft (m ∷ ms) (b ∷ was) [] vs r = absurd r
+
+turn_within : (made : List Noted) (ms : List Member) (results : List Bool) (mark : Move) → IsWithin mark → AllByRecursion IsWithin (turn_moves made ms results mark)
+turn_within made ms results mark is = all_append IsWithin (as_moves made) (leave_moves ms results ++ (mark ∷ [])) (calls_within made)
+    (all_append IsWithin (leave_moves ms results) (mark ∷ []) (leaves_within ms results) (is, tt))
+
+round_within : (c : Codec) (size : ℕ → ℕ) (s : PoolSeen) (vs : List Move) → RowRound c size s vs false → AllByRecursion IsWithin vs
+round_within c size s vs row = subst (AllByRecursion IsWithin) (sym row.moves) (tt, all_append IsWithin (as_moves row.first) (as_moves row.second ++ (row.thirds ++ leave_moves (board_of s.leaves) row.results))
+    (calls_within row.first) (all_append IsWithin (as_moves row.second) (row.thirds ++ leave_moves (board_of s.leaves) row.results) (calls_within row.second)
+    (all_append IsWithin row.thirds (leave_moves (board_of s.leaves) row.results)
+    (thirds_within (third_plan size row.draft.commit) row.draft (board_of s.leaves) row.in_second row.results row.thirds row.copies) (leaves_within (board_of s.leaves) row.results))))
+
+counted_within : (part : List Move) (leaves : List LeafSeen) (ms : List Member) (results : List Bool) → AllByRecursion IsWithin part → AllByRecursion IsWithin (part ++ count_moves leaves ms results)
+counted_within part leaves ms results all = all_append IsWithin part (count_moves leaves ms results) all (sets_within (count_moves leaves ms results) (counts_set leaves ms results))
+
+-- How a turn ends.
+burn_walk : (c : Codec) (t : Side) → t.pool.group.frozen ≡ true → Walks c t (Burn ∷ [])
+burn_walk c t f = (((f, tt), f), tt)
+
+draw_walk : (c : Codec) (t : Side) → t.pool.group.frozen ≡ true → Walks c t (Draw ∷ [])
+draw_walk c t f = (((f, tt), f), tt)
+
+ends_walk : (c : Codec) (top : Option ℕ) (s : PoolState) (t : Side) (more : List Move) (going : TurnReply) (vs : List Move) (reply : TurnReply) → t.pool.group.frozen ≡ true
+    → Walks c t more → EndsBy top s more going vs reply → Walks c t vs
+ends_walk c (Some top) s t more going vs reply f walks ends = subst (Walks c t) (sym ends.0) (burn_walk c t f)
+ends_walk c None s t more going vs reply f walks ends = subst (Walks c t) (sym ends.0) walks
+
+turn_of_walk : (c : Codec) (s : PoolState) (t : Side) (part : List Move) (ms : List Member) (results : List Bool) (going : TurnReply) (vs : List Move) (reply : TurnReply)
+    → t.pool.group.frozen ≡ true → Walks c t part → AllByRecursion IsWithin part → IsTurnOf s part ms results [] going vs reply → Walks c t vs
+turn_of_walk c s t part ms results going vs reply f walks within turn = subst (Walks c t) (sym turn.moves)
+    (walks_more c (part ++ count_moves s.core.leaves ms results) turn.ending t (counted c t part s.core.leaves ms results walks)
+    (ends_walk c (emptied (steps (part ++ count_moves s.core.leaves ms results) s).core.leaves) (steps (part ++ count_moves s.core.leaves ms results) s)
+    (after_moves (part ++ count_moves s.core.leaves ms results) t) [] going turn.ending reply
+    (still_frozen (part ++ count_moves s.core.leaves ms results) t (counted_within part s.core.leaves ms results within) ∙ f) tt turn.ends))
+
+write_part_walk : (c : Codec) (s : PoolState) (t : Side) (vs : List Move) (reply : TurnReply) → Kept c s t → IsWritePart s vs reply → Walks c t vs
+write_part_walk c s t vs reply kept is = turn_of_walk c s t is.part (board_under is.row.cell.top s.core.leaves) is.row.results Write vs reply (is_frozen c s t kept is.row.frozen)
+    (write_turn_walks c s t is.part kept is.row)
+    (subst (AllByRecursion IsWithin) (sym is.row.moves) (turn_within is.row.made (board_under is.row.cell.top s.core.leaves) is.row.results (Wrote_key is.row.key) tt)) is.turn
+
+flush_part_walk : (c : Codec) (s : PoolState) (t : Side) (vs : List Move) (reply : TurnReply) → Kept c s t → IsFlushPart s vs reply → Walks c t vs
+flush_part_walk c s t vs reply kept is = turn_of_walk c s t is.part (board_of s.core.leaves) is.row.results Flush vs reply (is_frozen c s t kept is.row.frozen)
+    (flush_turn_walks c s t is.part kept is.row)
+    (subst (AllByRecursion IsWithin) (sym is.row.moves) (turn_within is.row.made (board_of s.core.leaves) is.row.results Flushed_all tt)) is.turn
+
+round_part_walk : (c : Codec) (size : ℕ → ℕ) (s : PoolState) (t : Side) (vs : List Move) (reply : TurnReply) → Kept c s t → IsSized size t → IsRoundPart c size s vs reply → Walks c t vs
+round_part_walk c size s t vs reply kept same is = subst (Walks c t) (sym is.moves) (walks_more c is.behind is.ending t behind_walks (ends is.whole is.row is.ends))
+  where
+    behind_walks : Walks c t is.behind
+    behind_walks = subst (Walks c t) (sym is.counted) (counted c t is.part s.core.leaves (board_of s.core.leaves) is.row.results (round_walks c size s t is.part is.whole kept same is.row))
+
+    ends : (whole : Bool) → (row : RowRound c size s.core is.part whole) → cond whole ((is.ending ≡ []) × (reply ≡ Committed s.core.number))
+        (EndsTurn (steps is.behind s) (Draw ∷ []) (Round s.core.number) is.ending reply) → Walks c (after_moves is.behind t) is.ending
+    ends true row e = subst (Walks c (after_moves is.behind t)) (sym e.0) tt
+    ends false row e = ends_walk c (emptied (steps is.behind s).core.leaves) (steps is.behind s) (after_moves is.behind t) (Draw ∷ []) (Round s.core.number) is.ending reply
+        (frozen row) (draw_walk c (after_moves is.behind t) (frozen row)) e
+      where
+        frozen : RowRound c size s.core is.part false → (after_moves is.behind t).pool.group.frozen ≡ true
+        frozen row = still_frozen is.behind t (subst (AllByRecursion IsWithin) (sym is.counted)
+            (counted_within is.part s.core.leaves (board_of s.core.leaves) is.row.results (round_within c size s.core is.part row))) ∙ is_frozen c s t kept row.frozen
+
+starts_walk : (c : Codec) (size : ℕ → ℕ) (top : Option ℕ) (s : PoolState) (t : Side) (vs : List Move) (reply : TurnReply) → Kept c s t → IsSized size t → s.core.group.frozen ≡ true
+    → StartsBy top c size s vs reply → Walks c t vs
+starts_walk c size (Some top) s t vs reply kept same f row = subst (Walks c t) (sym row.0) (burn_walk c t (is_frozen c s t kept f))
+starts_walk c size None s t vs reply kept same f (inl is) = write_part_walk c s t vs reply kept is
+starts_walk c size None s t vs reply kept same f (inr (inl is)) = flush_part_walk c s t vs reply kept is
+starts_walk c size None s t vs reply kept same f (inr (inr is)) = round_part_walk c size s t vs reply kept same is
+
+turn_by : (c : Codec) (size : ℕ → ℕ) (frozen : Bool) (s : PoolState) (t : Side) (vs : List Move) (reply : TurnReply) → Kept c s t → IsSized size t → s.core.group.frozen ≡ frozen
+    → TurnBy frozen c size s vs reply → Walks c t vs
+turn_by c size false s t vs reply kept same f row = subst (Walks c t) (sym row.0) tt
+turn_by c size true s t vs reply kept same f row = starts_walk c size (emptied s.core.leaves) s t vs reply kept same f row
+
+-- A turn.
+pub turn_walks : (c : Codec) (size : ℕ → ℕ) (s : PoolState) (t : Side) (vs : List Move) (reply : TurnReply) → Kept c s t → IsSized size t → RowTurn c size s vs reply → Walks c t vs
+turn_walks c size s t vs reply kept same row = turn_by c size s.core.group.frozen s t vs reply kept same refl row
+
+-- A group's turns.
+turns_walk : (c : Codec) (size : ℕ → ℕ) (s : PoolState) (t : Side) (turns : List (List Move × TurnReply)) (reply : TurnReply) → Kept c s t → IsSized size t → AreTurns c size s turns reply
+    → Walks c t (moves_in turns)
+turns_walk c size s t [] reply kept same are = absurd are
+turns_walk c size s t (turn ∷ []) reply kept same are = walks_more c turn.0 [] t (turn_walks c size s t turn.0 turn.1 kept same are.0) tt
+turns_walk c size s t (turn ∷ (next ∷ turns)) reply kept same are = let walks = turn_walks c size s t turn.0 turn.1 kept same are.0 in
+    walks_more c turn.0 (moves_in (next ∷ turns)) t walks
+    (turns_walk c size (steps turn.0 s) (after_moves turn.0 t) (next ∷ turns) reply (walk_keeps c turn.0 s t walks kept) (sized_along size turn.0 t same) are.2)
+
+pub group_walks : (c : Codec) (size : ℕ → ℕ) (s : PoolState) (t : Side) (vs : List Move) (reply : TurnReply) → Kept c s t → IsSized size t → EndsGroup c size s vs reply → Walks c t vs
+group_walks c size s t vs reply kept same ends = subst (Walks c t) (sym ends.moves) (turns_walk c size s t ends.turns reply kept same ends.are)
+
+open_walks : (c : Codec) (size : ℕ → ℕ) (s : PoolState) (t : Side) (vs : List Move) (reply : TurnReply) → Kept c s t → IsSized size t → CommitsOpen c size s vs reply → Walks c t vs
+open_walks c size s t vs reply kept same row = let walks = freeze_walks c s t row.first kept row.freeze in
+    subst (Walks c t) (sym row.moves) (walks_more c row.first row.rest t walks
+    (group_walks c size (steps row.first s) (after_moves row.first t) row.rest reply (walk_keeps c row.first s t walks kept) (sized_along size row.first t same) row.ends))
+
+sync_by : (c : Codec) (size : ℕ → ℕ) (frozen : Bool) (s : PoolState) (t : Side) (vs : List Move) (reply : TurnReply) → Kept c s t → IsSized size t → SyncBy frozen c size s vs reply → Walks c t vs
+sync_by c size false s t vs reply kept same row = open_walks c size s t vs reply kept same row
+sync_by c size true s t vs reply kept same row = behind (group_walks c size s t row.0 row.1 kept same row.2) row.3
+  where
+    behind : Walks c t row.0 → ((vs ≡ row.0) × (reply ≡ row.1)) ⊎ ((rest : List Move) × (vs ≡ row.0 ++ rest) × CommitsOpen c size (steps row.0 s) rest reply) → Walks c t vs
+    behind walks (inl only) = subst (Walks c t) (sym only.0) walks
+    behind walks (inr more) = subst (Walks c t) (sym more.1) (walks_more c row.0 more.0 t walks
+        (open_walks c size (steps row.0 s) (after_moves row.0 t) more.0 reply (walk_keeps c row.0 s t walks kept) (sized_along size row.0 t same) more.2))
+
+-- A sync.
+pub sync_walks : (c : Codec) (size : ℕ → ℕ) (s : PoolState) (t : Side) (vs : List Move) (reply : TurnReply) → Kept c s t → IsSized size t → RowSync c size s vs reply → Walks c t vs
+sync_walks c size s t vs reply kept same row = sync_by c size s.core.group.frozen s t vs reply kept same row

@@ -1,0 +1,290 @@
+-- A round may be made: its walk from its row.
+use Rattle.std.proofs.Common.{◌≡◌, ◌≢◌, ℕ, zero, suc, ◌≤◌, ◌==◌, Bool, true, false, List, [], ◌∷◌, ◌++◌, map, Option, Some, None, refl, sym, ap, ◌∙◌, subst, arith, append-nil, append_assoc}
+use Rattle.std.specs.Prelude.{slice_get}
+use Rattle.std.specs.List.{AllByRecursion}
+use Rattle.mp_base.specs.declared.number.Guid.{Guid}
+use Rattle.bank_core.specs.Asks.{Ask}
+use Rattle.bank_core.specs.Disk.{Noted}
+use Rattle.label_store.specs.declared.member.Member.{Member}
+use Rattle.label_store.specs.Phases.{IsTurn, IsPhase}
+use Rattle.label_store.specs.Rounds.{first_plan, second_plan, third_plan, uberblock_of}
+use Rattle.label_store.specs.Layout.{even_labels, odd_labels}
+use Rattle.label_store.specs.Plans.{config_plan, ring_plan}
+use Rattle.label_store.specs.Seats.{AreSeated}
+use Rattle.txg_history.specs.Events.{Event, Begins, Third, Ends, Acks, as_events}
+use Rattle.txg_history.specs.Groups.{Logs}
+use Rattle.txg_history.specs.Moves.{Mays, IsDrawnUp}
+use Rattle.txg_history.specs.Pages.{Codec}
+use Rattle.txg_history.specs.Pools.{Pool}
+use Rattle.txg_history.specs.Records.{Rec, Cells, laid_over}
+use Rattle.txg_history.specs.Rounds.{all_true, ends_if, acks_or, IsThirds, IsRoundEvents}
+use Rattle.txg_history.specs.Turns.{leavers}
+use Rattle.txg_history.proofs.RoundMoves.{round_may}
+use Rattle.pool_moves.specs.Boards.{board_of}
+use Rattle.pool_moves.specs.Keeping.{IsOfFound, IsDraftedBy, Kept, Walks}
+use Rattle.pool_moves.specs.Leaves.{Seat, At, Adrift}
+use Rattle.pool_moves.specs.Moves.{Draft, Move, Makes, Starts, Copies, Copied, Commits, rec_of, events_of, after_move, after_moves}
+use Rattle.pool_moves.specs.States.{PoolSeen, PoolState, Side}
+use Rattle.pool_moves.specs.TurnRows.{ended, IsThirdMoves, round_end, RowRound}
+use Rattle.pool_moves.specs.Walking.{events_along, AreAdmitted, IsFree, as_moves, leave_moves}
+use Rattle.pool_moves.proofs.Boarding.{frozen_core, is_frozen, seen_frozen, board_just, board_apart, board_found, all_at}
+use Rattle.pool_moves.proofs.Drafting.{HasDraftTop, drawn_up, draft_tops}
+use Rattle.pool_moves.proofs.FreeWalks.{walk_of, free_walk, free_then, all_append, calls_free, leaves_free, calls_along, leaves_along, events_more, frozen_along}
+
+-- Calls, and marks of labels.
+abbrev IsLabelMove : Move → Type 0
+IsLabelMove (Makes noted) = Unit {0}
+IsLabelMove (Copies draft d) = Unit {0}
+IsLabelMove (Copied draft d) = Unit {0}
+IsLabelMove v = ⊥
+
+-- what they leave as it was
+record Face : Type 0 where
+  pub cells : Cells
+  pub reads : Rec
+  pub guid : ℕ → Guid
+  pub in_top : ℕ → ℕ
+  pub owes : Logs
+  pub unbroken : Logs
+  pub seats : List Seat
+
+abbrev face : Side → Face
+face t = record {
+  cells = t.pool.group.cells;
+  reads = t.pool.reads;
+  guid = t.pool.guid;
+  in_top = t.pool.in_top;
+  owes = t.pool.owes;
+  unbroken = t.pool.unbroken;
+  seats = t.seats;
+}
+
+face_step : (v : Move) (t : Side) → IsLabelMove v → face (after_move v t) ≡ face t
+face_step (Makes noted) t is = refl
+face_step (Copies draft d) t is = refl
+face_step (Copied draft d) t is = refl
+face_step v t is = absurd is
+
+face_along : (vs : List Move) (t : Side) → AllByRecursion IsLabelMove vs → face (after_moves vs t) ≡ face t
+face_along [] t all = refl
+face_along (v ∷ vs) t all = face_along vs (after_move v t) all.1 ∙ face_step v t all.0
+
+calls_label : (made : List Noted) → AllByRecursion IsLabelMove (as_moves made)
+calls_label [] = tt
+calls_label (noted ∷ made) = (tt, calls_label made)
+
+ended_label : (c : Bool) (draft : Draft) (d : ℕ) → AllByRecursion IsLabelMove (ended c draft d)
+ended_label true draft d = (tt, tt)
+ended_label false draft d = tt
+
+thirds_label : (plan : Member → List Ask) (draft : Draft) (ms : List Member) (was is : List Bool) (vs : List Move) → IsThirdMoves plan draft ms was is vs → AllByRecursion IsLabelMove vs
+thirds_label plan draft [] [] [] vs r = subst (AllByRecursion IsLabelMove) (sym r) tt
+thirds_label plan draft (m ∷ ms) (true ∷ was) (c ∷ is) vs r = subst (AllByRecursion IsLabelMove) (sym r.2)
+    (tt, all_append IsLabelMove (as_moves r.0) (ended c draft m.dev ++ r.1) (calls_label r.0)
+    (all_append IsLabelMove (ended c draft m.dev) r.1 (ended_label c draft m.dev) (thirds_label plan draft ms was is r.1 r.4)))
+thirds_label plan draft (m ∷ ms) (false ∷ was) (c ∷ is) vs r = thirds_label plan draft ms was is vs r.1
+thirds_label plan draft [] [] (c ∷ is) vs r = absurd r
+thirds_label plan draft [] (b ∷ was) is vs r = absurd r
+thirds_label plan draft (m ∷ ms) [] is vs r = absurd r
+thirds_label plan draft (m ∷ ms) (b ∷ was) [] vs r = absurd r
+
+label_free : (seats : List Seat) (v : Move) → IsLabelMove v → IsFree seats v
+label_free seats (Makes noted) is = tt
+label_free seats (Copies draft d) is = tt
+label_free seats (Copied draft d) is = tt
+label_free seats v is = absurd is
+
+labels_free : (seats : List Seat) (vs : List Move) → AllByRecursion IsLabelMove vs → AllByRecursion (IsFree seats) vs
+labels_free seats [] all = tt
+labels_free seats (v ∷ vs) all = (label_free seats v all.0, labels_free seats vs all.1)
+
+-- the record of a draft behind them
+same_rec : (draft : Draft) (vs : List Move) (t : Side) → AllByRecursion IsLabelMove vs → rec_of (after_moves vs t).pool draft ≡ rec_of t.pool draft
+same_rec draft vs t all = ap (λ f. record { commit = draft.commit; cells = laid_over f.cells f.reads.cells; tops = draft.tops; owes = draft.owes }) (face_along vs t all)
+
+-- the marks of a third phase are its events
+ended_along : (c : Bool) (draft : Draft) (d : ℕ) (q : Rec) (ws : List Move) (t : Side) → rec_of t.pool draft ≡ q
+    → events_along (ended c draft d ++ ws) t ≡ ends_if c q d ++ events_along ws (after_moves (ended c draft d) t)
+ended_along true draft d q ws t same = ap (λ r. Ends r d ∷ events_along ws (after_move (Copied draft d) t)) same
+ended_along false draft d q ws t same = refl
+
+thirds_along : (plan : Member → List Ask) (draft : Draft) (q : Rec) (ms : List Member) (was is : List Bool) (vs : List Move) (t : Side) → rec_of t.pool draft ≡ q
+    → IsThirdMoves plan draft ms was is vs → IsThirds plan q ms was is (events_along vs t)
+thirds_along plan draft q [] [] [] vs t same r = ap (λ l. events_along l t) r
+thirds_along plan draft q (m ∷ ms) (true ∷ was) (c ∷ is) vs t same r = (
+    r.0,
+    events_along r.1 behind,
+    ap (λ l. events_along l t) r.2 ∙ (ap (λ x. Third x m.dev ∷ events_along (as_moves r.0 ++ (ended c draft m.dev ++ r.1)) begun) same
+        ∙ ap (λ l. Third q m.dev ∷ l) (calls_along r.0 (ended c draft m.dev ++ r.1) begun ∙ ap (λ l. as_events r.0 ++ l) (ended_along c draft m.dev q r.1 called called_same))),
+    r.3,
+    thirds_along plan draft q ms was is r.1 behind (same_rec draft (ended c draft m.dev) called (ended_label c draft m.dev) ∙ called_same) r.4,
+  )
+  where
+    begun : Side
+    begun = after_move (Copies draft m.dev) t
+
+    called : Side
+    called = after_moves (as_moves r.0) (after_move (Copies draft m.dev) t)
+
+    called_same : rec_of (after_moves (as_moves r.0) (after_move (Copies draft m.dev) t)).pool draft ≡ q
+    called_same = same_rec draft (as_moves r.0) (after_move (Copies draft m.dev) t) (calls_label r.0) ∙ same
+
+    behind : Side
+    behind = after_moves (ended c draft m.dev) (after_moves (as_moves r.0) (after_move (Copies draft m.dev) t))
+thirds_along plan draft q (m ∷ ms) (false ∷ was) (c ∷ is) vs t same r = (r.0, thirds_along plan draft q ms was is vs t same r.1)
+thirds_along plan draft q [] [] (c ∷ is) vs t same r = absurd r
+thirds_along plan draft q [] (b ∷ was) is vs t same r = absurd r
+thirds_along plan draft q (m ∷ ms) [] is vs t same r = absurd r
+thirds_along plan draft q (m ∷ ms) (b ∷ was) [] vs t same r = absurd r
+
+end_along : (whole : Bool) (draft : Draft) (q : Rec) (ms : List Member) (results : List Bool) (t : Side) → rec_of t.pool draft ≡ q
+    → events_along (round_end whole draft ms results) t ≡ acks_or whole q ms results
+end_along true draft q ms results t same = ap (λ r. Acks r ∷ []) same
+end_along false draft q ms results t same =
+    ap (λ l. events_along l t) (sym (append-nil (leave_moves ms results))) ∙ (leaves_along ms results [] t ∙ append-nil (leavers ms results))
+
+-- Plans that are the same for each member of a list.
+same_phase : (plan other : Member → List Ask) (ms : List Member) (was is : List Bool) (made : List Noted) → AllByRecursion (λ m. plan m ≡ other m) ms
+    → IsPhase plan ms was is made → IsPhase other ms was is made
+same_phase plan other [] [] [] made all ph = ph
+same_phase plan other (m ∷ ms) (b ∷ was) (c ∷ is) made all ph =
+    (ph.0, ph.1, ph.2, subst (λ asks. IsTurn asks b c ph.0) all.0 ph.3, same_phase plan other ms was is ph.1 all.1 ph.4)
+same_phase plan other [] [] (c ∷ is) made all ph = absurd ph
+same_phase plan other [] (b ∷ was) is made all ph = absurd ph
+same_phase plan other (m ∷ ms) [] is made all ph = absurd ph
+same_phase plan other (m ∷ ms) (b ∷ was) [] made all ph = absurd ph
+
+same_thirds : (plan other : Member → List Ask) (draft : Draft) (ms : List Member) (was is : List Bool) (vs : List Move) → AllByRecursion (λ m. plan m ≡ other m) ms
+    → IsThirdMoves plan draft ms was is vs → IsThirdMoves other draft ms was is vs
+same_thirds plan other draft [] [] [] vs all r = r
+same_thirds plan other draft (m ∷ ms) (true ∷ was) (c ∷ is) vs all r =
+    (r.0, r.1, r.2, subst (λ asks. IsTurn asks true c r.0) all.0 r.3, same_thirds plan other draft ms was is r.1 all.1 r.4)
+same_thirds plan other draft (m ∷ ms) (false ∷ was) (c ∷ is) vs all r = (r.0, same_thirds plan other draft ms was is vs all.1 r.1)
+same_thirds plan other draft [] [] (c ∷ is) vs all r = absurd r
+same_thirds plan other draft [] (b ∷ was) is vs all r = absurd r
+same_thirds plan other draft (m ∷ ms) [] is vs all r = absurd r
+same_thirds plan other draft (m ∷ ms) (b ∷ was) [] vs all r = absurd r
+
+-- the run has each of these devices as the history has it
+sized : (size was : ℕ → ℕ) (ms : List Member) → ((d : ℕ) → 1 ≤ size d → was d ≡ size d) → AreSeated size ms → AllByRecursion (λ m. size m.dev ≡ was m.dev) ms
+sized size was [] same seated = tt
+sized size was (m ∷ ms) same seated = (sym (same m.dev (let big = seated zero m refl in omega (arith, big))), sized size was ms same (λ i n e. seated (suc i) n e))
+
+sized_plans : (size was : ℕ → ℕ) (plan : (ℕ → ℕ) → Member → List Ask) → ((a b : ℕ → ℕ) (m : Member) → a m.dev ≡ b m.dev → plan a m ≡ plan b m) → (ms : List Member)
+    → AllByRecursion (λ m. size m.dev ≡ was m.dev) ms → AllByRecursion (λ m. plan size m ≡ plan was m) ms
+sized_plans size was plan by [] all = tt
+sized_plans size was plan by (m ∷ ms) all = (by size was m all.0, sized_plans size was plan by ms all.1)
+
+-- What each seat needs for an acknowledgement: it had it when the round began, and calls and marks leave it so.
+abbrev Drafted : Draft → Face → Type 0
+Drafted draft f = AllByRecursion (IsDraftedBy f.unbroken f.owes f.guid f.in_top draft) f.seats
+
+started_drafted : (p : Pool) (draft : Draft) (seats : List Seat) → AllByRecursion (HasDraftTop p draft) seats → AllByRecursion (IsDraftedBy p.owes p.owes p.guid p.in_top draft) seats
+started_drafted p draft [] all = tt
+started_drafted p draft (At d found own ∷ seats) all = ((refl, all.0), started_drafted p draft seats all.1)
+started_drafted p draft (Adrift leaf ∷ seats) all = (tt, started_drafted p draft seats all.1)
+
+-- lists one after another
+three_more : {A : Type 0} (a b c d : List A) → (a ++ (b ++ c)) ++ d ≡ a ++ (b ++ (c ++ d))
+three_more a b c d = append_assoc a (b ++ c) d ∙ ap (λ l. a ++ l) (append_assoc b c d)
+
+-- how a round ends is admitted
+end_admitted : (whole : Bool) (draft : Draft) (ms : List Member) (results : List Bool) (t : Side) → t.pool.group.frozen ≡ true → Drafted draft (face t)
+    → AllByRecursion (λ m. AllByRecursion (IsOfFound (λ e. m.dev == e)) t.seats) ms → AreAdmitted t (round_end whole draft ms results)
+end_admitted true draft ms results t f drafted found = ((f, drafted), tt)
+end_admitted false draft ms results t f drafted found = free_walk (leave_moves ms results) t f (leaves_free t.seats ms results found)
+
+round_at : (c : Codec) (size : ℕ → ℕ) (s : PoolState) (t : Side) (vs : List Move) (whole : Bool) → Kept c s t → t.pool.group.frozen ≡ true
+    → ((d : ℕ) → 1 ≤ size d → t.pool.size d ≡ size d) → RowRound c size (frozen_core t) vs whole → Walks c t vs
+round_at c size s t vs whole kept f same row = subst (Walks c t) (sym row.moves) (walk_of c moves t
+    (subst (Mays c p) (sym all_along) (round_may c p q ms row.results (Begins q ∷ (as_events row.first ++ (as_events row.second ++ (events_along row.thirds third ++ acks_or (all_true row.results) q ms row.results))))
+    kept.survives (drawn_up c s t draft kept f row.flushed row.fresh row.boards row.leaves row.fits) (board_just c s t kept f) (board_apart c s t kept) as_round))
+    (f, admitted))
+  where
+    p : Pool
+    p = t.pool
+
+    draft : Draft
+    draft = row.draft
+
+    q : Rec
+    q = rec_of t.pool row.draft
+
+    ms : List Member
+    ms = board_of (frozen_core t).leaves
+
+    begun : Side
+    begun = after_move (Starts row.draft) t
+
+    second : Side
+    second = after_moves (as_moves row.first) (after_move (Starts row.draft) t)
+
+    third : Side
+    third = after_moves (as_moves row.second) (after_moves (as_moves row.first) (after_move (Starts row.draft) t))
+
+    ending : Side
+    ending = after_moves row.thirds (after_moves (as_moves row.second) (after_moves (as_moves row.first) (after_move (Starts row.draft) t)))
+
+    moves : List Move
+    moves = Starts row.draft ∷ (as_moves row.first ++ (as_moves row.second ++ (row.thirds ++ round_end whole row.draft (board_of (frozen_core t).leaves) row.results)))
+
+    third_same : rec_of (after_moves (as_moves row.second) (after_moves (as_moves row.first) (after_move (Starts row.draft) t))).pool row.draft ≡ rec_of t.pool row.draft
+    third_same = same_rec row.draft (as_moves row.second) (after_moves (as_moves row.first) (after_move (Starts row.draft) t)) (calls_label row.second)
+        ∙ same_rec row.draft (as_moves row.first) (after_move (Starts row.draft) t) (calls_label row.first)
+
+    thirds_are : AllByRecursion IsLabelMove row.thirds
+    thirds_are = thirds_label (third_plan size row.draft.commit) row.draft (board_of (frozen_core t).leaves) row.in_second row.results row.thirds row.copies
+
+    ending_same : rec_of (after_moves row.thirds (after_moves (as_moves row.second) (after_moves (as_moves row.first) (after_move (Starts row.draft) t)))).pool row.draft ≡ rec_of t.pool row.draft
+    ending_same = same_rec row.draft row.thirds (after_moves (as_moves row.second) (after_moves (as_moves row.first) (after_move (Starts row.draft) t)))
+        (thirds_label (third_plan size row.draft.commit) row.draft (board_of (frozen_core t).leaves) row.in_second row.results row.thirds row.copies)
+        ∙ (same_rec row.draft (as_moves row.second) (after_moves (as_moves row.first) (after_move (Starts row.draft) t)) (calls_label row.second)
+        ∙ same_rec row.draft (as_moves row.first) (after_move (Starts row.draft) t) (calls_label row.first))
+
+    all_along : events_along moves t ≡ Begins q ∷ (as_events row.first ++ (as_events row.second ++ (events_along row.thirds third ++ acks_or (all_true row.results) q ms row.results)))
+    all_along = ap (λ l. Begins q ∷ l) (calls_along row.first (as_moves row.second ++ (row.thirds ++ round_end whole draft ms row.results)) begun
+        ∙ ap (λ l. as_events row.first ++ l) (calls_along row.second (row.thirds ++ round_end whole draft ms row.results) second
+        ∙ ap (λ l. as_events row.second ++ l) (events_more row.thirds (round_end whole draft ms row.results) third
+        ∙ ap (λ l. events_along row.thirds third ++ l) (end_along whole draft q ms row.results ending ending_same ∙ ap (λ w. acks_or w q ms row.results) row.whole_is))))
+
+    sizes : AllByRecursion (λ m. size m.dev ≡ t.pool.size m.dev) (board_of (frozen_core t).leaves)
+    sizes = sized size t.pool.size (board_of (frozen_core t).leaves) same row.seated
+
+    as_round : IsRoundEvents p.size q ms row.results (Begins q ∷ (as_events row.first ++ (as_events row.second ++ (events_along row.thirds third ++ acks_or (all_true row.results) q ms row.results))))
+    as_round = record {
+      first = row.first;
+      second = row.second;
+      thirds = events_along row.thirds third;
+      in_first = row.in_first;
+      in_second = row.in_second;
+      all = refl;
+      configs = same_phase (first_plan size draft.commit) (first_plan p.size draft.commit) ms (map (λ m. true) ms) row.in_first row.first
+          (sized_plans size p.size (λ z m. first_plan z draft.commit m) (λ a b m e. ap (λ n. config_plan m.dev (even_labels n) draft.commit.blob) e) ms sizes) row.configs;
+      uberblocks = same_phase (second_plan size draft.commit) (second_plan p.size draft.commit) ms row.in_first row.in_second row.second
+          (sized_plans size p.size (λ z m. second_plan z draft.commit m) (λ a b m e. ap (λ n. ring_plan m.dev n (uberblock_of draft.commit m)) e) ms sizes) row.uberblocks;
+      copies = thirds_along (third_plan p.size draft.commit) draft q ms row.in_second row.results row.thirds third third_same
+          (same_thirds (third_plan size draft.commit) (third_plan p.size draft.commit) draft ms row.in_second row.results row.thirds
+          (sized_plans size p.size (λ z m. third_plan z draft.commit m) (λ a b m e. ap (λ n. config_plan m.dev (odd_labels n) draft.commit.blob) e) ms sizes) row.copies);
+    }
+
+    middle : List Move
+    middle = as_moves row.first ++ (as_moves row.second ++ row.thirds)
+
+    middle_label : AllByRecursion IsLabelMove (as_moves row.first ++ (as_moves row.second ++ row.thirds))
+    middle_label = all_append IsLabelMove (as_moves row.first) (as_moves row.second ++ row.thirds) (calls_label row.first)
+        (all_append IsLabelMove (as_moves row.second) row.thirds (calls_label row.second) (thirds_label (third_plan size row.draft.commit) row.draft (board_of (frozen_core t).leaves) row.in_second row.results row.thirds row.copies))
+
+    end_face : face (after_moves (as_moves row.first ++ (as_moves row.second ++ row.thirds)) (after_move (Starts row.draft) t)) ≡ face (after_move (Starts row.draft) t)
+    end_face = face_along middle begun middle_label
+
+    admitted : AreAdmitted begun (as_moves row.first ++ (as_moves row.second ++ (row.thirds ++ round_end whole draft ms row.results)))
+    admitted = subst (AreAdmitted begun) (three_more (as_moves row.first) (as_moves row.second) row.thirds (round_end whole draft ms row.results))
+        (free_then middle (round_end whole draft ms row.results) begun f (labels_free begun.seats middle middle_label)
+        (end_admitted whole draft ms row.results (after_moves middle begun) (frozen_along middle begun (labels_free begun.seats middle middle_label) ∙ f)
+        (subst (Drafted draft) (sym end_face) (started_drafted p draft t.seats (draft_tops c s t draft kept row.leaves)))
+        (subst (λ seats. AllByRecursion (λ m. AllByRecursion (IsOfFound (λ e. m.dev == e)) seats) ms) (sym (ap (λ x. x.seats) end_face)) (board_found c s t kept))))
+
+pub round_walks : (c : Codec) (size : ℕ → ℕ) (s : PoolState) (t : Side) (vs : List Move) (whole : Bool) → Kept c s t
+    → ((d : ℕ) → 1 ≤ size d → t.pool.size d ≡ size d) → RowRound c size s.core vs whole → Walks c t vs
+round_walks c size s t vs whole kept same row = let f = is_frozen c s t kept row.frozen in
+    round_at c size s t vs whole kept f same (subst (λ core. RowRound c size core vs whole) (seen_frozen c s t kept f) row)

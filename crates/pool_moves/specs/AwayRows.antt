@@ -1,0 +1,83 @@
+-- `write` and `offline` as rows.
+use Rattle.std.specs.Prelude.{◌≡◌, ◌⊎◌, ℕ, ◌<◌, ◌≤◌, ◌==◌, ◌&&◌, ◌||◌, Bool, true, false, not, cond, Option, Some, None, List, [], ◌∷◌, ◌++◌, length}
+use Rattle.std.specs.List.{find, filter, list_all, IsAmong, AllByRecursion}
+use Rattle.std.specs.Str.{bytes_eq}
+use Rattle.mp_base.specs.declared.number.Guid.{Guid}
+use Rattle.vdev_tree.specs.Leaf.{is_up}
+use Rattle.vdev_tree.specs.declared.vdev.State.{State}
+use Rattle.vdev_tree.specs.declared.vdev.State.TheVariants.{Offline}
+use Rattle.pool_moves.specs.Leaves.{OwnLeaf, LeafSeen}
+use Rattle.pool_moves.specs.Moves.{Move, Puts, Leave, Sets}
+use Rattle.pool_moves.specs.States.{PoolState}
+
+-- What these lines answer.
+pub data WriteReply : Type 0 where
+  Taken : WriteReply
+  BadAddress : (limit : ℕ) → WriteReply
+
+-- `write`, where there is room: a block below the volume's end is taken.
+abbrev pub RowWrite : PoolState → (a : ℕ) → (block : List ℕ) → List Move → WriteReply → Type 0
+RowWrite s a block vs reply = ((a < s.own.blocks) × (vs ≡ Puts a block ∷ []) × (reply ≡ Taken))
+    ⊎ ((s.own.blocks ≤ a) × (vs ≡ []) × (reply ≡ BadAddress s.own.blocks))
+
+-- a group can't be read from a leaf: it isn't readable, or owes the group
+abbrev pub is_out : (g : ℕ) → LeafSeen → Bool
+is_out g leaf = not (is_up leaf.own.mode) || leaf.owes g
+
+abbrev pub all_out : List LeafSeen → (g : ℕ) → Bool
+all_out leaves g = list_all (is_out g) leaves
+
+-- another leaf of the same top
+abbrev pub is_sibling : LeafSeen → LeafSeen → Bool
+is_sibling leaf other = (other.top == leaf.top) && not (other.guid.0 == leaf.guid.0)
+
+abbrev pub siblings : LeafSeen → List LeafSeen → List LeafSeen
+siblings leaf leaves = filter (is_sibling leaf) leaves
+
+-- The group is the least, from 1 on, that can be read from none of these leaves.
+pub record LeastOut (leaves : List LeafSeen) (group : ℕ) : Type 0 where
+  pub first : 1 ≤ group
+  pub out : all_out leaves group ≡ true
+  pub least : (g : ℕ) → 1 ≤ g → g < group → all_out leaves g ≡ false
+
+-- The outage rule: without the leaf some group could be read from no leaf of its top.
+abbrev pub IsRequired : LeafSeen → List LeafSeen → Type 0
+IsRequired leaf leaves = (group : ℕ) × (1 ≤ group) × (all_out (siblings leaf leaves) group ≡ true)
+
+pub data OfflineReply : Type 0 where
+  Gone : OfflineReply
+  NoVdev : OfflineReply
+  Required : (group : ℕ) → OfflineReply
+
+-- the leaf of this name
+abbrev pub leaf_named : List ℕ → List LeafSeen → Option LeafSeen
+leaf_named name leaves = find (λ leaf. bytes_eq leaf.own.name name) leaves
+
+abbrev pub is_offline : State → Bool
+is_offline Offline = true
+is_offline mode = false
+
+-- a leaf on the board leaves it
+abbrev pub leave_if : Bool → Option ℕ → List Move
+leave_if true (Some d) = Leave d ∷ []
+leave_if true None = []
+leave_if false dev = []
+
+abbrev pub gone : (temporary : Bool) → OwnLeaf → OwnLeaf
+gone temporary own = record own { mode = Offline; temporary = temporary }
+
+-- A leaf that is OFFLINE already stays so, and only how long changes. Another one goes, unless some group could be read from no
+-- other leaf of its top: then it is required, for the least such group.
+abbrev pub OfflineLeaf : (already : Bool) → PoolState → LeafSeen → (temporary : Bool) → List Move → OfflineReply → Type 0
+OfflineLeaf true s leaf temporary vs reply = (vs ≡ Sets leaf.guid (gone temporary leaf.own) ∷ []) × (reply ≡ Gone)
+OfflineLeaf false s leaf temporary vs reply =
+    ((group : ℕ) × LeastOut (siblings leaf s.core.leaves) group × (vs ≡ []) × (reply ≡ Required group))
+    ⊎ (¬ (IsRequired leaf s.core.leaves) × (vs ≡ leave_if leaf.on leaf.dev ++ (Sets leaf.guid (gone temporary leaf.own) ∷ [])) × (reply ≡ Gone))
+
+abbrev pub OfflineBy : Option LeafSeen → PoolState → (temporary : Bool) → List Move → OfflineReply → Type 0
+OfflineBy None s temporary vs reply = (vs ≡ []) × (reply ≡ NoVdev)
+OfflineBy (Some leaf) s temporary vs reply = OfflineLeaf (is_offline leaf.own.mode) s leaf temporary vs reply
+
+-- `offline`
+abbrev pub RowOffline : PoolState → (name : List ℕ) → (temporary : Bool) → List Move → OfflineReply → Type 0
+RowOffline s name temporary vs reply = OfflineBy (leaf_named name s.core.leaves) s temporary vs reply

@@ -1,0 +1,14 @@
+pub mod AwayRows
+pub mod Boards
+pub mod CommitRows
+pub mod Drafts
+pub mod FreezeRow
+pub mod Keeping
+pub mod Leaves
+pub mod LineRows
+pub mod Making
+pub mod Moves
+pub mod ReadRow
+pub mod States
+pub mod TurnRows
+pub mod Walking
