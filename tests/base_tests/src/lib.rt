@@ -2,10 +2,24 @@
 #![tactic(auto)]
 
 #[cfg(test)]
+mod bank;
+#[cfg(test)]
 mod base;
 #[cfg(test)]
 mod built;
 #[cfg(test)]
+mod codec;
+#[cfg(test)]
 mod files;
 #[cfg(test)]
+mod labels;
+#[cfg(test)]
+mod planned_files;
+#[cfg(test)]
+mod rules;
+#[cfg(test)]
+mod sets;
+#[cfg(test)]
 mod trees;
+#[cfg(test)]
+mod wire;

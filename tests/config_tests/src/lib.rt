@@ -1,0 +1,15 @@
+//! Tests of edits of trees and of whole configurations by public calls alone: a file for each subject.
+#![tactic(auto)]
+
+#[cfg(test)]
+mod by_hand;
+#[cfg(test)]
+mod edits;
+#[cfg(test)]
+mod largest;
+#[cfg(test)]
+mod random;
+#[cfg(test)]
+mod rules;
+#[cfg(test)]
+mod trees;
