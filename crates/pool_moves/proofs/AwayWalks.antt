@@ -42,7 +42,7 @@ found_leaf : (test : LeafSeen → Bool) (f r : Bool) (p : Pool) (all seats : Lis
 found_leaf test f r p all [] leaf away up is = absurd (cc)
 found_leaf test f r p all (seat ∷ seats) leaf away up is = by_bool (test (leaf_seen f r (told p) seat))
     (λ yes. subst (IsBoarded f all) (let same : leaf_seen f r (told p) seat ≡ leaf = some_same (leaf_seen f r (told p) seat) leaf (sym (ap (λ t. cond t (Some (leaf_seen f r (told p) seat)) (find test (map (leaf_seen f r (told p)) seats))) yes) ∙ is) in same)
-        (boarded_leaf f r p all seat away.0 (λ d at. up d (inl at))))
+    (boarded_leaf f r p all seat away.0 (λ d at. up d (inl at))))
     (λ no. found_leaf test f r p all seats leaf away.1 (λ d has. up d (inr has)) (sym (ap (λ t. cond t (Some (leaf_seen f r (told p) seat)) (find test (map (leaf_seen f r (told p)) seats))) no) ∙ is))
   where
     some_same : (a b : LeafSeen) → Some a ≡ Some b → a ≡ b

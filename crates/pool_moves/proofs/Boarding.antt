@@ -143,8 +143,10 @@ members_found which p (At d found own ∷ seats) away apart =
     before_all (AllByRecursion (λ m. AllByRecursion (IsOfFound (λ e. m.dev == e)) (At d found own ∷ seats))) (which (leaf_seen true p.scan.running (told p) (At d found own))) (dev_if found d) (p.guid d)
     (members_where which (leaves_of p seats))
     (with_head seats d found own (members_where which (leaves_of p seats)) (others_apart which p d seats away.1 apart.0) (members_found which p seats away.1 apart.1))
-    (λ e is dev. (((λ un. true_not_false found (dev_is found d e dev).0 un), subst (λ n. AllByRecursion (IsOfFound (λ x. n == x)) seats) (dev_is found d e dev).1 (found_alone d seats apart.0)),
-    with_head seats d found own (members_where which (leaves_of p seats)) (others_apart which p d seats away.1 apart.0) (members_found which p seats away.1 apart.1)))
+    (λ e is dev. (
+      ((λ un. true_not_false found (dev_is found d e dev).0 un), subst (λ n. AllByRecursion (IsOfFound (λ x. n == x)) seats) (dev_is found d e dev).1 (found_alone d seats apart.0)),
+      with_head seats d found own (members_where which (leaves_of p seats)) (others_apart which p d seats away.1 apart.0) (members_found which p seats away.1 apart.1),
+    ))
 members_found which p (Adrift leaf ∷ seats) away apart =
     before_all (AllByRecursion (λ m. AllByRecursion (IsOfFound (λ e. m.dev == e)) (Adrift leaf ∷ seats))) (which leaf) leaf.dev leaf.guid (members_where which (leaves_of p seats))
     (with_adrift seats leaf (members_where which (leaves_of p seats)) (members_found which p seats away.1 apart)) (λ d is dev. no_dev leaf.dev d away.0.0 dev)

@@ -149,10 +149,13 @@ drawn_up c s t draft kept frozen flushed fresh none is fits = record {
     }
 
     as_none : (d : ℕ) → t.pool.member d ≡ true → AllByRecursion (IsElsewhere d) t.seats → IsNoLeaf (rec_of t.pool draft) (t.pool.guid d) × (t.pool.group.board d ≡ false)
-    as_none d mine off = (record {
-      no_top = ap (λ f. f (t.pool.guid d)) tops_are ∙ top_none t.pool d t.seats (kept.numbered d mine) off;
-      all = λ g. ap (λ f. f (t.pool.guid d) g) owes_are ∙ owes_none t.pool d g t.seats (kept.numbered d mine) off;
-    }, not_true (t.pool.group.board d) (λ on. no_seat d t.seats off (found_seat d t.seats (kept.boarded frozen d mine on))))
+    as_none d mine off = (
+      record {
+        no_top = ap (λ f. f (t.pool.guid d)) tops_are ∙ top_none t.pool d t.seats (kept.numbered d mine) off;
+        all = λ g. ap (λ f. f (t.pool.guid d) g) owes_are ∙ owes_none t.pool d g t.seats (kept.numbered d mine) off;
+      },
+      not_true (t.pool.group.board d) (λ on. no_seat d t.seats off (found_seat d t.seats (kept.boarded frozen d mine on))),
+    )
 
 -- and it has each leaf of the list under its top
 seats_in : (seats : List Seat) (more : List Seat) → ((d : ℕ) → HasSeat d more → HasSeat d seats) → AllByRecursion (HasOwnSeat seats) more

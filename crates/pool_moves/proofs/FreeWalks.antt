@@ -20,8 +20,10 @@ use Rattle.pool_moves.proofs.Keeping.{all_map, all_same, seat_cases}
 -- A walk is moves that the history allows and the state admits.
 pub walk_of : (c : Codec) (vs : List Move) (t : Side) → Mays c t.pool (events_along vs t) → AreAdmitted t vs → Walks c t vs
 walk_of c [] t may ok = tt
-walk_of c (v ∷ vs) t may ok = ((mays_first c (events_of v t.pool) (events_along vs (after_move v t)) t.pool may, ok.0),
-    walk_of c vs (after_move v t) (mays_second c (events_of v t.pool) (events_along vs (after_move v t)) t.pool may) ok.1)
+walk_of c (v ∷ vs) t may ok = (
+  (mays_first c (events_of v t.pool) (events_along vs (after_move v t)) t.pool may, ok.0),
+  walk_of c vs (after_move v t) (mays_second c (events_of v t.pool) (events_along vs (after_move v t)) t.pool may) ok.1,
+)
 
 pub walks_more : (c : Codec) (vs ws : List Move) (t : Side) → Walks c t vs → Walks c (after_moves vs t) ws → Walks c t (vs ++ ws)
 walks_more c [] ws t a b = b
@@ -98,8 +100,10 @@ free_stays v w t free is = absurd is
 
 pub free_walk : (vs : List Move) (t : Side) → t.pool.group.frozen ≡ true → AllByRecursion (IsFree t.seats) vs → AreAdmitted t vs
 free_walk [] t f all = tt
-free_walk (v ∷ vs) t f all = (free_admitted v t f all.0,
-    free_walk vs (after_move v t) (free_frozen v t all.0 ∙ f) (all_same (IsFree t.seats) (IsFree (seats_by v t)) (λ w is. free_stays v w t all.0 is) vs all.1))
+free_walk (v ∷ vs) t f all = (
+  free_admitted v t f all.0,
+  free_walk vs (after_move v t) (free_frozen v t all.0 ∙ f) (all_same (IsFree t.seats) (IsFree (seats_by v t)) (λ w is. free_stays v w t all.0 is) vs all.1),
+)
 
 -- behind free moves a group is still frozen
 pub frozen_along : (vs : List Move) (t : Side) → AllByRecursion (IsFree t.seats) vs → (after_moves vs t).pool.group.frozen ≡ t.pool.group.frozen
@@ -114,8 +118,10 @@ free_along (v ∷ vs) w t all is = free_along vs w (after_move v t) (all_same (I
 -- free, and then more
 pub free_then : (vs ws : List Move) (t : Side) → t.pool.group.frozen ≡ true → AllByRecursion (IsFree t.seats) vs → AreAdmitted (after_moves vs t) ws → AreAdmitted t (vs ++ ws)
 free_then [] ws t f all ok = ok
-free_then (v ∷ vs) ws t f all ok = (free_admitted v t f all.0,
-    free_then vs ws (after_move v t) (free_frozen v t all.0 ∙ f) (all_same (IsFree t.seats) (IsFree (seats_by v t)) (λ w is. free_stays v w t all.0 is) vs all.1) ok)
+free_then (v ∷ vs) ws t f all ok = (
+  free_admitted v t f all.0,
+  free_then vs ws (after_move v t) (free_frozen v t all.0 ∙ f) (all_same (IsFree t.seats) (IsFree (seats_by v t)) (λ w is. free_stays v w t all.0 is) vs all.1) ok,
+)
 
 pub all_append : {A : Type 0} (P : A → Type 0) (xs ys : List A) → AllByRecursion P xs → AllByRecursion P ys → AllByRecursion P (xs ++ ys)
 all_append P [] ys a b = b

@@ -72,10 +72,11 @@ with_away leaf which (Adrift other ∷ seats) none all = (tt, with_away leaf whi
 
 up_of_found : (f : Bool) (p : Pool) (seats : List Seat) → AllByRecursion IsAway seats → AreSeatsApart seats → AllByRecursion (IsOfFound (up_devs (leaves_by f p seats))) seats
 up_of_found f p [] away apart = tt
-up_of_found f p (At e found own ∷ seats) away apart =
-    ((λ un. neither (is_up own.mode) (is_dev e (dev_if found e)) (up_devs (leaves_by f p seats) e) (ap (λ x. is_dev e (dev_if x e)) un)
-    (by_bool (up_devs (leaves_by f p seats) e) (λ on. found_elsewhere e seats apart.0 (up_found f p e seats away.1 on)) (λ off. off))),
-    with_up e found own (up_devs (leaves_by f p seats)) seats apart.0 (up_of_found f p seats away.1 apart.1))
+up_of_found f p (At e found own ∷ seats) away apart = (
+  (λ un. neither (is_up own.mode) (is_dev e (dev_if found e)) (up_devs (leaves_by f p seats) e) (ap (λ x. is_dev e (dev_if x e)) un)
+      (by_bool (up_devs (leaves_by f p seats) e) (λ on. found_elsewhere e seats apart.0 (up_found f p e seats away.1 on)) (λ off. off))),
+  with_up e found own (up_devs (leaves_by f p seats)) seats apart.0 (up_of_found f p seats away.1 apart.1),
+)
 up_of_found f p (Adrift leaf ∷ seats) away apart = (tt, with_away leaf (up_devs (leaves_by f p seats)) seats away.0.0 (up_of_found f p seats away.1 apart))
 
 -- a member on the board stands under a top
@@ -148,9 +149,18 @@ freeze_walks c s t vs kept row = freeze_at c s t vs kept (is_idle c s t kept row
     (subst (λ core. RowFreeze c (record { own = s.own; core = core }) vs) kept.core row)
 
 empty_at : (c : Codec) (s : PoolState) (t : Side) (vs : List Move) → Kept c s t → t.pool.group.frozen ≡ false → RowEmptyFreeze (record { own = s.own; core = seen t }) vs → Walks c t vs
-empty_at c s t vs kept idle row = subst (Walks c t) (sym row.moves) (((empty_freeze c t.pool (up_devs (seen t).leaves) idle
-    (λ a. sym (open_written c s t kept idle a ∙ ap (λ w. over w (block_in t.pool.reads.cells a)) (row.unwritten a)))
-    (λ d mine on. found_top t.pool.group.frozen t.pool d t.seats row.tops (up_found t.pool.group.frozen t.pool d t.seats kept.away on)), tt), freeze_admitted c s t (λ k. None) kept), tt)
+empty_at c s t vs kept idle row = subst (Walks c t) (sym row.moves) (
+  (
+    (
+      empty_freeze c t.pool (up_devs (seen t).leaves) idle
+          (λ a. sym (open_written c s t kept idle a ∙ ap (λ w. over w (block_in t.pool.reads.cells a)) (row.unwritten a)))
+          (λ d mine on. found_top t.pool.group.frozen t.pool d t.seats row.tops (up_found t.pool.group.frozen t.pool d t.seats kept.away on)),
+      tt,
+    ),
+    freeze_admitted c s t (λ k. None) kept,
+  ),
+  tt,
+)
 
 pub empty_freeze_walks : (c : Codec) (s : PoolState) (t : Side) (vs : List Move) → Kept c s t → RowEmptyFreeze s vs → Walks c t vs
 empty_freeze_walks c s t vs kept row = empty_at c s t vs kept (is_idle c s t kept row.idle)

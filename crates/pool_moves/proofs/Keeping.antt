@@ -221,8 +221,10 @@ lose_away d t off (At e found own) is = by (d == e) is.0.1 (λ same. same_device
   where
     by : (x : Bool) → (x ≡ true → found ≡ false) → (x ≡ true → d ≡ e)
         → IsAway (cond x (Adrift (leaf_seen t.pool.group.frozen t.pool.scan.running (told t.pool) (At e found own))) (At e found own))
-    by true un same = (ap (λ f. dev_if f e) (un refl),
-        subst (λ n. t.pool.member n ≡ true → cond t.pool.group.frozen (t.pool.group.board n) false ≡ false) (same refl) off is.1)
+    by true un same = (
+      ap (λ f. dev_if f e) (un refl),
+      subst (λ n. t.pool.member n ≡ true → cond t.pool.group.frozen (t.pool.group.board n) false ≡ false) (same refl) off is.1,
+    )
     by false un same = tt
 lose_away d t off (Adrift leaf) is = is.0.0
 
@@ -309,18 +311,20 @@ guid_away e d m guid off = ap (λ t. cond t m (guid d)) off
 come_here : (p : Pool) (e d : ℕ) (m : Guid) → (e == d) ≡ true → (seats : List Seat) → AllByRecursion (IsElsewhere e) seats → AllByRecursion (HasOtherNumber p.guid m) seats
     → AllByRecursion (IsOwnNumber (at_device e m p.guid) d) seats
 come_here p e d m is [] off others = tt
-come_here p e d m is (At x found own ∷ seats) off others =
-    (inr (ap (λ n. (n.0 == (at_device e m p.guid d).0)) (guid_away e x m p.guid off.0) ∙ (ap (λ n. ((p.guid x).0 == n.0)) (guid_there e d m p.guid is) ∙ others.0)),
-    come_here p e d m is seats off.1 others.1)
+come_here p e d m is (At x found own ∷ seats) off others = (
+  inr (ap (λ n. (n.0 == (at_device e m p.guid d).0)) (guid_away e x m p.guid off.0) ∙ (ap (λ n. ((p.guid x).0 == n.0)) (guid_there e d m p.guid is) ∙ others.0)),
+  come_here p e d m is seats off.1 others.1,
+)
 come_here p e d m is (Adrift leaf ∷ seats) off others =
     (ap (λ n. (leaf.guid.0 == n.0)) (guid_there e d m p.guid is) ∙ others.0, come_here p e d m is seats off.1 others.1)
 
 come_away : (p : Pool) (e d : ℕ) (m : Guid) → (e == d) ≡ false → (seats : List Seat) → AllByRecursion (IsElsewhere e) seats → AllByRecursion (IsOwnNumber p.guid d) seats
     → AllByRecursion (IsOwnNumber (at_device e m p.guid) d) seats
 come_away p e d m away [] off others = tt
-come_away p e d m away (At x found own ∷ seats) off others =
-    (⊎_elim (λ same. inl same) (λ other. inr (ap (λ n. (n.0 == (at_device e m p.guid d).0)) (guid_away e x m p.guid off.0) ∙ (ap (λ n. ((p.guid x).0 == n.0)) (guid_away e d m p.guid away) ∙ other))) others.0,
-    come_away p e d m away seats off.1 others.1)
+come_away p e d m away (At x found own ∷ seats) off others = (
+  ⊎_elim (λ same. inl same) (λ other. inr (ap (λ n. (n.0 == (at_device e m p.guid d).0)) (guid_away e x m p.guid off.0) ∙ (ap (λ n. ((p.guid x).0 == n.0)) (guid_away e d m p.guid away) ∙ other))) others.0,
+  come_away p e d m away seats off.1 others.1,
+)
 come_away p e d m away (Adrift leaf ∷ seats) off others =
     (ap (λ n. (leaf.guid.0 == n.0)) (guid_away e d m p.guid away) ∙ others.0, come_away p e d m away seats off.1 others.1)
 

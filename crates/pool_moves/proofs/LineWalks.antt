@@ -95,9 +95,11 @@ ended_within false draft d = tt
 
 thirds_within : (plan : Member → List Ask) (draft : Draft) (ms : List Member) (was is : List Bool) (vs : List Move) → IsThirdMoves plan draft ms was is vs → AllByRecursion IsWithin vs
 thirds_within plan draft [] [] [] vs r = subst (AllByRecursion IsWithin) (sym r) tt
-thirds_within plan draft (m ∷ ms) (true ∷ was) (c ∷ is) vs r = subst (AllByRecursion IsWithin) (sym r.2)
-    (tt, all_append IsWithin (as_moves r.0) (ended c draft m.dev ++ r.1) (calls_within r.0)
-    (all_append IsWithin (ended c draft m.dev) r.1 (ended_within c draft m.dev) (thirds_within plan draft ms was is r.1 r.4)))
+thirds_within plan draft (m ∷ ms) (true ∷ was) (c ∷ is) vs r = subst (AllByRecursion IsWithin) (sym r.2) (
+  tt,
+  all_append IsWithin (as_moves r.0) (ended c draft m.dev ++ r.1) (calls_within r.0)
+      (all_append IsWithin (ended c draft m.dev) r.1 (ended_within c draft m.dev) (thirds_within plan draft ms was is r.1 r.4)),
+)
 thirds_within plan draft (m ∷ ms) (false ∷ was) (c ∷ is) vs r = thirds_within plan draft ms was is vs r.1
 thirds_within plan draft [] [] (c ∷ is) vs r = absurd r
 thirds_within plan draft [] (b ∷ was) is vs r = absurd r
@@ -109,10 +111,13 @@ turn_within made ms results mark is = all_append IsWithin (as_moves made) (leave
     (all_append IsWithin (leave_moves ms results) (mark ∷ []) (leaves_within ms results) (is, tt))
 
 round_within : (c : Codec) (size : ℕ → ℕ) (s : PoolSeen) (vs : List Move) → RowRound c size s vs false → AllByRecursion IsWithin vs
-round_within c size s vs row = subst (AllByRecursion IsWithin) (sym row.moves) (tt, all_append IsWithin (as_moves row.first) (as_moves row.second ++ (row.thirds ++ leave_moves (board_of s.leaves) row.results))
-    (calls_within row.first) (all_append IsWithin (as_moves row.second) (row.thirds ++ leave_moves (board_of s.leaves) row.results) (calls_within row.second)
-    (all_append IsWithin row.thirds (leave_moves (board_of s.leaves) row.results)
-    (thirds_within (third_plan size row.draft.commit) row.draft (board_of s.leaves) row.in_second row.results row.thirds row.copies) (leaves_within (board_of s.leaves) row.results))))
+round_within c size s vs row = subst (AllByRecursion IsWithin) (sym row.moves) (
+  tt,
+  all_append IsWithin (as_moves row.first) (as_moves row.second ++ (row.thirds ++ leave_moves (board_of s.leaves) row.results))
+      (calls_within row.first) (all_append IsWithin (as_moves row.second) (row.thirds ++ leave_moves (board_of s.leaves) row.results) (calls_within row.second)
+      (all_append IsWithin row.thirds (leave_moves (board_of s.leaves) row.results)
+      (thirds_within (third_plan size row.draft.commit) row.draft (board_of s.leaves) row.in_second row.results row.thirds row.copies) (leaves_within (board_of s.leaves) row.results))),
+)
 
 counted_within : (part : List Move) (leaves : List LeafSeen) (ms : List Member) (results : List Bool) → AllByRecursion IsWithin part → AllByRecursion IsWithin (part ++ count_moves leaves ms results)
 counted_within part leaves ms results all = all_append IsWithin part (count_moves leaves ms results) all (sets_within (count_moves leaves ms results) (counts_set leaves ms results))

@@ -153,14 +153,16 @@ heal_first : (c : Codec) (p : Pool) (k : Key) (cell : Cell) (copy : CopyOf) (wro
     → AllByRecursion (IsCopy p.member p.in_top p.owes cell) (copy ∷ wrong) → AllByRecursion (IsHurt cell p.sectors) (copy ∷ wrong) → copy.lacks ≡ false
     → asks_of made ≡ Writes copy.dev (data_start + cell.sector) cell.block ∷ rewrites (data_start + cell.sector) cell.block (filter (λ copy. not copy.lacks) wrong)
     → ((noted : Noted) (made : List Noted) → IsReadOrWrite noted.call → Survives c (after (Calls noted) p)
-        → asks_of made ≡ rewrites (data_start + cell.sector) cell.block (filter (λ copy. not copy.lacks) wrong) → Mays c (after (Calls noted) p) (as_events made))
+    → asks_of made ≡ rewrites (data_start + cell.sector) cell.block (filter (λ copy. not copy.lacks) wrong) → Mays c (after (Calls noted) p) (as_events made))
     → Mays c p (as_events made)
 heal_first c p k cell copy wrong [] sv at are hurt has asks rest = absurd (cc)
 heal_first c p k cell copy wrong (noted ∷ made) sv at are hurt has asks rest =
     let call = write_call noted.call copy.dev (data_start + cell.sector) cell.block (let a : ask_of noted.call ≡ Writes copy.dev (data_start + cell.sector) cell.block = cc in a) in
-    let sparing = subst (IsSparing p) (sym call.1) (heal_sparing c p k cell copy.dev call.0 sv at (λ is. (are.0.top_is, hurt.0 has))) in
-    (sparing, rest noted made (subst IsReadOrWrite (sym call.1) tt) (event_survives c p (Calls noted) sv sparing)
-    (let more : asks_of made ≡ rewrites (data_start + cell.sector) cell.block (filter (λ copy. not copy.lacks) wrong) = cc in more))
+    let sparing = subst (IsSparing p) (sym call.1) (heal_sparing c p k cell copy.dev call.0 sv at (λ is. (are.0.top_is, hurt.0 has))) in (
+      sparing,
+      rest noted made (subst IsReadOrWrite (sym call.1) tt) (event_survives c p (Calls noted) sv sparing)
+          (let more : asks_of made ≡ rewrites (data_start + cell.sector) cell.block (filter (λ copy. not copy.lacks) wrong) = cc in more),
+    )
 
 heals_may : (c : Codec) (p : Pool) (k : Key) (cell : Cell) (wrong : List CopyOf) (made : List Noted) → Survives c p → p.reads.cells k ≡ Some cell
     → AllByRecursion (IsCopy p.member p.in_top p.owes cell) wrong → AllByRecursion (IsHurt cell p.sectors) wrong
@@ -170,7 +172,7 @@ heals_may c p k cell [] (noted ∷ made) sv at are hurt asks = absurd (cc)
 heals_may c p k cell (copy ∷ wrong) made sv at are hurt asks = by_bool copy.lacks
     (λ lacks. heals_may c p k cell wrong made sv at are.1 hurt.1 (asks ∙ ap (λ t. rewrites (data_start + cell.sector) cell.block (cond (not t) (copy ∷ filter (λ copy. not copy.lacks) wrong) (filter (λ copy. not copy.lacks) wrong))) lacks))
     (λ has. heal_first c p k cell copy wrong made sv at are hurt has (asks ∙ ap (λ t. rewrites (data_start + cell.sector) cell.block (cond (not t) (copy ∷ filter (λ copy. not copy.lacks) wrong) (filter (λ copy. not copy.lacks) wrong))) has)
-        (λ noted made plain sv asks. heals_may c (after (Calls noted) p) k cell wrong made sv at are.1 (healed_rest cell p noted plain wrong hurt.1) asks))
+    (λ noted made plain sv asks. heals_may c (after (Calls noted) p) k cell wrong made sv at are.1 (healed_rest cell p noted plain wrong hurt.1) asks))
 
 -- The copies on the leaves of a top.
 all_filter : {A : Type 0} (P Q : A → Type 0) (test : A → Bool) → ((x : A) → P x → test x ≡ true → Q x) → (xs : List A) → AllByRecursion P xs → AllByRecursion Q (filter test xs)
@@ -271,10 +273,13 @@ copies_at c t k cell sum vs outcome s kept at is row answers = subst Goal (some_
         read_then None reads healed = inl (walk (both (subst (λ made. Mays c (with_calls row.reads t.pool) (as_events made)) (sym healed) tt)))
         read_then (Some bytes) reads healed = by_bool (bytes_eq bytes cell.block)
             (λ same. let equal = (bytes_eq-Decides bytes cell.block).0 same in
-                inl (walk (both (heals_may c (with_calls row.reads t.pool) k cell row.wrong row.rewrites survives at are.are are.hurt
-                    (healed ∙ ap (λ b. rewrites (data_start + cell.sector) b (filter (λ copy. not copy.lacks) row.wrong)) equal)))))
-            (λ other. inr (record { other = λ equal. absurd (let no : true ≡ false = sym ((bytes_eq-Decides bytes cell.block).1 equal) ∙ other in cc); same_sum = outcome_sum (data_start + cell.sector) (sha256 cell.block)
-                (tries (copies_of (sum_of_cell cell) (seen t).leaves)) row.reads row.wrong bytes reads }))
+            inl (walk (both (heals_may c (with_calls row.reads t.pool) k cell row.wrong row.rewrites survives at are.are are.hurt
+            (healed ∙ ap (λ b. rewrites (data_start + cell.sector) b (filter (λ copy. not copy.lacks) row.wrong)) equal)))))
+            (λ other. inr (record {
+              other = λ equal. absurd (let no : true ≡ false = sym ((bytes_eq-Decides bytes cell.block).1 equal) ∙ other in cc);
+              same_sum = outcome_sum (data_start + cell.sector) (sha256 cell.block)
+                  (tries (copies_of (sum_of_cell cell) (seen t).leaves)) row.reads row.wrong bytes reads;
+            }))
 
 -- the reads among a read's calls answer
 made_calls : (made : List Noted) (vs : List Move) → made_in (as_moves made ++ vs) ≡ made ++ made_in vs
@@ -310,9 +315,9 @@ below_group : (c : Codec) (s : PoolState) (t : Side) (a : ℕ) → Kept c s t �
     → cond t.pool.group.frozen (t.pool.group.content a) (block_in t.pool.reads.cells a) ≡ block_of (cell_over cell (t.pool.reads.cells (key 0 a)))
 below_group c s t a kept cell is = by_bool t.pool.group.frozen
     (λ f. ap (λ x. cond x (t.pool.group.content a) (block_in t.pool.reads.cells a)) f ∙ (sym (kept.survives.come_to.contents f a)
-        ∙ ap (λ o. block_of (cell_over o (t.pool.reads.cells (key 0 a)))) (sym (ap (λ x. (group_seen x t.pool.group).cells (key 0 a)) f) ∙ is)))
+    ∙ ap (λ o. block_of (cell_over o (t.pool.reads.cells (key 0 a)))) (sym (ap (λ x. (group_seen x t.pool.group).cells (key 0 a)) f) ∙ is)))
     (λ f. ap (λ x. cond x (t.pool.group.content a) (block_in t.pool.reads.cells a)) f
-        ∙ ap (λ o. block_of (cell_over o (t.pool.reads.cells (key 0 a)))) (sym (ap (λ x. (group_seen x t.pool.group).cells (key 0 a)) f) ∙ is))
+    ∙ ap (λ o. block_of (cell_over o (t.pool.reads.cells (key 0 a)))) (sym (ap (λ x. (group_seen x t.pool.group).cells (key 0 a)) f) ∙ is))
 
 read_group : (c : Codec) (a : ℕ) (cell : Option Cell) (s : PoolState) (t : Side) (vs : List Move) (reply : ReadReply) → Kept c s t → (seen t).group.cells (key 0 a) ≡ cell
     → t.pool.written a ≡ cond t.pool.group.frozen (t.pool.group.content a) (block_in t.pool.reads.cells a) → AllAnswer t.pool.sectors (made_in vs)

@@ -79,9 +79,11 @@ ended_label false draft d = tt
 
 thirds_label : (plan : Member → List Ask) (draft : Draft) (ms : List Member) (was is : List Bool) (vs : List Move) → IsThirdMoves plan draft ms was is vs → AllByRecursion IsLabelMove vs
 thirds_label plan draft [] [] [] vs r = subst (AllByRecursion IsLabelMove) (sym r) tt
-thirds_label plan draft (m ∷ ms) (true ∷ was) (c ∷ is) vs r = subst (AllByRecursion IsLabelMove) (sym r.2)
-    (tt, all_append IsLabelMove (as_moves r.0) (ended c draft m.dev ++ r.1) (calls_label r.0)
-    (all_append IsLabelMove (ended c draft m.dev) r.1 (ended_label c draft m.dev) (thirds_label plan draft ms was is r.1 r.4)))
+thirds_label plan draft (m ∷ ms) (true ∷ was) (c ∷ is) vs r = subst (AllByRecursion IsLabelMove) (sym r.2) (
+  tt,
+  all_append IsLabelMove (as_moves r.0) (ended c draft m.dev ++ r.1) (calls_label r.0)
+      (all_append IsLabelMove (ended c draft m.dev) r.1 (ended_label c draft m.dev) (thirds_label plan draft ms was is r.1 r.4)),
+)
 thirds_label plan draft (m ∷ ms) (false ∷ was) (c ∷ is) vs r = thirds_label plan draft ms was is vs r.1
 thirds_label plan draft [] [] (c ∷ is) vs r = absurd r
 thirds_label plan draft [] (b ∷ was) is vs r = absurd r
@@ -112,13 +114,13 @@ thirds_along : (plan : Member → List Ask) (draft : Draft) (q : Rec) (ms : List
     → IsThirdMoves plan draft ms was is vs → IsThirds plan q ms was is (events_along vs t)
 thirds_along plan draft q [] [] [] vs t same r = ap (λ l. events_along l t) r
 thirds_along plan draft q (m ∷ ms) (true ∷ was) (c ∷ is) vs t same r = (
-    r.0,
-    events_along r.1 behind,
-    ap (λ l. events_along l t) r.2 ∙ (ap (λ x. Third x m.dev ∷ events_along (as_moves r.0 ++ (ended c draft m.dev ++ r.1)) begun) same
-        ∙ ap (λ l. Third q m.dev ∷ l) (calls_along r.0 (ended c draft m.dev ++ r.1) begun ∙ ap (λ l. as_events r.0 ++ l) (ended_along c draft m.dev q r.1 called called_same))),
-    r.3,
-    thirds_along plan draft q ms was is r.1 behind (same_rec draft (ended c draft m.dev) called (ended_label c draft m.dev) ∙ called_same) r.4,
-  )
+  r.0,
+  events_along r.1 behind,
+  ap (λ l. events_along l t) r.2 ∙ (ap (λ x. Third x m.dev ∷ events_along (as_moves r.0 ++ (ended c draft m.dev ++ r.1)) begun) same
+      ∙ ap (λ l. Third q m.dev ∷ l) (calls_along r.0 (ended c draft m.dev ++ r.1) begun ∙ ap (λ l. as_events r.0 ++ l) (ended_along c draft m.dev q r.1 called called_same))),
+  r.3,
+  thirds_along plan draft q ms was is r.1 behind (same_rec draft (ended c draft m.dev) called (ended_label c draft m.dev) ∙ called_same) r.4,
+)
   where
     begun : Side
     begun = after_move (Copies draft m.dev) t

@@ -38,9 +38,9 @@ freeze_leaf : (f r : Bool) (p : Pool) (cells : Cells) (board : ℕ → Bool) (fi
     → leaf_seen true r (told (after (Freezes cells board) p)) (seat_step (Freeze cells board) p seat) ≡ leaf_step (Freeze cells board) p.highest first hi (leaf_seen f r (told p) seat)
 freeze_leaf f r p cells board first hi (At d true own) fits = refl
 freeze_leaf f r p cells board first hi (At d false own) fits = ap (λ t. record (leaf_seen f r (told p) (At d false own)) {
-    owes = log_grown (not t) (p.highest + 1) (p.highest + 1) (p.owes d);
-    on = t;
-  }) (fits refl)
+  owes = log_grown (not t) (p.highest + 1) (p.highest + 1) (p.owes d);
+  on = t;
+}) (fits refl)
 freeze_leaf f r p cells board first hi (Adrift leaf) fits = refl
 
 freeze_seen : (t : Side) (cells : Cells) (board : ℕ → Bool) → AllByRecursion (IsOfFound board) t.seats → seen (after_move (Freeze cells board) t) ≡ step (Freeze cells board) (seen t)
@@ -80,9 +80,9 @@ leave_leaf : (r : Bool) (p : Pool) (d hi : ℕ) (seat : Seat) → IsOfFound (λ 
     → leaf_seen true r (told (after (Leaves d) p)) (seat_step (Leave d) p seat) ≡ leaf_step (Leave d) p.highest p.group.first hi (leaf_seen true r (told p) seat)
 leave_leaf r p d hi (At e true own) fits = refl
 leave_leaf r p d hi (At e false own) fits = ap (λ t. record (leaf_seen true r (told p) (At e false own)) {
-    owes = log_grown t p.group.first p.highest (p.owes e);
-    on = cond t false (p.group.board e);
-  }) (fits refl)
+  owes = log_grown t p.group.first p.highest (p.owes e);
+  on = cond t false (p.group.board e);
+}) (fits refl)
 leave_leaf r p d hi (Adrift leaf) fits = refl
 
 leave_seen : (t : Side) (d : ℕ) → t.pool.group.frozen ≡ true → AllByRecursion (IsOfFound (λ e. d == e)) t.seats → seen (after_move (Leave d) t) ≡ step (Leave d) (seen t)
@@ -249,9 +249,9 @@ clear_leaf f p d first (At e true own) fits = by (d == e) (λ is. same_device d 
         (sym (is refl)) refl
     by false is = refl
 clear_leaf f p d first (At e false own) fits = ap (λ t. record (leaf_seen f true (told p) (At e false own)) {
-    owes = cond t (scanned_log p.scan d (p.owes d)) (p.owes e);
-    settled = cond t (kept_in (scanned_log p.scan d (p.owes d)) (p.settled d)) (p.settled e);
-  }) (fits refl)
+  owes = cond t (scanned_log p.scan d (p.owes d)) (p.owes e);
+  settled = cond t (kept_in (scanned_log p.scan d (p.owes d)) (p.settled d)) (p.settled e);
+}) (fits refl)
 clear_leaf f p d first (Adrift leaf) fits = refl
 
 rest_leaf : (f r : Bool) (p : Pool) (first hi : ℕ) (seat : Seat) → AnySeat seat
@@ -377,15 +377,15 @@ others_stay f r p d m top [] all = refl
 others_stay f r p d m top (At e found own ∷ seats) all =
     ap (λ l. leaf_seen f r (told (after (Joins d m top) p)) (At e found own) ∷ l) (others_stay f r p d m top seats all.1)
     ∙ ap (λ t. record {
-        guid = cond t m (p.guid e);
-        dev = dev_if found e;
-        own = own;
-        top = cond t top (p.in_top e);
-        owes = cond t (whole_log p.highest) (p.owes e);
-        settled = cond t (whole_log p.highest) (p.settled e);
-        on = cond f (cond t false (p.group.board e)) false;
-        eligible = cond r (cond t false (p.scan.eligible e)) false;
-        scrub = cond r (p.scan.scrub e) (no_log e);
+      guid = cond t m (p.guid e);
+      dev = dev_if found e;
+      own = own;
+      top = cond t top (p.in_top e);
+      owes = cond t (whole_log p.highest) (p.owes e);
+      settled = cond t (whole_log p.highest) (p.settled e);
+      on = cond f (cond t false (p.group.board e)) false;
+      eligible = cond r (cond t false (p.scan.eligible e)) false;
+      scrub = cond r (p.scan.scrub e) (no_log e);
     } ∷ map (leaf_seen f r (told p)) seats) all.0
 others_stay f r p d m top (Adrift leaf ∷ seats) all = ap (λ l. leaf ∷ l) (others_stay f r p d m top seats all.1)
 
