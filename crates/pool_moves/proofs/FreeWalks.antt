@@ -7,14 +7,12 @@ use Rattle.txg_history.specs.Events.{Event, Calls, Leaves, as_events}
 use Rattle.txg_history.specs.Moves.{Mays}
 use Rattle.txg_history.specs.Pages.{Codec}
 use Rattle.txg_history.specs.Pools.{Pool, pool_after}
-use Rattle.txg_history.specs.Turns.{leavers}
 use Rattle.txg_history.proofs.Folding.{mays_first, mays_second, pool_more}
 use Rattle.pool_moves.specs.Keeping.{IsOfFound, Admits, Walks}
 use Rattle.pool_moves.specs.Leaves.{Seat, At, Adrift}
 use Rattle.pool_moves.specs.Moves.{Move, Makes, Puts, Freeze, Wrote_key, Flushed_all, Draw, Leave, Widen, Burn, Starts, Copies, Copied, Commits, Sets, Finds, Lose, Comes, Goes, Returns, Scan_from, Pass, Drop, Clear, Rest, seat_step, seats_by, events_of, after_move, after_moves}
 use Rattle.pool_moves.specs.States.{Side}
-use Rattle.pool_moves.specs.TurnRows.{turn_moves}
-use Rattle.pool_moves.specs.Walking.{events_along, AreAdmitted, IsFree, as_moves, leave_moves}
+use Rattle.pool_moves.specs.Walking.{events_along, AreAdmitted, IsFree, as_moves}
 use Rattle.pool_moves.proofs.Keeping.{all_map, all_same, seat_cases}
 
 -- A walk is moves that the history allows and the state admits.
@@ -50,6 +48,7 @@ free_frozen (Wrote_key k) t free = refl
 free_frozen Flushed_all t free = refl
 free_frozen Draw t free = refl
 free_frozen (Leave d) t free = refl
+free_frozen (Widen m low high) t free = refl
 free_frozen (Starts draft) t free = refl
 free_frozen (Copies draft d) t free = refl
 free_frozen (Copied draft d) t free = refl
@@ -63,6 +62,7 @@ free_admitted (Wrote_key k) t f free = f
 free_admitted Flushed_all t f free = f
 free_admitted Draw t f free = f
 free_admitted (Leave d) t f free = (f, free)
+free_admitted (Widen m low high) t f free = tt
 free_admitted (Starts draft) t f free = f
 free_admitted (Copies draft d) t f free = tt
 free_admitted (Copied draft d) t f free = tt
@@ -78,6 +78,8 @@ found_stays which Draw t free all = all_map (IsOfFound which) (IsOfFound which) 
     (seat_cases (λ seat. IsOfFound which seat → IsOfFound which (seat_step Draw t.pool seat)) (λ d found own is. is) (λ leaf is. tt)) t.seats all
 found_stays which (Leave d) t free all = all_map (IsOfFound which) (IsOfFound which) (seat_step (Leave d) t.pool)
     (seat_cases (λ seat. IsOfFound which seat → IsOfFound which (seat_step (Leave d) t.pool seat)) (λ d found own is. is) (λ leaf is. tt)) t.seats all
+found_stays which (Widen m low high) t free all = all_map (IsOfFound which) (IsOfFound which) (seat_step (Widen m low high) t.pool)
+    (seat_cases (λ seat. IsOfFound which seat → IsOfFound which (seat_step (Widen m low high) t.pool seat)) (λ d found own is. is) (λ leaf is. tt)) t.seats all
 found_stays which (Starts draft) t free all = all
 found_stays which (Copies draft d) t free all = all
 found_stays which (Copied draft d) t free all = all
@@ -92,6 +94,7 @@ free_stays v (Wrote_key k) t free is = tt
 free_stays v Flushed_all t free is = tt
 free_stays v Draw t free is = tt
 free_stays v (Leave d) t free is = found_stays (λ e. d == e) v t free is
+free_stays v (Widen m low high) t free is = tt
 free_stays v (Starts draft) t free is = tt
 free_stays v (Copies draft d) t free is = tt
 free_stays v (Copied draft d) t free is = tt
@@ -127,34 +130,12 @@ pub all_append : {A : Type 0} (P : A → Type 0) (xs ys : List A) → AllByRecur
 all_append P [] ys a b = b
 all_append P (x ∷ xs) ys a b = (a.0, all_append P xs ys a.1 b)
 
--- Calls are free, and so are leaves of members whose devices are no unfound leaf's.
+-- Calls are free.
 pub calls_free : (seats : List Seat) (made : List Noted) → AllByRecursion (IsFree seats) (as_moves made)
 calls_free seats [] = tt
 calls_free seats (noted ∷ made) = (tt, calls_free seats made)
 
-pub leaves_free : (seats : List Seat) (ms : List Member) (results : List Bool) → AllByRecursion (λ m. AllByRecursion (IsOfFound (λ e. m.dev == e)) seats) ms
-    → AllByRecursion (IsFree seats) (leave_moves ms results)
-leaves_free seats [] results all = tt
-leaves_free seats (m ∷ ms) [] all = tt
-leaves_free seats (m ∷ ms) (true ∷ results) all = leaves_free seats ms results all.1
-leaves_free seats (m ∷ ms) (false ∷ results) all = (all.0, leaves_free seats ms results all.1)
-
--- What the history gets of calls and of leaves, and of more moves behind them.
+-- What the history gets of calls, and of more moves behind them.
 pub calls_along : (made : List Noted) (ws : List Move) (t : Side) → events_along (as_moves made ++ ws) t ≡ as_events made ++ events_along ws (after_moves (as_moves made) t)
 calls_along [] ws t = refl
 calls_along (noted ∷ made) ws t = ap (λ l. Calls noted ∷ l) (calls_along made ws (after_move (Makes noted) t))
-
-pub leaves_along : (ms : List Member) (results : List Bool) (ws : List Move) (t : Side)
-    → events_along (leave_moves ms results ++ ws) t ≡ leavers ms results ++ events_along ws (after_moves (leave_moves ms results) t)
-leaves_along [] results ws t = refl
-leaves_along (m ∷ ms) [] ws t = refl
-leaves_along (m ∷ ms) (true ∷ results) ws t = leaves_along ms results ws t
-leaves_along (m ∷ ms) (false ∷ results) ws t = ap (λ l. Leaves m.dev ∷ l) (leaves_along ms results ws (after_move (Leave m.dev) t))
-
--- a turn's moves are a turn's events
-pub turn_along : (made : List Noted) (ms : List Member) (results : List Bool) (mark : Move) (v : Event) (t : Side) → ((p : Pool) → events_of mark p ≡ v ∷ [])
-    → events_along (turn_moves made ms results mark) t ≡ as_events made ++ (leavers ms results ++ (v ∷ []))
-turn_along made ms results mark v t is =
-    calls_along made (leave_moves ms results ++ (mark ∷ [])) t
-    ∙ ap (λ l. as_events made ++ l) (leaves_along ms results (mark ∷ []) (after_moves (as_moves made) t)
-    ∙ ap (λ l. leavers ms results ++ l) (append-nil (events_of mark (after_moves (leave_moves ms results) (after_moves (as_moves made) t)).pool) ∙ is (after_moves (leave_moves ms results) (after_moves (as_moves made) t)).pool))

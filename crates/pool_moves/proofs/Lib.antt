@@ -11,3 +11,4 @@ pub mod ReadWalks
 pub mod RoundWalks
 pub mod Seeing
 pub mod TurnWalks
+pub mod Widenings

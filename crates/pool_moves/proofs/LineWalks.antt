@@ -10,10 +10,11 @@ use Rattle.pool_moves.specs.Boards.{board_of, board_under, emptied}
 use Rattle.pool_moves.specs.Keeping.{Kept, Walks}
 use Rattle.pool_moves.specs.Leaves.{LeafSeen, Seat}
 use Rattle.pool_moves.specs.LineRows.{IsSized, TurnReply, Write, Flush, Round, Committed, sets_failed, has_number, count_moves, EndsBy, EndsTurn, IsTurnOf, IsWritePart, IsFlushPart, IsRoundPart, StartsBy, TurnBy, RowTurn, AreTurns, moves_in, EndsGroup, CommitsOpen, SyncBy, RowSync}
-use Rattle.pool_moves.specs.Moves.{Draft, Move, Makes, Freeze, Wrote_key, Flushed_all, Burn, Draw, Commits, Sets, steps, after_move, after_moves}
+use Rattle.pool_moves.specs.Moves.{Draft, Move, Makes, Freeze, Wrote_key, Flushed_all, Burn, Draw, Leave, Widen, Commits, Sets, step, steps, after_move, after_moves}
 use Rattle.pool_moves.specs.States.{PoolSeen, PoolState, Side}
-use Rattle.pool_moves.specs.TurnRows.{turn_moves, ended, IsThirdMoves, RowWriteTurn, RowFlushTurn, RowRound}
-use Rattle.pool_moves.specs.Walking.{as_moves, leave_moves}
+use Rattle.pool_moves.specs.TurnRows.{turn_moves, round_moves, ended, IsThirdMoves, RowWriteTurn, RowFlushTurn, RowRound}
+use Rattle.pool_moves.specs.Walking.{as_moves}
+use Rattle.pool_moves.specs.Widening.{AreWidens, AreLeaves, seen_along}
 use Rattle.pool_moves.proofs.Boarding.{is_frozen}
 use Rattle.pool_moves.proofs.FreeWalks.{walks_more, all_append}
 use Rattle.pool_moves.proofs.FreezeWalks.{freeze_walks}
@@ -78,11 +79,18 @@ calls_within : (made : List Noted) → AllByRecursion IsWithin (as_moves made)
 calls_within [] = tt
 calls_within (noted ∷ made) = (tt, calls_within made)
 
-leaves_within : (ms : List Member) (results : List Bool) → AllByRecursion IsWithin (leave_moves ms results)
-leaves_within [] results = tt
-leaves_within (m ∷ ms) [] = tt
-leaves_within (m ∷ ms) (true ∷ results) = leaves_within ms results
-leaves_within (m ∷ ms) (false ∷ results) = (tt, leaves_within ms results)
+widens_within : (s : PoolSeen) (vs : List Move) → AreWidens s vs → AllByRecursion IsWithin vs
+widens_within s [] are = tt
+widens_within s (Widen m low high ∷ vs) are = (tt, widens_within (step (Widen m low high) s) vs are.2)
+widens_within s (v ∷ vs) are = absurd are
+
+leaves_within : (s : PoolSeen) (ms : List Member) (results : List Bool) (vs : List Move) → AreLeaves s ms results vs → AllByRecursion IsWithin vs
+leaves_within s [] results vs are = subst (AllByRecursion IsWithin) (sym are) tt
+leaves_within s (m ∷ ms) [] vs are = subst (AllByRecursion IsWithin) (sym are) tt
+leaves_within s (m ∷ ms) (true ∷ results) vs are = leaves_within s ms results vs are
+leaves_within s (m ∷ ms) (false ∷ results) vs are = subst (AllByRecursion IsWithin) (sym are.2) (all_append IsWithin are.0 are.1
+    (subst (AllByRecursion IsWithin) (sym are.3.moves) (tt, widens_within (step (Leave m.dev) s) are.3.widens are.3.are))
+    (leaves_within (seen_along are.0 s) ms results are.1 are.4))
 
 sets_within : (vs : List Move) → AllByRecursion IsSet vs → AllByRecursion IsWithin vs
 sets_within [] all = tt
@@ -106,18 +114,18 @@ thirds_within plan draft [] (b ∷ was) is vs r = absurd r
 thirds_within plan draft (m ∷ ms) [] is vs r = absurd r
 thirds_within plan draft (m ∷ ms) (b ∷ was) [] vs r = absurd r
 
-turn_within : (made : List Noted) (ms : List Member) (results : List Bool) (mark : Move) → IsWithin mark → AllByRecursion IsWithin (turn_moves made ms results mark)
-turn_within made ms results mark is = all_append IsWithin (as_moves made) (leave_moves ms results ++ (mark ∷ [])) (calls_within made)
-    (all_append IsWithin (leave_moves ms results) (mark ∷ []) (leaves_within ms results) (is, tt))
+turn_within : (s : PoolSeen) (made : List Noted) (ms : List Member) (results : List Bool) (leaving : List Move) (mark : Move) → AreLeaves s ms results leaving → IsWithin mark
+    → AllByRecursion IsWithin (turn_moves made leaving mark)
+turn_within s made ms results leaving mark are is = all_append IsWithin (as_moves made) (leaving ++ (mark ∷ [])) (calls_within made)
+    (all_append IsWithin leaving (mark ∷ []) (leaves_within s ms results leaving are) (is, tt))
 
 round_within : (c : Codec) (size : ℕ → ℕ) (s : PoolSeen) (vs : List Move) → RowRound c size s vs false → AllByRecursion IsWithin vs
-round_within c size s vs row = subst (AllByRecursion IsWithin) (sym row.moves) (
-  tt,
-  all_append IsWithin (as_moves row.first) (as_moves row.second ++ (row.thirds ++ leave_moves (board_of s.leaves) row.results))
-      (calls_within row.first) (all_append IsWithin (as_moves row.second) (row.thirds ++ leave_moves (board_of s.leaves) row.results) (calls_within row.second)
-      (all_append IsWithin row.thirds (leave_moves (board_of s.leaves) row.results)
-      (thirds_within (third_plan size row.draft.commit) row.draft (board_of s.leaves) row.in_second row.results row.thirds row.copies) (leaves_within (board_of s.leaves) row.results))),
-)
+round_within c size s vs row = subst (AllByRecursion IsWithin) (sym row.moves)
+    (all_append IsWithin (round_moves row.draft row.first row.second row.thirds) row.ending
+    (tt, all_append IsWithin (as_moves row.first) (as_moves row.second ++ row.thirds) (calls_within row.first)
+    (all_append IsWithin (as_moves row.second) row.thirds (calls_within row.second)
+    (thirds_within (third_plan size row.draft.commit) row.draft (board_of s.leaves) row.in_second row.results row.thirds row.copies)))
+    (leaves_within (seen_along (round_moves row.draft row.first row.second row.thirds) s) (board_of s.leaves) row.results row.ending row.ends))
 
 counted_within : (part : List Move) (leaves : List LeafSeen) (ms : List Member) (results : List Bool) → AllByRecursion IsWithin part → AllByRecursion IsWithin (part ++ count_moves leaves ms results)
 counted_within part leaves ms results all = all_append IsWithin part (count_moves leaves ms results) all (sets_within (count_moves leaves ms results) (counts_set leaves ms results))
@@ -145,12 +153,12 @@ turn_of_walk c s t part ms results going vs reply f walks within turn = subst (W
 write_part_walk : (c : Codec) (s : PoolState) (t : Side) (vs : List Move) (reply : TurnReply) → Kept c s t → IsWritePart s vs reply → Walks c t vs
 write_part_walk c s t vs reply kept is = turn_of_walk c s t is.part (board_under is.row.cell.top s.core.leaves) is.row.results Write vs reply (is_frozen c s t kept is.row.frozen)
     (write_turn_walks c s t is.part kept is.row)
-    (subst (AllByRecursion IsWithin) (sym is.row.moves) (turn_within is.row.made (board_under is.row.cell.top s.core.leaves) is.row.results (Wrote_key is.row.key) tt)) is.turn
+    (subst (AllByRecursion IsWithin) (sym is.row.moves) (turn_within s.core is.row.made (board_under is.row.cell.top s.core.leaves) is.row.results is.row.leaving (Wrote_key is.row.key) is.row.leaves tt)) is.turn
 
 flush_part_walk : (c : Codec) (s : PoolState) (t : Side) (vs : List Move) (reply : TurnReply) → Kept c s t → IsFlushPart s vs reply → Walks c t vs
 flush_part_walk c s t vs reply kept is = turn_of_walk c s t is.part (board_of s.core.leaves) is.row.results Flush vs reply (is_frozen c s t kept is.row.frozen)
     (flush_turn_walks c s t is.part kept is.row)
-    (subst (AllByRecursion IsWithin) (sym is.row.moves) (turn_within is.row.made (board_of s.core.leaves) is.row.results Flushed_all tt)) is.turn
+    (subst (AllByRecursion IsWithin) (sym is.row.moves) (turn_within s.core is.row.made (board_of s.core.leaves) is.row.results is.row.leaving Flushed_all is.row.leaves tt)) is.turn
 
 round_part_walk : (c : Codec) (size : ℕ → ℕ) (s : PoolState) (t : Side) (vs : List Move) (reply : TurnReply) → Kept c s t → IsSized size t → IsRoundPart c size s vs reply → Walks c t vs
 round_part_walk c size s t vs reply kept same is = subst (Walks c t) (sym is.moves) (walks_more c is.behind is.ending t behind_walks (ends is.whole is.row is.ends))

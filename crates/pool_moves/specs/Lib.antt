@@ -12,3 +12,4 @@ pub mod ReadRow
 pub mod States
 pub mod TurnRows
 pub mod Walking
+pub mod Widening

@@ -6,7 +6,7 @@ use Rattle.label_store.specs.declared.member.Member.{Member}
 use Rattle.txg_history.specs.Events.{Event}
 use Rattle.pool_moves.specs.Keeping.{Admits, IsOfFound}
 use Rattle.pool_moves.specs.Leaves.{Seat}
-use Rattle.pool_moves.specs.Moves.{Move, Makes, Puts, Wrote_key, Flushed_all, Draw, Leave, Starts, Copies, Copied, Sets, events_of, after_move}
+use Rattle.pool_moves.specs.Moves.{Move, Makes, Puts, Wrote_key, Flushed_all, Draw, Leave, Widen, Starts, Copies, Copied, Sets, events_of, after_move}
 use Rattle.pool_moves.specs.States.{Side}
 
 -- what the history gets of these moves
@@ -26,6 +26,7 @@ IsFree seats (Puts a block) = Unit {0}
 IsFree seats (Wrote_key k) = Unit {0}
 IsFree seats Flushed_all = Unit {0}
 IsFree seats Draw = Unit {0}
+IsFree seats (Widen m low high) = Unit {0}
 IsFree seats (Leave d) = AllByRecursion (IsOfFound (λ e. d == e)) seats
 IsFree seats (Starts draft) = Unit {0}
 IsFree seats (Copies draft d) = Unit {0}
@@ -37,10 +38,3 @@ IsFree seats v = ⊥
 abbrev pub as_moves : List Noted → List Move
 as_moves [] = []
 as_moves (noted ∷ made) = Makes noted ∷ as_moves made
-
--- each member whose call failed leaves the board
-abbrev pub leave_moves : List Member → (results : List Bool) → List Move
-leave_moves [] results = []
-leave_moves (m ∷ ms) [] = []
-leave_moves (m ∷ ms) (true ∷ results) = leave_moves ms results
-leave_moves (m ∷ ms) (false ∷ results) = Leave m.dev ∷ leave_moves ms results
