@@ -7,6 +7,7 @@ pub mod FreezeWalks
 pub mod Keeping
 pub mod LineWalks
 pub mod Making
+pub mod Missing
 pub mod ReadWalks
 pub mod RoundWalks
 pub mod Seeing

@@ -7,6 +7,7 @@ pub mod Keeping
 pub mod Leaves
 pub mod LineRows
 pub mod Making
+pub mod Missing
 pub mod Moves
 pub mod ReadRow
 pub mod States

@@ -1,15 +1,17 @@
 //! Which moves the lines of a pool may make (docs/MODEL.md, "Moves").
 ghost use Rattle.std.specs.Prelude.{◌≡◌, ◌⊎◌, ℕ, Bool, List};
-ghost use Rattle.bank_core.specs.Disk.{AllAnswer};
+ghost use Rattle.bank_core.specs.Disk.{AllAnswer, run};
 ghost use Rattle.txg_history.specs.Pages.{Codec, IsClash};
+ghost use Rattle.txg_history.specs.Records.{key};
 ghost use Rattle.pool_moves.specs.AwayRows.{WriteReply, RowWrite, OfflineReply, RowOffline};
 ghost use Rattle.pool_moves.specs.CommitRows.{IsOpened, RowReopen, RowFound, NamedLog, RowLogs};
 ghost use Rattle.pool_moves.specs.FreezeRow.{RowFreeze, RowEmptyFreeze};
 ghost use Rattle.pool_moves.specs.Keeping.{Kept, Walks};
 ghost use Rattle.pool_moves.specs.LineRows.{IsSized, TurnReply, RowTurn, RowSync};
 ghost use Rattle.pool_moves.specs.Making.{IsMade};
+ghost use Rattle.pool_moves.specs.Missing.{AllMissed};
 ghost use Rattle.pool_moves.specs.Moves.{Move};
-ghost use Rattle.pool_moves.specs.ReadRow.{ReadReply, Gives, RowRead, ClashesWith, made_in};
+ghost use Rattle.pool_moves.specs.ReadRow.{ReadReply, Gives, Exhausted, RowRead, ClashesWith, made_in};
 ghost use Rattle.pool_moves.specs.States.{PoolState, Side};
 
 /// A pool that was just made is kept by its state, so nothing that is said of kept states is empty. It computes nothing: its
@@ -65,10 +67,13 @@ pub fn leaves_may_go_offline()
 /// two byte strings with one SHA-256 sum. It computes nothing: its clauses are the law.
 ///
 /// `walk`: its reads, and the rewriting of copies that gave wrong bytes, on a bank whose calls answer as the disk model says.
-/// `right`: what it gives, whichever copies fail or are damaged.
+/// `right`: what it gives, whichever copies fail or are damaged. `exhausted`: it is refused only where each readable leaf of the
+/// block's top missed it: its log has the block's group, or in this line a read of its sector failed, or the sector is damaged.
 pub fn reads_give_the_block()
     ensures walk { (c : Codec) (s : PoolState) (t : Side) (a : ℕ) (vs : List Move) (reply : ReadReply) → Kept c s t → AllAnswer t.pool.sectors (made_in vs)
         → RowRead s a vs reply → Walks c t vs ⊎ ClashesWith (t.pool.written a) reply }
     ensures right { (c : Codec) (s : PoolState) (t : Side) (a : ℕ) (vs : List Move) (bytes : List ℕ) → Kept c s t → RowRead s a vs (Gives bytes)
         → (bytes ≡ t.pool.written a) ⊎ IsClash (t.pool.written a) bytes }
+    ensures exhausted { (c : Codec) (s : PoolState) (t : Side) (a : ℕ) (vs : List Move) → Kept c s t → AllAnswer t.pool.sectors (made_in vs)
+        → RowRead s a vs Exhausted → AllMissed (s.core.committed (key 0 a)) (made_in vs) (run (made_in vs) t.pool.sectors) s.core.leaves }
 {}
