@@ -10,6 +10,7 @@ pub mod Making
 pub mod Missing
 pub mod Moves
 pub mod ReadRow
+pub mod Refusing
 pub mod States
 pub mod TurnRows
 pub mod Walking
