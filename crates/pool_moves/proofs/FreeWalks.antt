@@ -67,7 +67,7 @@ free_admitted (Copied draft d) t f free = tt
 free_admitted (Sets m own) t f free = tt
 free_admitted v t f free = absurd free
 
-found_stays : (which : ℕ → Bool) (v : Move) (t : Side) → IsFree t.seats v → AllByRecursion (IsOfFound which) t.seats → AllByRecursion (IsOfFound which) (seats_by v t)
+pub found_stays : (which : ℕ → Bool) (v : Move) (t : Side) → IsFree t.seats v → AllByRecursion (IsOfFound which) t.seats → AllByRecursion (IsOfFound which) (seats_by v t)
 found_stays which (Makes noted) t free all = all
 found_stays which (Puts a block) t free all = all
 found_stays which (Wrote_key k) t free all = all
