@@ -1,6 +1,6 @@
 -- A freeze may be made: its walk from its row.
 use Rattle.std.proofs.Common.{◌≡◌, ◌⊎◌, inl, inr, ⊎_elim, ℕ, suc, ◌+◌, ◌*◌, ◌<◌, ◌≤◌, ◌==◌, ◌&&◌, ◌||◌, Bool, true, false, cond, Option, Some, None, List, [], ◌∷◌, map, refl, sym, ap, ◌∙◌, subst, arith}
-use Rattle.std.specs.Option.{option_map}
+use Rattle.std.specs.Option.{option_map, is_some}
 use Rattle.std.specs.List.{AllByRecursion}
 use Rattle.std.proofs.lemmas.Bool.{and_parts}
 use Rattle.std.proofs.lemmas.Bool.Decides.{nat_tests}
@@ -16,7 +16,9 @@ use Rattle.txg_history.proofs.Logging.{by_bool, same_device, true_not_false}
 use Rattle.pool_moves.specs.FreezeRow.{is_dev, up_devs, IsAtPlace, IsAtPinned, RowFreeze, RowEmptyFreeze}
 use Rattle.pool_moves.specs.Keeping.{IsElsewhere, AreSeatsApart, IsAway, IsFoundAt, HasFound, IsOfFound, over, beneath, Admits, Kept, Walks}
 use Rattle.pool_moves.specs.Leaves.{OwnLeaf, LeafSeen, Seat, At, Adrift, dev_if, told, leaf_seen}
-use Rattle.pool_moves.specs.Moves.{Move, Freeze, sum_over, sums_over}
+use Rattle.pool_moves.specs.Moves.{Move, Freeze, Sets, sum_over, sums_over, after_move, after_moves}
+use Rattle.pool_moves.specs.Widening.{IsWidened}
+use Rattle.pool_moves.proofs.Widenings.{widened_walk}
 use Rattle.pool_moves.specs.States.{Sums, sums, PoolSeen, PoolState, Side, seen, seen_by}
 use Rattle.pool_moves.proofs.Seeing.{laid_sum}
 
@@ -142,15 +144,16 @@ freeze_admitted : (c : Codec) (s : PoolState) (t : Side) (cells : Cells) → Kep
 freeze_admitted c s t cells kept = (up_of_found t.pool.group.frozen t.pool t.seats kept.away kept.apart, λ d mine on. up_found t.pool.group.frozen t.pool d t.seats kept.away on)
 
 freeze_at : (c : Codec) (s : PoolState) (t : Side) (vs : List Move) → Kept c s t → t.pool.group.frozen ≡ false → RowFreeze c (record { own = s.own; core = seen t }) vs → Walks c t vs
-freeze_at c s t vs kept idle row = subst (Walks c t) (sym row.moves) (((freeze_may c s t vs kept kept.core idle row, tt), freeze_admitted c s t row.cells kept), tt)
+freeze_at c s t vs kept idle row = widened_walk c (Freeze row.cells (up_devs (seen t).leaves)) vs s t kept
+    (((freeze_may c s t vs kept kept.core idle row, tt), freeze_admitted c s t row.cells kept), tt)
+    (subst (λ core. IsWidened core (Freeze row.cells (up_devs (seen t).leaves)) vs) (sym kept.core) row.moves)
 
 pub freeze_walks : (c : Codec) (s : PoolState) (t : Side) (vs : List Move) → Kept c s t → RowFreeze c s vs → Walks c t vs
 freeze_walks c s t vs kept row = freeze_at c s t vs kept (is_idle c s t kept row.idle)
     (subst (λ core. RowFreeze c (record { own = s.own; core = core }) vs) kept.core row)
 
 empty_at : (c : Codec) (s : PoolState) (t : Side) (vs : List Move) → Kept c s t → t.pool.group.frozen ≡ false → RowEmptyFreeze (record { own = s.own; core = seen t }) vs → Walks c t vs
-empty_at c s t vs kept idle row = subst (Walks c t) (sym row.moves) (
-  (
+empty_at c s t vs kept idle row = widened_walk c (Freeze (λ k. None) (up_devs (seen t).leaves)) vs s t kept ((
     (
       empty_freeze c t.pool (up_devs (seen t).leaves) idle
           (λ a. sym (open_written c s t kept idle a ∙ ap (λ w. over w (block_in t.pool.reads.cells a)) (row.unwritten a)))
@@ -158,9 +161,8 @@ empty_at c s t vs kept idle row = subst (Walks c t) (sym row.moves) (
       tt,
     ),
     freeze_admitted c s t (λ k. None) kept,
-  ),
-  tt,
-)
+  ), tt)
+    (subst (λ core. IsWidened core (Freeze (λ k. None) (up_devs (seen t).leaves)) vs) (sym kept.core) row.moves)
 
 pub empty_freeze_walks : (c : Codec) (s : PoolState) (t : Side) (vs : List Move) → Kept c s t → RowEmptyFreeze s vs → Walks c t vs
 empty_freeze_walks c s t vs kept row = empty_at c s t vs kept (is_idle c s t kept row.idle)

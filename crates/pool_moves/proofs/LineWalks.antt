@@ -9,8 +9,9 @@ use Rattle.txg_history.specs.Pages.{Codec}
 use Rattle.pool_moves.specs.Boards.{board_of, board_under, emptied}
 use Rattle.pool_moves.specs.Keeping.{Kept, Walks}
 use Rattle.pool_moves.specs.Leaves.{LeafSeen, Seat}
-use Rattle.pool_moves.specs.LineRows.{IsSized, TurnReply, Write, Flush, Round, Committed, sets_failed, has_number, count_moves, EndsBy, EndsTurn, IsTurnOf, IsWritePart, IsFlushPart, IsRoundPart, StartsBy, TurnBy, RowTurn, AreTurns, moves_in, EndsGroup, CommitsOpen, SyncBy, RowSync}
+use Rattle.pool_moves.specs.LineRows.{IsSized, TurnReply, Write, Flush, Round, Committed, sets_failed, has_number, count_moves, Draws, EndsBy, EndsTurn, IsTurnOf, IsWritePart, IsFlushPart, IsRoundPart, StartsBy, TurnBy, RowTurn, AreTurns, moves_in, EndsGroup, CommitsOpen, FreezeReply, FreezeFor, FreezeBy, RowFreezeLine, SyncReply, CommitsFor, SyncOpen, SyncBehind, SyncBy, RowSync}
 use Rattle.pool_moves.specs.Moves.{Draft, Move, Makes, Freeze, Wrote_key, Flushed_all, Burn, Draw, Leave, Widen, Commits, Sets, step, steps, after_move, after_moves}
+use Rattle.pool_moves.specs.Refusing.{FreezeRefusal}
 use Rattle.pool_moves.specs.States.{PoolSeen, PoolState, Side}
 use Rattle.pool_moves.specs.TurnRows.{turn_moves, round_moves, ended, IsThirdMoves, RowWriteTurn, RowFlushTurn, RowRound}
 use Rattle.pool_moves.specs.Walking.{as_moves}
@@ -20,6 +21,7 @@ use Rattle.pool_moves.proofs.FreeWalks.{walks_more, all_append}
 use Rattle.pool_moves.proofs.FreezeWalks.{freeze_walks}
 use Rattle.pool_moves.proofs.Keeping.{walk_keeps}
 use Rattle.pool_moves.proofs.RoundWalks.{round_walks}
+use Rattle.pool_moves.proofs.Widenings.{widened_walk}
 use Rattle.pool_moves.proofs.TurnWalks.{write_turn_walks, flush_turn_walks}
 
 -- The run has the devices as the history has them, behind moves too.
@@ -134,29 +136,34 @@ counted_within part leaves ms results all = all_append IsWithin part (count_move
 burn_walk : (c : Codec) (t : Side) → t.pool.group.frozen ≡ true → Walks c t (Burn ∷ [])
 burn_walk c t f = (((f, tt), f), tt)
 
-draw_walk : (c : Codec) (t : Side) → t.pool.group.frozen ≡ true → Walks c t (Draw ∷ [])
-draw_walk c t f = (((f, tt), f), tt)
+draws_walk : (c : Codec) (draws : Bool) (s : PoolState) (t : Side) (vs : List Move) → Kept c s t → t.pool.group.frozen ≡ true → Draws draws s.core vs → Walks c t vs
+draws_walk c true s t vs kept f is = widened_walk c Draw vs s t kept (((f, tt), f), tt) is
+draws_walk c false s t vs kept f is = subst (Walks c t) (sym is) tt
 
-ends_walk : (c : Codec) (top : Option ℕ) (s : PoolState) (t : Side) (more : List Move) (going : TurnReply) (vs : List Move) (reply : TurnReply) → t.pool.group.frozen ≡ true
-    → Walks c t more → EndsBy top s more going vs reply → Walks c t vs
-ends_walk c (Some top) s t more going vs reply f walks ends = subst (Walks c t) (sym ends.0) (burn_walk c t f)
-ends_walk c None s t more going vs reply f walks ends = subst (Walks c t) (sym ends.0) walks
+ends_walk : (c : Codec) (top : Option ℕ) (s : PoolState) (t : Side) (draws : Bool) (going : TurnReply) (vs : List Move) (reply : TurnReply) → Kept c s t → t.pool.group.frozen ≡ true
+    → EndsBy top s draws going vs reply → Walks c t vs
+ends_walk c (Some top) s t draws going vs reply kept f ends = subst (Walks c t) (sym ends.0) (burn_walk c t f)
+ends_walk c None s t draws going vs reply kept f ends = draws_walk c draws s t vs kept f ends.0
 
-turn_of_walk : (c : Codec) (s : PoolState) (t : Side) (part : List Move) (ms : List Member) (results : List Bool) (going : TurnReply) (vs : List Move) (reply : TurnReply)
-    → t.pool.group.frozen ≡ true → Walks c t part → AllByRecursion IsWithin part → IsTurnOf s part ms results [] going vs reply → Walks c t vs
-turn_of_walk c s t part ms results going vs reply f walks within turn = subst (Walks c t) (sym turn.moves)
-    (walks_more c (part ++ count_moves s.core.leaves ms results) turn.ending t (counted c t part s.core.leaves ms results walks)
-    (ends_walk c (emptied (steps (part ++ count_moves s.core.leaves ms results) s).core.leaves) (steps (part ++ count_moves s.core.leaves ms results) s)
-    (after_moves (part ++ count_moves s.core.leaves ms results) t) [] going turn.ending reply
-    (still_frozen (part ++ count_moves s.core.leaves ms results) t (counted_within part s.core.leaves ms results within) ∙ f) tt turn.ends))
+turn_of_walk : (c : Codec) (s : PoolState) (t : Side) (part : List Move) (ms : List Member) (results : List Bool) (going : TurnReply) (vs : List Move) (reply : TurnReply) → Kept c s t
+    → t.pool.group.frozen ≡ true → Walks c t part → AllByRecursion IsWithin part → IsTurnOf s part ms results going vs reply → Walks c t vs
+turn_of_walk c s t part ms results going vs reply kept f walks within turn = subst (Walks c t) (sym turn.moves) (walks_more c behind turn.ending t behind_walks
+    (ends_walk c (emptied (steps behind s).core.leaves) (steps behind s) (after_moves behind t) false going turn.ending reply (walk_keeps c behind s t behind_walks kept)
+    (still_frozen behind t (counted_within part s.core.leaves ms results within) ∙ f) turn.ends))
+  where
+    behind : List Move
+    behind = part ++ count_moves s.core.leaves ms results
+
+    behind_walks : Walks c t (part ++ count_moves s.core.leaves ms results)
+    behind_walks = counted c t part s.core.leaves ms results walks
 
 write_part_walk : (c : Codec) (s : PoolState) (t : Side) (vs : List Move) (reply : TurnReply) → Kept c s t → IsWritePart s vs reply → Walks c t vs
-write_part_walk c s t vs reply kept is = turn_of_walk c s t is.part (board_under is.row.cell.top s.core.leaves) is.row.results Write vs reply (is_frozen c s t kept is.row.frozen)
+write_part_walk c s t vs reply kept is = turn_of_walk c s t is.part (board_under is.row.cell.top s.core.leaves) is.row.results Write vs reply kept (is_frozen c s t kept is.row.frozen)
     (write_turn_walks c s t is.part kept is.row)
     (subst (AllByRecursion IsWithin) (sym is.row.moves) (turn_within s.core is.row.made (board_under is.row.cell.top s.core.leaves) is.row.results is.row.leaving (Wrote_key is.row.key) is.row.leaves tt)) is.turn
 
 flush_part_walk : (c : Codec) (s : PoolState) (t : Side) (vs : List Move) (reply : TurnReply) → Kept c s t → IsFlushPart s vs reply → Walks c t vs
-flush_part_walk c s t vs reply kept is = turn_of_walk c s t is.part (board_of s.core.leaves) is.row.results Flush vs reply (is_frozen c s t kept is.row.frozen)
+flush_part_walk c s t vs reply kept is = turn_of_walk c s t is.part (board_of s.core.leaves) is.row.results Flush vs reply kept (is_frozen c s t kept is.row.frozen)
     (flush_turn_walks c s t is.part kept is.row)
     (subst (AllByRecursion IsWithin) (sym is.row.moves) (turn_within s.core is.row.made (board_of s.core.leaves) is.row.results is.row.leaving Flushed_all is.row.leaves tt)) is.turn
 
@@ -167,10 +174,10 @@ round_part_walk c size s t vs reply kept same is = subst (Walks c t) (sym is.mov
     behind_walks = subst (Walks c t) (sym is.counted) (counted c t is.part s.core.leaves (board_of s.core.leaves) is.row.results (round_walks c size s t is.part is.whole kept same is.row))
 
     ends : (whole : Bool) → (row : RowRound c size s.core is.part whole) → cond whole ((is.ending ≡ []) × (reply ≡ Committed s.core.number))
-        (EndsTurn (steps is.behind s) (Draw ∷ []) (Round s.core.number) is.ending reply) → Walks c (after_moves is.behind t) is.ending
+        (EndsTurn (steps is.behind s) true (Round s.core.number) is.ending reply) → Walks c (after_moves is.behind t) is.ending
     ends true row e = subst (Walks c (after_moves is.behind t)) (sym e.0) tt
-    ends false row e = ends_walk c (emptied (steps is.behind s).core.leaves) (steps is.behind s) (after_moves is.behind t) (Draw ∷ []) (Round s.core.number) is.ending reply
-        (frozen row) (draw_walk c (after_moves is.behind t) (frozen row)) e
+    ends false row e = ends_walk c (emptied (steps is.behind s).core.leaves) (steps is.behind s) (after_moves is.behind t) true (Round s.core.number) is.ending reply
+        (walk_keeps c is.behind s t behind_walks kept) (frozen row) e
       where
         frozen : RowRound c size s.core is.part false → (after_moves is.behind t).pool.group.frozen ≡ true
         frozen row = still_frozen is.behind t (subst (AllByRecursion IsWithin) (sym is.counted)
@@ -209,15 +216,38 @@ open_walks c size s t vs reply kept same row = let walks = freeze_walks c s t ro
     subst (Walks c t) (sym row.moves) (walks_more c row.first row.rest t walks
     (group_walks c size (steps row.first s) (after_moves row.first t) row.rest reply (walk_keeps c row.first s t walks kept) (sized_along size row.first t same) row.ends))
 
-sync_by : (c : Codec) (size : ℕ → ℕ) (frozen : Bool) (s : PoolState) (t : Side) (vs : List Move) (reply : TurnReply) → Kept c s t → IsSized size t → SyncBy frozen c size s vs reply → Walks c t vs
-sync_by c size false s t vs reply kept same row = open_walks c size s t vs reply kept same row
-sync_by c size true s t vs reply kept same row = behind (group_walks c size s t row.0 row.1 kept same row.2) row.3
-  where
-    behind : Walks c t row.0 → ((vs ≡ row.0) × (reply ≡ row.1)) ⊎ ((rest : List Move) × (vs ≡ row.0 ++ rest) × CommitsOpen c size (steps row.0 s) rest reply) → Walks c t vs
-    behind walks (inl only) = subst (Walks c t) (sym only.0) walks
-    behind walks (inr more) = subst (Walks c t) (sym more.1) (walks_more c row.0 more.0 t walks
-        (open_walks c size (steps row.0 s) (after_moves row.0 t) more.0 reply (walk_keeps c row.0 s t walks kept) (sized_along size row.0 t same) more.2))
+-- A freeze as a line.
+freeze_for : (c : Codec) (refusal : Option FreezeRefusal) (s : PoolState) (t : Side) (vs : List Move) (reply : FreezeReply) → Kept c s t → FreezeFor refusal c s vs reply → Walks c t vs
+freeze_for c (Some refusal) s t vs reply kept row = subst (Walks c t) (sym row.0) tt
+freeze_for c None s t vs reply kept row = freeze_walks c s t vs kept row.0
+
+freeze_by : (c : Codec) (frozen : Bool) (s : PoolState) (t : Side) (vs : List Move) (reply : FreezeReply) → Kept c s t → FreezeBy frozen c s vs reply → Walks c t vs
+freeze_by c true s t vs reply kept row = subst (Walks c t) (sym row.0) tt
+freeze_by c false s t vs reply kept row = freeze_for c row.0 s t vs reply kept row.2
+
+pub freeze_line_walks : (c : Codec) (s : PoolState) (t : Side) (vs : List Move) (reply : FreezeReply) → Kept c s t → RowFreezeLine c s vs reply → Walks c t vs
+freeze_line_walks c s t vs reply kept row = freeze_by c s.core.group.frozen s t vs reply kept row
 
 -- A sync.
-pub sync_walks : (c : Codec) (size : ℕ → ℕ) (s : PoolState) (t : Side) (vs : List Move) (reply : TurnReply) → Kept c s t → IsSized size t → RowSync c size s vs reply → Walks c t vs
+commits_for : (c : Codec) (size : ℕ → ℕ) (refusal : Option FreezeRefusal) (s : PoolState) (t : Side) (vs : List Move) (reply : SyncReply) → Kept c s t → IsSized size t
+    → CommitsFor refusal c size s vs reply → Walks c t vs
+commits_for c size (Some refusal) s t vs reply kept same row = subst (Walks c t) (sym row.0) tt
+commits_for c size None s t vs reply kept same row = open_walks c size s t vs row.0 kept same row.1
+
+sync_open : (c : Codec) (size : ℕ → ℕ) (s : PoolState) (t : Side) (vs : List Move) (reply : SyncReply) → Kept c s t → IsSized size t → SyncOpen c size s vs reply → Walks c t vs
+sync_open c size s t vs reply kept same row = commits_for c size row.0 s t vs reply kept same row.2
+
+sync_behind : (c : Codec) (size : ℕ → ℕ) (turn : TurnReply) (s : PoolState) (t : Side) (vs : List Move) (reply : SyncReply) → Kept c s t → IsSized size t
+    → SyncBehind turn c size s vs reply → Walks c t vs
+sync_behind c size (Committed number) s t vs reply kept same (inl row) = subst (Walks c t) (sym row.0) tt
+sync_behind c size (Committed number) s t vs reply kept same (inr row) = sync_open c size s t vs reply kept same row
+sync_behind c size turn s t vs reply kept same row = subst (Walks c t) (sym row.0) tt
+
+sync_by : (c : Codec) (size : ℕ → ℕ) (frozen : Bool) (s : PoolState) (t : Side) (vs : List Move) (reply : SyncReply) → Kept c s t → IsSized size t → SyncBy frozen c size s vs reply → Walks c t vs
+sync_by c size false s t vs reply kept same row = sync_open c size s t vs reply kept same row
+sync_by c size true s t vs reply kept same row = let walks = group_walks c size s t row.first row.turn kept same row.ends in
+    subst (Walks c t) (sym row.moves) (walks_more c row.first row.rest t walks
+    (sync_behind c size row.turn (steps row.first s) (after_moves row.first t) row.rest reply (walk_keeps c row.first s t walks kept) (sized_along size row.first t same) row.behind))
+
+pub sync_walks : (c : Codec) (size : ℕ → ℕ) (s : PoolState) (t : Side) (vs : List Move) (reply : SyncReply) → Kept c s t → IsSized size t → RowSync c size s vs reply → Walks c t vs
 sync_walks c size s t vs reply kept same row = sync_by c size s.core.group.frozen s t vs reply kept same row

@@ -30,7 +30,7 @@ use Rattle.pool_moves.specs.TurnRows.{ended, IsThirdMoves, EndsRound, round_move
 use Rattle.pool_moves.specs.Walking.{events_along, AreAdmitted, IsFree, as_moves}
 use Rattle.pool_moves.specs.Widening.{AreLeaves, seen_along}
 use Rattle.pool_moves.proofs.Boarding.{frozen_core, is_frozen, seen_frozen, board_just, board_apart, board_found, all_at}
-use Rattle.pool_moves.proofs.Drafting.{HasDraftTop, drawn_up, draft_tops}
+use Rattle.pool_moves.proofs.Drafting.{HasDraftTop, drawn_up, draft_tops, draft_knows}
 use Rattle.pool_moves.proofs.FreeWalks.{walk_of, walks_more, free_walk, all_append, calls_along, frozen_along, pool_along}
 use Rattle.pool_moves.proofs.Keeping.{walk_keeps}
 use Rattle.pool_moves.proofs.Widenings.{seen_of, leaves_walk}
@@ -280,7 +280,7 @@ round_at c size s t vs whole kept f same row = subst (Walks c t) (sym row.moves)
 
     pre_walk : Walks c t (round_moves row.draft row.first row.second row.thirds)
     pre_walk = walk_of c pre t (subst (Mays c p) (sym pre_along) (mays_first c pre_events (acks_or (all_true row.results) q ms row.results) p may))
-        (f, free_walk middle begun f (labels_free begun.seats middle middle_label))
+        ((f, draft_knows t.pool draft t.seats row.leaves), free_walk middle begun f (labels_free begun.seats middle middle_label))
 
     ended_side : Side
     ended_side = after_moves (round_moves row.draft row.first row.second row.thirds) t

@@ -107,10 +107,10 @@ seen_of [] s = refl
 seen_of (v ∷ vs) s = seen_of vs (state_step v s)
 
 -- Widenings leave all but logs as it was.
-abbrev IsLike : Pool → Pool → Type 0
+abbrev pub IsLike : Pool → Pool → Type 0
 IsLike b p = (o : Logs) × (p ≡ record b { owes = o })
 
-widens_like : (vs : List Move) (s : PoolSeen) (t : Side) (b : Pool) → AreWidens s vs → IsLike b t.pool → IsLike b (after_moves vs t).pool
+pub widens_like : (vs : List Move) (s : PoolSeen) (t : Side) (b : Pool) → AreWidens s vs → IsLike b t.pool → IsLike b (after_moves vs t).pool
 widens_like [] s t b are like = like
 widens_like (Widen m low high ∷ vs) s t b are like = widens_like vs (step (Widen m low high) s) (after_move (Widen m low high) t) b are.2
     (grown (of_number t.pool m) low high t.pool.owes, ap {A = Pool} (λ p. record p { owes = grown (of_number t.pool m) low high t.pool.owes }) like.1)

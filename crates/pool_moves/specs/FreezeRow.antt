@@ -9,6 +9,7 @@ use Rattle.txg_history.specs.Records.{Cell, Cells, AreAtOne, key}
 use Rattle.pool_moves.specs.Leaves.{LeafSeen}
 use Rattle.pool_moves.specs.Moves.{Move, Freeze, sums_over}
 use Rattle.pool_moves.specs.States.{Sums, PoolSeen, PoolState}
+use Rattle.pool_moves.specs.Widening.{IsWidened}
 
 -- the leaf has this device
 abbrev pub is_dev : ℕ → Option ℕ → Bool
@@ -81,7 +82,7 @@ pub record AreDirtyKeys (c : Codec) (s : PoolState) (cells : Cells) : Type 0 whe
   pub births : (k : Key) (cell : Cell) → cells k ≡ Some cell → cell.birth ≡ s.core.number + 1
   pub long : (k : Key) (cell : Cell) → cells k ≡ Some cell → length cell.block ≡ 4096
 
--- A freeze: the next number is drawn, each dirty key gets its place, and the board is the readable leaves.
+-- A freeze: the next number is drawn, each dirty key gets its place, the board is the readable leaves, and logs are widened.
 pub record RowFreeze (c : Codec) (s : PoolState) (vs : List Move) : Type 0 where
   pub idle : s.core.group.frozen ≡ false
   pub opened : s.core.opened ≡ true
@@ -89,11 +90,11 @@ pub record RowFreeze (c : Codec) (s : PoolState) (vs : List Move) : Type 0 where
   pub cells : Cells
   pub dirty : AreDirtyKeys c s cells
   pub places : ArePlacesGiven s.core cells
-  pub moves : vs ≡ Freeze cells (up_devs s.core.leaves) ∷ []
+  pub moves : IsWidened s.core (Freeze cells (up_devs s.core.leaves)) vs
 
 -- A freeze without keys, as at a create and behind an opening: nothing was written since.
 pub record RowEmptyFreeze (s : PoolState) (vs : List Move) : Type 0 where
   pub idle : s.core.group.frozen ≡ false
   pub unwritten : (a : ℕ) → s.own.writes a ≡ None
   pub tops : AllByRecursion (λ leaf. 1 ≤ leaf.top) s.core.leaves
-  pub moves : vs ≡ Freeze (λ k. None) (up_devs s.core.leaves) ∷ []
+  pub moves : IsWidened s.core (Freeze (λ k. None) (up_devs s.core.leaves)) vs
