@@ -1,5 +1,6 @@
 -- Openings and creates may commit their groups without keys.
 use Rattle.std.proofs.Common.{◌≡◌, ℕ, Bool, true, false, cond, Some, None, List, [], ◌∷◌, ◌++◌, refl, sym, ap, ◌∙◌, subst}
+use Rattle.std.specs.List.{AllByRecursion}
 use Rattle.mp_base.specs.declared.place.Key.{Key}
 use Rattle.txg_history.specs.Events.{Opens, Flushed}
 use Rattle.txg_history.specs.Moves.{Mays, MayFlush}
@@ -8,9 +9,10 @@ use Rattle.txg_history.specs.Pools.{Pool, after}
 use Rattle.txg_history.specs.Records.{Cell, Cells, block_in}
 use Rattle.txg_history.specs.Survival.{Survives}
 use Rattle.txg_history.proofs.Moving.{event_survives}
-use Rattle.pool_moves.specs.CommitRows.{IsOpened, RowReopen, RowFound, NamedLog, RowLogs}
+use Rattle.pool_moves.specs.CommitRows.{IsOpened, uncounts, RowReopen, RowFound, NamedLog, RowLogs}
 use Rattle.pool_moves.specs.FreezeRow.{RowEmptyFreeze, up_devs}
 use Rattle.pool_moves.specs.Keeping.{over, Kept, Walks}
+use Rattle.pool_moves.specs.Leaves.{LeafSeen}
 use Rattle.pool_moves.specs.LineRows.{IsSized, TurnReply}
 use Rattle.pool_moves.specs.Moves.{Move, Freeze, Flushed_all, steps, step, after_move, after_moves}
 use Rattle.pool_moves.specs.States.{PoolState, Side, seen}
@@ -18,7 +20,7 @@ use Rattle.pool_moves.proofs.FreeWalks.{walks_more}
 use Rattle.pool_moves.proofs.Widenings.{IsLike, widens_like}
 use Rattle.pool_moves.proofs.FreezeWalks.{empty_freeze_walks}
 use Rattle.pool_moves.proofs.Keeping.{walk_keeps}
-use Rattle.pool_moves.proofs.LineWalks.{group_walks, sized_along}
+use Rattle.pool_moves.proofs.LineWalks.{IsSet, sets_walk, group_walks, sized_along}
 use Rattle.pool_moves.proofs.RoundWalks.{round_walks}
 
 pub opened_kept : (c : Codec) (s : PoolState) (t : Side) → IsOpened c s t → Kept c s t
@@ -41,10 +43,18 @@ opened_kept c s t o = record {
   survives = subst (Survives c) (sym o.is) (event_survives c o.before (Opens o.r) o.survives o.live);
 }
 
+-- counts that begin anew
+uncounts_set : (leaves : List LeafSeen) → AllByRecursion IsSet (uncounts leaves)
+uncounts_set [] = tt
+uncounts_set (leaf ∷ leaves) = (tt, uncounts_set leaves)
+
 pub reopen_walks : (c : Codec) (size : ℕ → ℕ) (s : PoolState) (t : Side) (vs : List Move) (reply : TurnReply) → Kept c s t → IsSized size t → RowReopen c size s vs reply → Walks c t vs
-reopen_walks c size s t vs reply kept same row = let walks = empty_freeze_walks c s t row.first kept row.freeze in
-    subst (Walks c t) (sym row.moves) (walks_more c row.first row.rest t walks
-    (group_walks c size (steps row.first s) (after_moves row.first t) row.rest reply (walk_keeps c row.first s t walks kept) (sized_along size row.first t same) row.ends))
+reopen_walks c size s t vs reply kept same row =
+    let walks = empty_freeze_walks c s t row.first kept row.freeze in
+    let ending = group_walks c size (steps row.first s) (after_moves row.first t) row.rest reply (walk_keeps c row.first s t walks kept) (sized_along size row.first t same) row.ends in
+    subst (Walks c t) (sym row.moves) (walks_more c row.first (row.rest ++ uncounts (steps row.rest (steps row.first s)).core.leaves) t walks
+    (walks_more c row.rest (uncounts (steps row.rest (steps row.first s)).core.leaves) (after_moves row.first t) ending
+    (sets_walk c (uncounts (steps row.rest (steps row.first s)).core.leaves) (after_moves row.rest (after_moves row.first t)) (uncounts_set (steps row.rest (steps row.first s)).core.leaves))))
 
 -- a group without keys has nothing to flush
 no_key : {A : Type 0} (cells : Cells) (k : Key) (cell : Cell) → cells ≡ (λ k. None) → cells k ≡ Some cell → A

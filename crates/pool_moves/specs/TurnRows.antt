@@ -11,15 +11,15 @@ use Rattle.label_store.specs.Phases.{IsTurn, IsPhase}
 use Rattle.label_store.specs.Records.{IsRecord}
 use Rattle.label_store.specs.Rounds.{first_plan, second_plan, third_plan, config_of, uberblock_of}
 use Rattle.label_store.specs.Seats.{AreSeated}
-use Rattle.txg_history.specs.Pages.{Codec}
+use Rattle.txg_history.specs.Pages.{Codec, Sum, IsOfVolume}
 use Rattle.txg_history.specs.Records.{Cell}
 use Rattle.txg_history.specs.Rounds.{all_true}
 use Rattle.txg_history.specs.Turns.{write_plan, flush_plan}
 use Rattle.pool_moves.specs.Boards.{board_of, board_under, emptied}
-use Rattle.pool_moves.specs.Drafts.{draft_of}
+use Rattle.pool_moves.specs.Drafts.{draft_of, kept_leaf}
 use Rattle.pool_moves.specs.FreezeRow.{IsBefore}
 use Rattle.pool_moves.specs.Moves.{Draft, Move, Wrote_key, Flushed_all, Draw, Burn, Starts, Copies, Copied, Commits, sums_over}
-use Rattle.pool_moves.specs.States.{PoolSeen, PoolState}
+use Rattle.pool_moves.specs.States.{PoolSeen, Own, PoolState}
 use Rattle.pool_moves.specs.Walking.{as_moves}
 use Rattle.pool_moves.specs.Widening.{AreLeaves, seen_along}
 
@@ -54,15 +54,22 @@ pub record RowFlushTurn (s : PoolSeen) (vs : List Move) : Type 0 where
   pub leaves : AreLeaves s (board_of s.leaves) results leaving
   pub moves : vs ≡ turn_moves made leaving Flushed_all
 
--- What the configuration of a draft says of the record that is drawn up from this state.
+-- What the configuration of a draft says of the record that is drawn up from this state. Each key is one of its volume.
 pub record FitsState (c : Codec) (s : PoolSeen) (draft : Draft) : Type 0 where
   pub pool_is : draft.commit.pool ≡ s.pool
   pub number_is : draft.commit.number.0 ≡ s.number
   pub is_record : (m : Member) → m.guid.0 < 2 ^ 64 → IsRecord c.head_of (uberblock_of draft.commit m) draft.commit.blob (config_of draft.commit)
   pub name_is : (head : Head) → c.head_of (config_of draft.commit) ≡ Some head → head.name ≡ s.name
+  pub room_is : c.room (config_of draft.commit) ≡ s.room
+  pub inside : (k : Key) (sum : Sum) → sums_over s.group.cells s.committed k ≡ Some sum → IsOfVolume (c.blocks (config_of draft.commit)) k
   pub root : c.root (config_of draft.commit) ≡ sums_over s.group.cells s.committed (record { level = 3; index = 0 })
-  pub tops : c.tops (config_of draft.commit) ≡ draft.tops
-  pub owes : c.owes (config_of draft.commit) ≡ draft.owes
+  pub leaves_are : c.leaves (config_of draft.commit) ≡ map kept_leaf s.leaves
+
+-- What it says of what no event tells.
+pub record FitsOwn (c : Codec) (own : Own) (draft : Draft) : Type 0 where
+  pub volume : c.blocks (config_of draft.commit) ≡ own.blocks
+  pub top_numbers : c.top_number (config_of draft.commit) ≡ own.top_number
+  pub next : c.next_member (config_of draft.commit) ≡ own.next_member
 
 -- The third phase with its marks: a member that is still in the round begins it, and ends it where no call of its turn failed.
 abbrev pub ended : Bool → Draft → ℕ → List Move
