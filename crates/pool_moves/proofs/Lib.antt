@@ -11,5 +11,7 @@ pub mod Missing
 pub mod Needing
 pub mod ReadWalks
 pub mod RoundWalks
+pub mod ScanCalls
+pub mod ScanSteps
 pub mod Seeing
 pub mod TurnWalks
