@@ -12,6 +12,7 @@ pub mod Needing
 pub mod ReadWalks
 pub mod RoundWalks
 pub mod ScanCalls
+pub mod ScanEnds
 pub mod ScanSteps
 pub mod Seeing
 pub mod TurnWalks
