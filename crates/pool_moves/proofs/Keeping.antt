@@ -541,7 +541,7 @@ topped_kept c (Shapes top children) s t may ok kept d is one = kept.topped d is 
 topped_kept c v s t may ok kept d is one = under_step v t.pool (t.pool.in_top d) (λ e found own under. under) t.seats (kept.topped d is one)
 
 -- No leaf that the run has not found is eligible.
-of_found_step : (which : ℕ → Bool) (v : Move) (p : Pool) → ((d : ℕ) (found : Bool) (own : OwnLeaf) → IsOfFound which (At d found own) → IsOfFound which (seat_step v p (At d found own)))
+pub of_found_step : (which : ℕ → Bool) (v : Move) (p : Pool) → ((d : ℕ) (found : Bool) (own : OwnLeaf) → IsOfFound which (At d found own) → IsOfFound which (seat_step v p (At d found own)))
     → (seats : List Seat) → AllByRecursion (IsOfFound which) seats → AllByRecursion (IsOfFound which) (map (seat_step v p) seats)
 of_found_step which v p at seats all = all_map (IsOfFound which) (IsOfFound which) (seat_step v p)
     (seat_cases (λ seat. IsOfFound which seat → IsOfFound which (seat_step v p seat)) at (λ leaf is. tt)) seats all

@@ -11,6 +11,9 @@ pub mod Missing
 pub mod Needing
 pub mod ReadWalks
 pub mod RoundWalks
+pub mod ScanCalls
+pub mod ScanEnds
+pub mod ScanSteps
 pub mod Seeing
 pub mod TurnWalks
 pub mod Widenings

@@ -11,6 +11,7 @@ pub mod Missing
 pub mod Moves
 pub mod ReadRow
 pub mod Refusing
+pub mod ScanRows
 pub mod States
 pub mod Trees
 pub mod TurnRows
