@@ -7,7 +7,11 @@ pub mod FreezeWalks
 pub mod Keeping
 pub mod LineWalks
 pub mod Making
+pub mod OpenedSeats
+pub mod PagesBack
+pub mod PageTurns
 pub mod ReadWalks
+pub mod Rosters
 pub mod RoundWalks
 pub mod Seeing
 pub mod TurnWalks

@@ -8,7 +8,12 @@ pub mod Leaves
 pub mod LineRows
 pub mod Making
 pub mod Moves
+pub mod Opened
+pub mod OpeningRow
+pub mod PageReads
 pub mod ReadRow
+pub mod Resilvers
+pub mod Rosters
 pub mod States
 pub mod TurnRows
 pub mod Walking
