@@ -9,7 +9,11 @@ pub mod LineWalks
 pub mod Making
 pub mod Missing
 pub mod Needing
+pub mod OpenedSeats
+pub mod PageTurns
+pub mod PagesBack
 pub mod ReadWalks
+pub mod Rosters
 pub mod RoundWalks
 pub mod ScanCalls
 pub mod ScanEnds

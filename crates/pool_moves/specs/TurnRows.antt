@@ -69,6 +69,8 @@ pub record FitsState (c : Codec) (s : PoolSeen) (draft : Draft) : Type 0 where
 pub record FitsOwn (c : Codec) (own : Own) (draft : Draft) : Type 0 where
   pub volume : c.blocks (config_of draft.commit) ≡ own.blocks
   pub top_numbers : c.top_number (config_of draft.commit) ≡ own.top_number
+  pub children_are : c.children (config_of draft.commit) ≡ own.children
+  pub spares_are : c.spares (config_of draft.commit) ≡ own.spares
   pub next : c.next_member (config_of draft.commit) ≡ own.next_member
 
 -- The third phase with its marks: a member that is still in the round begins it, and ends it where no call of its turn failed.

@@ -24,5 +24,6 @@ pub mod Sparing
 pub mod Stamps
 pub mod Survival
 pub mod Tracking
+pub mod Trees
 pub mod Turns
 pub mod Weeks
