@@ -4,6 +4,7 @@ pub mod CommitWalks
 pub mod Drafting
 pub mod FreeWalks
 pub mod FreezeWalks
+pub mod GraftWalks
 pub mod Keeping
 pub mod LineWalks
 pub mod Making
