@@ -16,4 +16,5 @@ pub mod ScanCalls
 pub mod ScanEnds
 pub mod ScanSteps
 pub mod Seeing
+pub mod Shaping
 pub mod TurnWalks
