@@ -4,6 +4,7 @@ pub mod CommitWalks
 pub mod Drafting
 pub mod FreeWalks
 pub mod FreezeWalks
+pub mod GraftWalks
 pub mod Keeping
 pub mod LineWalks
 pub mod Making
@@ -19,5 +20,6 @@ pub mod ScanCalls
 pub mod ScanEnds
 pub mod ScanSteps
 pub mod Seeing
+pub mod Shaping
 pub mod TurnWalks
 pub mod Widenings

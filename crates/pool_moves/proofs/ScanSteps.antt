@@ -73,7 +73,7 @@ up_to_is k j is = ⊎_elim (λ lower. inl (inl (less_than j.level k.level lower)
     (or_parts (nat_lt j.level k.level) ((j.level == k.level) && nat_le j.index k.index) is)
 
 -- Behind calls, and behind the counts of leaves.
-calls_pool : (made : List Noted) (t : Side) → (after_moves (as_moves made) t).pool ≡ with_calls made t.pool
+pub calls_pool : (made : List Noted) (t : Side) → (after_moves (as_moves made) t).pool ≡ with_calls made t.pool
 calls_pool [] t = refl
 calls_pool (noted ∷ made) t = calls_pool made (after_move (Makes noted) t)
 

@@ -18,6 +18,7 @@ pub mod Resilvers
 pub mod Rosters
 pub mod ScanRows
 pub mod States
+pub mod TreeRows
 pub mod Trees
 pub mod TurnRows
 pub mod Walking

@@ -2,7 +2,7 @@
 use Rattle.std.specs.Prelude.{◌≡◌, ℕ, ◌==◌, ◌||◌, Bool, true, false, cond, Option, Some, None, List, [], ◌∷◌, ◌++◌}
 use Rattle.std.specs.List.{list_any}
 use Rattle.mp_base.specs.declared.number.Guid.{Guid}
-use Rattle.txg_history.specs.Trees.{Branch, Single, Replacing, Child, Plain, Spared}
+pub use Rattle.txg_history.specs.Trees.{Branch, Single, Replacing, Child, Plain, Spared}
 
 abbrev pub same_number : Guid → Guid → Bool
 same_number m n = m.0 == n.0
