@@ -318,7 +318,7 @@ move_apart (Comes i e m top was) h p own apart d k is off = by_bool (e == d)
     some_same a b e = cc
 move_apart v h p own apart d k is off = apart d k is off
 
-own_does : (c : Codec) (h : Host) (s : PoolState) (t : Side) (g : ℕ) (v : Move) → Knows c h t.pool → IsOpen s h.pools → t.pool.pool.0 ≡ g → Kept c s t → Mays c t.pool (events_of v t.pool) → Admits t v
+pub own_does : (c : Codec) (h : Host) (s : PoolState) (t : Side) (g : ℕ) (v : Move) → Knows c h t.pool → IsOpen s h.pools → t.pool.pool.0 ≡ g → Kept c s t → Mays c t.pool (events_of v t.pool) → Admits t v
     → IsOwnMove g h.owner v → Knows c (host_by (Does g v) h) (after_move v t).pool
 own_does c h s t g v knows is number kept may ok own =
     let behind : Kept c (state_step v s) (after_move v t) = move_keeps c v s t may ok kept in

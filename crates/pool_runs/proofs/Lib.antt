@@ -1,3 +1,5 @@
 pub mod Acting
+pub mod Answering
 pub mod Knowing
+pub mod Running
 pub mod Sparing

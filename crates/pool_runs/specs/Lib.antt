@@ -1,5 +1,7 @@
 pub mod Acts
 pub mod Devices
 pub mod Fairness
+pub mod HostRows
 pub mod Hosts
 pub mod Knowing
+pub mod Lines

@@ -1,0 +1,39 @@
+-- Lines: what is asked of a host, and what it answers.
+use Rattle.std.specs.Prelude.{ℕ, Bool, List}
+use Rattle.pool_moves.specs.AwayRows.{WriteReply, OfflineReply}
+use Rattle.pool_moves.specs.CommitRows.{NamedLog}
+use Rattle.pool_moves.specs.LineRows.{TurnReply}
+use Rattle.pool_moves.specs.ReadRow.{ReadReply}
+use Rattle.pool_runs.specs.Acts.{Act}
+
+-- what a line asks. One that asks nothing is outside of the grammar, or empty
+pub data Asked : Type 0 where
+  Asks_nothing : Asked
+  Asks_write : (name : List ℕ) (a : ℕ) (block : List ℕ) → Asked
+  Asks_read : (name : List ℕ) (a : ℕ) → Asked
+  Asks_freeze : (name : List ℕ) → Asked
+  Asks_turn : (name : List ℕ) → Asked
+  Asks_sync : (name : List ℕ) → Asked
+  Asks_offline : (name device : List ℕ) (temporary : Bool) → Asked
+  Asks_logs : (name : List ℕ) → Asked
+
+pub data Reply : Type 0 where
+  To_nothing : Reply
+  To_write : (reply : WriteReply) → Reply
+  To_read : (reply : ReadReply) → Reply
+  To_freeze : (number : ℕ) → Reply
+  To_turn : (reply : TurnReply) → Reply
+  To_sync : (reply : TurnReply) → Reply
+  To_offline : (reply : OfflineReply) → Reply
+  To_logs : (logs : List NamedLog) → Reply
+  -- no open pool has the name
+  No_pool : Reply
+  -- there was no memory
+  No_memory : Reply
+
+-- A line of a run: what it asked, the second that the clock gave, what the host did, and what it answered.
+pub record Entry : Type 0 where
+  pub asked : Asked
+  pub second : ℕ
+  pub acts : List Act
+  pub reply : Reply
