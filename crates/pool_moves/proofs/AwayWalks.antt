@@ -1,24 +1,34 @@
 -- Writes may be taken and leaves may go offline: their walks from their rows.
-use Rattle.std.proofs.Common.{◌≡◌, ◌⊎◌, inl, inr, ⊎_elim, ℕ, ◌==◌, Bool, true, false, cond, Option, Some, None, List, [], ◌∷◌, ◌++◌, map, refl, sym, ap, ◌∙◌, subst, arith}
+use Rattle.std.proofs.Common.{◌≡◌, ◌⊎◌, inl, inr, ⊎_elim, ℕ, ◌==◌, nat_lt, Bool, true, false, cond, Option, Some, None, List, [], ◌∷◌, ◌++◌, map, refl, sym, ap, ◌∙◌, subst, arith}
 use Rattle.std.specs.List.{AllByRecursion, find}
 use Rattle.std.specs.Str.{bytes_eq}
 use Rattle.std.proofs.lemmas.Bool.Decides.{nat_tests}
 use Rattle.txg_history.specs.Pages.{Codec}
 use Rattle.txg_history.specs.Pools.{Pool}
 use Rattle.txg_history.proofs.Logging.{by_bool, same_device, true_not_false}
-use Rattle.pool_moves.specs.AwayRows.{WriteReply, RowWrite, OfflineReply, is_offline, leave_if, gone, OfflineLeaf, OfflineBy, leaf_named, RowOffline}
+use Rattle.pool_moves.specs.AwayRows.{WriteReply, WriteFits, WriteBy, RowWrite, OfflineReply, is_offline, leave_if, gone, OfflineLeaf, OfflineBy, leaf_named, RowOffline}
 use Rattle.pool_moves.specs.Keeping.{IsElsewhere, AreSeatsApart, IsAway, IsOfFound, IsFoundAt, HasFound, Kept, Walks}
 use Rattle.pool_moves.specs.Leaves.{OwnLeaf, LeafSeen, Seat, At, Adrift, Told, told, dev_if, leaf_seen}
 use Rattle.pool_moves.specs.Moves.{Move, Puts, Leave, Sets, after_moves}
+use Rattle.pool_moves.specs.Refusing.{count_below, keys_needed, written_with, dirty_with}
 use Rattle.pool_moves.specs.States.{PoolSeen, PoolState, Side, seen}
 use Rattle.pool_moves.proofs.Boarding.{found_alone}
 use Rattle.pool_moves.proofs.FreeWalks.{walks_more}
 use Rattle.pool_moves.proofs.FreezeWalks.{found_elsewhere}
 
 -- A write is taken.
+write_fits : (c : Codec) (short : Bool) (t : Side) (need free a : ℕ) (block : List ℕ) (vs : List Move) (reply : WriteReply) → WriteFits short need free a block vs reply → Walks c t vs
+write_fits c true t need free a block vs reply row = subst (Walks c t) (sym row.0) tt
+write_fits c false t need free a block vs reply row = subst (Walks c t) (sym row.0) (((tt, tt), tt), tt)
+
+write_by : (c : Codec) (full : Bool) (s : PoolState) (t : Side) (a : ℕ) (block : List ℕ) (vs : List Move) (reply : WriteReply) → WriteBy full s a block vs reply → Walks c t vs
+write_by c true s t a block vs reply row = subst (Walks c t) (sym row.0) tt
+write_by c false s t a block vs reply row =
+    write_fits c (nat_lt row.0 (keys_needed s.own.blocks (written_with a s))) t (keys_needed s.own.blocks (written_with a s)) row.0 a block vs reply row.2
+
 pub write_walks : (c : Codec) (s : PoolState) (t : Side) (a : ℕ) (block : List ℕ) (vs : List Move) (reply : WriteReply) → RowWrite s a block vs reply → Walks c t vs
-write_walks c s t a block vs reply (inl row) = subst (Walks c t) (sym row.1) (((tt, tt), tt), tt)
-write_walks c s t a block vs reply (inr row) = subst (Walks c t) (sym row.1) tt
+write_walks c s t a block vs reply (inl row) = subst (Walks c t) (sym row.1) tt
+write_walks c s t a block vs reply (inr row) = write_by c (nat_lt 4096 (count_below s.own.blocks (dirty_with a s))) s t a block vs reply row.1
 
 -- A leaf that is on the board is one of a frozen group that the run has found.
 abbrev IsBoarded : (frozen : Bool) → List Seat → LeafSeen → Type 0

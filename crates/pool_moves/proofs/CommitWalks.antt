@@ -9,13 +9,13 @@ use Rattle.txg_history.specs.Records.{Cell, Cells, block_in}
 use Rattle.txg_history.specs.Survival.{Survives}
 use Rattle.txg_history.proofs.Moving.{event_survives}
 use Rattle.pool_moves.specs.CommitRows.{IsOpened, RowReopen, RowFound, NamedLog, RowLogs}
-use Rattle.pool_moves.specs.FreezeRow.{RowEmptyFreeze, up_devs}
+use Rattle.pool_moves.specs.FreezeRow.{RowEmptyFreeze, up_devs, joins}
 use Rattle.pool_moves.specs.Keeping.{over, Kept, Walks}
 use Rattle.pool_moves.specs.LineRows.{IsSized, TurnReply}
 use Rattle.pool_moves.specs.Moves.{Move, Freeze, Flushed_all, steps, after_move, after_moves}
 use Rattle.pool_moves.specs.States.{PoolState, Side, seen}
 use Rattle.pool_moves.proofs.FreeWalks.{walks_more}
-use Rattle.pool_moves.proofs.FreezeWalks.{empty_freeze_walks}
+use Rattle.pool_moves.proofs.FreezeWalks.{empty_freeze_walks, joins_stay}
 use Rattle.pool_moves.proofs.Keeping.{walk_keeps}
 use Rattle.pool_moves.proofs.LineWalks.{group_walks, sized_along}
 use Rattle.pool_moves.proofs.RoundWalks.{round_walks}
@@ -52,7 +52,20 @@ empty_flush p frozen none = record {
 
 found_first : (c : Codec) (s : PoolState) (t : Side) (first : List Move) → Kept c s t → RowEmptyFreeze s first → Walks c t (first ++ (Flushed_all ∷ []))
 found_first c s t first kept row = walks_more c first (Flushed_all ∷ []) t (empty_freeze_walks c s t first kept row)
-    (subst (λ vs. Walks c (after_moves vs t) (Flushed_all ∷ [])) (sym row.moves) (((empty_flush (after_move (Freeze (λ k. None) (up_devs s.core.leaves)) t).pool refl refl, tt), refl), tt))
+    (subst (λ vs. Walks c (after_moves vs t) (Flushed_all ∷ [])) (sym row.moves) (((flush behind refl refl, tt), is_frozen), tt))
+  where
+    frozen : Side
+    frozen = after_move (Freeze (λ k. None) (up_devs s.core.leaves)) t
+
+    behind : (after_moves (joins s.core.leaves) (after_move (Freeze (λ k. None) (up_devs s.core.leaves)) t)).pool
+        ≡ (after_move (Freeze (λ k. None) (up_devs s.core.leaves)) t).pool
+    behind = joins_stay s.core.leaves frozen
+
+    flush : {p q : Pool} → p ≡ q → q.group.frozen ≡ true → q.group.cells ≡ (λ k. None) → MayFlush p
+    flush same f none = subst MayFlush (sym same) (empty_flush _ f none)
+
+    is_frozen : (after_moves (joins s.core.leaves) (after_move (Freeze (λ k. None) (up_devs s.core.leaves)) t)).pool.group.frozen ≡ true
+    is_frozen = ap (λ p. p.group.frozen) behind
 
 pub found_walks : (c : Codec) (size : ℕ → ℕ) (s : PoolState) (t : Side) (vs : List Move) (whole : Bool) → Kept c s t → IsSized size t → RowFound c size s vs whole → Walks c t vs
 found_walks c size s t vs whole kept same row = let walks = found_first c s t row.first kept row.freeze in

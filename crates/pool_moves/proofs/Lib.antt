@@ -7,6 +7,8 @@ pub mod FreezeWalks
 pub mod Keeping
 pub mod LineWalks
 pub mod Making
+pub mod Missing
+pub mod Needing
 pub mod ReadWalks
 pub mod RoundWalks
 pub mod Seeing

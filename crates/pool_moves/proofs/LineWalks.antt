@@ -9,8 +9,9 @@ use Rattle.txg_history.specs.Pages.{Codec}
 use Rattle.pool_moves.specs.Boards.{board_of, board_under, emptied}
 use Rattle.pool_moves.specs.Keeping.{Kept, Walks}
 use Rattle.pool_moves.specs.Leaves.{LeafSeen, Seat}
-use Rattle.pool_moves.specs.LineRows.{IsSized, TurnReply, Write, Flush, Round, Committed, sets_failed, has_number, count_moves, EndsBy, EndsTurn, IsTurnOf, IsWritePart, IsFlushPart, IsRoundPart, StartsBy, TurnBy, RowTurn, AreTurns, moves_in, EndsGroup, CommitsOpen, SyncBy, RowSync}
+use Rattle.pool_moves.specs.LineRows.{IsSized, TurnReply, Write, Flush, Round, Committed, sets_failed, has_number, count_moves, EndsBy, EndsTurn, IsTurnOf, IsWritePart, IsFlushPart, IsRoundPart, StartsBy, TurnBy, RowTurn, AreTurns, moves_in, EndsGroup, CommitsOpen, FreezeReply, FreezeFor, FreezeBy, RowFreezeLine, SyncReply, CommitsFor, SyncOpen, SyncBehind, SyncBy, RowSync}
 use Rattle.pool_moves.specs.Moves.{Draft, Move, Makes, Freeze, Wrote_key, Flushed_all, Burn, Draw, Commits, Sets, steps, after_move, after_moves}
+use Rattle.pool_moves.specs.Refusing.{FreezeRefusal}
 use Rattle.pool_moves.specs.States.{PoolSeen, PoolState, Side}
 use Rattle.pool_moves.specs.TurnRows.{turn_moves, ended, IsThirdMoves, RowWriteTurn, RowFlushTurn, RowRound}
 use Rattle.pool_moves.specs.Walking.{as_moves, leave_moves}
@@ -201,15 +202,38 @@ open_walks c size s t vs reply kept same row = let walks = freeze_walks c s t ro
     subst (Walks c t) (sym row.moves) (walks_more c row.first row.rest t walks
     (group_walks c size (steps row.first s) (after_moves row.first t) row.rest reply (walk_keeps c row.first s t walks kept) (sized_along size row.first t same) row.ends))
 
-sync_by : (c : Codec) (size : ℕ → ℕ) (frozen : Bool) (s : PoolState) (t : Side) (vs : List Move) (reply : TurnReply) → Kept c s t → IsSized size t → SyncBy frozen c size s vs reply → Walks c t vs
-sync_by c size false s t vs reply kept same row = open_walks c size s t vs reply kept same row
-sync_by c size true s t vs reply kept same row = behind (group_walks c size s t row.0 row.1 kept same row.2) row.3
-  where
-    behind : Walks c t row.0 → ((vs ≡ row.0) × (reply ≡ row.1)) ⊎ ((rest : List Move) × (vs ≡ row.0 ++ rest) × CommitsOpen c size (steps row.0 s) rest reply) → Walks c t vs
-    behind walks (inl only) = subst (Walks c t) (sym only.0) walks
-    behind walks (inr more) = subst (Walks c t) (sym more.1) (walks_more c row.0 more.0 t walks
-        (open_walks c size (steps row.0 s) (after_moves row.0 t) more.0 reply (walk_keeps c row.0 s t walks kept) (sized_along size row.0 t same) more.2))
+-- A freeze as a line.
+freeze_for : (c : Codec) (refusal : Option FreezeRefusal) (s : PoolState) (t : Side) (vs : List Move) (reply : FreezeReply) → Kept c s t → FreezeFor refusal c s vs reply → Walks c t vs
+freeze_for c (Some refusal) s t vs reply kept row = subst (Walks c t) (sym row.0) tt
+freeze_for c None s t vs reply kept row = freeze_walks c s t vs kept row.0
+
+freeze_by : (c : Codec) (frozen : Bool) (s : PoolState) (t : Side) (vs : List Move) (reply : FreezeReply) → Kept c s t → FreezeBy frozen c s vs reply → Walks c t vs
+freeze_by c true s t vs reply kept row = subst (Walks c t) (sym row.0) tt
+freeze_by c false s t vs reply kept row = freeze_for c row.0 s t vs reply kept row.2
+
+pub freeze_line_walks : (c : Codec) (s : PoolState) (t : Side) (vs : List Move) (reply : FreezeReply) → Kept c s t → RowFreezeLine c s vs reply → Walks c t vs
+freeze_line_walks c s t vs reply kept row = freeze_by c s.core.group.frozen s t vs reply kept row
 
 -- A sync.
-pub sync_walks : (c : Codec) (size : ℕ → ℕ) (s : PoolState) (t : Side) (vs : List Move) (reply : TurnReply) → Kept c s t → IsSized size t → RowSync c size s vs reply → Walks c t vs
+commits_for : (c : Codec) (size : ℕ → ℕ) (refusal : Option FreezeRefusal) (s : PoolState) (t : Side) (vs : List Move) (reply : SyncReply) → Kept c s t → IsSized size t
+    → CommitsFor refusal c size s vs reply → Walks c t vs
+commits_for c size (Some refusal) s t vs reply kept same row = subst (Walks c t) (sym row.0) tt
+commits_for c size None s t vs reply kept same row = open_walks c size s t vs row.0 kept same row.1
+
+sync_open : (c : Codec) (size : ℕ → ℕ) (s : PoolState) (t : Side) (vs : List Move) (reply : SyncReply) → Kept c s t → IsSized size t → SyncOpen c size s vs reply → Walks c t vs
+sync_open c size s t vs reply kept same row = commits_for c size row.0 s t vs reply kept same row.2
+
+sync_behind : (c : Codec) (size : ℕ → ℕ) (turn : TurnReply) (s : PoolState) (t : Side) (vs : List Move) (reply : SyncReply) → Kept c s t → IsSized size t
+    → SyncBehind turn c size s vs reply → Walks c t vs
+sync_behind c size (Committed number) s t vs reply kept same (inl row) = subst (Walks c t) (sym row.0) tt
+sync_behind c size (Committed number) s t vs reply kept same (inr row) = sync_open c size s t vs reply kept same row
+sync_behind c size turn s t vs reply kept same row = subst (Walks c t) (sym row.0) tt
+
+sync_by : (c : Codec) (size : ℕ → ℕ) (frozen : Bool) (s : PoolState) (t : Side) (vs : List Move) (reply : SyncReply) → Kept c s t → IsSized size t → SyncBy frozen c size s vs reply → Walks c t vs
+sync_by c size false s t vs reply kept same row = sync_open c size s t vs reply kept same row
+sync_by c size true s t vs reply kept same row = let walks = group_walks c size s t row.first row.turn kept same row.ends in
+    subst (Walks c t) (sym row.moves) (walks_more c row.first row.rest t walks
+    (sync_behind c size row.turn (steps row.first s) (after_moves row.first t) row.rest reply (walk_keeps c row.first s t walks kept) (sized_along size row.first t same) row.behind))
+
+pub sync_walks : (c : Codec) (size : ℕ → ℕ) (s : PoolState) (t : Side) (vs : List Move) (reply : SyncReply) → Kept c s t → IsSized size t → RowSync c size s vs reply → Walks c t vs
 sync_walks c size s t vs reply kept same row = sync_by c size s.core.group.frozen s t vs reply kept same row

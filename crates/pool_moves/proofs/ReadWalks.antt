@@ -50,7 +50,7 @@ read_sparing p d at bytes fault = record {
 }
 
 -- A copy of a block of the record that the pool reads, on a leaf of its top.
-record IsCopy (member : ℕ → Bool) (in_top : ℕ → ℕ) (owes : Logs) (cell : Cell) (copy : CopyOf) : Type 0 where
+pub record IsCopy (member : ℕ → Bool) (in_top : ℕ → ℕ) (owes : Logs) (cell : Cell) (copy : CopyOf) : Type 0 where
   pub is_member : member copy.dev ≡ true
   pub top_is : in_top copy.dev ≡ cell.top
   pub lacks_is : owes copy.dev cell.birth ≡ copy.lacks
@@ -60,14 +60,14 @@ abbrev IsHurt : Cell → Sectors → CopyOf → Type 0
 IsHurt cell sectors copy = copy.lacks ≡ false → (sectors copy.dev (data_start + cell.sector)).damaged ≡ true
 
 -- only reads and writes are among these calls
-abbrev IsReadOrWrite : Call → Type 0
+abbrev pub IsReadOrWrite : Call → Type 0
 IsReadOrWrite (Read d at bytes fault) = Unit {0}
 IsReadOrWrite (Write d at bytes fault) = Unit {0}
 IsReadOrWrite (Flush d fault) = ⊥
 IsReadOrWrite (Admit d holds) = ⊥
 IsReadOrWrite (Eject d) = ⊥
 
-none_heals : (made : List Noted) (d : ℕ) → AllByRecursion (λ noted. IsReadOrWrite noted.call) made → NoneHeals made d
+pub none_heals : (made : List Noted) (d : ℕ) → AllByRecursion (λ noted. IsReadOrWrite noted.call) made → NoneHeals made d
 none_heals [] d all = tt
 none_heals (noted ∷ made) d all = (one noted.call all.0, none_heals made d all.1)
   where
@@ -85,14 +85,14 @@ record AreRead (c : Codec) (p : Pool) (cell : Cell) (made : List Noted) (wrong :
   pub hurt : AllByRecursion (IsHurt cell (run made p.sectors)) wrong
   pub are : AllByRecursion (IsCopy p.member p.in_top p.owes cell) wrong
 
-read_one : (c : Codec) (p : Pool) (noted : Noted) (d at : ℕ) (bytes : List ℕ) (fault : Option Fault) → noted.call ≡ Read d at bytes fault → IsSparing p noted.call
+pub read_one : (c : Codec) (p : Pool) (noted : Noted) (d at : ℕ) (bytes : List ℕ) (fault : Option Fault) → noted.call ≡ Read d at bytes fault → IsSparing p noted.call
 read_one c p noted d at bytes fault is = subst (IsSparing p) (sym is) (read_sparing p d at bytes fault)
 
-plain_one : (noted : Noted) (d at : ℕ) (bytes : List ℕ) (fault : Option Fault) → noted.call ≡ Read d at bytes fault → IsReadOrWrite noted.call
+pub plain_one : (noted : Noted) (d at : ℕ) (bytes : List ℕ) (fault : Option Fault) → noted.call ≡ Read d at bytes fault → IsReadOrWrite noted.call
 plain_one noted d at bytes fault is = subst IsReadOrWrite (sym is) tt
 
 -- a read that gave wrong bytes of a copy whose leaf doesn't owe the block
-hurt_one : (c : Codec) (p : Pool) (k : Key) (cell : Cell) (copy : CopyOf) (noted : Noted) (bytes : List ℕ) → Survives c p → p.reads.cells k ≡ Some cell → IsCopy p.member p.in_top p.owes cell copy
+pub hurt_one : (c : Codec) (p : Pool) (k : Key) (cell : Cell) (copy : CopyOf) (noted : Noted) (bytes : List ℕ) → Survives c p → p.reads.cells k ≡ Some cell → IsCopy p.member p.in_top p.owes cell copy
     → noted.call ≡ Read copy.dev (data_start + cell.sector) bytes None → length bytes ≡ 4096 → sha256 bytes ≢ sha256 cell.block → Answers (as_found noted p.sectors) noted.call
     → IsHurt cell (after (Calls noted) p).sectors copy
 hurt_one c p k cell copy noted bytes sv at is call long other answers lacks =
@@ -183,7 +183,7 @@ all_filter P Q test one (x ∷ xs) all = step (all_filter P Q test one xs all.1)
     step rest true is = (one x all.0 is, rest)
     step rest false is = rest
 
-abbrev IsReadable : Pool → Cell → CopyOf → Type 0
+abbrev pub IsReadable : Pool → Cell → CopyOf → Type 0
 IsReadable p cell copy = copy.readable ≡ true → IsCopy p.member p.in_top p.owes cell copy
 
 copy_at_seat : (p : Pool) (cell : Cell) (f r : Bool) (seat : Seat) → IsAway seat → IsSeated p.member seat → stands_under cell.top (leaf_seen f r (told p) seat) ≡ true
@@ -193,7 +193,7 @@ copy_at_seat p cell f r (At d false own) away seated under readable = absurd (le
 copy_at_seat p cell f r (Adrift leaf) away seated under readable =
     absurd (let no : false ≡ true = sym (ap (λ dev. (copy_at (is_up leaf.own.mode) dev (leaf.owes cell.birth)).readable) away.0) ∙ readable in cc)
 
-copies_on : (p : Pool) (cell : Cell) (f r : Bool) (seats : List Seat) → AllByRecursion IsAway seats → AllByRecursion (IsSeated p.member) seats
+pub copies_on : (p : Pool) (cell : Cell) (f r : Bool) (seats : List Seat) → AllByRecursion IsAway seats → AllByRecursion (IsSeated p.member) seats
     → AllByRecursion (IsReadable p cell) (map (copy_of cell.birth) (filter (stands_under cell.top) (map (leaf_seen f r (told p)) seats)))
 copies_on p cell f r [] away seated = tt
 copies_on p cell f r (seat ∷ seats) away seated = step (copies_on p cell f r seats away.1 seated.1) (stands_under cell.top (leaf_seen f r (told p) seat)) refl
@@ -204,7 +204,7 @@ copies_on p cell f r (seat ∷ seats) away seated = step (copies_on p cell f r s
     step rest true is = (copy_at_seat p cell f r seat away.0 seated.0 is, rest)
     step rest false is = rest
 
-tried_all : (p : Pool) (cell : Cell) (copies : List CopyOf) → AllByRecursion (IsReadable p cell) copies → AllByRecursion (IsCopy p.member p.in_top p.owes cell) (tries copies)
+pub tried_all : (p : Pool) (cell : Cell) (copies : List CopyOf) → AllByRecursion (IsReadable p cell) copies → AllByRecursion (IsCopy p.member p.in_top p.owes cell) (tries copies)
 tried_all p cell copies all = all_append (IsCopy p.member p.in_top p.owes cell) (filter (is_due false) copies) (filter (is_due true) copies)
     (all_filter (IsReadable p cell) (IsCopy p.member p.in_top p.owes cell) (is_due false) (λ copy is due. is (and_parts copy.readable (not copy.lacks) due).0) copies all)
     (all_filter (IsReadable p cell) (IsCopy p.member p.in_top p.owes cell) (is_due true) (λ copy is due. is (and_parts copy.readable copy.lacks due).0) copies all)
@@ -231,7 +231,7 @@ read_sets sum made [] = tt
 read_sets sum made (leaf ∷ leaves) = (tt, read_sets sum made leaves)
 
 -- the sum of a key's cell
-abbrev sum_of_cell : Cell → Sum
+abbrev pub sum_of_cell : Cell → Sum
 sum_of_cell cell = record { birth = cell.birth; top = cell.top; sector = cell.sector; sum = sha256 cell.block }
 
 -- A read of a key of the record: its moves may be made, or the block and these very bytes are two with one sum.
@@ -282,11 +282,11 @@ copies_at c t k cell sum vs outcome s kept at is row answers = subst Goal (some_
             }))
 
 -- the reads among a read's calls answer
-made_calls : (made : List Noted) (vs : List Move) → made_in (as_moves made ++ vs) ≡ made ++ made_in vs
+pub made_calls : (made : List Noted) (vs : List Move) → made_in (as_moves made ++ vs) ≡ made ++ made_in vs
 made_calls [] vs = refl
 made_calls (noted ∷ made) vs = ap (λ l. noted ∷ l) (made_calls made vs)
 
-answers_front : (made more : List Noted) (sectors : Sectors) → AllAnswer sectors (made ++ more) → AllAnswer sectors made
+pub answers_front : (made more : List Noted) (sectors : Sectors) → AllAnswer sectors (made ++ more) → AllAnswer sectors made
 answers_front [] more sectors all = tt
 answers_front (noted ∷ made) more sectors all = (all.0, answers_front made more (run (noted ∷ []) sectors) all.1)
 

@@ -1,5 +1,5 @@
 -- `write` and `offline` as rows.
-use Rattle.std.specs.Prelude.{◌≡◌, ◌⊎◌, ℕ, ◌<◌, ◌≤◌, ◌==◌, ◌&&◌, ◌||◌, Bool, true, false, not, cond, Option, Some, None, List, [], ◌∷◌, ◌++◌, length}
+use Rattle.std.specs.Prelude.{◌≡◌, ◌⊎◌, ℕ, ◌<◌, ◌≤◌, ◌==◌, ◌&&◌, ◌||◌, nat_lt, Bool, true, false, not, cond, Option, Some, None, List, [], ◌∷◌, ◌++◌, length}
 use Rattle.std.specs.List.{find, filter, list_all, IsAmong, AllByRecursion}
 use Rattle.std.specs.Str.{bytes_eq}
 use Rattle.mp_base.specs.declared.number.Guid.{Guid}
@@ -8,17 +8,31 @@ use Rattle.vdev_tree.specs.declared.vdev.State.{State}
 use Rattle.vdev_tree.specs.declared.vdev.State.TheVariants.{Offline}
 use Rattle.pool_moves.specs.Leaves.{OwnLeaf, LeafSeen}
 use Rattle.pool_moves.specs.Moves.{Move, Puts, Leave, Sets}
+use Rattle.pool_moves.specs.Refusing.{count_below, keys_needed, written_with, dirty_with, CountsOpen}
 use Rattle.pool_moves.specs.States.{PoolState}
 
--- What these lines answer.
+-- What `write` answers.
 pub data WriteReply : Type 0 where
   Taken : WriteReply
   BadAddress : (limit : ℕ) → WriteReply
+  Full : WriteReply
+  NoSpace : (need free : ℕ) → WriteReply
 
--- `write`, where there is room: a block below the volume's end is taken.
+-- by whether the places that are open are too few for the open group with this block
+abbrev pub WriteFits : (short : Bool) → (need free : ℕ) → (a : ℕ) → (block : List ℕ) → List Move → WriteReply → Type 0
+WriteFits true need free a block vs reply = (vs ≡ []) × (reply ≡ NoSpace need free)
+WriteFits false need free a block vs reply = (vs ≡ Puts a block ∷ []) × (reply ≡ Taken)
+
+-- by whether the open and the frozen group would have more than 4,096 addresses with this one
+abbrev pub WriteBy : (full : Bool) → PoolState → (a : ℕ) → (block : List ℕ) → List Move → WriteReply → Type 0
+WriteBy true s a block vs reply = (vs ≡ []) × (reply ≡ Full)
+WriteBy false s a block vs reply = (free : ℕ) × CountsOpen s.core free
+    × WriteFits (nat_lt free (keys_needed s.own.blocks (written_with a s))) (keys_needed s.own.blocks (written_with a s)) free a block vs reply
+
+-- `write`: a block below the volume's end is taken, where its groups have room for it and so have the tops.
 abbrev pub RowWrite : PoolState → (a : ℕ) → (block : List ℕ) → List Move → WriteReply → Type 0
-RowWrite s a block vs reply = ((a < s.own.blocks) × (vs ≡ Puts a block ∷ []) × (reply ≡ Taken))
-    ⊎ ((s.own.blocks ≤ a) × (vs ≡ []) × (reply ≡ BadAddress s.own.blocks))
+RowWrite s a block vs reply = ((s.own.blocks ≤ a) × (vs ≡ []) × (reply ≡ BadAddress s.own.blocks))
+    ⊎ ((a < s.own.blocks) × WriteBy (nat_lt 4096 (count_below s.own.blocks (dirty_with a s))) s a block vs reply)
 
 -- a group can't be read from a leaf: it isn't readable, or owes the group
 abbrev pub is_out : (g : ℕ) → LeafSeen → Bool

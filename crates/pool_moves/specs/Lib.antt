@@ -7,8 +7,10 @@ pub mod Keeping
 pub mod Leaves
 pub mod LineRows
 pub mod Making
+pub mod Missing
 pub mod Moves
 pub mod ReadRow
+pub mod Refusing
 pub mod States
 pub mod TurnRows
 pub mod Walking

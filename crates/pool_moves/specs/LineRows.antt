@@ -10,6 +10,7 @@ use Rattle.pool_moves.specs.Boards.{board_of, board_under, emptied}
 use Rattle.pool_moves.specs.FreezeRow.{RowFreeze}
 use Rattle.pool_moves.specs.Leaves.{OwnLeaf, LeafSeen}
 use Rattle.pool_moves.specs.Moves.{Move, Draw, Burn, Sets, steps}
+use Rattle.pool_moves.specs.Refusing.{FreezeRefusal, IsRefused}
 use Rattle.pool_moves.specs.States.{PoolState, Side}
 use Rattle.pool_moves.specs.TurnRows.{RowWriteTurn, RowFlushTurn, RowRound}
 
@@ -150,12 +151,59 @@ pub record CommitsOpen (c : Codec) (size : ℕ → ℕ) (s : PoolState) (vs : Li
   pub ends : EndsGroup c size (steps first s) rest reply
   pub moves : vs ≡ first ++ rest
 
--- `sync`, but for its refusals at the freeze: it ends the frozen group, if there is one; where that is acknowledged, or none is
--- frozen, it freezes and ends a new one.
-abbrev pub SyncBy : (frozen : Bool) → Codec → (size : ℕ → ℕ) → PoolState → List Move → TurnReply → Type 0
-SyncBy false c size s vs reply = CommitsOpen c size s vs reply
-SyncBy true c size s vs reply = (first : List Move) × (ended : TurnReply) × EndsGroup c size s first ended
-    × (((vs ≡ first) × (reply ≡ ended)) ⊎ ((rest : List Move) × (vs ≡ first ++ rest) × CommitsOpen c size (steps first s) rest reply))
+-- What `freeze` answers: the number that was drawn, or the frozen group's first, or why none was frozen.
+pub data FreezeReply : Type 0 where
+  Frozen : (number : ℕ) → FreezeReply
+  InFlight : (group : ℕ) → FreezeReply
+  Unfrozen : (refusal : FreezeRefusal) → FreezeReply
 
-abbrev pub RowSync : Codec → (size : ℕ → ℕ) → PoolState → List Move → TurnReply → Type 0
+-- by what the freeze is refused for, if anything
+abbrev pub FreezeFor : Option FreezeRefusal → Codec → PoolState → List Move → FreezeReply → Type 0
+FreezeFor (Some refusal) c s vs reply = (vs ≡ []) × (reply ≡ Unfrozen refusal)
+FreezeFor None c s vs reply = RowFreeze c s vs × (reply ≡ Frozen (s.core.number + 1))
+
+abbrev pub FreezeBy : (frozen : Bool) → Codec → PoolState → List Move → FreezeReply → Type 0
+FreezeBy true c s vs reply = (vs ≡ []) × (reply ≡ InFlight s.core.group.first)
+FreezeBy false c s vs reply = (refusal : Option FreezeRefusal) × IsRefused s refusal × FreezeFor refusal c s vs reply
+
+-- `freeze`
+abbrev pub RowFreezeLine : Codec → PoolState → List Move → FreezeReply → Type 0
+RowFreezeLine c s vs reply = FreezeBy s.core.group.frozen c s vs reply
+
+-- What `sync` answers: how its last group ended, or why none was frozen; and that there was no memory for the next group,
+-- where one was ended before.
+pub data SyncReply : Type 0 where
+  Ended : (turn : TurnReply) → SyncReply
+  Refused : (refusal : FreezeRefusal) → SyncReply
+  NoMemory : SyncReply
+
+-- a new group is frozen and ended, where no freeze is refused
+abbrev pub CommitsFor : Option FreezeRefusal → Codec → (size : ℕ → ℕ) → PoolState → List Move → SyncReply → Type 0
+CommitsFor (Some refusal) c size s vs reply = (vs ≡ []) × (reply ≡ Refused refusal)
+CommitsFor None c size s vs reply = (turn : TurnReply) × CommitsOpen c size s vs turn × (reply ≡ Ended turn)
+
+abbrev pub SyncOpen : Codec → (size : ℕ → ℕ) → PoolState → List Move → SyncReply → Type 0
+SyncOpen c size s vs reply = (refusal : Option FreezeRefusal) × IsRefused s refusal × CommitsFor refusal c size s vs reply
+
+-- behind the frozen group's end: it was acknowledged, and a new one follows, unless there is no memory; or it was suspended
+abbrev pub SyncBehind : TurnReply → Codec → (size : ℕ → ℕ) → PoolState → List Move → SyncReply → Type 0
+SyncBehind (Committed number) c size s vs reply = ((vs ≡ []) × (reply ≡ NoMemory)) ⊎ SyncOpen c size s vs reply
+SyncBehind turn c size s vs reply = (vs ≡ []) × (reply ≡ Ended turn)
+
+-- the frozen group is ended, and then more
+pub record EndsFirst (c : Codec) (size : ℕ → ℕ) (s : PoolState) (vs : List Move) (reply : SyncReply) : Type 0 where
+  pub first : List Move
+  pub turn : TurnReply
+  pub ends : EndsGroup c size s first turn
+  pub rest : List Move
+  pub behind : SyncBehind turn c size (steps first s) rest reply
+  pub moves : vs ≡ first ++ rest
+
+-- `sync`: it ends the frozen group, if there is one; where that is acknowledged, or none is frozen, it freezes and ends a new
+-- one.
+abbrev pub SyncBy : (frozen : Bool) → Codec → (size : ℕ → ℕ) → PoolState → List Move → SyncReply → Type 0
+SyncBy false c size s vs reply = SyncOpen c size s vs reply
+SyncBy true c size s vs reply = EndsFirst c size s vs reply
+
+abbrev pub RowSync : Codec → (size : ℕ → ℕ) → PoolState → List Move → SyncReply → Type 0
 RowSync c size s vs reply = SyncBy s.core.group.frozen c size s vs reply

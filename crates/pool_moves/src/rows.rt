@@ -1,15 +1,19 @@
 //! Which moves the lines of a pool may make (docs/MODEL.md, "Moves").
-ghost use Rattle.std.specs.Prelude.{◌≡◌, ◌⊎◌, ℕ, Bool, List};
-ghost use Rattle.bank_core.specs.Disk.{AllAnswer};
+ghost use Rattle.std.specs.Option.{is_some};
+ghost use Rattle.std.specs.Prelude.{◌≡◌, ◌⊎◌, ◌≤◌, ℕ, Bool, List};
+ghost use Rattle.bank_core.specs.Disk.{AllAnswer, run};
 ghost use Rattle.txg_history.specs.Pages.{Codec, IsClash};
+ghost use Rattle.txg_history.specs.Records.{Cells, key};
 ghost use Rattle.pool_moves.specs.AwayRows.{WriteReply, RowWrite, OfflineReply, RowOffline};
 ghost use Rattle.pool_moves.specs.CommitRows.{IsOpened, RowReopen, RowFound, NamedLog, RowLogs};
-ghost use Rattle.pool_moves.specs.FreezeRow.{RowFreeze, RowEmptyFreeze};
+ghost use Rattle.pool_moves.specs.FreezeRow.{AreDirtyKeys, RowFreeze, RowEmptyFreeze};
 ghost use Rattle.pool_moves.specs.Keeping.{Kept, Walks};
-ghost use Rattle.pool_moves.specs.LineRows.{IsSized, TurnReply, RowTurn, RowSync};
+ghost use Rattle.pool_moves.specs.LineRows.{IsSized, TurnReply, RowTurn, FreezeReply, RowFreezeLine, SyncReply, RowSync};
 ghost use Rattle.pool_moves.specs.Making.{IsMade};
+ghost use Rattle.pool_moves.specs.Missing.{AllMissed};
 ghost use Rattle.pool_moves.specs.Moves.{Move};
-ghost use Rattle.pool_moves.specs.ReadRow.{ReadReply, Gives, RowRead, ClashesWith, made_in};
+ghost use Rattle.pool_moves.specs.ReadRow.{ReadReply, Gives, Exhausted, RowRead, ClashesWith, made_in};
+ghost use Rattle.pool_moves.specs.Refusing.{dirty_at, is_written};
 ghost use Rattle.pool_moves.specs.States.{PoolState, Side};
 
 /// A pool that was just made is kept by its state, so nothing that is said of kept states is empty. It computes nothing: its
@@ -35,10 +39,14 @@ pub fn pools_may_be_opened()
 /// A freeze may be made. It computes nothing: its clauses are the law.
 ///
 /// `dirty`: of the open writes and the pages above them, each at the least place that is left, over the readable leaves.
-/// `empty`: without keys, as at a create and behind an opening.
+/// `line`: where no group is frozen and nothing refuses it, else none. `empty`: without keys, as at a create and
+/// behind an opening. `keys`: the keys of a freeze are just those that its writes make dirty, which a refusal for want of room counts.
 pub fn freezes_may_be_made()
     ensures dirty { (c : Codec) (s : PoolState) (t : Side) (vs : List Move) → Kept c s t → RowFreeze c s vs → Walks c t vs }
+    ensures line { (c : Codec) (s : PoolState) (t : Side) (vs : List Move) (reply : FreezeReply) → Kept c s t → RowFreezeLine c s vs reply → Walks c t vs }
     ensures empty { (c : Codec) (s : PoolState) (t : Side) (vs : List Move) → Kept c s t → RowEmptyFreeze s vs → Walks c t vs }
+    ensures keys { (c : Codec) (s : PoolState) (cells : Cells) (level index : ℕ) → AreDirtyKeys c s cells → level ≤ 3
+        → is_some (cells (key level index)) ≡ dirty_at level (is_written s) index }
 {}
 
 /// A group's turns may be made, whichever of their calls fail. It computes nothing: its clauses are the law.
@@ -49,7 +57,7 @@ pub fn freezes_may_be_made()
 pub fn turns_may_be_made()
     ensures turn { (c : Codec) (size : ℕ → ℕ) (s : PoolState) (t : Side) (vs : List Move) (reply : TurnReply) → Kept c s t → IsSized size t → RowTurn c size s vs reply
         → Walks c t vs }
-    ensures sync { (c : Codec) (size : ℕ → ℕ) (s : PoolState) (t : Side) (vs : List Move) (reply : TurnReply) → Kept c s t → IsSized size t → RowSync c size s vs reply
+    ensures sync { (c : Codec) (size : ℕ → ℕ) (s : PoolState) (t : Side) (vs : List Move) (reply : SyncReply) → Kept c s t → IsSized size t → RowSync c size s vs reply
         → Walks c t vs }
 {}
 
@@ -65,10 +73,13 @@ pub fn leaves_may_go_offline()
 /// two byte strings with one SHA-256 sum. It computes nothing: its clauses are the law.
 ///
 /// `walk`: its reads, and the rewriting of copies that gave wrong bytes, on a bank whose calls answer as the disk model says.
-/// `right`: what it gives, whichever copies fail or are damaged.
+/// `right`: what it gives, whichever copies fail or are damaged. `exhausted`: it is refused only where each readable leaf of the
+/// block's top missed it: its log has the block's group, or in this line a read of its sector failed, or the sector is damaged.
 pub fn reads_give_the_block()
     ensures walk { (c : Codec) (s : PoolState) (t : Side) (a : ℕ) (vs : List Move) (reply : ReadReply) → Kept c s t → AllAnswer t.pool.sectors (made_in vs)
         → RowRead s a vs reply → Walks c t vs ⊎ ClashesWith (t.pool.written a) reply }
     ensures right { (c : Codec) (s : PoolState) (t : Side) (a : ℕ) (vs : List Move) (bytes : List ℕ) → Kept c s t → RowRead s a vs (Gives bytes)
         → (bytes ≡ t.pool.written a) ⊎ IsClash (t.pool.written a) bytes }
+    ensures exhausted { (c : Codec) (s : PoolState) (t : Side) (a : ℕ) (vs : List Move) → Kept c s t → AllAnswer t.pool.sectors (made_in vs)
+        → RowRead s a vs Exhausted → AllMissed (s.core.committed (key 0 a)) (made_in vs) (run (made_in vs) t.pool.sectors) s.core.leaves }
 {}
