@@ -4,11 +4,12 @@ use mathlib.Core.Path.{fun_ext}
 use Rattle.std.specs.List.{AllByRecursion, list_any}
 use Rattle.std.proofs.lemmas.Bool.{and_parts}
 use Rattle.std.proofs.lemmas.Bool.Decides.{nat_tests}
+use Rattle.sha2.specs.Sha256.{sha256}
 use Rattle.mp_base.specs.declared.number.Guid.{Guid}
 use Rattle.txg_history.specs.Moves.{IsLeafOf, HasBoard, IsDrawnUp}
-use Rattle.txg_history.specs.Pages.{Codec}
+use Rattle.txg_history.specs.Pages.{Codec, Sum, sum_of}
 use Rattle.txg_history.specs.Pools.{Pool}
-use Rattle.txg_history.specs.Records.{Rec, IsNoLeaf, key}
+use Rattle.txg_history.specs.Records.{Rec, Cell, IsNoLeaf, key}
 use Rattle.txg_history.specs.Survival.{Fits}
 use Rattle.txg_history.proofs.Logging.{by_bool, same_device, not_true, true_not_false}
 use Rattle.pool_moves.specs.Boards.{is_on_under, has_on, emptied_of, emptied}
@@ -112,6 +113,10 @@ some_on p top (At d found own ∷ seats) away seated on = by_bool (p.group.board
 some_on p top (Adrift leaf ∷ seats) away seated on =
     some_on p top seats away.1 seated.1 (sym (ap (λ t. (t && (leaf.top == top)) || has_on top (leaves_of p seats)) away.0.1) ∙ on)
 
+-- the sum of a cell
+abbrev sum_of_cell : Cell → Sum
+sum_of_cell cell = record { birth = cell.birth; top = cell.top; sector = cell.sector; sum = sha256 cell.block }
+
 -- A draft by the leaves of the tree is a record that may be drawn up.
 pub drawn_up : (c : Codec) (s : PoolState) (t : Side) (draft : Draft) → Kept c s t → t.pool.group.frozen ≡ true → t.pool.group.flushed ≡ true → t.pool.group.fresh ≡ true
     → emptied (frozen_core t).leaves ≡ None → draft ≡ draft_of draft.commit (frozen_core t).leaves → FitsState c (frozen_core t) draft → IsDrawnUp c t.pool (rec_of t.pool draft)
@@ -124,6 +129,8 @@ drawn_up c s t draft kept frozen flushed fresh none is fits = record {
     is_record = fits.is_record;
     name_is = fits.name_is;
     config = record {
+      room_is = fits.room_is;
+      inside = λ k cell is. fits.inside k (sum_of_cell cell) (sym (laid_sum (t.pool.group.cells k) (t.pool.reads.cells k)) ∙ ap sum_of is);
       root = fits.root ∙ sym (laid_sum (t.pool.group.cells (key 3 0)) (t.pool.reads.cells (key 3 0)));
       tops = fits.tops;
       owes = fits.owes;

@@ -131,6 +131,7 @@ freeze_may c own t vs kept core idle row = record {
   apart = row.places.apart;
   dirty = record {
     up = row.dirty.up;
+    formed = row.dirty.formed;
     pages = λ level index cell low is j below. row.dirty.pages level index cell low is j below
         ∙ sym (laid_sum (row.cells (key level (64 * index + j))) (t.pool.reads.cells (key level (64 * index + j))));
   };

@@ -69,13 +69,15 @@ pub record HasChild (cells : Cells) (level index : ℕ) : Type 0 where
   pub cell : Cell
   pub cell_is : cells (key level (64 * index + j)) ≡ Some cell
 
--- The keys of a freeze are the open writes, and just the pages above them, each with the pointers that then are below it.
+-- The keys of a freeze are the open writes, and just the pages above them, each with the pointers that then are below it. Pages
+-- are in their form.
 pub record AreDirtyKeys (c : Codec) (s : PoolState) (cells : Cells) : Type 0 where
   pub takes : (a : ℕ) → option_map (λ cell. cell.block) (cells (key 0 a)) ≡ s.own.writes a
   pub up : (level index j : ℕ) (cell : Cell) → level < 3 → j < 64 → cells (key level (64 * index + j)) ≡ Some cell
       → (page : Cell) × (cells (key (suc level) index) ≡ Some page)
   pub only : (level index : ℕ) (cell : Cell) → level < 3 → cells (key (suc level) index) ≡ Some cell → HasChild cells level index
   pub levels : (k : Key) (cell : Cell) → cells k ≡ Some cell → k.level ≤ 3
+  pub formed : (level index : ℕ) (cell : Cell) → level < 3 → cells (key (suc level) index) ≡ Some cell → c.is_page cell.block ≡ true
   pub pages : (level index : ℕ) (cell : Cell) → level < 3 → cells (key (suc level) index) ≡ Some cell → (j : ℕ) → j < 64
       → c.pointer cell.block j ≡ sums_over cells s.core.committed (key level (64 * index + j))
   pub births : (k : Key) (cell : Cell) → cells k ≡ Some cell → cell.birth ≡ s.core.number + 1

@@ -11,7 +11,7 @@ use Rattle.label_store.specs.Phases.{IsTurn, IsPhase}
 use Rattle.label_store.specs.Records.{IsRecord}
 use Rattle.label_store.specs.Rounds.{first_plan, second_plan, third_plan, config_of, uberblock_of}
 use Rattle.label_store.specs.Seats.{AreSeated}
-use Rattle.txg_history.specs.Pages.{Codec}
+use Rattle.txg_history.specs.Pages.{Codec, Sum, IsOfVolume}
 use Rattle.txg_history.specs.Records.{Cell}
 use Rattle.txg_history.specs.Rounds.{all_true}
 use Rattle.txg_history.specs.Turns.{write_plan, flush_plan}
@@ -49,12 +49,14 @@ pub record RowFlushTurn (s : PoolSeen) (vs : List Move) : Type 0 where
   pub calls : IsPhase flush_plan (board_of s.leaves) (map (λ m. true) (board_of s.leaves)) results made
   pub moves : vs ≡ turn_moves made (board_of s.leaves) results Flushed_all
 
--- What the configuration of a draft says of the record that is drawn up from this state.
+-- What the configuration of a draft says of the record that is drawn up from this state. Each key is one of its volume.
 pub record FitsState (c : Codec) (s : PoolSeen) (draft : Draft) : Type 0 where
   pub pool_is : draft.commit.pool ≡ s.pool
   pub number_is : draft.commit.number.0 ≡ s.number
   pub is_record : (m : Member) → m.guid.0 < 2 ^ 64 → IsRecord c.head_of (uberblock_of draft.commit m) draft.commit.blob (config_of draft.commit)
   pub name_is : (head : Head) → c.head_of (config_of draft.commit) ≡ Some head → head.name ≡ s.name
+  pub room_is : c.room (config_of draft.commit) ≡ s.room
+  pub inside : (k : Key) (sum : Sum) → sums_over s.group.cells s.committed k ≡ Some sum → IsOfVolume (c.blocks (config_of draft.commit)) k
   pub root : c.root (config_of draft.commit) ≡ sums_over s.group.cells s.committed (record { level = 3; index = 0 })
   pub tops : c.tops (config_of draft.commit) ≡ draft.tops
   pub owes : c.owes (config_of draft.commit) ≡ draft.owes

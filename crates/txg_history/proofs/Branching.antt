@@ -124,6 +124,8 @@ day_freezes c p a b w = record {
   dirty = record {
     up = λ level index j cell low lt e. let is = branch_is b (key level (64 * index + j)) cell e in
         (cell_on b (suc level), branch_has b (suc level) index (let none = is.0 in omega (arith, none)) (omega (arith, low)));
+    formed = λ level index cell low e. let is = branch_is b (key (suc level) index) cell e in
+        subst (λ cell. c.is_page cell.block ≡ true) is.2 (w.formed level low);
     pages = λ level index cell low e. let is = branch_is b (key (suc level) index) cell e in
         subst (λ cell. IsPageOf c cell.block (laid_over (branch_cells b) p.reads.cells) level index) is.2
         (subst (IsPageOf c (b.bytes (suc level)) (laid_over (branch_cells b) p.reads.cells) level) (sym is.0)

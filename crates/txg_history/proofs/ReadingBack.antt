@@ -161,10 +161,10 @@ all_right c cells config found got tree root back = by_levels three two one none
     by_levels (inl d) (inl b) (inl a) (inr clash) = inr clash
 
 -- a live record with a number fits
-pub numbered_fits : (c : Codec) (p : Pool) (r : Rec) → Survives c p → IsIn r p.live → 1 ≤ number_of r → Fits c p.name p.pool r
+pub numbered_fits : (c : Codec) (p : Pool) (r : Rec) → Survives c p → IsIn r p.live → 1 ≤ number_of r → Fits c p.name p.pool p.room r
 numbered_fits c p r sv i some = of (sv.fit r i).0
   where
-    of : (r ≡ nothing p.pool) ⊎ Fits c p.name p.pool r → Fits c p.name p.pool r
+    of : (r ≡ nothing p.pool) ⊎ Fits c p.name p.pool p.room r → Fits c p.name p.pool p.room r
     of (inl e) = absurd (omega (arith, some, ap number_of e))
     of (inr fits) = fits
 

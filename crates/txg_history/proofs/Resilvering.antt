@@ -92,6 +92,7 @@ week_freezes c p a b cell w = record {
   dirty = record {
     up = λ level index j other low lt e. absurd (let same = ap (λ k. k.level)
         (only_is cell other (key level (64 * index + j)) e).0 in omega (arith, low, same));
+    formed = λ level index other low e. subst (λ cell. c.is_page cell.block ≡ true) (only_is cell other (key (suc level) index) e).1 w.formed;
     pages = λ level index other low e j lt. subst (λ cell. c.pointer cell.block j ≡ None) (only_is cell other (key (suc level) index) e).1 (w.holes j lt)
         ∙ sym (ap sum_of (both_none level (64 * index + j) low));
   };

@@ -154,7 +154,7 @@ front_stands codec p q ms results vs st r j m at on is s bytes (inr (i, lt, e, b
     seated = seated_of codec p q ms st j m at is
 
     few : sectors_in q.commit.blob ≤ 28
-    few = few_of codec p.name p.pool q st.drawn_up.fits
+    few = few_of codec p.name p.pool p.room q st.drawn_up.fits
 
 -- the pool behind the first two phases
 abbrev front : (q : Rec) (first second : List Noted) → Pool → Pool

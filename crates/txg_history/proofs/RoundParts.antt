@@ -109,18 +109,18 @@ label_back : (m : Member) (r : Rec) (size s : ℕ) (bytes : List ℕ) → sector
 label_back m r size s bytes few (inl (e, b)) = BackRing (slot_of (number_of r)) (omega arith) e
 label_back m r size s bytes few (inr (i, lt, e, b)) = BackPart i (omega arith) e
 
-pub few_of : (c : Codec) (name : List ℕ) (pool : Guid) (r : Rec) → Fits c name pool r → sectors_in r.commit.blob ≤ 28
-few_of c name pool r fits = (fits.is_record (record { dev = 0; guid = record { 0 = 0 } }) (omega arith)).most
+pub few_of : (c : Codec) (name : List ℕ) (pool : Guid) (room : ℕ → ℕ) (r : Rec) → Fits c name pool room r → sectors_in r.commit.blob ≤ 28
+few_of c name pool room r fits = (fits.is_record (record { dev = 0; guid = record { 0 = 0 } }) (omega arith)).most
 
 -- a live record in which some member takes part isn't the first one
-pub taken_fits : (c : Codec) (name : List ℕ) (pool : Guid) (r : Rec) (m : Guid) → IsFit c name pool r → takes_part r m ≡ true → Fits c name pool r
-taken_fits c name pool r m ((inl e), tree) takes = true_not_false (takes_part r m) takes (ap (λ r. takes_part r m) e)
-taken_fits c name pool r m ((inr fits), tree) takes = fits
+pub taken_fits : (c : Codec) (name : List ℕ) (pool : Guid) (room : ℕ → ℕ) (r : Rec) (m : Guid) → IsFit c name pool room r → takes_part r m ≡ true → Fits c name pool room r
+taken_fits c name pool room r m ((inl e), tree) takes = true_not_false (takes_part r m) takes (ap (λ r. takes_part r m) e)
+taken_fits c name pool room r m ((inr fits), tree) takes = fits
 
 odd_few : (c : Codec) (p : Pool) (d : ℕ) (status : Status) (r : Rec) → Survives c p → status ≡ Odd r → IsOf p.live
     (p.guid d) status → sectors_in r.commit.blob ≤ 28
-odd_few c p d status r sv e is = let of = subst (IsOf p.live (p.guid d)) e is in few_of c p.name p.pool r
-    (taken_fits c p.name p.pool r (p.guid d) (sv.fit r of.0) of.1)
+odd_few c p d status r sv e is = let of = subst (IsOf p.live (p.guid d)) e is in few_of c p.name p.pool p.room r
+    (taken_fits c p.name p.pool p.room r (p.guid d) (sv.fit r of.0) of.1)
 
 -- what is needed of a member that takes part, behind the beginning of the round
 needs_front : (c : Codec) (p : Pool) (q : Rec) (d s : ℕ) (bytes : List ℕ) → Survives c p → takes_part q (p.guid d) ≡ true → p.member d ≡ true
@@ -158,7 +158,7 @@ label_sparing p asks b plain label inside known = record {
 }
 
 pub first_sparing : (c : Codec) (p : Pool) (q : Rec) (m : Member) → Survives c p → AreBetween (after (Begins q) p)
-    → Fits c p.name p.pool q → (p.member m.dev ≡ true → IsSeated p q m)
+    → Fits c p.name p.pool p.room q → (p.member m.dev ≡ true → IsSeated p q m)
     → AreSparing (after (Begins q) p) (first_plan p.size q.commit m)
 first_sparing c p q m sv between fits seated = label_sparing (after (Begins q) p) (first_plan p.size q.commit m) between tt
     (λ d. by_device (λ e. (s : ℕ) (bytes : List ℕ) → p.member e ≡ true → NeedsLabel (seat p e)
@@ -176,7 +176,7 @@ first_sparing c p q m sv between fits seated = label_sparing (after (Begins q) p
     (λ ne other. config_elsewhere_even m.dev (p.size m.dev) q.commit.blob d _ ne) is))
   where
     few : sectors_in q.commit.blob ≤ 28
-    few = few_of c p.name p.pool q fits
+    few = few_of c p.name p.pool p.room q fits
 
 pub first_bytes : (k : ℕ) (bytes : List ℕ) → length bytes ≡ 4096 → k ≡ 0 → sector_of k bytes ≡ bytes
 unfolding sector_size
@@ -197,11 +197,11 @@ known_new : (p : Pool) (q : Rec) (m : Member) (bytes : List ℕ) → IsIn q (dra
 known_new p q m bytes is_in range seat_is e v is =
     inl (q, is_in, sym (is_of_fields v bytes is) ∙ (ap fields_of e ∙ fields_are (uberblock_of q.commit m) range) ∙ ap (uberblock_of q.commit) seat_is)
 
-pub member_range : (c : Codec) (p : Pool) (q : Rec) (m : Member) → Fits c p.name p.pool q → IsSeated p q m → IsInRange (uberblock_of q.commit m)
+pub member_range : (c : Codec) (p : Pool) (q : Rec) (m : Member) → Fits c p.name p.pool p.room q → IsSeated p q m → IsInRange (uberblock_of q.commit m)
 member_range c p q m fits seated = (fits.is_record m seated.in_range).in_range
 
 pub second_sparing : (c : Codec) (p : Pool) (q : Rec) (m : Member) → Survives c p → AreBetween (after (Begins q) p)
-    → Fits c p.name p.pool q → (p.member m.dev ≡ true → IsSeated p q m)
+    → Fits c p.name p.pool p.room q → (p.member m.dev ≡ true → IsSeated p q m)
     → AreSparing (after (Begins q) p) (second_plan p.size q.commit m)
 second_sparing c p q m sv between fits seated = label_sparing (after (Begins q) p) (second_plan p.size q.commit m) between tt
     (λ d. by_device (λ e. (s : ℕ) (bytes : List ℕ) → p.member e ≡ true → NeedsLabel (seat p e)
@@ -245,7 +245,7 @@ second_sparing c p q m sv between fits seated = label_sparing (after (Begins q) 
         (one_there m.dev (label + (32 + slot_of (number_of q))) m.dev s (uberblock_bytes (uberblock_of q.commit m))
         (length-uberblock (uberblock_of q.commit m) (range here).sum) (one here) aimed)
 
-pub third_sparing : (c : Codec) (p : Pool) (q : Rec) (m : Member) → AreBetween p → Fits c p.name p.pool q
+pub third_sparing : (c : Codec) (p : Pool) (q : Rec) (m : Member) → AreBetween p → Fits c p.name p.pool p.room q
     → (p.member m.dev ≡ true → IsSeated p q m) → p.status m.dev ≡ Even q
     → AreSparing p (third_plan p.size q.commit m)
 third_sparing c p q m between fits seated status = label_sparing p (third_plan p.size q.commit m) between tt
@@ -264,4 +264,4 @@ third_sparing c p q m between fits seated status = label_sparing p (third_plan p
     (λ ne other. config_elsewhere_odd m.dev (p.size m.dev) q.commit.blob d _ ne) is))
   where
     few : sectors_in q.commit.blob ≤ 28
-    few = few_of c p.name p.pool q fits
+    few = few_of c p.name p.pool p.room q fits

@@ -262,7 +262,7 @@ begins_survive c p q sv m = record {
         (λ i. sv.unbroken.settled_live d g is held r i) i;
   };
   bounds = sv.bounds;
-  fit = λ r i. new_or (IsFit c p.name p.pool) q r p.live
+  fit = λ r i. new_or (IsFit c p.name p.pool p.room) q r p.live
       (inr m.fits, tree_same c q.cells (laid_over p.group.cells p.reads.cells) m.cells_are (sv.come_to.tree m.frozen))
       (λ i. sv.fit r i) i;
   pools = λ r i. new_or (λ r. r.commit.pool ≡ p.pool) q r (drawn p) m.fits.pool_is (λ i. sv.pools r i) i;

@@ -145,9 +145,11 @@ stamped_survives c name pool member guid size room home sectors st = record {
     settled_live = λ d g is held. absurd (cc);
   };
   bounds = record { open_one = λ on. absurd (cc); hi_low = λ on. absurd (cc); scrubbed = λ on. absurd (cc) };
-  fit = λ r i. only_one (IsFit c name pool) (nothing pool) r (
+  fit = λ r i. only_one (IsFit c name pool room) (nothing pool) r (
     inl refl,
     record {
+      formed = λ level index cell low at. absurd
+          (no_cell cell at);
       pages = λ level index cell low at. absurd
           (no_cell cell at);
       holes = λ level index j low lt none. refl;

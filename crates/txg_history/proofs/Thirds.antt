@@ -62,7 +62,7 @@ pub record AreReady (codec : Codec) (p : Pool) (q : Rec) (ms : List Member) (was
   pub is_live : IsIn q p.live
   pub number_is : number_of q ≡ p.highest
   pub taken : p.group.fresh ≡ false
-  pub fits : Fits codec p.name p.pool q
+  pub fits : Fits codec p.name p.pool p.room q
   pub seated : (j : ℕ) (m : Member) → slice_get ms j ≡ Some m → p.member m.dev ≡ true → IsSeated p q m
   pub between : AreBetween p
   pub apart : AreApart ms
@@ -152,7 +152,7 @@ odd_stands codec p q m ms was made turn r is = record {
     seated = r.seated zero m refl is
 
     few : sectors_in q.commit.blob ≤ 28
-    few = few_of codec p.name p.pool q r.fits
+    few = few_of codec p.name p.pool p.room q r.fits
 
     by_part : (s : ℕ) (bytes : List ℕ) → InPart odd_part q s bytes → Stands (replay made m.dev s (p.sectors m.dev s)) bytes
     by_part s bytes (i, lt, e, b) =

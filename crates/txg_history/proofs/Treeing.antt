@@ -1,5 +1,5 @@
 -- A freeze keeps the tree of pages.
-use Rattle.std.proofs.Common.{◌≡◌, ◌⊎◌, ℕ, ◌+◌, ◌*◌, ◌<◌, suc, Option, Some, None, refl, sym, ap, ◌∙◌, inl, inr}
+use Rattle.std.proofs.Common.{◌≡◌, ◌⊎◌, ℕ, ◌+◌, ◌*◌, ◌<◌, suc, true, Option, Some, None, refl, sym, ap, ◌∙◌, inl, inr}
 use Rattle.mp_base.specs.declared.place.Key.{Key}
 use Rattle.txg_history.specs.Pages.{Codec, IsPageOf, IsTree, AreDirty, sum_of}
 use Rattle.txg_history.specs.Records.{Cell, Cells, key, cell_over, laid_over}
@@ -22,10 +22,17 @@ as_old new old k none = ap (λ x. cell_over x (old k)) none
 
 pub freeze_tree : (c : Codec) (new old : Cells) → IsTree c old → AreDirty c new old → IsTree c (laid_over new old)
 freeze_tree c new old tree dirty = record {
+  formed = λ level index cell low is. formed level index cell low (laid_of new old (key (suc level) index) cell is);
   pages = λ level index cell low is. page level index cell low (laid_of new old (key (suc level) index) cell is);
   holes = λ level index j low lt none. hole level index j low lt (new (key (suc level) index)) refl none;
 }
   where
+    formed : (level index : ℕ) (cell : Cell) → level < 3
+        → (new (key (suc level) index) ≡ Some cell) ⊎ ((new (key (suc level) index) ≡ None) × (old (key (suc level) index) ≡ Some cell))
+        → c.is_page cell.block ≡ true
+    formed level index cell low (inl is) = dirty.formed level index cell low is
+    formed level index cell low (inr is) = tree.formed level index cell low is.1
+
     page : (level index : ℕ) (cell : Cell) → level < 3
         → (new (key (suc level) index) ≡ Some cell) ⊎ ((new (key (suc level) index) ≡ None) × (old (key (suc level) index) ≡ Some cell))
         → IsPageOf c cell.block (laid_over new old) level index
@@ -43,6 +50,7 @@ freeze_tree c new old tree dirty = record {
 -- keys that are the same are a tree too
 pub tree_same : (c : Codec) (new old : Cells) → ((k : Key) → new k ≡ old k) → IsTree c old → IsTree c new
 tree_same c new old same tree = record {
+  formed = λ level index cell low is. tree.formed level index cell low (sym (same (key (suc level) index)) ∙ is);
   pages = λ level index cell low is j lt. tree.pages level index cell low (sym (same (key (suc level) index)) ∙ is) j lt
       ∙ sym (ap sum_of (same (key level (64 * index + j))));
   holes = λ level index j low lt none. same (key level (64 * index + j)) ∙ tree.holes level index j low lt (sym (same (key (suc level) index)) ∙ none);

@@ -27,8 +27,8 @@ held_known sectors known d s bytes shown true_to h sound is =
     is ∙ ap Some (true_to d s shown is (record { still = h.still; sound = sound }) ∙ stable_is (sectors d s) bytes h.stands sound)
 
 -- The record that a member's labels hold fits.
-pub promised_fits : (c : Codec) (p : Pool) (d : ℕ) (r : Rec) → Survives c p → HoldsLabels p d r → Fits c p.name p.pool r
-promised_fits c p d r sv holds = taken_fits c p.name p.pool r (p.guid d) (sv.fit r holds.is_live) holds.takes
+pub promised_fits : (c : Codec) (p : Pool) (d : ℕ) (r : Rec) → Survives c p → HoldsLabels p d r → Fits c p.name p.pool p.room r
+promised_fits c p d r sv holds = taken_fits c p.name p.pool p.room r (p.guid d) (sv.fit r holds.is_live) holds.takes
 
 -- its uberblock in the ring of label 0, and its configuration in one of labels 0 and 1
 record HasIt (p : Pool) (d : ℕ) (r : Rec) : Type 0 where

@@ -65,10 +65,10 @@ label_below : (c : Codec) (p : Pool) (d : ℕ) (status : Status) (s : ℕ) (byte
     (p.guid d) status → NeedsLabel (seat p d) status s bytes → s < 128
 label_below c p d (Odd r) s bytes sv of (inl (e, b)) = omega arith
 label_below c p d (Odd r) s bytes sv of (inr (i, lt, e, b)) =
-    let few = few_of c p.name p.pool r (taken_fits c p.name p.pool r (p.guid d) (sv.fit r of.0) of.1) in omega arith
+    let few = few_of c p.name p.pool p.room r (taken_fits c p.name p.pool p.room r (p.guid d) (sv.fit r of.0) of.1) in omega arith
 label_below c p d (Even r) s bytes sv of (inl (e, b)) = omega arith
 label_below c p d (Even r) s bytes sv of (inr (i, lt, e, b)) =
-    let few = few_of c p.name p.pool r (taken_fits c p.name p.pool r (p.guid d) (sv.fit r of.0) of.1) in omega arith
+    let few = few_of c p.name p.pool p.room r (taken_fits c p.name p.pool p.room r (p.guid d) (sv.fit r of.0) of.1) in omega arith
 label_below c p d Lost s bytes sv of needs = absurd needs
 
 -- the rings lie outside of what is between the labels

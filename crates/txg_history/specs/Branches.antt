@@ -41,6 +41,7 @@ pub record IsDay (c : Codec) (p : Pool) (a : ℕ) (b : Branch) : Type 0 where
   pub free : (level : ℕ) → level < 4 → IsFree p b.top level
   pub inside : 4 ≤ p.room b.top
   pub long : (level : ℕ) → level < 4 → length (b.bytes level) ≡ 4096
+  pub formed : (level : ℕ) → level < 3 → c.is_page (b.bytes (suc level)) ≡ true
   pub pages : (level : ℕ) → level < 3 → IsPageOf c (b.bytes (suc level)) (branch_cells b) level 0
 
 -- the write turn of the key on a level

@@ -131,7 +131,7 @@ pub record IsDrawnUp (c : Codec) (p : Pool) (q : Rec) : Type 0 where
   pub frozen : p.group.frozen ≡ true
   pub flushed : p.group.flushed ≡ true
   pub fresh : p.group.fresh ≡ true
-  pub fits : Fits c p.name p.pool q
+  pub fits : Fits c p.name p.pool p.room q
   pub number_is : number_of q ≡ p.highest
   pub cells_are : (k : Key) → q.cells k ≡ laid_over p.group.cells p.reads.cells k
   pub leaves : (d : ℕ) → p.member d ≡ true → IsLeafOf p q d ⊎ (IsNoLeaf q (p.guid d) × (p.group.board d ≡ false))

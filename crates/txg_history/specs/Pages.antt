@@ -1,5 +1,5 @@
 -- The tree of a record's pages: each page has the pointers of the keys below it, and the configuration has the root's.
-use Rattle.std.specs.Prelude.{◌≡◌, ◌≢◌, ℕ, zero, suc, ◌+◌, ◌*◌, ◌<◌, Bool, List, Option, Some, None}
+use Rattle.std.specs.Prelude.{◌≡◌, ◌≢◌, ℕ, zero, suc, ◌+◌, ◌*◌, ◌<◌, ◌≤◌, Bool, true, List, Option, Some, None}
 use Rattle.sha2.specs.Sha256.{sha256}
 use Rattle.mp_base.specs.declared.number.Guid.{Guid}
 use Rattle.mp_base.specs.declared.place.Key.{Key}
@@ -18,26 +18,44 @@ abbrev pub sum_of : Option Cell → Option Sum
 sum_of None = None
 sum_of (Some cell) = Some (record { birth = cell.birth; top = cell.top; sector = cell.sector; sum = sha256 cell.block })
 
--- How bytes are read: of a configuration its head, the root's pointer, the top and the log of each member number; of a
--- page its 64 pointers. None is a hole.
+-- How bytes are read: of a configuration its head, how many blocks the volume has, how many data sectors each top, the root's
+-- pointer, the top and the log of each member number; of bytes whether they are a page, and of a page its 64 pointers. None is a hole.
 pub record Codec : Type 0 where
   pub head_of : List ℕ → Option Head
+  pub blocks : List ℕ → ℕ
+  pub room : List ℕ → ℕ → ℕ
   pub root : List ℕ → Option Sum
   pub tops : List ℕ → Guid → ℕ
   pub owes : List ℕ → Guid → ℕ → Bool
+  pub is_page : List ℕ → Bool
   pub pointer : List ℕ → ℕ → Option Sum
+
+-- how many of a volume's blocks a key stands over
+abbrev pub span : ℕ → ℕ
+span zero = 1
+span (suc zero) = 64
+span (suc (suc zero)) = 4096
+span (suc (suc (suc level))) = 262144
+
+-- A key of a volume of so many blocks: one of them, or a page over some.
+pub record IsOfVolume (blocks : ℕ) (k : Key) : Type 0 where
+  pub low : k.level ≤ 3
+  pub inside : span k.level * k.index < blocks
 
 -- the bytes of a page have the pointers of the 64 keys below it
 abbrev pub IsPageOf : Codec → (block : List ℕ) → Cells → (level index : ℕ) → Type 0
 IsPageOf c block cells level index = (j : ℕ) → j < 64 → c.pointer block j ≡ sum_of (cells (key level (64 * index + j)))
 
--- Each page has the pointers of the keys below it, and below a hole are holes.
+-- Each page is one, and has the pointers of the keys below it, and below a hole are holes.
 pub record IsTree (c : Codec) (cells : Cells) : Type 0 where
+  pub formed : (level index : ℕ) (cell : Cell) → level < 3 → cells (key (suc level) index) ≡ Some cell → c.is_page cell.block ≡ true
   pub pages : (level index : ℕ) (cell : Cell) → level < 3 → cells (key (suc level) index) ≡ Some cell → IsPageOf c cell.block cells level index
   pub holes : (level index j : ℕ) → level < 3 → j < 64 → cells (key (suc level) index) ≡ None → cells (key level (64 * index + j)) ≡ None
 
--- What the configuration of a record says of the rest of it.
-pub record IsConfigOf (c : Codec) (r : Rec) : Type 0 where
+-- What the configuration of a record says of the rest of it, and of the tops' rooms: each key is one of its volume.
+pub record IsConfigOf (c : Codec) (room : ℕ → ℕ) (r : Rec) : Type 0 where
+  pub room_is : c.room (config_of r.commit) ≡ room
+  pub inside : (k : Key) (cell : Cell) → r.cells k ≡ Some cell → IsOfVolume (c.blocks (config_of r.commit)) k
   pub root : c.root (config_of r.commit) ≡ sum_of (r.cells (key 3 0))
   pub tops : c.tops (config_of r.commit) ≡ r.tops
   pub owes : c.owes (config_of r.commit) ≡ r.owes
@@ -47,6 +65,7 @@ pub record IsConfigOf (c : Codec) (r : Rec) : Type 0 where
 pub record AreDirty (c : Codec) (new old : Cells) : Type 0 where
   pub up : (level index j : ℕ) (cell : Cell) → level < 3 → j < 64 → new (key level (64 * index + j)) ≡ Some cell
       → (page : Cell) × (new (key (suc level) index) ≡ Some page)
+  pub formed : (level index : ℕ) (cell : Cell) → level < 3 → new (key (suc level) index) ≡ Some cell → c.is_page cell.block ≡ true
   pub pages : (level index : ℕ) (cell : Cell) → level < 3 → new (key (suc level) index) ≡ Some cell
       → IsPageOf c cell.block (laid_over new old) level index
 

@@ -51,16 +51,16 @@ pub record IsKnownRing (drawn_records : List Rec) (pool : Guid) (m : Member) (x 
   pub pending : IsNoted x.pending since
 
 -- A record that may be committed: its configuration fills whole sectors, is one of this pool and number, and says of the
--- record what is so.
-pub record Fits (c : Codec) (name : List ℕ) (pool : Guid) (r : Rec) : Type 0 where
+-- record and of the pool's tops what is so.
+pub record Fits (c : Codec) (name : List ℕ) (pool : Guid) (room : ℕ → ℕ) (r : Rec) : Type 0 where
   pub pool_is : r.commit.pool ≡ pool
   pub is_record : (m : Member) → m.guid.0 < 2 ^ 64 → IsRecord c.head_of (uberblock_of r.commit m) r.commit.blob (config_of r.commit)
   pub name_is : (head : Head) → c.head_of (config_of r.commit) ≡ Some head → head.name ≡ name
-  pub config : IsConfigOf c r
+  pub config : IsConfigOf c room r
 
 -- a live record is the first one, of a pool that was just made, or fits; and its keys are a tree of pages
-abbrev pub IsFit : Codec → (name : List ℕ) → (pool : Guid) → Rec → Type 0
-IsFit c name pool r = ((r ≡ nothing pool) ⊎ Fits c name pool r) × IsTree c r.cells
+abbrev pub IsFit : Codec → (name : List ℕ) → (pool : Guid) → (room : ℕ → ℕ) → Rec → Type 0
+IsFit c name pool room r = ((r ≡ nothing pool) ⊎ Fits c name pool room r) × IsTree c r.cells
 
 -- the labels of a member promise a live record in which the member takes part
 abbrev pub IsOf : List Rec → Guid → Status → Type 0
@@ -193,6 +193,6 @@ pub record Survives (c : Codec) (p : Pool) : Type 0 where
   pub logs : AreLogs p.member p.guid p.in_top p.owes p.highest p.live p.group.frozen p.group.board
   pub unbroken : AreUnbroken p.member p.guid p.owes p.unbroken p.settled p.live
   pub bounds : IsInBounds p.scan p.opened p.reads
-  pub fit : (r : Rec) → IsIn r p.live → IsFit c p.name p.pool r
+  pub fit : (r : Rec) → IsIn r p.live → IsFit c p.name p.pool p.room r
   pub pools : (r : Rec) → IsIn r (drawn p) → r.commit.pool ≡ p.pool
   pub in_range : p.pool.0 < 2 ^ 64

@@ -42,6 +42,7 @@ pub record IsWeek (c : Codec) (p : Pool) (a b : ℕ) (cell : Cell) : Type 0 wher
   pub free : IsFree p cell.top cell.sector
   pub inside : cell.sector < p.room cell.top
   pub long : length cell.block ≡ 4096
+  pub formed : c.is_page cell.block ≡ true
   pub holes : (j : ℕ) → j < 64 → c.pointer cell.block j ≡ None
 
 -- the commit up to its round: b isn't on the board

@@ -27,7 +27,7 @@ pub fn pages_are_read_back()
         (got : Key → Option Sum) → Survives c p → IsIn r p.live → 1 ≤ number_of r
         → config ≡ config_of r.commit → IsReadBack c config found got
         → ((level index : ℕ) → level ≤ 3 → index < width level → got (key level index) ≡ sum_of (r.cells (key level index))) ⊎ ClashesAt r.cells found }
-    ensures config { (c : Codec) (p : Pool) (r : Rec) → Survives c p → IsIn r p.live → 1 ≤ number_of r → Fits c p.name p.pool r }
+    ensures config { (c : Codec) (p : Pool) (r : Rec) → Survives c p → IsIn r p.live → 1 ≤ number_of r → Fits c p.name p.pool p.room r }
     ensures good { (p : Pool) (r : Rec) (k : Key) (cell : Cell) (answering : ℕ → Bool) → IsIn r p.live
         → r.cells k ≡ Some cell → (good : HasGoodLeaf p r cell answering)
         → IsKeptAt p good.d (data_start + cell.sector) cell.block }
