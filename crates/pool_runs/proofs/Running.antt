@@ -12,22 +12,20 @@ use Rattle.txg_history.specs.Pools.{Pool, pool_after}
 use Rattle.txg_history.proofs.Logging.{by_bool}
 use Rattle.pool_moves.specs.AwayRows.{RowWrite, RowOffline}
 use Rattle.pool_moves.specs.CommitRows.{RowLogs}
-use Rattle.pool_moves.specs.FreezeRow.{RowFreeze}
 use Rattle.pool_moves.specs.Keeping.{Kept, Walks}
-use Rattle.pool_moves.specs.LineRows.{IsSized, Committed, EndsGroup, RowTurn, RowSync}
+use Rattle.pool_moves.specs.LineRows.{IsSized, RowTurn, RowFreezeLine, RowSync}
 use Rattle.pool_moves.specs.Moves.{Move, Makes, events_of, state_step, after_move}
 use Rattle.pool_moves.specs.ReadRow.{ReadReply, RowRead, ClashesWith, made_in}
 use Rattle.pool_moves.specs.States.{PoolState, Side}
 use Rattle.pool_moves.proofs.AwayWalks.{write_walks, offline_walks}
 use Rattle.pool_moves.proofs.CommitWalks.{logs_walks}
-use Rattle.pool_moves.proofs.FreezeWalks.{freeze_walks}
 use Rattle.pool_moves.proofs.Keeping.{move_keeps}
-use Rattle.pool_moves.proofs.LineWalks.{turn_walks, group_walks, sync_walks}
+use Rattle.pool_moves.proofs.LineWalks.{turn_walks, freeze_line_walks, sync_walks}
 use Rattle.pool_moves.proofs.ReadWalks.{read_walks}
 use Rattle.pool_runs.specs.Acts.{Act, Does, Gave, Hears, does, calls_along, events_for, pool_by, pool_along}
 use Rattle.pool_runs.specs.Devices.{size_in}
 use Rattle.pool_runs.specs.Fairness.{AreFair}
-use Rattle.pool_runs.specs.HostRows.{AreMade, ByMoves, is_read, is_reading, marked_behind, read_acts, ByRead, WriteLine, ReadLine, FreezeLine, TurnLine, SyncLine, OfflineLine, LogsLine, OnPool, RowOf, RunsOut, RunsOutBehind, HostRow, acts_of, acts_in, IsRun}
+use Rattle.pool_runs.specs.HostRows.{AreMade, ByMoves, is_read, is_reading, marked_behind, read_acts, ByRead, WriteLine, ReadLine, FreezeLine, TurnLine, SyncLine, OfflineLine, LogsLine, OnPool, RowOf, RunsOut, HostRow, acts_of, acts_in, IsRun}
 use Rattle.pool_runs.specs.Hosts.{Host, IsOpen, named, moved, host_by, host_along}
 use Rattle.pool_runs.specs.Knowing.{HasSeats, Knows, MayActs, IsOwnMove, AreOwnActs}
 use Rattle.pool_runs.specs.Lines.{Asked, Asks_nothing, Asks_write, Asks_read, Asks_freeze, Asks_turn, Asks_sync, Asks_offline, Asks_logs, Reply, Entry}
@@ -131,7 +129,7 @@ row_may c h p (Asks_write name a block) acts reply knows made row = on_pool c h 
 row_may c h p (Asks_read name a) acts reply knows made row = on_pool c h p name (named name h.pools) (ReadLine h a) acts reply refl
     (λ s is line. read_line_may c h p s a line.0 acts knows is made line.2) row
 row_may c h p (Asks_freeze name) acts reply knows made row = on_pool c h p name (named name h.pools) (FreezeLine c h) acts reply refl
-    (λ s is line. line_may c h p s (λ vs. RowFreeze c s vs) acts knows is (λ t vs kept at row. freeze_walks c s t vs kept row) line.1) row
+    (λ s is line. line_may c h p s (λ vs. RowFreezeLine c s vs line.0) acts knows is (λ t vs kept at row. freeze_line_walks c s t vs line.0 kept row) line.2) row
 row_may c h p (Asks_turn name) acts reply knows made row = on_pool c h p name (named name h.pools) (TurnLine c h) acts reply refl
     (λ s is line. line_may c h p s (λ vs. RowTurn c (size_in h.table) s vs line.0) acts knows is
     (λ t vs kept at row. turn_walks c (size_in h.table) s t vs line.0 kept (sized c h p t knows at) row) line.2) row
@@ -143,14 +141,9 @@ row_may c h p (Asks_offline name device temporary) acts reply knows made row = o
 row_may c h p (Asks_logs name) acts reply knows made row = on_pool c h p name (named name h.pools) (LogsLine h) acts reply refl
     (λ s is line. line_may c h p s (λ vs. RowLogs s vs line.0) acts knows is (λ t vs kept at row. logs_walks c s t vs line.0 row) line.2) row
 
-behind_may : (c : Codec) (h : Host) (p : Pool) (e : Entry) → Knows c h p → RunsOutBehind c h e → MayActs c h p e.acts
-behind_may c h p e knows out = line_may c h p out.s (λ vs. EndsGroup c (size_in h.table) out.s vs (Committed out.number)) e.acts knows (named_open out.name out.s h.pools out.is_open)
-    (λ t vs kept at row. group_walks c (size_in h.table) out.s t vs (Committed out.number) kept (sized c h p t knows at) row) out.acts
-
 pub entry_may : (c : Codec) (h : Host) (p : Pool) (e : Entry) → Knows c h p → HostRow c h e → MayActs c h p e.acts
 entry_may c h p e knows (inl row) = row_may c h p e.asked e.acts e.reply knows row.1 row.0
-entry_may c h p e knows (inr (inl out)) = may_front c h p e.acts out.rest (row_may c h p e.asked (e.acts ++ out.rest) out.reply knows out.made out.goes_on)
-entry_may c h p e knows (inr (inr out)) = behind_may c h p e knows out
+entry_may c h p e knows (inr out) = may_front c h p e.acts out.rest (row_may c h p e.asked (e.acts ++ out.rest) out.reply knows out.made out.goes_on)
 
 -- the clock
 pub heard : (c : Codec) (h : Host) (p : Pool) (second : ℕ) → Knows c h p → Knows c (host_by (Hears second) h) p

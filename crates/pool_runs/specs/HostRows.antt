@@ -1,5 +1,5 @@
 -- Each line of a host as a row: which acts it is made of, by the host before it, and what it answers.
-use Rattle.std.specs.Prelude.{◌≡◌, ◌⊎◌, ℕ, ◌+◌, ◌≤◌, ◌==◌, Bool, true, false, cond, List, [], ◌∷◌, ◌++◌, Option, Some, None}
+use Rattle.std.specs.Prelude.{◌≡◌, ◌⊎◌, ℕ, ◌≤◌, Bool, true, false, cond, List, [], ◌∷◌, ◌++◌, Option, Some, None}
 use Rattle.std.specs.List.{AllByRecursion}
 use Rattle.bank_core.specs.Calls.{device_of, fault_of}
 use Rattle.bank_core.specs.Disk.{Call, Read, Write, Flush, Admit, Eject, Noted, AllAnswer}
@@ -7,8 +7,7 @@ use Rattle.label_store.specs.Newest.{AreReads}
 use Rattle.txg_history.specs.Pages.{Codec}
 use Rattle.pool_moves.specs.AwayRows.{WriteReply, RowWrite, OfflineReply, RowOffline}
 use Rattle.pool_moves.specs.CommitRows.{NamedLog, RowLogs}
-use Rattle.pool_moves.specs.FreezeRow.{RowFreeze}
-use Rattle.pool_moves.specs.LineRows.{TurnReply, Committed, EndsGroup, RowTurn, RowSync}
+use Rattle.pool_moves.specs.LineRows.{TurnReply, FreezeReply, SyncReply, RowTurn, RowFreezeLine, RowSync}
 use Rattle.pool_moves.specs.Moves.{Move, Makes}
 use Rattle.pool_moves.specs.ReadRow.{ReadReply, RowRead}
 use Rattle.pool_moves.specs.States.{PoolState}
@@ -62,13 +61,13 @@ abbrev pub ReadLine : Host → (a : ℕ) → PoolState → List Act → Reply �
 ReadLine h a s acts reply = (r : ReadReply) × (reply ≡ To_read r) × ByRead h s a r acts
 
 abbrev pub FreezeLine : Codec → Host → PoolState → List Act → Reply → Type 0
-FreezeLine c h s acts reply = (reply ≡ To_freeze (s.core.number + 1)) × ByMoves h s (λ vs. RowFreeze c s vs) acts
+FreezeLine c h s acts reply = (r : FreezeReply) × (reply ≡ To_freeze r) × ByMoves h s (λ vs. RowFreezeLine c s vs r) acts
 
 abbrev pub TurnLine : Codec → Host → PoolState → List Act → Reply → Type 0
 TurnLine c h s acts reply = (r : TurnReply) × (reply ≡ To_turn r) × ByMoves h s (λ vs. RowTurn c (size_in h.table) s vs r) acts
 
 abbrev pub SyncLine : Codec → Host → PoolState → List Act → Reply → Type 0
-SyncLine c h s acts reply = (r : TurnReply) × (reply ≡ To_sync r) × ByMoves h s (λ vs. RowSync c (size_in h.table) s vs r) acts
+SyncLine c h s acts reply = (r : SyncReply) × (reply ≡ To_sync r) × ByMoves h s (λ vs. RowSync c (size_in h.table) s vs r) acts
 
 abbrev pub OfflineLine : Host → (device : List ℕ) → (temporary : Bool) → PoolState → List Act → Reply → Type 0
 OfflineLine h device temporary s acts reply = (r : OfflineReply) × (reply ≡ To_offline r) × ByMoves h s (λ vs. RowOffline s device temporary vs r) acts
@@ -107,7 +106,7 @@ IsReadLine (Asks_read name a) = Unit {0}
 IsReadLine asked = ⊥
 
 -- A line for which there was no memory: it did what some row of this line begins with. Each call so far answered Ok; none of them wrote or
--- flushed, and no pool changed, but where a read rewrote copies and counted.
+-- flushed, and no pool changed, but where a read rewrote copies and counted. (A sync that ended a group before is a row of its own.)
 pub record RunsOut (c : Codec) (h : Host) (e : Entry) : Type 0 where
   pub rest : List Act
   pub reply : Reply
@@ -117,21 +116,9 @@ pub record RunsOut (c : Codec) (h : Host) (e : Entry) : Type 0 where
   pub early : (AllByRecursion ChangesNone e.acts × AreReads (calls_along e.acts)) ⊎ IsReadLine e.asked
   pub says : e.reply ≡ No_memory
 
--- A sync that ended a frozen group, and had no memory for the next one.
-pub record RunsOutBehind (c : Codec) (h : Host) (e : Entry) : Type 0 where
-  pub name : List ℕ
-  pub asked : e.asked ≡ Asks_sync name
-  pub s : PoolState
-  pub is_open : named name h.pools ≡ Some s
-  pub frozen : s.core.group.frozen ≡ true
-  pub number : ℕ
-  pub acts : ByMoves h s (λ vs. EndsGroup c (size_in h.table) s vs (Committed number)) e.acts
-  pub made : AreMade h (calls_along e.acts)
-  pub says : e.reply ≡ No_memory
-
 -- An entry of a run.
 abbrev pub HostRow : Codec → Host → Entry → Type 0
-HostRow c h e = (RowOf c h e.asked e.acts e.reply × AreMade h (calls_along e.acts)) ⊎ (RunsOut c h e ⊎ RunsOutBehind c h e)
+HostRow c h e = (RowOf c h e.asked e.acts e.reply × AreMade h (calls_along e.acts)) ⊎ RunsOut c h e
 
 -- the acts of an entry, and of entries: each begins with the second that the clock gave
 abbrev pub acts_of : Entry → List Act

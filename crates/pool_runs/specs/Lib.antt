@@ -5,3 +5,4 @@ pub mod HostRows
 pub mod Hosts
 pub mod Knowing
 pub mod Lines
+pub mod Pasts

@@ -2,7 +2,7 @@
 use Rattle.std.specs.Prelude.{ℕ, Bool, List}
 use Rattle.pool_moves.specs.AwayRows.{WriteReply, OfflineReply}
 use Rattle.pool_moves.specs.CommitRows.{NamedLog}
-use Rattle.pool_moves.specs.LineRows.{TurnReply}
+use Rattle.pool_moves.specs.LineRows.{TurnReply, FreezeReply, SyncReply}
 use Rattle.pool_moves.specs.ReadRow.{ReadReply}
 use Rattle.pool_runs.specs.Acts.{Act}
 
@@ -21,9 +21,9 @@ pub data Reply : Type 0 where
   To_nothing : Reply
   To_write : (reply : WriteReply) → Reply
   To_read : (reply : ReadReply) → Reply
-  To_freeze : (number : ℕ) → Reply
+  To_freeze : (reply : FreezeReply) → Reply
   To_turn : (reply : TurnReply) → Reply
-  To_sync : (reply : TurnReply) → Reply
+  To_sync : (reply : SyncReply) → Reply
   To_offline : (reply : OfflineReply) → Reply
   To_logs : (logs : List NamedLog) → Reply
   -- no open pool has the name
