@@ -136,6 +136,10 @@ act_number (Takes g d) p = by (p.pool.0 == g)
     by false = refl
 act_number act p = refl
 
+pub acts_number : (acts : List Act) (p : Pool) → (pool_along acts p).pool ≡ p.pool
+acts_number [] p = refl
+acts_number (act ∷ acts) p = acts_number acts (pool_by act p) ∙ act_number act p
+
 -- One call.
 call_seats : (c : Codec) (s : PoolState) (p : Pool) (noted : Noted) → Mays c p (Calls noted ∷ []) → HasSeats c s p → HasSeats c s (after (Calls noted) p)
 call_seats c s p noted may has = (has.0, move_keeps c (Makes noted) s (record { pool = p; seats = has.0 }) may tt has.1)

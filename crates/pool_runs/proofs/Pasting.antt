@@ -43,10 +43,10 @@ use Rattle.txg_history.proofs.Logging.{by_bool, true_not_false}
 use Rattle.txg_history.proofs.Moving.{event_survives}
 use Rattle.txg_history.proofs.Numbering.{renumbered_survives}
 use Rattle.txg_history.proofs.Stamping.{stamped_survives}
-use Rattle.pool_runs.specs.Devices.{number_in, size_in}
+use Rattle.pool_runs.specs.Devices.{size_in}
 use Rattle.pool_runs.specs.Hosts.{Host, IsOpen}
 use Rattle.pool_runs.specs.Knowing.{Knows}
-use Rattle.pool_runs.specs.Pasts.{Past, Born, Then, Numbered, pool_of, called_in, IsAllowed, then_all, Left, BeginsRun, IsFoundAs, IsNext, met, next_past, IsFront, frozen_by, WasFrozen, HasFrozen}
+use Rattle.pool_runs.specs.Pasts.{Past, Born, Then, Numbered, pool_of, called_in, IsAllowed, then_all, Left, BeginsRun, IsFoundAs, IsNext, AreNamed, met, next_past, IsFront, frozen_by, WasFrozen, HasFrozen}
 
 -- A pool has its invariant behind its past.
 pub past_survives : (c : Codec) (past : Past) → IsAllowed c past → Survives c (pool_of past)
@@ -113,12 +113,12 @@ size_next p images h next d one = by_bool (p.member d) (λ is. ap (λ t. cond t 
     (λ no. ap (λ t. cond t (p.size d) (size_in h.table d)) no)
 
 pub next_begins : (c : Codec) (past : Past) (was : ℕ → ℕ) (called : ℕ → List ℕ) (images : ℕ → ℕ → List ℕ) (h : Host) → IsAllowed c past
-    → ((d : ℕ) → (pool_of past).member (was d) ≡ true → called d ≡ called_in past (was d)) → ((name : List ℕ) (d : ℕ) → number_in name h.table ≡ Some d → called d ≡ name)
+    → AreNamed past was called h
     → IsNext (renumbered was (pool_of past)) images h → BeginsRun c (next_past past was called images h) h
-next_begins c past was called images h ok same names next = record {
+next_begins c past was called images h ok names next = record {
   left = record {
-    allowed = ((ok, same), may_stop (renumbered was (pool_of past)) images h next);
-    names = names;
+    allowed = ((ok, names.kept), may_stop (renumbered was (pool_of past)) images h next);
+    names = names.here;
     sizes = λ d one. size_next (renumbered was (pool_of past)) images h next d one;
     disk = λ d s one. met_here (renumbered was (pool_of past)) images h d s one;
   };

@@ -1,8 +1,10 @@
 pub mod Acts
 pub mod Devices
 pub mod Fairness
+pub mod Headline
 pub mod HostRows
 pub mod Hosts
 pub mod Knowing
 pub mod Lines
+pub mod Moments
 pub mod Pasts

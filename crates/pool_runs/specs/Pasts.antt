@@ -75,6 +75,11 @@ pub record IsNext (p : Pool) (images : ℕ → ℕ → List ℕ) (h : Host) : Ty
   pub closed : h.pools ≡ []
   pub unknown : (d : ℕ) → h.owner d ≡ None
 
+-- Each member keeps its name under its new number, and each device that the run has is called by its name.
+pub record AreNamed (past : Past) (was : ℕ → ℕ) (called : ℕ → List ℕ) (h : Host) : Type 0 where
+  pub kept : (d : ℕ) → (pool_of past).member (was d) ≡ true → called d ≡ called_in past (was d)
+  pub here : (name : List ℕ) (d : ℕ) → number_in name h.table ≡ Some d → called d ≡ name
+
 -- the devices that the run has as it finds them, the others as the stop left them
 abbrev pub met : Pool → (images : ℕ → ℕ → List ℕ) → Host → Sectors
 met p images h d s = cond (nat_le 1 (size_in h.table d)) (h.disk d s) (after_crash p.sectors images d s)
