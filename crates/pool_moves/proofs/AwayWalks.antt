@@ -6,14 +6,14 @@ use Rattle.std.proofs.lemmas.Bool.Decides.{nat_tests}
 use Rattle.txg_history.specs.Pages.{Codec}
 use Rattle.txg_history.specs.Pools.{Pool}
 use Rattle.txg_history.proofs.Logging.{by_bool, same_device, true_not_false}
-use Rattle.pool_moves.specs.AwayRows.{WriteReply, WriteFits, WriteBy, RowWrite, OfflineReply, is_offline, leave_if, gone, OfflineLeaf, OfflineBy, leaf_named, RowOffline}
+use Rattle.pool_moves.specs.AwayRows.{WriteReply, WriteFits, WriteBy, RowWrite, OfflineReply, is_offline, is_spare, leave_if, drop_if, gone, away_moves, OfflineLeaf, OfflineHere, OfflineBy, leaf_named, RowOffline}
 use Rattle.pool_moves.specs.Keeping.{IsElsewhere, AreSeatsApart, IsAway, IsOfFound, IsFoundAt, HasFound, Kept, Walks}
 use Rattle.pool_moves.specs.Leaves.{OwnLeaf, LeafSeen, Seat, At, Adrift, Told, told, dev_if, leaf_seen}
-use Rattle.pool_moves.specs.Moves.{Move, Puts, Leave, Sets, after_moves}
+use Rattle.pool_moves.specs.Moves.{Move, Puts, Leave, Drop, Sets, after_moves}
 use Rattle.pool_moves.specs.Refusing.{count_below, keys_needed, written_with, dirty_with}
 use Rattle.pool_moves.specs.States.{PoolSeen, PoolState, Side, seen}
 use Rattle.pool_moves.proofs.Boarding.{found_alone}
-use Rattle.pool_moves.proofs.FreeWalks.{walks_more}
+use Rattle.pool_moves.proofs.FreeWalks.{walks_more, found_stays}
 use Rattle.pool_moves.proofs.FreezeWalks.{found_elsewhere}
 
 -- A write is taken.
@@ -30,9 +30,15 @@ pub write_walks : (c : Codec) (s : PoolState) (t : Side) (a : ℕ) (block : List
 write_walks c s t a block vs reply (inl row) = subst (Walks c t) (sym row.1) tt
 write_walks c s t a block vs reply (inr row) = write_by c (nat_lt 4096 (count_below s.own.blocks (dirty_with a s))) s t a block vs reply row.1
 
--- A leaf that is on the board is one of a frozen group that the run has found.
+-- A leaf that is on the board is one of a frozen group that the run has found, and an eligible one is so of a running scan.
 abbrev IsBoarded : (frozen : Bool) → List Seat → LeafSeen → Type 0
 IsBoarded frozen seats leaf = leaf.on ≡ true → (frozen ≡ true) × ((d : ℕ) → leaf.dev ≡ Some d → HasFound d seats)
+
+abbrev IsScanned : (running : Bool) → List Seat → LeafSeen → Type 0
+IsScanned running seats leaf = leaf.eligible ≡ true → (d : ℕ) → leaf.dev ≡ Some d → (running ≡ true) × HasFound d seats
+
+abbrev IsAt : (frozen running : Bool) → List Seat → LeafSeen → Type 0
+IsAt frozen running seats leaf = IsBoarded frozen seats leaf × IsScanned running seats leaf
 
 on_of : (frozen on : Bool) → cond frozen on false ≡ true → frozen ≡ true
 on_of true on is = refl
@@ -42,16 +48,22 @@ dev_found : (found : Bool) (e d : ℕ) → dev_if found e ≡ Some d → ((d == 
 dev_found true e d is = (let same : e ≡ d = cc in subst (λ n. (n == e) ≡ true) same (let here : (e == e) ≡ true = grind (arith, nat_tests) in here), refl)
 dev_found false e d is = absurd (cc)
 
-boarded_leaf : (f r : Bool) (p : Pool) (all : List Seat) (seat : Seat) → IsAway seat → ((d : ℕ) → IsFoundAt d seat → HasFound d all) → IsBoarded f all (leaf_seen f r (told p) seat)
-boarded_leaf f r p all (At e found own) away up on = (on_of f (p.group.board e) on, λ d dev. up d (dev_found found e d dev))
-boarded_leaf f r p all (Adrift leaf) away up on = true_not_false leaf.on on away.1
+no_dev : {A : Type 0} (dev : Option ℕ) (d : ℕ) → dev ≡ None → dev ≡ Some d → A
+no_dev dev d none is = absurd (cc)
+
+boarded_leaf : (f r : Bool) (p : Pool) (all : List Seat) (seat : Seat) → IsAway seat → ((d : ℕ) → IsFoundAt d seat → HasFound d all) → IsAt f r all (leaf_seen f r (told p) seat)
+boarded_leaf f r p all (At e found own) away up = (
+  (λ on. (on_of f (p.group.board e) on, λ d dev. up d (dev_found found e d dev))),
+  (λ on d dev. (on_of r (p.scan.eligible e) on, up d (dev_found found e d dev))),
+)
+boarded_leaf f r p all (Adrift leaf) away up = ((λ on. true_not_false leaf.on on away.1), (λ on d dev. no_dev leaf.dev d away.0 dev))
 
 -- the leaf that is found by a test is one of them
 found_leaf : (test : LeafSeen → Bool) (f r : Bool) (p : Pool) (all seats : List Seat) (leaf : LeafSeen) → AllByRecursion IsAway seats → ((d : ℕ) → HasFound d seats → HasFound d all)
-    → find test (map (leaf_seen f r (told p)) seats) ≡ Some leaf → IsBoarded f all leaf
+    → find test (map (leaf_seen f r (told p)) seats) ≡ Some leaf → IsAt f r all leaf
 found_leaf test f r p all [] leaf away up is = absurd (cc)
 found_leaf test f r p all (seat ∷ seats) leaf away up is = by_bool (test (leaf_seen f r (told p) seat))
-    (λ yes. subst (IsBoarded f all) (let same : leaf_seen f r (told p) seat ≡ leaf = some_same (leaf_seen f r (told p) seat) leaf (sym (ap (λ t. cond t (Some (leaf_seen f r (told p) seat)) (find test (map (leaf_seen f r (told p)) seats))) yes) ∙ is) in same)
+    (λ yes. subst (IsAt f r all) (let same : leaf_seen f r (told p) seat ≡ leaf = some_same (leaf_seen f r (told p) seat) leaf (sym (ap (λ t. cond t (Some (leaf_seen f r (told p) seat)) (find test (map (leaf_seen f r (told p)) seats))) yes) ∙ is) in same)
     (boarded_leaf f r p all seat away.0 (λ d at. up d (inl at))))
     (λ no. found_leaf test f r p all seats leaf away.1 (λ d has. up d (inr has)) (sym (ap (λ t. cond t (Some (leaf_seen f r (told p) seat)) (find test (map (leaf_seen f r (told p)) seats))) no) ∙ is))
   where
@@ -59,7 +71,7 @@ found_leaf test f r p all (seat ∷ seats) leaf away up is = by_bool (test (leaf
     some_same a b e = cc
 
 -- no leaf that the run has not found is at the device of one that it has
-only_found : (d : ℕ) (seats : List Seat) → AreSeatsApart seats → HasFound d seats → AllByRecursion (IsOfFound (λ e. d == e)) seats
+pub only_found : (d : ℕ) (seats : List Seat) → AreSeatsApart seats → HasFound d seats → AllByRecursion (IsOfFound (λ e. d == e)) seats
 only_found d [] apart has = absurd has
 only_found d (At e found own ∷ seats) apart (inl is) =
     ((λ un. true_not_false found is.1 un), found_alone d seats (subst (λ n. AllByRecursion (IsElsewhere n) seats) (sym (same_device d e is.0)) apart.0))
@@ -74,20 +86,60 @@ leave_walk c t true (Some d) apart is = let at = is refl in (((at.0, tt), (at.0,
 leave_walk c t true None apart is = tt
 leave_walk c t false dev apart is = tt
 
-offline_leaf : (c : Codec) (already : Bool) (s : PoolState) (t : Side) (leaf : LeafSeen) (temporary : Bool) (vs : List Move) (reply : OfflineReply) → Kept c s t
-    → IsBoarded t.pool.group.frozen t.seats leaf → OfflineLeaf already s leaf temporary vs reply → Walks c t vs
-offline_leaf c true s t leaf temporary vs reply kept on row = subst (Walks c t) (sym row.0) ((tt, tt), tt)
-offline_leaf c false s t leaf temporary vs reply kept on (inl row) = subst (Walks c t) (sym row.2) tt
-offline_leaf c false s t leaf temporary vs reply kept on (inr row) = subst (Walks c t) (sym row.1)
-    (walks_more c (leave_if leaf.on leaf.dev) (Sets leaf.guid (gone temporary leaf.own) ∷ []) t (leave_walk c t leaf.on leaf.dev kept.apart on) ((tt, tt), tt))
+drop_walk : (c : Codec) (t : Side) (on : Bool) (dev : Option ℕ) → (on ≡ true → (d : ℕ) → dev ≡ Some d → (t.pool.scan.running ≡ true) × AllByRecursion (IsOfFound (λ e. d == e)) t.seats)
+    → Walks c t (drop_if on dev)
+drop_walk c t true (Some d) is = (((tt, tt), is refl d refl), tt)
+drop_walk c t true None is = tt
+drop_walk c t false dev is = tt
 
-offline_by : (c : Codec) (found : Option LeafSeen) (s : PoolState) (t : Side) (temporary : Bool) (vs : List Move) (reply : OfflineReply) → Kept c s t
-    → ((leaf : LeafSeen) → found ≡ Some leaf → IsBoarded t.pool.group.frozen t.seats leaf) → OfflineBy found s temporary vs reply → Walks c t vs
-offline_by c None s t temporary vs reply kept on row = subst (Walks c t) (sym row.0) tt
-offline_by c (Some leaf) s t temporary vs reply kept on row = offline_leaf c (is_offline leaf.own.mode) s t leaf temporary vs reply kept (on leaf refl) row
+-- behind a leaf that left the board its scan goes on, and no other leaf is found
+leave_scan : (on : Bool) (dev : Option ℕ) (t : Side) → (after_moves (leave_if on dev) t).pool.scan.running ≡ t.pool.scan.running
+leave_scan true (Some d) t = refl
+leave_scan true None t = refl
+leave_scan false dev t = refl
+
+leave_found : (on : Bool) (dev : Option ℕ) (t : Side) (e : ℕ) → (on ≡ true → (d : ℕ) → dev ≡ Some d → AllByRecursion (IsOfFound (λ x. d == x)) t.seats)
+    → AllByRecursion (IsOfFound (λ x. e == x)) t.seats → AllByRecursion (IsOfFound (λ x. e == x)) (after_moves (leave_if on dev) t).seats
+leave_found true (Some d) t e free all = found_stays (λ x. e == x) (Leave d) t (free refl d refl) all
+leave_found true None t e free all = all
+leave_found false dev t e free all = all
+
+away_walk : (c : Codec) (t : Side) (leaf : LeafSeen) (temporary : Bool) → AreSeatsApart t.seats → IsAt t.pool.group.frozen t.pool.scan.running t.seats leaf
+    → Walks c t (away_moves temporary leaf)
+away_walk c t leaf temporary apart at =
+    walks_more c (leave_if leaf.on leaf.dev) (drop_if leaf.eligible leaf.dev ++ (Sets leaf.guid (gone temporary leaf.own) ∷ [])) t
+    (leave_walk c t leaf.on leaf.dev apart at.0)
+    (walks_more c (drop_if leaf.eligible leaf.dev) (Sets leaf.guid (gone temporary leaf.own) ∷ []) behind (drop_walk c behind leaf.eligible leaf.dev (λ on d dev. (
+    leave_scan leaf.on leaf.dev t ∙ (at.1 on d dev).0,
+    leave_found leaf.on leaf.dev t d (λ out e is. only_found e t.seats apart ((at.0 out).1 e is)) (only_found d t.seats apart (at.1 on d dev).1),
+    ))) ((tt, tt), tt))
+  where
+    behind : Side
+    behind = after_moves (leave_if leaf.on leaf.dev) t
+
+offline_leaf : (c : Codec) (already : Bool) (s : PoolState) (t : Side) (leaf : LeafSeen) (temporary : Bool) (vs : List Move) (reply : OfflineReply) → Kept c s t
+    → IsAt t.pool.group.frozen t.pool.scan.running t.seats leaf → OfflineLeaf already s leaf temporary vs reply → Walks c t vs
+offline_leaf c true s t leaf temporary vs reply kept at row = subst (Walks c t) (sym row.0) ((tt, tt), tt)
+offline_leaf c false s t leaf temporary vs reply kept at (inl row) = subst (Walks c t) (sym row.2) tt
+offline_leaf c false s t leaf temporary vs reply kept at (inr row) = subst (Walks c t) (sym row.1) (away_walk c t leaf temporary kept.apart at)
+
+offline_here : (c : Codec) (spare : Bool) (s : PoolState) (t : Side) (leaf : LeafSeen) (temporary : Bool) (vs : List Move) (reply : OfflineReply) → Kept c s t
+    → IsAt t.pool.group.frozen t.pool.scan.running t.seats leaf → OfflineHere spare s leaf temporary vs reply → Walks c t vs
+offline_here c true s t leaf temporary vs reply kept at row = subst (Walks c t) (sym row.0) tt
+offline_here c false s t leaf temporary vs reply kept at row = offline_leaf c (is_offline leaf.own.mode) s t leaf temporary vs reply kept at row
+
+offline_by : (c : Codec) (found : Option LeafSeen) (s : PoolState) (t : Side) (name : List ℕ) (temporary : Bool) (vs : List Move) (reply : OfflineReply) → Kept c s t
+    → ((leaf : LeafSeen) → found ≡ Some leaf → IsAt t.pool.group.frozen t.pool.scan.running t.seats leaf) → OfflineBy found s name temporary vs reply → Walks c t vs
+offline_by c None s t name temporary vs reply kept at row = subst (Walks c t) (sym row.0) tt
+offline_by c (Some leaf) s t name temporary vs reply kept at row = offline_here c (is_spare s leaf) s t leaf temporary vs reply kept (at leaf refl) row
+
+-- the leaf of a name, as the history has it
+pub named_at : (c : Codec) (s : PoolState) (t : Side) (name : List ℕ) (leaf : LeafSeen) → Kept c s t → leaf_named name s.core.leaves ≡ Some leaf
+    → IsAt t.pool.group.frozen t.pool.scan.running t.seats leaf
+named_at c s t name leaf kept is = found_leaf (λ leaf. bytes_eq leaf.own.name name) t.pool.group.frozen t.pool.scan.running t.pool t.seats t.seats leaf kept.away (λ d has. has)
+    (sym (ap (λ core. leaf_named name core.leaves) kept.core) ∙ is)
 
 -- A leaf goes offline, also in the middle of a group.
 pub offline_walks : (c : Codec) (s : PoolState) (t : Side) (name : List ℕ) (temporary : Bool) (vs : List Move) (reply : OfflineReply) → Kept c s t → RowOffline s name temporary vs reply → Walks c t vs
-offline_walks c s t name temporary vs reply kept row = offline_by c (leaf_named name s.core.leaves) s t temporary vs reply kept
-    (λ leaf is. found_leaf (λ leaf. bytes_eq leaf.own.name name) t.pool.group.frozen t.pool.scan.running t.pool t.seats t.seats leaf kept.away (λ d has. has)
-    (sym (ap (λ core. leaf_named name core.leaves) kept.core) ∙ is)) row
+offline_walks c s t name temporary vs reply kept row = offline_by c (leaf_named name s.core.leaves) s t name temporary vs reply kept
+    (λ leaf is. named_at c s t name leaf kept is) row

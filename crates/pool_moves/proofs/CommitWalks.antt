@@ -29,6 +29,12 @@ opened_kept c s t o = record {
   numbered = o.numbered;
   boarded = λ f. absurd (let no : false ≡ true = sym (ap (λ p. p.group.frozen) o.is) ∙ f in cc);
   topped = o.topped;
+  scanned = λ r. absurd (let no : false ≡ true = sym (ap (λ p. p.scan.running) o.is) ∙ r in cc);
+  numbers = record {
+    below = o.below;
+    known = λ on. absurd (let no : false ≡ true = sym (ap (λ p. p.opened) o.is) ∙ on in cc);
+    newest = λ f. absurd (let no : false ≡ true = sym (ap (λ p. p.group.frozen) o.is) ∙ f in cc);
+  };
   written = λ a. subst (λ p. p.written a ≡ over (s.own.writes a) (cond p.group.frozen (p.group.content a) (block_in p.reads.cells a))) (sym o.is)
       (ap (λ w. over w (block_in o.r.cells a)) (sym (o.unwritten a)));
   survives = subst (Survives c) (sym o.is) (event_survives c o.before (Opens o.r) o.survives o.live);

@@ -14,7 +14,7 @@ use Rattle.txg_history.specs.Survival.{Fits}
 use Rattle.txg_history.proofs.Logging.{by_bool, same_device, not_true, true_not_false}
 use Rattle.pool_moves.specs.Boards.{is_on_under, has_on, emptied_of, emptied}
 use Rattle.pool_moves.specs.Drafts.{top_in, owes_in, draft_of}
-use Rattle.pool_moves.specs.Keeping.{IsElsewhere, IsAway, IsSeated, IsOwnNumber, IsFoundAt, HasFound, IsUnder, HasUnder, Kept}
+use Rattle.pool_moves.specs.Keeping.{IsElsewhere, IsAway, IsSeated, IsOwnNumber, IsFoundAt, HasFound, IsUnder, HasUnder, HasOtherNumber, KnowsJust, Kept}
 use Rattle.pool_moves.specs.Leaves.{OwnLeaf, LeafSeen, Seat, At, Adrift, told, leaf_seen}
 use Rattle.pool_moves.specs.Making.{HasSeat}
 use Rattle.pool_moves.specs.Moves.{Draft, rec_of, sums_over}
@@ -179,3 +179,18 @@ tops_drafted p draft all (Adrift leaf ∷ seats) is own seated mine = (tt, tops_
 
 pub draft_tops : (c : Codec) (s : PoolState) (t : Side) (draft : Draft) → Kept c s t → draft ≡ draft_of draft.commit (frozen_core t).leaves → AllByRecursion (HasDraftTop t.pool draft) t.seats
 draft_tops c s t draft kept is = tops_drafted t.pool draft t.seats t.seats (ap (λ x. x.tops) is) kept.numbered kept.seated (seats_in t.seats t.seats (λ d has. has))
+
+-- It knows no leaf of another number than those of the list.
+top_other : (p : Pool) (m : Guid) (seats : List Seat) → AllByRecursion (HasOtherNumber p.guid m) seats → top_in (leaves_of p seats) m ≡ 0
+top_other p m [] others = refl
+top_other p m (At d found own ∷ seats) others = ap (λ t. cond t (p.in_top d) (top_in (leaves_of p seats) m)) others.0 ∙ top_other p m seats others.1
+top_other p m (Adrift leaf ∷ seats) others = ap (λ t. cond t leaf.top (top_in (leaves_of p seats) m)) others.0 ∙ top_other p m seats others.1
+
+owes_other : (p : Pool) (m : Guid) (g : ℕ) (seats : List Seat) → AllByRecursion (HasOtherNumber p.guid m) seats → owes_in (leaves_of p seats) m g ≡ true
+owes_other p m g [] others = refl
+owes_other p m g (At d found own ∷ seats) others = ap (λ t. cond t (p.owes d g) (owes_in (leaves_of p seats) m g)) others.0 ∙ owes_other p m g seats others.1
+owes_other p m g (Adrift leaf ∷ seats) others = ap (λ t. cond t (leaf.owes g) (owes_in (leaves_of p seats) m g)) others.0 ∙ owes_other p m g seats others.1
+
+pub draft_knows : (p : Pool) (draft : Draft) (seats : List Seat) → draft ≡ draft_of draft.commit (leaves_of p seats) → KnowsJust p.guid seats draft
+draft_knows p draft seats is m others =
+    (ap (λ x. x.tops m) is ∙ top_other p m seats others, λ g. ap (λ x. x.owes m g) is ∙ owes_other p m g seats others)

@@ -50,7 +50,6 @@ free_frozen (Wrote_key k) t free = refl
 free_frozen Flushed_all t free = refl
 free_frozen Draw t free = refl
 free_frozen (Leave d) t free = refl
-free_frozen (Starts draft) t free = refl
 free_frozen (Copies draft d) t free = refl
 free_frozen (Copied draft d) t free = refl
 free_frozen (Sets m own) t free = refl
@@ -63,13 +62,12 @@ free_admitted (Wrote_key k) t f free = f
 free_admitted Flushed_all t f free = f
 free_admitted Draw t f free = f
 free_admitted (Leave d) t f free = (f, free)
-free_admitted (Starts draft) t f free = f
 free_admitted (Copies draft d) t f free = tt
 free_admitted (Copied draft d) t f free = tt
 free_admitted (Sets m own) t f free = tt
 free_admitted v t f free = absurd free
 
-found_stays : (which : ℕ → Bool) (v : Move) (t : Side) → IsFree t.seats v → AllByRecursion (IsOfFound which) t.seats → AllByRecursion (IsOfFound which) (seats_by v t)
+pub found_stays : (which : ℕ → Bool) (v : Move) (t : Side) → IsFree t.seats v → AllByRecursion (IsOfFound which) t.seats → AllByRecursion (IsOfFound which) (seats_by v t)
 found_stays which (Makes noted) t free all = all
 found_stays which (Puts a block) t free all = all
 found_stays which (Wrote_key k) t free all = all
@@ -78,7 +76,6 @@ found_stays which Draw t free all = all_map (IsOfFound which) (IsOfFound which) 
     (seat_cases (λ seat. IsOfFound which seat → IsOfFound which (seat_step Draw t.pool seat)) (λ d found own is. is) (λ leaf is. tt)) t.seats all
 found_stays which (Leave d) t free all = all_map (IsOfFound which) (IsOfFound which) (seat_step (Leave d) t.pool)
     (seat_cases (λ seat. IsOfFound which seat → IsOfFound which (seat_step (Leave d) t.pool seat)) (λ d found own is. is) (λ leaf is. tt)) t.seats all
-found_stays which (Starts draft) t free all = all
 found_stays which (Copies draft d) t free all = all
 found_stays which (Copied draft d) t free all = all
 found_stays which (Sets m own) t free all = all_map (IsOfFound which) (IsOfFound which) (seat_step (Sets m own) t.pool)
@@ -92,7 +89,6 @@ free_stays v (Wrote_key k) t free is = tt
 free_stays v Flushed_all t free is = tt
 free_stays v Draw t free is = tt
 free_stays v (Leave d) t free is = found_stays (λ e. d == e) v t free is
-free_stays v (Starts draft) t free is = tt
 free_stays v (Copies draft d) t free is = tt
 free_stays v (Copied draft d) t free is = tt
 free_stays v (Sets m own) t free is = tt

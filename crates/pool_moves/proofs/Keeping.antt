@@ -1,5 +1,5 @@
 -- A state keeps, behind a move that the history allows and the state admits, what it kept before.
-use Rattle.std.proofs.Common.{◌≡◌, ◌⊎◌, inl, inr, ⊎_elim, ℕ, suc, zero, ◌+◌, ◌≤◌, ◌==◌, Bool, true, false, cond, Option, Some, None, List, [], ◌∷◌, ◌++◌, map, take, drop, refl, sym, ap, ◌∙◌, subst, arith}
+use Rattle.std.proofs.Common.{◌≡◌, ◌⊎◌, inl, inr, ⊎_elim, ℕ, suc, zero, ◌+◌, ◌<◌, ◌≤◌, ◌==◌, max, Bool, true, false, cond, Option, Some, None, List, [], ◌∷◌, ◌++◌, map, take, drop, refl, sym, ap, ◌∙◌, subst, arith}
 use Rattle.std.specs.List.{AllByRecursion, insert, remove}
 use Rattle.std.proofs.lemmas.Bool.Decides.{nat_tests}
 use Rattle.mp_base.specs.declared.number.Guid.{Guid}
@@ -7,13 +7,13 @@ use Rattle.txg_history.specs.Groups.{at_device}
 use Rattle.txg_history.specs.Moves.{Mays}
 use Rattle.txg_history.specs.Pages.{Codec}
 use Rattle.txg_history.specs.Pools.{Pool, after, pool_after, other_than}
-use Rattle.txg_history.specs.Records.{Cell, block_of, block_in, cell_over, laid_over, key}
+use Rattle.txg_history.specs.Records.{Rec, IsIn, Cell, block_of, block_in, cell_over, laid_over, key}
 use Rattle.txg_history.specs.Survival.{Survives}
 use Rattle.txg_history.proofs.Logging.{by_bool, same_device, true_not_false, not_true}
 use Rattle.txg_history.proofs.Surviving.{history_survives}
-use Rattle.pool_moves.specs.Keeping.{IsElsewhere, AreSeatsApart, IsAway, IsSeated, IsOwnNumber, IsFoundAt, HasFound, IsUnder, HasUnder, IsDrafted, over, beneath, Kept, IsOfFound, IsNotFoundAt, HasOtherNumber, MayReturn, MayCome, Admits, Walks}
+use Rattle.pool_moves.specs.Keeping.{IsElsewhere, AreSeatsApart, IsAway, IsSeated, IsOwnNumber, IsFoundAt, HasFound, IsUnder, HasUnder, IsDrafted, over, beneath, HasNumberBelow, KnowsBelow, AreNumbered, KnowsJust, Kept, IsOfFound, IsNotFoundAt, HasOtherNumber, MayReturn, MayCome, Admits, Walks}
 use Rattle.pool_moves.specs.Leaves.{OwnLeaf, LeafSeen, Seat, At, Adrift, dev_if, told, leaf_seen}
-use Rattle.pool_moves.specs.Moves.{Draft, Move, Makes, Puts, Freeze, Wrote_key, Flushed_all, Draw, Leave, Widen, Burn, Starts, Copies, Copied, Commits, Sets, Finds, Lose, Comes, Goes, Returns, Scan_from, Pass, Drop, Clear, Rest, on_dev, leaf_cleared, leaf_step, step, burned, rec_of, state_step, steps, events_of, seat_step, seats_by, after_move, after_moves}
+use Rattle.pool_moves.specs.Moves.{Draft, Move, Makes, Puts, Freeze, Wrote_key, Flushed_all, Draw, Leave, Widen, Burn, Starts, Copies, Copied, Commits, Sets, Finds, Lose, Comes, Goes, Returns, Scan_from, Pass, Drop, Clear, Rest, Scrubs, Shapes, on_dev, leaf_cleared, leaf_step, step, burned, rec_of, state_step, steps, events_of, seat_step, seats_by, after_move, after_moves}
 use Rattle.pool_moves.specs.States.{group_seen, Side, seen, PoolState}
 use Rattle.pool_moves.proofs.Seeing.{seen_step}
 
@@ -105,6 +105,8 @@ apart_kept (Copied draft d) t ok apart = apart
 apart_kept (Comes i d m top own) t ok apart = apart_insert t.seats i (At d true own) (ok.elsewhere, apart)
 apart_kept (Goes i) t ok apart = apart_remove t.seats i apart
 apart_kept (Returns i seat leaf) t ok apart = apart_insert t.seats i seat ok.apart
+apart_kept Scrubs t ok apart = apart
+apart_kept (Shapes top children) t ok apart = apart
 apart_kept v t ok apart = apart_map (seat_step v t.pool) (place_kept v t.pool) t.seats apart
 
 -- Each seat's device is a member.
@@ -152,6 +154,8 @@ seated_kept (Comes i d m top own) t ok all = all_insert (IsSeated (at_device d t
     (ap (λ x. cond x true (other_than m t.pool.guid t.pool.member d)) (here d)) (come_seated t.pool d m t.seats ok.elsewhere ok.others all)
 seated_kept (Goes i) t ok all = all_remove (IsSeated t.pool.member) t.seats i all
 seated_kept (Returns i seat leaf) t ok all = all_insert (IsSeated t.pool.member) t.seats i seat ok.seated all
+seated_kept Scrubs t ok all = all
+seated_kept (Shapes top children) t ok all = all
 seated_kept v t ok all = all_map (IsSeated t.pool.member) (IsSeated t.pool.member) (seat_step v t.pool) (seated_map v t.pool t.pool.member) t.seats all
 
 -- A leaf's number stays.
@@ -256,6 +260,8 @@ away_kept (Lose d) t ok numbered boarded seated all = all_map (λ seat. (IsAway 
 away_kept (Comes i d m top own) t ok numbered boarded seated all = all_insert IsAway t.seats i (At d true own) tt all
 away_kept (Goes i) t ok numbered boarded seated all = all_remove IsAway t.seats i all
 away_kept (Returns i seat leaf) t ok numbered boarded seated all = all_insert IsAway t.seats i seat ok.away all
+away_kept Scrubs t ok numbered boarded seated all = all
+away_kept (Shapes top children) t ok numbered boarded seated all = all
 away_kept (Clear d) t ok numbered boarded seated all = all_map IsAway IsAway (seat_step (Clear d) t.pool) (clear_away d t.pool) t.seats all
 away_kept (Freeze cells board) t ok numbered boarded seated all = all_map IsAway IsAway (seat_step (Freeze cells board) t.pool)
     (seat_cases (λ seat. IsAway seat → IsAway (seat_step (Freeze cells board) t.pool seat)) (λ d found own is. tt) (λ leaf is. (is.0, ap (on_dev board) is.0))) t.seats all
@@ -360,6 +366,8 @@ numbered_kept (Lose e) t ok numbered d is = let was = not_lost e d t.pool.member
 numbered_kept (Comes i e m top own) t ok numbered d is = come_numbers t i e m own ok numbered d is
 numbered_kept (Goes i) t ok numbered d is = all_remove (IsOwnNumber t.pool.guid d) t.seats i (numbered d is)
 numbered_kept (Returns i seat leaf) t ok numbered d is = all_insert (IsOwnNumber t.pool.guid d) t.seats i seat (ok.numbered d is) (numbered d is)
+numbered_kept Scrubs t ok numbered d is = numbered d is
+numbered_kept (Shapes top children) t ok numbered d is = numbered d is
 numbered_kept v t ok numbered d is = all_map (IsOwnNumber t.pool.guid d) (IsOwnNumber t.pool.guid d) (seat_step v t.pool)
     (number_map v t.pool t.pool.guid d (λ e found own same. same)) t.seats (numbered d is)
 
@@ -423,6 +431,8 @@ boarded_kept (Lose e) t ok boarded f d is on = let was = not_lost e d t.pool.mem
 boarded_kept (Comes i e m top own) t ok boarded f d is on = come_found t i e m own d (boarded f d) is on
 boarded_kept (Goes i) t ok boarded f d is on = never_both t.pool.group.frozen ok.idle f
 boarded_kept (Returns i seat leaf) t ok boarded f d is on = never_both t.pool.group.frozen ok.idle f
+boarded_kept Scrubs t ok boarded f d is on = boarded f d is on
+boarded_kept (Shapes top children) t ok boarded f d is on = boarded f d is on
 boarded_kept v t ok boarded f d is on = found_map v t d (λ e found own there. there) (boarded f d is on)
 
 -- Where a member stands under a top, some leaf does.
@@ -526,7 +536,199 @@ topped_kept c (Lose e) s t may ok kept d is one = let was = not_lost e d t.pool.
 topped_kept c (Comes i e m top own) s t may ok kept d is one = come_topped t i e m top own ok kept.topped d is one
 topped_kept c (Goes i) s t may ok kept d is one = ok.topped d is one
 topped_kept c (Returns i seat leaf) s t may ok kept d is one = under_insert t.pool.in_top (t.pool.in_top d) t.seats i seat (kept.topped d is one)
+topped_kept c Scrubs s t may ok kept d is one = kept.topped d is one
+topped_kept c (Shapes top children) s t may ok kept d is one = kept.topped d is one
 topped_kept c v s t may ok kept d is one = under_step v t.pool (t.pool.in_top d) (λ e found own under. under) t.seats (kept.topped d is one)
+
+-- No leaf that the run has not found is eligible.
+of_found_step : (which : ℕ → Bool) (v : Move) (p : Pool) → ((d : ℕ) (found : Bool) (own : OwnLeaf) → IsOfFound which (At d found own) → IsOfFound which (seat_step v p (At d found own)))
+    → (seats : List Seat) → AllByRecursion (IsOfFound which) seats → AllByRecursion (IsOfFound which) (map (seat_step v p) seats)
+of_found_step which v p at seats all = all_map (IsOfFound which) (IsOfFound which) (seat_step v p)
+    (seat_cases (λ seat. IsOfFound which seat → IsOfFound which (seat_step v p seat)) at (λ leaf is. tt)) seats all
+
+find_of_found : (which : ℕ → Bool) (p : Pool) (m : Guid) (e d : ℕ) (found : Bool) (own : OwnLeaf) → IsOfFound which (At d found own)
+    → IsOfFound which (seat_step (Finds m e) p (At d found own))
+find_of_found which p m e d found own is = by ((p.guid d).0 == m.0)
+  where
+    by : (t : Bool) → cond t true found ≡ false → which d ≡ false
+    by true un = absurd (cc)
+    by false un = is un
+
+lose_of_found : (which : ℕ → Bool) (p : Pool) (e d : ℕ) (found : Bool) (own : OwnLeaf) → IsOfFound which (At d found own)
+    → IsOfFound which (seat_step (Lose e) p (At d found own))
+lose_of_found which p e d found own is = by (e == d)
+  where
+    by : (t : Bool) → IsOfFound which (cond t (Adrift (leaf_seen p.group.frozen p.scan.running (told p) (At d found own))) (At d found own))
+    by true = tt
+    by false = is
+
+drop_of_found : (which : ℕ → Bool) (e : ℕ) (seats : List Seat) → AllByRecursion (IsOfFound which) seats → AllByRecursion (IsOfFound (at_device e false which)) seats
+drop_of_found which e [] all = tt
+drop_of_found which e (At d found own ∷ seats) all = ((λ un. by (e == d) (all.0 un)), drop_of_found which e seats all.1)
+  where
+    by : (t : Bool) → which d ≡ false → cond t false (which d) ≡ false
+    by true off = refl
+    by false off = off
+drop_of_found which e (Adrift leaf ∷ seats) all = (tt, drop_of_found which e seats all.1)
+
+scanned_kept : (v : Move) (t : Side) → Admits t v → (t.pool.scan.running ≡ true → AllByRecursion (IsOfFound t.pool.scan.eligible) t.seats)
+    → (after_move v t).pool.scan.running ≡ true → AllByRecursion (IsOfFound (after_move v t).pool.scan.eligible) (seats_by v t)
+scanned_kept (Makes noted) t ok all r = all r
+scanned_kept (Puts a block) t ok all r = all r
+scanned_kept (Wrote_key k) t ok all r = all r
+scanned_kept Flushed_all t ok all r = all r
+scanned_kept (Starts draft) t ok all r = all r
+scanned_kept (Copies draft e) t ok all r = all r
+scanned_kept (Copied draft e) t ok all r = all r
+scanned_kept Scrubs t ok all r = all r
+scanned_kept (Shapes top children) t ok all r = all r
+scanned_kept (Finds m e) t ok all r = of_found_step t.pool.scan.eligible (Finds m e) t.pool (find_of_found t.pool.scan.eligible t.pool m e) t.seats (all r)
+scanned_kept (Lose e) t ok all r = of_found_step t.pool.scan.eligible (Lose e) t.pool (lose_of_found t.pool.scan.eligible t.pool e) t.seats (all r)
+scanned_kept (Comes i e m top own) t ok all r = never_both t.pool.scan.running ok.at_rest r
+scanned_kept (Goes i) t ok all r = all_remove (IsOfFound t.pool.scan.eligible) t.seats i (all r)
+scanned_kept (Returns i seat leaf) t ok all r = all_insert (IsOfFound t.pool.scan.eligible) t.seats i seat (ok.scanned r) (all r)
+scanned_kept (Scan_from hi eligible) t ok all r = of_found_step eligible (Scan_from hi eligible) t.pool (λ d found own is. is) t.seats ok
+scanned_kept (Drop e) t ok all r = of_found_step (at_device e false t.pool.scan.eligible) (Drop e) t.pool (λ d found own is. is) t.seats
+    (drop_of_found t.pool.scan.eligible e t.seats (all r))
+scanned_kept Rest t ok all r = never_both false refl r
+scanned_kept v t ok all r = of_found_step t.pool.scan.eligible v t.pool (λ d found own is. is) t.seats (all r)
+
+-- The next member number is above all others.
+below_more : (guid : ℕ → Guid) (n more : ℕ) → n ≤ more → (seats : List Seat) → AllByRecursion (HasNumberBelow guid n) seats → AllByRecursion (HasNumberBelow guid more) seats
+below_more guid n more up [] all = tt
+below_more guid n more up (At d found own ∷ seats) all = ((let low = all.0 in omega (arith, low, up)), below_more guid n more up seats all.1)
+below_more guid n more up (Adrift leaf ∷ seats) all = ((let low = all.0 in omega (arith, low, up)), below_more guid n more up seats all.1)
+
+known_more : (n more : ℕ) → n ≤ more → (r : Rec) → KnowsBelow n r → KnowsBelow more r
+known_more n more up r known m low = known m (omega (arith, low, up))
+
+numbers_more : (n more : ℕ) (guid : ℕ → Guid) (opened : Bool) (live : List Rec) (frozen begun : Bool) (seats : List Seat) → n ≤ more
+    → AreNumbered n guid opened live frozen begun seats → AreNumbered more guid opened live frozen begun seats
+numbers_more n more guid opened live frozen begun seats up are = record {
+  below = below_more guid n more up seats are.below;
+  known = λ on r is. known_more n more up r (are.known on r is);
+  newest = λ f b q rest is. known_more n more up q (are.newest f b q rest is);
+}
+
+below_map : (guid : ℕ → Guid) (n : ℕ) (v : Move) (p : Pool) → ((d : ℕ) (found : Bool) (own : OwnLeaf) → (guid d).0 < n → HasNumberBelow guid n (seat_step v p (At d found own)))
+    → (seats : List Seat) → AllByRecursion (HasNumberBelow guid n) seats → AllByRecursion (HasNumberBelow guid n) (map (seat_step v p) seats)
+below_map guid n v p at seats all = all_map (HasNumberBelow guid n) (HasNumberBelow guid n) (seat_step v p)
+    (seat_cases (λ seat. HasNumberBelow guid n seat → HasNumberBelow guid n (seat_step v p seat)) at
+    (λ leaf is. subst (λ m. m.0 < n) (sym (number_stays v p.highest p.group.first p.scan.hi leaf)) is)) seats all
+
+lose_below : (p : Pool) (n e d : ℕ) (found : Bool) (own : OwnLeaf) → (p.guid d).0 < n → HasNumberBelow p.guid n (seat_step (Lose e) p (At d found own))
+lose_below p n e d found own is = by (e == d)
+  where
+    by : (t : Bool) → HasNumberBelow p.guid n (cond t (Adrift (leaf_seen p.group.frozen p.scan.running (told p) (At d found own))) (At d found own))
+    by true = is
+    by false = is
+
+come_below : (p : Pool) (n e : ℕ) (m : Guid) (seats : List Seat) → AllByRecursion (IsElsewhere e) seats → AllByRecursion (HasNumberBelow p.guid n) seats
+    → AllByRecursion (HasNumberBelow (at_device e m p.guid) n) seats
+come_below p n e m [] off all = tt
+come_below p n e m (At d found own ∷ seats) off all = (subst (λ x. x.0 < n) (sym (guid_away e d m p.guid off.0)) all.0, come_below p n e m seats off.1 all.1)
+come_below p n e m (Adrift leaf ∷ seats) off all = (all.0, come_below p n e m seats off.1 all.1)
+
+at_most : (a b : ℕ) → a ≤ max a b
+at_most a b = grind (arith)
+
+above_all : (a m : ℕ) → m < max a (m + 1)
+above_all a m = grind (arith)
+
+-- a number that is below none of the leaves' is none of theirs
+other_numbers : (guid : ℕ → Guid) (n : ℕ) (m : Guid) → n ≤ m.0 → (seats : List Seat) → AllByRecursion (HasNumberBelow guid n) seats → AllByRecursion (HasOtherNumber guid m) seats
+other_numbers guid n m low [] all = tt
+other_numbers guid n m low (At d found own ∷ seats) all = (differ (guid d).0 m.0 (let less = all.0 in omega (arith, less, low)), other_numbers guid n m low seats all.1)
+  where
+    differ : (a b : ℕ) → a < b → (a == b) ≡ false
+    differ a b less = grind (arith, nat_tests)
+other_numbers guid n m low (Adrift leaf ∷ seats) all = (differ leaf.guid.0 m.0 (let less = all.0 in omega (arith, less, low)), other_numbers guid n m low seats all.1)
+  where
+    differ : (a b : ℕ) → a < b → (a == b) ≡ false
+    differ a b less = grind (arith, nat_tests)
+
+draft_below : (p : Pool) (n : ℕ) (draft : Draft) (seats : List Seat) → KnowsJust p.guid seats draft → AllByRecursion (HasNumberBelow p.guid n) seats → KnowsBelow n (rec_of p draft)
+draft_below p n draft seats just below m low = let known = just m (other_numbers p.guid n m low seats below) in record { no_top = known.0; all = known.1 }
+
+first_same : (q r : Rec) (a b : List Rec) → q ∷ a ≡ r ∷ b → q ≡ r
+first_same q r a b e = cc
+
+returned_below : (t : Side) (n : ℕ) (seat : Seat) (leaf : LeafSeen) → leaf ≡ leaf_seen t.pool.group.frozen t.pool.scan.running (told t.pool) seat → leaf.guid.0 < n
+    → HasNumberBelow t.pool.guid n seat
+returned_below t n (At d found own) leaf is low = subst (λ x. x.guid.0 < n) is low
+returned_below t n (Adrift other) leaf is low = subst (λ x. x.guid.0 < n) is low
+
+numbers_kept : (c : Codec) (v : Move) (s : PoolState) (t : Side) → Mays c t.pool (events_of v t.pool) → Admits t v → Kept c s t
+    → AreNumbered (state_step v s).own.next_member (after_move v t).pool.guid (after_move v t).pool.opened (after_move v t).pool.live
+    (after_move v t).pool.group.frozen (after_move v t).pool.group.begun (seats_by v t)
+numbers_kept c (Makes noted) s t may ok kept = kept.numbers
+numbers_kept c (Puts a block) s t may ok kept = kept.numbers
+numbers_kept c (Wrote_key k) s t may ok kept = kept.numbers
+numbers_kept c Flushed_all s t may ok kept = kept.numbers
+numbers_kept c (Copies draft e) s t may ok kept = kept.numbers
+numbers_kept c (Copied draft e) s t may ok kept = kept.numbers
+numbers_kept c Scrubs s t may ok kept = kept.numbers
+numbers_kept c (Shapes top children) s t may ok kept = kept.numbers
+numbers_kept c (Freeze cells board) s t may ok kept = record {
+  below = below_map t.pool.guid s.own.next_member (Freeze cells board) t.pool (λ d found own is. is) t.seats kept.numbers.below;
+  known = kept.numbers.known;
+  newest = λ f b. never_both false refl b;
+}
+numbers_kept c Burn s t may ok kept = record {
+  below = below_map t.pool.guid s.own.next_member Burn t.pool (λ d found own is. is) t.seats kept.numbers.below;
+  known = kept.numbers.known;
+  newest = λ f. never_both false refl f;
+}
+numbers_kept c (Starts draft) s t may ok kept = record {
+  below = kept.numbers.below;
+  known = λ on r is. ⊎_elim (λ same. subst (KnowsBelow s.own.next_member) (sym same) new) (λ old. kept.numbers.known on r old) is;
+  newest = λ f b q rest is. subst (KnowsBelow s.own.next_member) (first_same (rec_of t.pool draft) q t.pool.live rest is) new;
+}
+  where
+    new : KnowsBelow s.own.next_member (rec_of t.pool draft)
+    new = draft_below t.pool s.own.next_member draft t.seats ok.1 kept.numbers.below
+numbers_kept c (Commits draft) s t may ok kept = record {
+  below = below_map t.pool.guid s.own.next_member (Commits draft) t.pool (λ d found own is. is) t.seats kept.numbers.below;
+  known = λ on r is. ⊎_elim (λ same. subst (KnowsBelow s.own.next_member) (sym same)
+      (kept.numbers.newest ok.0 may.0.begun (rec_of t.pool draft) may.0.rest may.0.newest)) (λ never. absurd never) is;
+  newest = λ f. never_both false refl f;
+}
+numbers_kept c (Lose e) s t may ok kept = record {
+  below = below_map t.pool.guid s.own.next_member (Lose e) t.pool (lose_below t.pool s.own.next_member e) t.seats kept.numbers.below;
+  known = kept.numbers.known;
+  newest = kept.numbers.newest;
+}
+numbers_kept c (Comes i e m top own) s t may ok kept = record {
+  below = all_insert (HasNumberBelow (at_device e m t.pool.guid) (max s.own.next_member (m.0 + 1))) t.seats i (At e true own)
+      (subst (λ x. x.0 < max s.own.next_member (m.0 + 1)) (sym (guid_there e e m t.pool.guid (here e))) (above_all s.own.next_member m.0))
+      (come_below t.pool (max s.own.next_member (m.0 + 1)) e m t.seats ok.elsewhere more.below);
+  known = more.known;
+  newest = more.newest;
+}
+  where
+    more : AreNumbered (max s.own.next_member (m.0 + 1)) t.pool.guid t.pool.opened t.pool.live t.pool.group.frozen t.pool.group.begun t.seats
+    more = numbers_more s.own.next_member (max s.own.next_member (m.0 + 1)) t.pool.guid t.pool.opened t.pool.live t.pool.group.frozen t.pool.group.begun t.seats
+        (at_most s.own.next_member (m.0 + 1)) kept.numbers
+numbers_kept c (Goes i) s t may ok kept = record {
+  below = all_remove (HasNumberBelow t.pool.guid s.own.next_member) t.seats i kept.numbers.below;
+  known = kept.numbers.known;
+  newest = kept.numbers.newest;
+}
+numbers_kept c (Returns i seat leaf) s t may ok kept = record {
+  below = all_insert (HasNumberBelow t.pool.guid (max s.own.next_member (leaf.guid.0 + 1))) t.seats i seat
+      (returned_below t (max s.own.next_member (leaf.guid.0 + 1)) seat leaf ok.leaf_is (above_all s.own.next_member leaf.guid.0)) more.below;
+  known = more.known;
+  newest = more.newest;
+}
+  where
+    more : AreNumbered (max s.own.next_member (leaf.guid.0 + 1)) t.pool.guid t.pool.opened t.pool.live t.pool.group.frozen t.pool.group.begun t.seats
+    more = numbers_more s.own.next_member (max s.own.next_member (leaf.guid.0 + 1)) t.pool.guid t.pool.opened t.pool.live t.pool.group.frozen t.pool.group.begun t.seats
+        (at_most s.own.next_member (leaf.guid.0 + 1)) kept.numbers
+numbers_kept c v s t may ok kept = record {
+  below = below_map t.pool.guid s.own.next_member v t.pool (λ d found own is. is) t.seats kept.numbers.below;
+  known = kept.numbers.known;
+  newest = kept.numbers.newest;
+}
 
 -- What a read answers.
 put_over : (t : Bool) (block below was : List ℕ) (write : Option (List ℕ)) → was ≡ over write below → cond t block was ≡ over (cond t (Some block) write) below
@@ -561,6 +763,8 @@ move_keeps c v s t may ok kept = record {
   numbered = numbered_kept v t ok kept.numbered;
   boarded = boarded_kept v t ok kept.boarded;
   topped = topped_kept c v s t may ok kept;
+  scanned = scanned_kept v t ok kept.scanned;
+  numbers = numbers_kept c v s t may ok kept;
   written = written_kept c v s t kept ok;
   survives = history_survives c (events_of v t.pool) t.pool kept.survives may;
 }

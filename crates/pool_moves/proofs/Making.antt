@@ -9,7 +9,7 @@ use Rattle.txg_history.specs.Records.{block_in, nothing}
 use Rattle.txg_history.specs.Survival.{Survives}
 use Rattle.txg_history.proofs.Logging.{by_bool, same_device, true_not_false}
 use Rattle.txg_history.proofs.Stamping.{stamped_survives}
-use Rattle.pool_moves.specs.Keeping.{IsSeated, IsAway, IsOwnNumber, HasUnder, over, Kept}
+use Rattle.pool_moves.specs.Keeping.{IsSeated, IsAway, IsOwnNumber, HasUnder, AreNumbered, over, Kept}
 use Rattle.pool_moves.specs.Leaves.{Seat, At, Adrift}
 use Rattle.pool_moves.specs.Making.{HasSeat, IsHere, IsMade}
 use Rattle.pool_moves.specs.States.{PoolState, Side, seen}
@@ -43,6 +43,12 @@ made_kept c s t made = record {
   boarded = λ f. absurd (let no : false ≡ true = sym (ap (λ p. p.group.frozen) made.is) ∙ f in cc);
   topped = subst (λ p. (d : ℕ) → p.member d ≡ true → 1 ≤ p.in_top d → HasUnder p.in_top (p.in_top d) t.seats) (sym made.is)
       (λ d mine one. under_seat made.home d t.seats (made.each d mine));
+  scanned = λ r. absurd (let no : false ≡ true = sym (ap (λ p. p.scan.running) made.is) ∙ r in cc);
+  numbers = subst (λ p. AreNumbered s.own.next_member p.guid p.opened p.live p.group.frozen p.group.begun t.seats) (sym made.is) (record {
+    below = made.below;
+    known = λ on. absurd (let no : false ≡ true = on in cc);
+    newest = λ f. absurd (let no : false ≡ true = f in cc);
+  });
   written = λ a. subst (λ p. p.written a ≡ over (s.own.writes a) (cond p.group.frozen (p.group.content a) (block_in p.reads.cells a))) (sym made.is)
       (ap (λ w. over w (block_in (nothing made.pool).cells a)) (sym (made.unwritten a)));
   survives = subst (Survives c) (sym made.is) (stamped_survives c made.name made.pool made.member made.guid made.size made.room made.home made.sectors made.stamps);

@@ -28,7 +28,7 @@ use Rattle.pool_moves.specs.States.{PoolSeen, PoolState, Side}
 use Rattle.pool_moves.specs.TurnRows.{ended, IsThirdMoves, round_end, RowRound}
 use Rattle.pool_moves.specs.Walking.{events_along, AreAdmitted, IsFree, as_moves, leave_moves}
 use Rattle.pool_moves.proofs.Boarding.{frozen_core, is_frozen, seen_frozen, board_just, board_apart, board_found, all_at}
-use Rattle.pool_moves.proofs.Drafting.{HasDraftTop, drawn_up, draft_tops}
+use Rattle.pool_moves.proofs.Drafting.{HasDraftTop, drawn_up, draft_tops, draft_knows}
 use Rattle.pool_moves.proofs.FreeWalks.{walk_of, free_walk, free_then, all_append, calls_free, leaves_free, calls_along, leaves_along, events_more, frozen_along}
 
 -- Calls, and marks of labels.
@@ -201,7 +201,7 @@ round_at : (c : Codec) (size : ℕ → ℕ) (s : PoolState) (t : Side) (vs : Lis
 round_at c size s t vs whole kept f same row = subst (Walks c t) (sym row.moves) (walk_of c moves t
     (subst (Mays c p) (sym all_along) (round_may c p q ms row.results (Begins q ∷ (as_events row.first ++ (as_events row.second ++ (events_along row.thirds third ++ acks_or (all_true row.results) q ms row.results))))
     kept.survives (drawn_up c s t draft kept f row.flushed row.fresh row.boards row.leaves row.fits) (board_just c s t kept f) (board_apart c s t kept) as_round))
-    (f, admitted))
+    ((f, draft_knows t.pool draft t.seats row.leaves), admitted))
   where
     p : Pool
     p = t.pool

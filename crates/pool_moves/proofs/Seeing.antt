@@ -15,7 +15,7 @@ use Rattle.txg_history.specs.Scans.{scanned_log}
 use Rattle.txg_history.proofs.Logging.{by_bool, same_device}
 use Rattle.pool_moves.specs.Keeping.{IsElsewhere, IsSeated, IsOwnNumber, IsOfFound, IsDrafted, MayCome, MayReturn, Admits, Kept}
 use Rattle.pool_moves.specs.Leaves.{OwnLeaf, LeafSeen, Seat, At, Adrift, dev_if, Told, told, leaf_seen}
-use Rattle.pool_moves.specs.Moves.{Draft, Move, Makes, Puts, Freeze, Wrote_key, Flushed_all, Draw, Leave, Widen, Burn, Starts, Copies, Copied, Commits, Sets, Finds, Lose, Comes, Goes, Returns, Scan_from, Pass, Drop, Clear, Rest, log_grown, leaf_cleared, leaf_step, leaves_step, step, sum_over, sums_over, rec_of, of_number, seat_step, seats_by, after_move, new_leaf}
+use Rattle.pool_moves.specs.Moves.{Draft, Move, Makes, Puts, Freeze, Wrote_key, Flushed_all, Draw, Leave, Widen, Burn, Starts, Copies, Copied, Commits, Sets, Finds, Lose, Comes, Goes, Returns, Scan_from, Pass, Drop, Clear, Rest, Scrubs, Shapes, log_grown, log_scanned, leaf_cleared, leaf_step, leaves_step, step, sum_over, sums_over, rec_of, of_number, seat_step, seats_by, after_move, new_leaf}
 use Rattle.pool_moves.specs.States.{Sums, sums, PoolSeen, seen_by, Side, seen, PoolState}
 
 -- What is so of each seat is so of the list.
@@ -211,32 +211,63 @@ lose_leaf p e first hi (At d found own) fits = by (e == d)
 lose_leaf p e first hi (Adrift leaf) fits = refl
 
 -- A scan starts, comes past a key, and ends.
+same_log : (t : Bool) (d : ℕ) → cond t (no_log d) (no_log d) ≡ no_log 0
+same_log true d = refl
+same_log false d = refl
+
 scan_leaf : (f r : Bool) (p : Pool) (high : ℕ) (eligible : ℕ → Bool) (first hi : ℕ) (seat : Seat) → IsOfFound eligible seat
     → leaf_seen f true (told (after (Scans high eligible) p)) (seat_step (Scan_from high eligible) p seat)
     ≡ leaf_step (Scan_from high eligible) p.highest first hi (leaf_seen f r (told p) seat)
-scan_leaf f r p high eligible first hi (At d true own) fits = refl
-scan_leaf f r p high eligible first hi (At d false own) fits = ap (λ t. record (leaf_seen f false (told p) (At d false own)) { eligible = t }) (fits refl)
+scan_leaf f r p high eligible first hi (At d true own) fits =
+    ap (λ log. record (leaf_seen f false (told p) (At d true own)) { eligible = eligible d; scrub = log }) (same_log (eligible d) d)
+scan_leaf f r p high eligible first hi (At d false own) fits = ap (λ t. record (leaf_seen f false (told p) (At d false own)) {
+  eligible = t;
+  scrub = cond t (no_log d) (no_log d);
+}) (fits refl)
 scan_leaf f r p high eligible first hi (Adrift leaf) fits = refl
 
-pass_leaf : (f : Bool) (p : Pool) (k : Key) (birth : ℕ) (which : ℕ → Bool) (first : ℕ) (seat : Seat) → IsOfFound which seat
+pass_leaf : (f : Bool) (p : Pool) (k : Key) (birth : ℕ) (which : ℕ → Bool) (first : ℕ) (seat : Seat) → IsOfFound p.scan.eligible seat
     → leaf_seen f true (told (after (Passes k (grown which birth birth p.scan.scrub)) p)) (seat_step (Pass k birth which) p seat)
     ≡ leaf_step (Pass k birth which) p.highest first p.scan.hi (leaf_seen f true (told p) seat)
-pass_leaf f p k birth which first (At d true own) fits = refl
-pass_leaf f p k birth which first (At d false own) fits = ap (λ t. record (leaf_seen f true (told p) (At d false own)) { scrub = log_grown t birth birth (p.scan.scrub d) }) (fits refl)
+pass_leaf f p k birth which first (At d true own) fits = by (p.scan.eligible d)
+  where
+    by : (t : Bool) → record (leaf_seen f false (told p) (At d true own)) { eligible = t; scrub = cond t (grown which birth birth p.scan.scrub d) (no_log d) }
+        ≡ leaf_step (Pass k birth which) p.highest first p.scan.hi (record (leaf_seen f false (told p) (At d true own)) { eligible = t; scrub = cond t (p.scan.scrub d) (no_log d) })
+    by true = refl
+    by false = refl
+pass_leaf f p k birth which first (At d false own) fits = subst Same (sym (fits refl)) refl
+  where
+    Same : Bool → Type 0
+    Same t = record (leaf_seen f false (told p) (At d false own)) { eligible = t; scrub = cond t (grown which birth birth p.scan.scrub d) (no_log d) }
+        ≡ leaf_step (Pass k birth which) p.highest first p.scan.hi (record (leaf_seen f false (told p) (At d false own)) { eligible = t; scrub = cond t (p.scan.scrub d) (no_log d) })
 pass_leaf f p k birth which first (Adrift leaf) fits = refl
 
 drop_leaf : (f : Bool) (p : Pool) (d first : ℕ) (seat : Seat) → IsOfFound (λ e. d == e) seat
     → leaf_seen f true (told (after (Drops d) p)) (seat_step (Drop d) p seat) ≡ leaf_step (Drop d) p.highest first p.scan.hi (leaf_seen f true (told p) seat)
-drop_leaf f p d first (At e true own) fits = refl
-drop_leaf f p d first (At e false own) fits = ap (λ t. record (leaf_seen f true (told p) (At e false own)) { eligible = cond t false (p.scan.eligible e) }) (fits refl)
-drop_leaf f p d first (Adrift leaf) fits = refl
-
-clear_leaf : (f : Bool) (p : Pool) (d first : ℕ) (seat : Seat) → IsOfFound (λ e. d == e) seat
-    → leaf_seen f true (told (after (Clears d) p)) (seat_step (Clear d) p seat) ≡ leaf_step (Clear d) p.highest first p.scan.hi (leaf_seen f true (told p) seat)
-clear_leaf f p d first (At e true own) fits = by (d == e) (λ is. same_device d e is)
+drop_leaf f p d first (At e true own) fits = by (d == e)
   where
     leaf : LeafSeen
     leaf = leaf_seen f true (told p) (At e true own)
+
+    by : (t : Bool) → record leaf { eligible = cond t false (p.scan.eligible e); scrub = cond (cond t false (p.scan.eligible e)) (p.scan.scrub e) (no_log e) }
+        ≡ record leaf { eligible = cond t false (p.scan.eligible e); scrub = cond t (no_log 0) (cond (p.scan.eligible e) (p.scan.scrub e) (no_log e)) }
+    by true = refl
+    by false = refl
+drop_leaf f p d first (At e false own) fits = ap (λ t. record (leaf_seen f true (told p) (At e false own)) {
+  eligible = cond t false (p.scan.eligible e);
+  scrub = cond (cond t false (p.scan.eligible e)) (p.scan.scrub e) (no_log e);
+}) (fits refl)
+drop_leaf f p d first (Adrift leaf) fits = refl
+
+clear_leaf : (f : Bool) (p : Pool) (d first : ℕ) → p.scan.eligible d ≡ true → (seat : Seat) → IsOfFound (λ e. d == e) seat
+    → leaf_seen f true (told (after (Clears d) p)) (seat_step (Clear d) p seat) ≡ leaf_step (Clear d) p.highest first p.scan.hi (leaf_seen f true (told p) seat)
+clear_leaf f p d first on (At e true own) fits = by (d == e) (λ is. same_device d e is)
+  where
+    leaf : LeafSeen
+    leaf = leaf_seen f true (told p) (At e true own)
+
+    With : (ℕ → Bool) → LeafSeen
+    With scrub = record leaf { owes = log_scanned p.scan.hi scrub leaf.owes; settled = kept_in (log_scanned p.scan.hi scrub leaf.owes) leaf.settled }
 
     Behind : Bool → LeafSeen
     Behind t = record leaf {
@@ -246,13 +277,13 @@ clear_leaf f p d first (At e true own) fits = by (d == e) (λ is. same_device d 
 
     by : (t : Bool) → (t ≡ true → d ≡ e) → Behind t ≡ cond t (leaf_cleared p.scan.hi leaf) leaf
     by true is = subst (λ x. record leaf { owes = scanned_log p.scan x (p.owes x); settled = kept_in (scanned_log p.scan x (p.owes x)) (p.settled x) } ≡ leaf_cleared p.scan.hi leaf)
-        (sym (is refl)) refl
+        (sym (is refl)) (ap With (sym (ap (λ u. cond u (p.scan.scrub e) (no_log e)) (subst (λ x. p.scan.eligible x ≡ true) (is refl) on))))
     by false is = refl
-clear_leaf f p d first (At e false own) fits = ap (λ t. record (leaf_seen f true (told p) (At e false own)) {
+clear_leaf f p d first on (At e false own) fits = ap (λ t. record (leaf_seen f true (told p) (At e false own)) {
   owes = cond t (scanned_log p.scan d (p.owes d)) (p.owes e);
   settled = cond t (kept_in (scanned_log p.scan d (p.owes d)) (p.settled d)) (p.settled e);
 }) (fits refl)
-clear_leaf f p d first (Adrift leaf) fits = refl
+clear_leaf f p d first on (Adrift leaf) fits = refl
 
 rest_leaf : (f r : Bool) (p : Pool) (first hi : ℕ) (seat : Seat) → AnySeat seat
     → leaf_seen f false (told (after Rests p)) (seat_step Rest p seat) ≡ leaf_step Rest p.highest first hi (leaf_seen f r (told p) seat)
@@ -274,12 +305,12 @@ scan_from_seen t high eligible fits = ap (λ leaves. record (step (Scan_from hig
     r : Bool
     r = t.pool.scan.running
 
-pass_seen : (t : Side) (k : Key) (birth : ℕ) (which : ℕ → Bool) → t.pool.scan.running ≡ true → AllByRecursion (IsOfFound which) t.seats
+pass_seen : (t : Side) (k : Key) (birth : ℕ) (which : ℕ → Bool) → t.pool.scan.running ≡ true → AllByRecursion (IsOfFound t.pool.scan.eligible) t.seats
     → seen (after_move (Pass k birth which) t) ≡ step (Pass k birth which) (seen t)
 pass_seen t k birth which g fits = subst (λ r. seen_by f r (seats_by (Pass k birth which) t) (after (Passes k (grown which birth birth p.scan.scrub)) p) ≡ step (Pass k birth which) (seen_by f r t.seats p)) (sym g)
     (ap (λ leaves. record (step (Pass k birth which) (seen_by f true t.seats p)) { leaves = leaves })
     (each_seat (leaf_seen f true (told p)) (leaf_seen f true (told (after (Passes k (grown which birth birth p.scan.scrub)) p))) (leaf_step (Pass k birth which) p.highest (seen t).group.first p.scan.hi)
-    (seat_step (Pass k birth which) p) (IsOfFound which) (pass_leaf f p k birth which (seen t).group.first) t.seats fits))
+    (seat_step (Pass k birth which) p) (IsOfFound p.scan.eligible) (pass_leaf f p k birth which (seen t).group.first) t.seats fits))
   where
     p : Pool
     p = t.pool
@@ -299,11 +330,12 @@ drop_seen t d g fits = subst (λ r. seen_by f r (seats_by (Drop d) t) (after (Dr
     f : Bool
     f = t.pool.group.frozen
 
-clear_seen : (t : Side) (d : ℕ) → t.pool.scan.running ≡ true → AllByRecursion (IsOfFound (λ e. d == e)) t.seats → seen (after_move (Clear d) t) ≡ step (Clear d) (seen t)
-clear_seen t d g fits = subst (λ r. seen_by f r (seats_by (Clear d) t) (after (Clears d) p) ≡ step (Clear d) (seen_by f r t.seats p)) (sym g)
+clear_seen : (t : Side) (d : ℕ) → t.pool.scan.running ≡ true → AllByRecursion (IsOfFound (λ e. d == e)) t.seats → t.pool.scan.eligible d ≡ true
+    → seen (after_move (Clear d) t) ≡ step (Clear d) (seen t)
+clear_seen t d g fits on = subst (λ r. seen_by f r (seats_by (Clear d) t) (after (Clears d) p) ≡ step (Clear d) (seen_by f r t.seats p)) (sym g)
     (ap (λ leaves. record (step (Clear d) (seen_by f true t.seats p)) { leaves = leaves })
     (each_seat (leaf_seen f true (told p)) (leaf_seen f true (told (after (Clears d) p))) (leaf_step (Clear d) p.highest (seen t).group.first p.scan.hi)
-    (seat_step (Clear d) p) (IsOfFound (λ e. d == e)) (clear_leaf f p d (seen t).group.first) t.seats fits))
+    (seat_step (Clear d) p) (IsOfFound (λ e. d == e)) (clear_leaf f p d (seen t).group.first on) t.seats fits))
   where
     p : Pool
     p = t.pool
@@ -385,7 +417,7 @@ others_stay f r p d m top (At e found own ∷ seats) all =
       settled = cond t (whole_log p.highest) (p.settled e);
       on = cond f (cond t false (p.group.board e)) false;
       eligible = cond r (cond t false (p.scan.eligible e)) false;
-      scrub = cond r (p.scan.scrub e) (no_log e);
+      scrub = cond (r && cond t false (p.scan.eligible e)) (p.scan.scrub e) (no_log e);
     } ∷ map (leaf_seen f r (told p)) seats) all.0
 others_stay f r p d m top (Adrift leaf ∷ seats) all = ap (λ l. leaf ∷ l) (others_stay f r p d m top seats all.1)
 
@@ -455,7 +487,7 @@ seen_step c Draw s t kept ok = draw_seen t ok
 seen_step c (Leave d) s t kept ok = leave_seen t d ok.0 ok.1
 seen_step c (Widen m low high) s t kept ok = widen_seen t m low high kept.seated
 seen_step c Burn s t kept ok = burn_seen t ok
-seen_step c (Starts draft) s t kept ok = by_frozen t ok (λ f. seen_by f t.pool.scan.running t.seats (after (Begins (rec_of t.pool draft)) t.pool) ≡ step (Starts draft) (seen_by f t.pool.scan.running t.seats t.pool)) refl
+seen_step c (Starts draft) s t kept ok = by_frozen t ok.0 (λ f. seen_by f t.pool.scan.running t.seats (after (Begins (rec_of t.pool draft)) t.pool) ≡ step (Starts draft) (seen_by f t.pool.scan.running t.seats t.pool)) refl
 seen_step c (Copies draft d) s t kept ok = refl
 seen_step c (Copied draft d) s t kept ok = refl
 seen_step c (Commits draft) s t kept ok = commit_seen t draft ok.0 ok.1
@@ -466,7 +498,9 @@ seen_step c (Comes i d m top own) s t kept ok = comes_seen t i d m top own ok
 seen_step c (Goes i) s t kept ok = goes_seen t i
 seen_step c (Returns i seat leaf) s t kept ok = returns_seen t i seat leaf ok
 seen_step c (Scan_from hi eligible) s t kept ok = scan_from_seen t hi eligible ok
-seen_step c (Pass k birth which) s t kept ok = pass_seen t k birth which ok.0 ok.1
+seen_step c (Pass k birth which) s t kept ok = pass_seen t k birth which ok (kept.scanned ok)
 seen_step c (Drop d) s t kept ok = drop_seen t d ok.0 ok.1
-seen_step c (Clear d) s t kept ok = clear_seen t d ok.0 ok.1
+seen_step c (Clear d) s t kept ok = clear_seen t d ok.0 ok.1 ok.2
 seen_step c Rest s t kept ok = rest_seen t
+seen_step c Scrubs s t kept ok = refl
+seen_step c (Shapes top children) s t kept ok = refl

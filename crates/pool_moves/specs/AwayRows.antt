@@ -1,15 +1,18 @@
 -- `write` and `offline` as rows.
 use Rattle.std.specs.Prelude.{◌≡◌, ◌⊎◌, ℕ, ◌<◌, ◌≤◌, ◌==◌, ◌&&◌, ◌||◌, nat_lt, Bool, true, false, not, cond, Option, Some, None, List, [], ◌∷◌, ◌++◌, length}
-use Rattle.std.specs.List.{find, filter, list_all, IsAmong, AllByRecursion}
+use Rattle.std.specs.List.{find, filter, list_all, list_any}
 use Rattle.std.specs.Str.{bytes_eq}
 use Rattle.mp_base.specs.declared.number.Guid.{Guid}
+use Rattle.mp_base.specs.declared.refusal.PlaceRule.{PlaceRule}
+use Rattle.mp_base.specs.declared.refusal.PlaceRule.TheVariants.{Spare}
 use Rattle.vdev_tree.specs.Leaf.{is_up}
 use Rattle.vdev_tree.specs.declared.vdev.State.{State}
 use Rattle.vdev_tree.specs.declared.vdev.State.TheVariants.{Offline}
 use Rattle.pool_moves.specs.Leaves.{OwnLeaf, LeafSeen}
-use Rattle.pool_moves.specs.Moves.{Move, Puts, Leave, Sets}
+use Rattle.pool_moves.specs.Moves.{Move, Puts, Leave, Drop, Sets}
 use Rattle.pool_moves.specs.Refusing.{count_below, keys_needed, written_with, dirty_with, CountsOpen}
 use Rattle.pool_moves.specs.States.{PoolState}
+use Rattle.pool_moves.specs.Trees.{is_spare_leaf}
 
 -- What `write` answers.
 pub data WriteReply : Type 0 where
@@ -61,24 +64,40 @@ IsRequired leaf leaves = (group : ℕ) × (1 ≤ group) × (all_out (siblings le
 pub data OfflineReply : Type 0 where
   Gone : OfflineReply
   NoVdev : OfflineReply
+  Misplaced : (rule : PlaceRule) → OfflineReply
   Required : (group : ℕ) → OfflineReply
 
--- the leaf of this name
+-- the leaf of this name, and whether it names a listed spare
 abbrev pub leaf_named : List ℕ → List LeafSeen → Option LeafSeen
 leaf_named name leaves = find (λ leaf. bytes_eq leaf.own.name name) leaves
+
+abbrev pub is_listed : List ℕ → PoolState → Bool
+is_listed name s = list_any (λ spare. bytes_eq spare name) s.own.spares
+
+-- it is a spare leaf of a spare vdev
+abbrev pub is_spare : PoolState → LeafSeen → Bool
+is_spare s leaf = is_spare_leaf leaf.guid (s.own.children leaf.top)
 
 abbrev pub is_offline : State → Bool
 is_offline Offline = true
 is_offline mode = false
 
--- a leaf on the board leaves it
+-- a leaf on the board leaves it, and an eligible one is so no more
 abbrev pub leave_if : Bool → Option ℕ → List Move
 leave_if true (Some d) = Leave d ∷ []
 leave_if true None = []
 leave_if false dev = []
 
+abbrev pub drop_if : Bool → Option ℕ → List Move
+drop_if true (Some d) = Drop d ∷ []
+drop_if true None = []
+drop_if false dev = []
+
 abbrev pub gone : (temporary : Bool) → OwnLeaf → OwnLeaf
 gone temporary own = record own { mode = Offline; temporary = temporary }
+
+abbrev pub away_moves : (temporary : Bool) → LeafSeen → List Move
+away_moves temporary leaf = leave_if leaf.on leaf.dev ++ (drop_if leaf.eligible leaf.dev ++ (Sets leaf.guid (gone temporary leaf.own) ∷ []))
 
 -- A leaf that is OFFLINE already stays so, and only how long changes. Another one goes, unless some group could be read from no
 -- other leaf of its top: then it is required, for the least such group.
@@ -86,12 +105,22 @@ abbrev pub OfflineLeaf : (already : Bool) → PoolState → LeafSeen → (tempor
 OfflineLeaf true s leaf temporary vs reply = (vs ≡ Sets leaf.guid (gone temporary leaf.own) ∷ []) × (reply ≡ Gone)
 OfflineLeaf false s leaf temporary vs reply =
     ((group : ℕ) × LeastOut (siblings leaf s.core.leaves) group × (vs ≡ []) × (reply ≡ Required group))
-    ⊎ (¬ (IsRequired leaf s.core.leaves) × (vs ≡ leave_if leaf.on leaf.dev ++ (Sets leaf.guid (gone temporary leaf.own) ∷ [])) × (reply ≡ Gone))
+    ⊎ (¬ (IsRequired leaf s.core.leaves) × (vs ≡ away_moves temporary leaf) × (reply ≡ Gone))
 
-abbrev pub OfflineBy : Option LeafSeen → PoolState → (temporary : Bool) → List Move → OfflineReply → Type 0
-OfflineBy None s temporary vs reply = (vs ≡ []) × (reply ≡ NoVdev)
-OfflineBy (Some leaf) s temporary vs reply = OfflineLeaf (is_offline leaf.own.mode) s leaf temporary vs reply
+-- A spare leaf that stands in does not go.
+abbrev pub OfflineHere : (spare : Bool) → PoolState → LeafSeen → (temporary : Bool) → List Move → OfflineReply → Type 0
+OfflineHere true s leaf temporary vs reply = (vs ≡ []) × (reply ≡ Misplaced Spare)
+OfflineHere false s leaf temporary vs reply = OfflineLeaf (is_offline leaf.own.mode) s leaf temporary vs reply
+
+-- why a name that is no leaf's is refused: it is a listed spare's, or none
+abbrev pub unnamed : (listed : Bool) → OfflineReply
+unnamed true = Misplaced Spare
+unnamed false = NoVdev
+
+abbrev pub OfflineBy : Option LeafSeen → PoolState → (name : List ℕ) → (temporary : Bool) → List Move → OfflineReply → Type 0
+OfflineBy None s name temporary vs reply = (vs ≡ []) × (reply ≡ unnamed (is_listed name s))
+OfflineBy (Some leaf) s name temporary vs reply = OfflineHere (is_spare s leaf) s leaf temporary vs reply
 
 -- `offline`
 abbrev pub RowOffline : PoolState → (name : List ℕ) → (temporary : Bool) → List Move → OfflineReply → Type 0
-RowOffline s name temporary vs reply = OfflineBy (leaf_named name s.core.leaves) s temporary vs reply
+RowOffline s name temporary vs reply = OfflineBy (leaf_named name s.core.leaves) s name temporary vs reply

@@ -7,14 +7,15 @@ use Rattle.txg_history.specs.Pools.{Pool, after}
 use Rattle.txg_history.specs.Records.{Rec, IsIn}
 use Rattle.txg_history.specs.Survival.{Survives}
 use Rattle.pool_moves.specs.FreezeRow.{RowEmptyFreeze}
-use Rattle.pool_moves.specs.Keeping.{AreSeatsApart, IsAway, IsSeated, IsOwnNumber, HasUnder}
+use Rattle.pool_moves.specs.Keeping.{AreSeatsApart, IsAway, IsSeated, IsOwnNumber, HasUnder, HasNumberBelow}
 use Rattle.pool_moves.specs.Leaves.{LeafSeen}
 use Rattle.pool_moves.specs.LineRows.{TurnReply, EndsGroup}
 use Rattle.pool_moves.specs.Moves.{Move, Flushed_all, steps}
 use Rattle.pool_moves.specs.States.{PoolState, Side, seen}
 use Rattle.pool_moves.specs.TurnRows.{RowRound}
 
--- A pool whose opening has read a live record: its leaves are the record's, each where the history has it, found by this run or not.
+-- A pool whose opening has read a live record: its leaves are the record's, each where the history has it, found by this run or
+-- not, and the next member number is above theirs.
 pub record IsOpened (c : Codec) (s : PoolState) (t : Side) : Type 0 where
   pub before : Pool
   pub r : Rec
@@ -27,6 +28,7 @@ pub record IsOpened (c : Codec) (s : PoolState) (t : Side) : Type 0 where
   pub numbered : (d : ℕ) → t.pool.member d ≡ true → AllByRecursion (IsOwnNumber t.pool.guid d) t.seats
   pub topped : (d : ℕ) → t.pool.member d ≡ true → 1 ≤ t.pool.in_top d → HasUnder t.pool.in_top (t.pool.in_top d) t.seats
   pub core : s.core ≡ seen t
+  pub below : AllByRecursion (HasNumberBelow t.pool.guid s.own.next_member) t.seats
   pub unwritten : (a : ℕ) → s.own.writes a ≡ None
 
 -- The commit of an opening: a group without keys, ended by its flush turn and its rounds.

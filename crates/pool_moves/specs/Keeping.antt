@@ -1,12 +1,12 @@
 -- What a state keeps of a pool's history, and which moves it admits.
-use Rattle.std.specs.Prelude.{◌≡◌, ◌⊎◌, ℕ, ◌≤◌, ◌==◌, Bool, true, false, cond, Option, Some, None, List, [], ◌∷◌, take}
+use Rattle.std.specs.Prelude.{◌≡◌, ◌⊎◌, ℕ, ◌<◌, ◌≤◌, ◌==◌, Bool, true, false, cond, Option, Some, None, List, [], ◌∷◌, take}
 use Rattle.std.specs.List.{AllByRecursion, remove}
 use Rattle.mp_base.specs.declared.number.Guid.{Guid}
 use Rattle.txg_history.specs.Groups.{Logs}
 use Rattle.txg_history.specs.Moves.{Mays}
 use Rattle.txg_history.specs.Pages.{Codec}
 use Rattle.txg_history.specs.Pools.{Pool}
-use Rattle.txg_history.specs.Records.{block_in}
+use Rattle.txg_history.specs.Records.{Rec, IsIn, IsNoLeaf, block_in}
 use Rattle.txg_history.specs.Survival.{Survives}
 use Rattle.pool_moves.specs.Leaves.{LeafSeen, Seat, At, Adrift, told, leaf_seen}
 use Rattle.pool_moves.specs.Moves.{Draft, Move, Freeze, Wrote_key, Flushed_all, Draw, Leave, Widen, Burn, Starts, Commits, Sets, Finds, Lose, Comes, Goes, Returns, Scan_from, Pass, Drop, Clear, state_step, after_move, after_moves, steps, events_of}
@@ -64,9 +64,31 @@ over None below = below
 abbrev pub beneath : Pool → ℕ → List ℕ
 beneath p a = cond p.group.frozen (p.group.content a) (block_in p.reads.cells a)
 
+-- the number of the seat's leaf is below this one
+abbrev pub HasNumberBelow : (guid : ℕ → Guid) → (n : ℕ) → Seat → Type 0
+HasNumberBelow guid n (At d found own) = (guid d).0 < n
+HasNumberBelow guid n (Adrift leaf) = leaf.guid.0 < n
+
+-- the record knows no leaf of a number from this one on
+abbrev pub KnowsBelow : (n : ℕ) → Rec → Type 0
+KnowsBelow n r = (m : Guid) → n ≤ m.0 → IsNoLeaf r m
+
+-- The next member number is above that of each leaf, and of each that a live record knows, where the pool was opened; else of
+-- each that the newest record knows, where its round was begun for the frozen group.
+pub record AreNumbered (next : ℕ) (guid : ℕ → Guid) (opened : Bool) (live : List Rec) (frozen begun : Bool) (seats : List Seat) : Type 0 where
+  pub below : AllByRecursion (HasNumberBelow guid next) seats
+  pub known : opened ≡ true → (r : Rec) → IsIn r live → KnowsBelow next r
+  pub newest : frozen ≡ true → begun ≡ true → (q : Rec) (rest : List Rec) → live ≡ q ∷ rest → KnowsBelow next q
+
+-- none of these is of a leaf that the run has not found
+abbrev pub IsOfFound : (which : ℕ → Bool) → Seat → Type 0
+IsOfFound which (At d found own) = found ≡ false → which d ≡ false
+IsOfFound which (Adrift leaf) = Unit {0}
+
 -- The state is what is seen of the pool's history at its seats. No two leaves are at one device, each at a device is a
 -- member, and no leaf has another member's number; all members on a frozen group's board are leaves that the run has
--- found, and where a member stands under a top some leaf does. A read answers the open write, else the frozen group's block, else the record's; and the history has its invariant.
+-- found, no other leaf is eligible in a scan, and where a member stands under a top some leaf does. The next member number is
+-- above all others. A read answers the open write, else the frozen group's block, else the record's; and the history has its invariant.
 pub record Kept (c : Codec) (s : PoolState) (t : Side) : Type 0 where
   pub core : s.core ≡ seen t
   pub apart : AreSeatsApart t.seats
@@ -75,13 +97,10 @@ pub record Kept (c : Codec) (s : PoolState) (t : Side) : Type 0 where
   pub numbered : (d : ℕ) → t.pool.member d ≡ true → AllByRecursion (IsOwnNumber t.pool.guid d) t.seats
   pub boarded : t.pool.group.frozen ≡ true → (d : ℕ) → t.pool.member d ≡ true → t.pool.group.board d ≡ true → HasFound d t.seats
   pub topped : (d : ℕ) → t.pool.member d ≡ true → 1 ≤ t.pool.in_top d → HasUnder t.pool.in_top (t.pool.in_top d) t.seats
+  pub scanned : t.pool.scan.running ≡ true → AllByRecursion (IsOfFound t.pool.scan.eligible) t.seats
+  pub numbers : AreNumbered s.own.next_member t.pool.guid t.pool.opened t.pool.live t.pool.group.frozen t.pool.group.begun t.seats
   pub written : (a : ℕ) → t.pool.written a ≡ over (s.own.writes a) (beneath t.pool a)
   pub survives : Survives c t.pool
-
--- none of these is of a leaf that the run has not found
-abbrev pub IsOfFound : (which : ℕ → Bool) → Seat → Type 0
-IsOfFound which (At d found own) = found ≡ false → which d ≡ false
-IsOfFound which (Adrift leaf) = Unit {0}
 
 -- the draft has the seat's leaf under its top, and what its log has held since the round began is its log of now
 abbrev pub IsDraftedBy : (unbroken owes : Logs) → (guid : ℕ → Guid) → (in_top : ℕ → ℕ) → Draft → Seat → Type 0
@@ -101,6 +120,10 @@ abbrev pub HasOtherNumber : (guid : ℕ → Guid) → Guid → Seat → Type 0
 HasOtherNumber guid m (At d found own) = ((guid d).0 == m.0) ≡ false
 HasOtherNumber guid m (Adrift leaf) = (leaf.guid.0 == m.0) ≡ false
 
+-- the draft knows no leaf of another number than those of these seats
+abbrev pub KnowsJust : (guid : ℕ → Guid) → List Seat → Draft → Type 0
+KnowsJust guid seats draft = (m : Guid) → AllByRecursion (HasOtherNumber guid m) seats → (draft.tops m ≡ 0) × ((g : ℕ) → draft.owes m g ≡ true)
+
 -- A seat may come back into the list: it is at no other seat's device, at a member, with no other member's number.
 pub record MayReturn (t : Side) (seat : Seat) (leaf : LeafSeen) : Type 0 where
   pub idle : t.pool.group.frozen ≡ false
@@ -109,6 +132,7 @@ pub record MayReturn (t : Side) (seat : Seat) (leaf : LeafSeen) : Type 0 where
   pub seated : IsSeated t.pool.member seat
   pub away : IsAway seat
   pub numbered : (d : ℕ) → t.pool.member d ≡ true → IsOwnNumber t.pool.guid d seat
+  pub scanned : t.pool.scan.running ≡ true → IsOfFound t.pool.scan.eligible seat
 
 -- A leaf may come in at this device under this number: neither is another leaf's, and no scan runs.
 pub record MayCome (t : Side) (d : ℕ) (m : Guid) : Type 0 where
@@ -121,8 +145,8 @@ pub record MayGo (t : Side) (i : ℕ) : Type 0 where
   pub idle : t.pool.group.frozen ≡ false
   pub topped : (d : ℕ) → t.pool.member d ≡ true → 1 ≤ t.pool.in_top d → HasUnder t.pool.in_top (t.pool.in_top d) (remove t.seats i)
 
--- The moves of a frozen group come while one is frozen, and those of a scan while one runs. They name no device of a leaf
--- that the run has not found. A leaf is found where the history has it; a device that is lost is no found leaf's; one that
+-- The moves of a frozen group come while one is frozen, and those of a scan while one runs. A record knows the leaves of the list
+-- alone. Moves name no device of a leaf that the run has not found, and a scan's end clears the logs of eligible leaves. A leaf is found where the history has it; a device that is lost is no found leaf's; one that
 -- comes in is no leaf's, under a number of its own; and a leaf comes back as the history has it.
 abbrev pub Admits : Side → Move → Type 0
 Admits t (Freeze cells board) = AllByRecursion (IsOfFound board) t.seats
@@ -132,7 +156,7 @@ Admits t Flushed_all = t.pool.group.frozen ≡ true
 Admits t Draw = t.pool.group.frozen ≡ true
 Admits t (Leave d) = (t.pool.group.frozen ≡ true) × AllByRecursion (IsOfFound (λ e. d == e)) t.seats
 Admits t Burn = t.pool.group.frozen ≡ true
-Admits t (Starts draft) = t.pool.group.frozen ≡ true
+Admits t (Starts draft) = (t.pool.group.frozen ≡ true) × KnowsJust t.pool.guid t.seats draft
 Admits t (Commits draft) = (t.pool.group.frozen ≡ true) × AllByRecursion (IsDrafted t.pool draft) t.seats
 Admits t (Finds m d) = (t.pool.member d ≡ true) × (t.pool.guid d ≡ m)
 Admits t (Lose d) = AllByRecursion (IsNotFoundAt d) t.seats
@@ -140,9 +164,9 @@ Admits t (Comes i d m top own) = MayCome t d m
 Admits t (Goes i) = MayGo t i
 Admits t (Returns i seat leaf) = MayReturn t seat leaf
 Admits t (Scan_from hi eligible) = AllByRecursion (IsOfFound eligible) t.seats
-Admits t (Pass k birth which) = (t.pool.scan.running ≡ true) × AllByRecursion (IsOfFound which) t.seats
+Admits t (Pass k birth which) = t.pool.scan.running ≡ true
 Admits t (Drop d) = (t.pool.scan.running ≡ true) × AllByRecursion (IsOfFound (λ e. d == e)) t.seats
-Admits t (Clear d) = (t.pool.scan.running ≡ true) × AllByRecursion (IsOfFound (λ e. d == e)) t.seats
+Admits t (Clear d) = (t.pool.scan.running ≡ true) × AllByRecursion (IsOfFound (λ e. d == e)) t.seats × (t.pool.scan.eligible d ≡ true)
 Admits t v = Unit {0}
 
 -- Each of these moves is one that the history allows and the state admits, one after another.

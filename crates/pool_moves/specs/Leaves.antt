@@ -1,5 +1,5 @@
 -- The leaves of a pool as the code has them, and where the history has each of them.
-use Rattle.std.specs.Prelude.{ℕ, Bool, false, cond, Option, Some, None, List}
+use Rattle.std.specs.Prelude.{ℕ, ◌&&◌, Bool, false, cond, Option, Some, None, List}
 use Rattle.mp_base.specs.declared.number.Guid.{Guid}
 use Rattle.vdev_tree.specs.declared.vdev.Counts.{Counts}
 use Rattle.vdev_tree.specs.declared.vdev.State.{State}
@@ -19,7 +19,8 @@ pub record OwnLeaf : Type 0 where
   pub faults : ℕ
 
 -- A leaf: its member number, its device in this run, if it was found, its top, from 1 on, its log and what of it is
--- settled, whether it is on the board of a frozen group, and, of the scan that runs, whether it is eligible and its SCRUB log.
+-- settled, whether it is on the board of a frozen group, and, of the scan that runs, whether it is eligible, and then its SCRUB
+-- log.
 pub record LeafSeen : Type 0 where
   pub guid : Guid
   pub dev : Option ℕ
@@ -72,6 +73,6 @@ leaf_seen frozen running tells (At d found own) = record {
   settled = tells.settled d;
   on = cond frozen (tells.board d) false;
   eligible = cond running (tells.eligible d) false;
-  scrub = cond running (tells.scrub d) (no_log d);
+  scrub = cond (running && tells.eligible d) (tells.scrub d) (no_log d);
 }
 leaf_seen frozen running tells (Adrift leaf) = leaf

@@ -12,5 +12,6 @@ pub mod Moves
 pub mod ReadRow
 pub mod Refusing
 pub mod States
+pub mod Trees
 pub mod TurnRows
 pub mod Walking

@@ -5,7 +5,7 @@ use Rattle.mp_base.specs.declared.number.Guid.{Guid}
 use Rattle.bank_core.specs.Disk.{Sectors}
 use Rattle.txg_history.specs.Pools.{stamped}
 use Rattle.txg_history.specs.Stamps.{AreStamped}
-use Rattle.pool_moves.specs.Keeping.{IsSeated, AreSeatsApart}
+use Rattle.pool_moves.specs.Keeping.{IsSeated, AreSeatsApart, HasNumberBelow}
 use Rattle.pool_moves.specs.Leaves.{Seat, At, Adrift}
 use Rattle.pool_moves.specs.States.{Side, seen, PoolState}
 
@@ -20,7 +20,8 @@ abbrev pub IsHere : Seat → Type 0
 IsHere (At d found own) = found ≡ true
 IsHere (Adrift leaf) = ⊥
 
--- A pool whose members were just stamped, each under a number of its own: its leaves are just these, and nothing was written.
+-- A pool whose members were just stamped, each under a number of its own: its leaves are just these, the next
+-- number is above theirs, and nothing was written.
 pub record IsMade (s : PoolState) (t : Side) : Type 0 where
   pub name : List ℕ
   pub pool : Guid
@@ -38,4 +39,5 @@ pub record IsMade (s : PoolState) (t : Side) : Type 0 where
   pub here : AllByRecursion IsHere t.seats
   pub each : (d : ℕ) → member d ≡ true → HasSeat d t.seats
   pub core : s.core ≡ seen t
+  pub below : AllByRecursion (HasNumberBelow guid s.own.next_member) t.seats
   pub unwritten : (a : ℕ) → s.own.writes a ≡ None

@@ -1,6 +1,6 @@
 -- Moves: what a pool's code does, one small step after another, each of which its state follows by a sum, and its history by
 -- one event or by none.
-use Rattle.std.specs.Prelude.{ℕ, ◌+◌, ◌==◌, ◌&&◌, nat_le, Bool, true, false, not, cond, Option, Some, None, List, [], ◌∷◌, map}
+use Rattle.std.specs.Prelude.{ℕ, ◌+◌, ◌==◌, ◌&&◌, nat_le, max, Bool, true, false, not, cond, Option, Some, None, List, [], ◌∷◌, map}
 use Rattle.std.specs.List.{insert, remove}
 use Rattle.mp_base.specs.declared.number.Guid.{Guid}
 use Rattle.mp_base.specs.declared.place.Key.{Key}
@@ -13,6 +13,7 @@ use Rattle.txg_history.specs.Pools.{Pool, pool_after, kept_in, whole_log}
 use Rattle.txg_history.specs.Records.{Rec, Cell, Cells, laid_over, key}
 use Rattle.txg_history.specs.Scans.{up_to}
 use Rattle.pool_moves.specs.Leaves.{OwnLeaf, LeafSeen, Seat, At, Adrift, told, leaf_seen}
+use Rattle.pool_moves.specs.Trees.{Child}
 use Rattle.pool_moves.specs.States.{Sums, sums, GroupSeen, frozen_seen, no_group_seen, started_seen, no_scan_seen, PoolSeen, Side, Own, PoolState}
 
 -- What the code knows of a record that it draws up: its commit, and the top and the log of each member number.
@@ -62,6 +63,9 @@ pub data Move : Type 0 where
   Drop : (d : ℕ) → Move
   Clear : (d : ℕ) → Move
   Rest : Move
+  -- the scan that just started is a scrub; and the mirror of this top has these children now
+  Scrubs : Move
+  Shapes : (top : ℕ) (children : List Child) → Move
 
 -- this kind of device, where the leaf has one
 abbrev pub on_dev : (ℕ → Bool) → Option ℕ → Bool
@@ -108,8 +112,11 @@ leaf_step (Commits draft) number first hi leaf = record leaf { settled = leaf.ow
 leaf_step (Sets m own) number first hi leaf = cond (leaf.guid.0 == m.0) (record leaf { own = own }) leaf
 leaf_step (Finds m d) number first hi leaf = cond (leaf.guid.0 == m.0) (record leaf { dev = Some d }) leaf
 leaf_step (Scan_from high eligible) number first hi leaf = record leaf { eligible = on_dev eligible leaf.dev; scrub = no_log 0 }
-leaf_step (Pass k birth which) number first hi leaf = record leaf { scrub = log_grown (on_dev which leaf.dev) birth birth leaf.scrub }
-leaf_step (Drop d) number first hi leaf = record leaf { eligible = cond (on_dev (λ e. d == e) leaf.dev) false leaf.eligible }
+leaf_step (Pass k birth which) number first hi leaf = record leaf { scrub = log_grown (leaf.eligible && on_dev which leaf.dev) birth birth leaf.scrub }
+leaf_step (Drop d) number first hi leaf = record leaf {
+  eligible = cond (on_dev (λ e. d == e) leaf.dev) false leaf.eligible;
+  scrub = cond (on_dev (λ e. d == e) leaf.dev) (no_log 0) leaf.scrub;
+}
 leaf_step (Clear d) number first hi leaf = cond (on_dev (λ e. d == e) leaf.dev) (leaf_cleared hi leaf) leaf
 leaf_step Rest number first hi leaf = record leaf { eligible = false; scrub = no_log 0 }
 leaf_step v number first hi leaf = leaf
@@ -166,6 +173,8 @@ step (Returns i seat leaf) s = record s { leaves = insert s.leaves i leaf }
 step (Scan_from hi eligible) s = record s { leaves = leaves_step (Scan_from hi eligible) s; scan = started_seen hi }
 step (Pass k birth which) s = record s { leaves = leaves_step (Pass k birth which) s; scan = record (s.scan) { passed = up_to k } }
 step Rest s = record s { leaves = leaves_step Rest s; scan = no_scan_seen }
+step Scrubs s = s
+step (Shapes top children) s = s
 step v s = record s { leaves = leaves_step v s }
 
 -- A suspended group's blocks are open writes again, and newer ones win.
@@ -174,11 +183,17 @@ burned (Some block) cell = Some block
 burned None (Some cell) = Some cell.block
 burned None None = None
 
--- What it does to what is only in memory, with the frozen group's keys before it.
+-- What it does to what is only in memory, with the frozen group's keys before it. Member numbers rise: the next one is above
+-- that of each leaf that comes in.
 abbrev pub own_step : Move → Cells → Own → Own
 own_step (Puts a block) cells own = record own { writes = λ x. cond (a == x) (Some block) (own.writes x) }
 own_step (Freeze new board) cells own = record own { writes = λ x. None }
 own_step Burn cells own = record own { writes = λ x. burned (own.writes x) (cells (key 0 x)) }
+own_step (Comes i d m top leaf) cells own = record own { next_member = max own.next_member (m.0 + 1) }
+own_step (Returns i seat leaf) cells own = record own { next_member = max own.next_member (leaf.guid.0 + 1) }
+own_step (Scan_from hi eligible) cells own = record own { scrubs = false }
+own_step Scrubs cells own = record own { scrubs = true }
+own_step (Shapes top children) cells own = record own { children = λ x. cond (top == x) children (own.children x) }
 own_step v cells own = own
 
 abbrev pub state_step : Move → PoolState → PoolState
@@ -218,6 +233,8 @@ events_of (Pass k birth which) p = Passes k (grown which birth birth p.scan.scru
 events_of (Drop d) p = Drops d ∷ []
 events_of (Clear d) p = Clears d ∷ []
 events_of Rest p = Rests ∷ []
+events_of Scrubs p = []
+events_of (Shapes top children) p = []
 
 -- What a move does to a seat: one that is at no device has its leaf's step, and one whose device the pool loses gets to be so.
 abbrev pub seat_step : Move → Pool → Seat → Seat
@@ -238,6 +255,8 @@ seats_by (Copied draft d) t = t.seats
 seats_by (Comes i d m top own) t = insert t.seats i (At d true own)
 seats_by (Goes i) t = remove t.seats i
 seats_by (Returns i seat leaf) t = insert t.seats i seat
+seats_by Scrubs t = t.seats
+seats_by (Shapes top children) t = t.seats
 seats_by v t = map (seat_step v t.pool) t.seats
 
 abbrev pub after_move : Move → Side → Side

@@ -8,6 +8,7 @@ use Rattle.txg_history.specs.Pools.{Pool}
 use Rattle.txg_history.specs.Records.{Cells, number_of}
 use Rattle.txg_history.specs.Scans.{Scan}
 use Rattle.pool_moves.specs.Leaves.{LeafSeen, Seat, told, leaf_seen}
+use Rattle.pool_moves.specs.Trees.{Child}
 
 -- what is kept of keys: births, places and sums
 abbrev pub Sums : Type 0
@@ -99,12 +100,16 @@ pub record Side : Type 0 where
 abbrev pub seen : Side → PoolSeen
 seen t = seen_by t.pool.group.frozen t.pool.scan.running t.seats t.pool
 
--- What no event tells: the volume's size in blocks, the open writes, the tops' own numbers, and the next member number.
+-- What no event tells: the volume's size in blocks, the open writes, the tops' own numbers and the children of their mirrors, the
+-- names of the listed spares, the next member number, and whether the scan that runs is a scrub.
 pub record Own : Type 0 where
   pub blocks : ℕ
   pub writes : ℕ → Option (List ℕ)
   pub top_number : ℕ → Guid
+  pub children : ℕ → List Child
+  pub spares : List (List ℕ)
   pub next_member : ℕ
+  pub scrubs : Bool
 
 pub record PoolState : Type 0 where
   pub own : Own

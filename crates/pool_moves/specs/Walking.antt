@@ -6,7 +6,7 @@ use Rattle.label_store.specs.declared.member.Member.{Member}
 use Rattle.txg_history.specs.Events.{Event}
 use Rattle.pool_moves.specs.Keeping.{Admits, IsOfFound}
 use Rattle.pool_moves.specs.Leaves.{Seat}
-use Rattle.pool_moves.specs.Moves.{Move, Makes, Puts, Wrote_key, Flushed_all, Draw, Leave, Starts, Copies, Copied, Sets, events_of, after_move}
+use Rattle.pool_moves.specs.Moves.{Move, Makes, Puts, Wrote_key, Flushed_all, Draw, Leave, Copies, Copied, Sets, events_of, after_move}
 use Rattle.pool_moves.specs.States.{Side}
 
 -- what the history gets of these moves
@@ -27,7 +27,6 @@ IsFree seats (Wrote_key k) = Unit {0}
 IsFree seats Flushed_all = Unit {0}
 IsFree seats Draw = Unit {0}
 IsFree seats (Leave d) = AllByRecursion (IsOfFound (λ e. d == e)) seats
-IsFree seats (Starts draft) = Unit {0}
 IsFree seats (Copies draft d) = Unit {0}
 IsFree seats (Copied draft d) = Unit {0}
 IsFree seats (Sets m own) = Unit {0}
