@@ -7,13 +7,13 @@ use Rattle.std.proofs.lemmas.Bool.Decides.{nat_tests}
 use Rattle.sha2.specs.Sha256.{sha256}
 use Rattle.mp_base.specs.declared.number.Guid.{Guid}
 use Rattle.txg_history.specs.Moves.{IsLeafOf, HasBoard, IsDrawnUp}
-use Rattle.txg_history.specs.Pages.{Codec, Sum, sum_of}
+use Rattle.txg_history.specs.Pages.{kept_top, kept_log, Codec, Sum, sum_of}
 use Rattle.txg_history.specs.Pools.{Pool}
 use Rattle.txg_history.specs.Records.{Rec, Cell, IsNoLeaf, key}
 use Rattle.txg_history.specs.Survival.{Fits}
 use Rattle.txg_history.proofs.Logging.{by_bool, same_device, not_true, true_not_false}
 use Rattle.pool_moves.specs.Boards.{is_on_under, has_on, emptied_of, emptied}
-use Rattle.pool_moves.specs.Drafts.{top_in, owes_in, draft_of}
+use Rattle.pool_moves.specs.Drafts.{kept_leaf, top_in, owes_in, draft_of}
 use Rattle.pool_moves.specs.Keeping.{IsElsewhere, IsAway, IsSeated, IsOwnNumber, IsFoundAt, HasFound, IsUnder, HasUnder, HasOtherNumber, KnowsJust, Kept}
 use Rattle.pool_moves.specs.Leaves.{OwnLeaf, LeafSeen, Seat, At, Adrift, told, leaf_seen}
 use Rattle.pool_moves.specs.Making.{HasSeat}
@@ -113,6 +113,15 @@ some_on p top (At d found own ∷ seats) away seated on = by_bool (p.group.board
 some_on p top (Adrift leaf ∷ seats) away seated on =
     some_on p top seats away.1 seated.1 (sym (ap (λ t. (t && (leaf.top == top)) || has_on top (leaves_of p seats)) away.0.1) ∙ on)
 
+-- what a record keeps of leaves has their tops and their logs
+kept_tops : (leaves : List LeafSeen) (m : Guid) → kept_top (map kept_leaf leaves) m ≡ top_in leaves m
+kept_tops [] m = refl
+kept_tops (leaf ∷ leaves) m = ap (λ n. cond (leaf.guid.0 == m.0) leaf.top n) (kept_tops leaves m)
+
+kept_logs : (leaves : List LeafSeen) (m : Guid) (g : ℕ) → kept_log (map kept_leaf leaves) m g ≡ owes_in leaves m g
+kept_logs [] m g = refl
+kept_logs (leaf ∷ leaves) m g = ap (λ b. cond (leaf.guid.0 == m.0) (leaf.owes g) b) (kept_logs leaves m g)
+
 -- the sum of a cell
 abbrev sum_of_cell : Cell → Sum
 sum_of_cell cell = record { birth = cell.birth; top = cell.top; sector = cell.sector; sum = sha256 cell.block }
@@ -132,8 +141,8 @@ drawn_up c s t draft kept frozen flushed fresh none is fits = record {
       room_is = fits.room_is;
       inside = λ k cell is. fits.inside k (sum_of_cell cell) (sym (laid_sum (t.pool.group.cells k) (t.pool.reads.cells k)) ∙ ap sum_of is);
       root = fits.root ∙ sym (laid_sum (t.pool.group.cells (key 3 0)) (t.pool.reads.cells (key 3 0)));
-      tops = fits.tops;
-      owes = fits.owes;
+      tops = ap kept_top fits.leaves_are ∙ (fun_ext (λ m. kept_tops (leaves_of t.pool t.seats) m) ∙ sym tops_are);
+      owes = ap kept_log fits.leaves_are ∙ (fun_ext (λ m. fun_ext (λ g. kept_logs (leaves_of t.pool t.seats) m g)) ∙ sym owes_are);
     };
   };
   number_is = fits.number_is;

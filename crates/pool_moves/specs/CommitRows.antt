@@ -12,7 +12,7 @@ use Rattle.pool_moves.specs.Leaves.{LeafSeen}
 use Rattle.pool_moves.specs.LineRows.{TurnReply, EndsGroup}
 use Rattle.pool_moves.specs.Moves.{Move, Flushed_all, steps}
 use Rattle.pool_moves.specs.States.{PoolState, Side, seen}
-use Rattle.pool_moves.specs.TurnRows.{RowRound}
+use Rattle.pool_moves.specs.TurnRows.{FitsOwn, RowRound}
 
 -- A pool whose opening has read a live record: its leaves are the record's, each where the history has it, found by this run or
 -- not, and the next member number is above theirs.
@@ -46,6 +46,7 @@ pub record RowFound (c : Codec) (size : ℕ → ℕ) (s : PoolState) (vs : List 
   pub freeze : RowEmptyFreeze s first
   pub round : List Move
   pub ends : RowRound c size (steps (first ++ (Flushed_all ∷ [])) s).core round whole
+  pub own : FitsOwn c s.own ends.draft
   pub moves : vs ≡ (first ++ (Flushed_all ∷ [])) ++ round
 
 -- What `logs` shows: each leaf's name and log, in tree order. It makes no move.

@@ -12,7 +12,7 @@ use Rattle.pool_moves.specs.Leaves.{OwnLeaf, LeafSeen}
 use Rattle.pool_moves.specs.Moves.{Move, Draw, Burn, Sets, steps}
 use Rattle.pool_moves.specs.Refusing.{FreezeRefusal, IsRefused}
 use Rattle.pool_moves.specs.States.{PoolState, Side}
-use Rattle.pool_moves.specs.TurnRows.{RowWriteTurn, RowFlushTurn, RowRound}
+use Rattle.pool_moves.specs.TurnRows.{RowWriteTurn, RowFlushTurn, FitsOwn, RowRound}
 
 -- The run has each of its devices with the sectors that the history says.
 abbrev pub IsSized : (size : ℕ → ℕ) → Side → Type 0
@@ -102,6 +102,7 @@ pub record IsRoundPart (c : Codec) (size : ℕ → ℕ) (s : PoolState) (vs : Li
   pub part : List Move
   pub whole : Bool
   pub row : RowRound c size s.core part whole
+  pub own : FitsOwn c s.own row.draft
   pub behind : List Move
   pub counted : behind ≡ part ++ count_moves s.core.leaves (board_of s.core.leaves) row.results
   pub ending : List Move

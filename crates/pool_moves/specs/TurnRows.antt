@@ -16,10 +16,10 @@ use Rattle.txg_history.specs.Records.{Cell}
 use Rattle.txg_history.specs.Rounds.{all_true}
 use Rattle.txg_history.specs.Turns.{write_plan, flush_plan}
 use Rattle.pool_moves.specs.Boards.{board_of, board_under, emptied}
-use Rattle.pool_moves.specs.Drafts.{draft_of}
+use Rattle.pool_moves.specs.Drafts.{draft_of, kept_leaf}
 use Rattle.pool_moves.specs.FreezeRow.{IsBefore}
 use Rattle.pool_moves.specs.Moves.{Draft, Move, Wrote_key, Flushed_all, Draw, Burn, Starts, Copies, Copied, Commits, sums_over}
-use Rattle.pool_moves.specs.States.{PoolSeen, PoolState}
+use Rattle.pool_moves.specs.States.{PoolSeen, Own, PoolState}
 use Rattle.pool_moves.specs.Walking.{as_moves, leave_moves}
 
 -- one turn over some members: their calls, and those whose call failed leave the board
@@ -58,8 +58,13 @@ pub record FitsState (c : Codec) (s : PoolSeen) (draft : Draft) : Type 0 where
   pub room_is : c.room (config_of draft.commit) ≡ s.room
   pub inside : (k : Key) (sum : Sum) → sums_over s.group.cells s.committed k ≡ Some sum → IsOfVolume (c.blocks (config_of draft.commit)) k
   pub root : c.root (config_of draft.commit) ≡ sums_over s.group.cells s.committed (record { level = 3; index = 0 })
-  pub tops : c.tops (config_of draft.commit) ≡ draft.tops
-  pub owes : c.owes (config_of draft.commit) ≡ draft.owes
+  pub leaves_are : c.leaves (config_of draft.commit) ≡ map kept_leaf s.leaves
+
+-- What it says of what no event tells.
+pub record FitsOwn (c : Codec) (own : Own) (draft : Draft) : Type 0 where
+  pub volume : c.blocks (config_of draft.commit) ≡ own.blocks
+  pub top_numbers : c.top_number (config_of draft.commit) ≡ own.top_number
+  pub next : c.next_member (config_of draft.commit) ≡ own.next_member
 
 -- The third phase with its marks: a member that is still in the round begins it, and ends it where no call of its turn failed.
 abbrev pub ended : Bool → Draft → ℕ → List Move

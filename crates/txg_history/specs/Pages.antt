@@ -1,8 +1,9 @@
 -- The tree of a record's pages: each page has the pointers of the keys below it, and the configuration has the root's.
-use Rattle.std.specs.Prelude.{◌≡◌, ◌≢◌, ℕ, zero, suc, ◌+◌, ◌*◌, ◌<◌, ◌≤◌, Bool, true, List, Option, Some, None}
+use Rattle.std.specs.Prelude.{◌≡◌, ◌≢◌, ℕ, zero, suc, ◌+◌, ◌*◌, ◌<◌, ◌≤◌, ◌==◌, Bool, true, cond, List, [], ◌∷◌, Option, Some, None}
 use Rattle.sha2.specs.Sha256.{sha256}
 use Rattle.mp_base.specs.declared.number.Guid.{Guid}
 use Rattle.mp_base.specs.declared.place.Key.{Key}
+use Rattle.vdev_tree.specs.declared.vdev.State.{State}
 use Rattle.label_store.specs.declared.rule.Head.{Head}
 use Rattle.label_store.specs.Rounds.{config_of}
 use Rattle.txg_history.specs.Records.{Cell, Cells, Rec, key, laid_over}
@@ -18,15 +19,37 @@ abbrev pub sum_of : Option Cell → Option Sum
 sum_of None = None
 sum_of (Some cell) = Some (record { birth = cell.birth; top = cell.top; sector = cell.sector; sum = sha256 cell.block })
 
--- How bytes are read: of a configuration its head, how many blocks the volume has, how many data sectors each top, the root's
--- pointer, the top and the log of each member number; of bytes whether they are a page, and of a page its 64 pointers. None is a hole.
+-- A leaf as a configuration has it: its member number, its name, its state, whether it is marked to come back, its top, from 1
+-- on, and its log.
+pub record LeafKept : Type 0 where
+  pub guid : Guid
+  pub name : List ℕ
+  pub mode : State
+  pub marked : Bool
+  pub top : ℕ
+  pub owes : ℕ → Bool
+
+-- the top of the leaf of this number, 0 where there is none
+abbrev pub kept_top : List LeafKept → Guid → ℕ
+kept_top [] m = 0
+kept_top (leaf ∷ leaves) m = cond (leaf.guid.0 == m.0) leaf.top (kept_top leaves m)
+
+-- its log; where there is none it owes every group
+abbrev pub kept_log : List LeafKept → Guid → ℕ → Bool
+kept_log [] m g = true
+kept_log (leaf ∷ leaves) m g = cond (leaf.guid.0 == m.0) (leaf.owes g) (kept_log leaves m g)
+
+-- How bytes are read. Of a configuration its head, how many blocks the volume has, how many data sectors each top, the tops' own
+-- numbers, the next member number, the root's pointer, and the leaves in tree order. Of a page whether bytes are one, and its 64
+-- pointers. None is a hole.
 pub record Codec : Type 0 where
   pub head_of : List ℕ → Option Head
   pub blocks : List ℕ → ℕ
   pub room : List ℕ → ℕ → ℕ
+  pub top_number : List ℕ → ℕ → Guid
+  pub next_member : List ℕ → ℕ
   pub root : List ℕ → Option Sum
-  pub tops : List ℕ → Guid → ℕ
-  pub owes : List ℕ → Guid → ℕ → Bool
+  pub leaves : List ℕ → List LeafKept
   pub is_page : List ℕ → Bool
   pub pointer : List ℕ → ℕ → Option Sum
 
@@ -57,8 +80,8 @@ pub record IsConfigOf (c : Codec) (room : ℕ → ℕ) (r : Rec) : Type 0 where
   pub room_is : c.room (config_of r.commit) ≡ room
   pub inside : (k : Key) (cell : Cell) → r.cells k ≡ Some cell → IsOfVolume (c.blocks (config_of r.commit)) k
   pub root : c.root (config_of r.commit) ≡ sum_of (r.cells (key 3 0))
-  pub tops : c.tops (config_of r.commit) ≡ r.tops
-  pub owes : c.owes (config_of r.commit) ≡ r.owes
+  pub tops : kept_top (c.leaves (config_of r.commit)) ≡ r.tops
+  pub owes : kept_log (c.leaves (config_of r.commit)) ≡ r.owes
 
 -- Keys that a freeze lays over others: the page above each of them is among them, and each page among them has the
 -- pointers of what then is below it.
