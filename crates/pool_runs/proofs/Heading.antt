@@ -37,7 +37,7 @@ use Rattle.txg_history.specs.Survival.{Survives}
 use Rattle.txg_history.proofs.Folding.{mays_first, mays_second, pool_more}
 use Rattle.txg_history.proofs.ScansBring.{cleared_copied, groups_leave}
 use Rattle.txg_history.proofs.Surviving.{survives_sound}
-use Rattle.pool_moves.specs.AwayRows.{OfflineReply, Gone, Required, LeastOut, IsRequired, is_offline, leaf_named, siblings, all_out, OfflineLeaf, OfflineBy, RowOffline}
+use Rattle.pool_moves.specs.AwayRows.{OfflineReply, Gone, Required, LeastOut, IsRequired, is_offline, is_spare, leaf_named, siblings, OfflineLeaf, OfflineHere, OfflineBy}
 use Rattle.pool_moves.specs.Leaves.{LeafSeen}
 use Rattle.pool_moves.specs.Missing.{AllMissed}
 use Rattle.pool_moves.specs.Moves.{Move}
@@ -205,13 +205,14 @@ required_leaf s leaf temporary vs r reply group says (inr row) = record {
 }
 
 line_required : (c : Codec) (h : Host) (p : Pool) (e : Entry) (name device : List ℕ) (temporary : Bool) (s : PoolState) (leaf : LeafSeen) (group : ℕ) → Meets c h p e
-    → e.asked ≡ Asks_offline name device temporary → IsOpenAs p h name s → leaf_named device s.core.leaves ≡ Some leaf → is_offline leaf.own.mode ≡ false → IsRequiredFor leaf s.core.leaves group e.reply
-line_required c h p e name device temporary s leaf group met asked at is up = of met.row
+    → e.asked ≡ Asks_offline name device temporary → IsOpenAs p h name s → leaf_named device s.core.leaves ≡ Some leaf → is_spare s leaf ≡ false → is_offline leaf.own.mode ≡ false → IsRequiredFor leaf s.core.leaves group e.reply
+line_required c h p e name device temporary s leaf group met asked at is plain up = of met.row
   where
     of : HostRow c h e → IsRequiredFor leaf s.core.leaves group e.reply
     of (inl row) = let line = on_open h name s (OfflineLine h device temporary) e.acts e.reply at.named (subst (λ x. RowOf c h x e.acts e.reply) asked row.0) in
-        let found : OfflineBy (Some leaf) s temporary line.2.moves line.0 = subst (λ x. OfflineBy x s temporary line.2.moves line.0) is line.2.row in
-        required_leaf s leaf temporary line.2.moves line.0 e.reply group line.1 (subst (λ t. OfflineLeaf t s leaf temporary line.2.moves line.0) up found)
+        let found : OfflineBy (Some leaf) s device temporary line.2.moves line.0 = subst (λ x. OfflineBy x s device temporary line.2.moves line.0) is line.2.row in
+        let here : OfflineLeaf (is_offline leaf.own.mode) s leaf temporary line.2.moves line.0 = subst (λ t. OfflineHere t s leaf temporary line.2.moves line.0) plain found in
+        required_leaf s leaf temporary line.2.moves line.0 e.reply group line.1 (subst (λ t. OfflineLeaf t s leaf temporary line.2.moves line.0) up here)
     of (inr out) = record { only = λ is. offline_not_memory (Required group) (sym is ∙ out.says); always = λ least. inr out.says }
 
 pub headline_from : (c : Codec) (past : Past) (h : Host) (acts : List Act) (entries : List Entry) → Follows c past h acts entries → Headline c past h acts entries
@@ -223,7 +224,7 @@ headline_from c past h acts entries f = record {
   contents = at_contents c past h acts entries f;
   reads = λ l name a s bytes asked at is. line_reads c (host_before h l) (pool_before l) l.entry name a s bytes (meets c past h acts entries f l) asked at is;
   loses = λ l name a s asked at is. line_loses c (host_before h l) (pool_before l) l.entry name a s (meets c past h acts entries f l) asked at is;
-  required = λ l name device temporary s leaf group asked at is up. line_required c (host_before h l) (pool_before l) l.entry name device temporary s leaf group (meets c past h acts entries f l) asked at is up;
+  required = λ l name device temporary s leaf group asked at is plain up. line_required c (host_before h l) (pool_before l) l.entry name device temporary s leaf group (meets c past h acts entries f l) asked at is plain up;
   scans = at_scans c past h acts entries f;
 }
 

@@ -7,7 +7,7 @@ use Rattle.txg_history.specs.Pages.{Codec, IsClash}
 use Rattle.txg_history.specs.Pools.{Pool, pool_after}
 use Rattle.txg_history.specs.Records.{Rec, IsIn, key}
 use Rattle.txg_history.specs.Sound.{IsSound}
-use Rattle.pool_moves.specs.AwayRows.{Required, LeastOut, is_offline, leaf_named, siblings}
+use Rattle.pool_moves.specs.AwayRows.{Required, LeastOut, is_offline, is_spare, leaf_named, siblings}
 use Rattle.pool_moves.specs.Leaves.{LeafSeen}
 use Rattle.pool_moves.specs.Missing.{AllMissed}
 use Rattle.pool_moves.specs.ReadRow.{Gives, Exhausted}
@@ -57,10 +57,10 @@ pub record Headline (c : Codec) (past : Past) (h : Host) (acts : List Act) (entr
   pub loses : (l : LineOf c past acts entries) (name : List ℕ) (a : ℕ) (s : PoolState) → l.entry.asked ≡ Asks_read name a
       → IsOpenAs (pool_before l) (host_before h l) name s → l.entry.reply ≡ To_read Exhausted
       → AllMissed (s.core.committed (key 0 a)) (calls_in_line l) (run (calls_in_line l) (pool_before l).sectors) s.core.leaves
-  -- a leaf that isn't OFFLINE is required just where the outage rule says so
+  -- a leaf that isn't OFFLINE, nor a spare that stands in, is required just where the outage rule says so
   pub required : (l : LineOf c past acts entries) (name device : List ℕ) (temporary : Bool) (s : PoolState) (leaf : LeafSeen) (group : ℕ)
       → l.entry.asked ≡ Asks_offline name device temporary → IsOpenAs (pool_before l) (host_before h l) name s
-      → leaf_named device s.core.leaves ≡ Some leaf → is_offline leaf.own.mode ≡ false → IsRequiredFor leaf s.core.leaves group l.entry.reply
+      → leaf_named device s.core.leaves ≡ Some leaf → is_spare s leaf ≡ false → is_offline leaf.own.mode ≡ false → IsRequiredFor leaf s.core.leaves group l.entry.reply
   -- scans clear only copied groups, and else a group leaves a log only where its number is burned, at an opening, or with its leaf
   pub scans : (m : Moment c past acts entries) (before : List Event) (v : Event) (d g : ℕ) → events_at m ≡ before ++ (v ∷ []) → (pool_after before (pool_of past)).member d ≡ true
       → (pool_after before (pool_of past)).owes d g ≡ true → (pool_at m).owes d g ≡ false → TakesFor (pool_of past) before v d g
