@@ -1,6 +1,8 @@
 -- The headline, from what a host knows of a pool and from the rows of a run.
 use Rattle.std.proofs.Common.{◌≡◌, ◌≢◌, ◌⊎◌, inl, inr, ⊎_elim, ℕ, ◌≤◌, ◌<◌, ◌==◌, Bool, true, false, cond, List, [], ◌∷◌, ◌++◌, take, Option, Some, None, refl, sym, ap, ◌∙◌, subst, arith}
+use Rattle.std.specs.List.{AllByRecursion}
 use Rattle.std.specs.Str.{bytes_eq}
+use Rattle.bank_core.specs.Calls.{AllCaused}
 use Rattle.bank_core.specs.Disk.{Noted, run}
 use Rattle.txg_history.specs.Copies.{IsCopiedGroup, MayTakeGroup}
 use Rattle.txg_history.specs.Events.{
@@ -46,17 +48,19 @@ use Rattle.pool_moves.specs.States.{PoolState, Side}
 use Rattle.pool_moves.proofs.Missing.{exhausted_missed}
 use Rattle.pool_moves.proofs.ReadWalks.{read_right}
 use Rattle.pool_runs.specs.Acts.{Act, Hears, calls_along, pool_along, history}
-use Rattle.pool_runs.specs.Devices.{number_in}
+use Rattle.pool_runs.specs.Counting.{SomeRose, HasLostBoard, Suspends}
+use Rattle.pool_runs.specs.Devices.{number_in, size_in}
 use Rattle.pool_runs.specs.Fairness.{AreFair}
 use Rattle.pool_runs.specs.Headline.{TakesFor, IsRequiredFor, Headline}
-use Rattle.pool_runs.specs.HostRows.{AreMade, ReadLine, OfflineLine, OnPool, RowOf, HostRow, acts_in, IsRun}
+use Rattle.pool_runs.specs.HostRows.{AreMade, ReadLine, TurnLine, SyncLine, OfflineLine, OnPool, RowOf, HostRow, acts_in, IsRun}
 use Rattle.pool_runs.specs.Hosts.{Host, IsOpen, named, host_by, host_along}
 use Rattle.pool_runs.specs.Knowing.{HasSeats, Knows, MayActs}
-use Rattle.pool_runs.specs.Lines.{Asked, Asks_read, Asks_offline, Reply, To_read, To_offline, No_memory, Entry}
+use Rattle.pool_runs.specs.Lines.{Asked, Asks_read, Asks_turn, Asks_sync, Asks_offline, Reply, To_read, To_offline, No_memory, Entry}
 use Rattle.pool_runs.specs.Moments.{Moment, events_at, pool_at, past_at, host_at, LineOf, pool_before, host_before, calls_in_line, IsOpenAs}
 use Rattle.pool_runs.specs.Pasts.{Past, pool_of, then_all, Left, BeginsRun, HasFrozen}
 use Rattle.pool_runs.proofs.Acting.{acts_more, history_pool}
-use Rattle.pool_runs.proofs.Answering.{all_answer, read_calls}
+use Rattle.pool_runs.proofs.Answering.{all_answer, does_calls, read_calls}
+use Rattle.pool_runs.proofs.Counting.{NoFault, fault_or, turn_suspends, sync_suspends, line_answered}
 use Rattle.pool_runs.proofs.Knowing.{may_more, acts_keep, acts_number}
 use Rattle.pool_runs.proofs.Moments.{has_moment, acts_mays, keeps_all, may_take, acts_table, host_more, run_at, run_front}
 use Rattle.pool_runs.proofs.Pasting.{begins_known, then_pool, then_called, then_allowed, live_frozen}
@@ -215,6 +219,20 @@ line_required c h p e name device temporary s leaf group met asked at is plain u
         required_leaf s leaf temporary line.2.moves line.0 e.reply group line.1 (subst (λ t. OfflineLeaf t s leaf temporary line.2.moves line.0) up here)
     of (inr out) = record { only = λ is. offline_not_memory (Required group) (sym is ∙ out.says); always = λ least. inr out.says }
 
+-- Counts.
+line_counts : (c : Codec) (h : Host) (p : Pool) (e : Entry) (name : List ℕ) (s : PoolState) (from to : ℕ → ℕ) → Meets c h p e → (e.asked ≡ Asks_turn name) ⊎ (e.asked ≡ Asks_sync name)
+    → IsOpenAs p h name s → AllCaused (calls_along e.acts) from to → Suspends e.reply → SomeRose from to ⊎ HasLostBoard s
+line_counts c h p e name s from to met asked at caused bad = ⊎_elim (λ none. inr (of none met.row asked)) (λ rose. inl rose) (fault_or (calls_along e.acts) from to caused)
+  where
+    of : AllByRecursion NoFault (calls_along e.acts) → HostRow c h e → (e.asked ≡ Asks_turn name) ⊎ (e.asked ≡ Asks_sync name) → HasLostBoard s
+    of none (inl row) (inl asked) = let line = on_open h name s (TurnLine c h) e.acts e.reply at.named (subst (λ x. RowOf c h x e.acts e.reply) asked row.0) in
+        turn_suspends c (size_in h.table) s line.2.moves line.0 (line_answered line.2.moves (calls_along e.acts) (ap calls_along line.2.are ∙ does_calls s.core.pool.0 line.2.moves) none)
+        line.2.row (subst Suspends line.1 bad)
+    of none (inl row) (inr asked) = let line = on_open h name s (SyncLine c h) e.acts e.reply at.named (subst (λ x. RowOf c h x e.acts e.reply) asked row.0) in
+        sync_suspends c (size_in h.table) s line.2.moves line.0 (line_answered line.2.moves (calls_along e.acts) (ap calls_along line.2.are ∙ does_calls s.core.pool.0 line.2.moves) none)
+        line.2.row (subst Suspends line.1 bad)
+    of none (inr out) asked = absurd (subst Suspends out.says bad)
+
 pub headline_from : (c : Codec) (past : Past) (h : Host) (acts : List Act) (entries : List Entry) → Follows c past h acts entries → Headline c past h acts entries
 headline_from c past h acts entries f = record {
   moments = has_moment past acts entries;
@@ -226,6 +244,7 @@ headline_from c past h acts entries f = record {
   loses = λ l name a s asked at is. line_loses c (host_before h l) (pool_before l) l.entry name a s (meets c past h acts entries f l) asked at is;
   required = λ l name device temporary s leaf group asked at is plain up. line_required c (host_before h l) (pool_before l) l.entry name device temporary s leaf group (meets c past h acts entries f l) asked at is plain up;
   scans = at_scans c past h acts entries f;
+  counts = λ l name s from to asked at caused bad. line_counts c (host_before h l) (pool_before l) l.entry name s from to (meets c past h acts entries f l) asked at caused bad;
 }
 
 pub first_headline : (c : Codec) (past : Past) (h : Host) (entries : List Entry) → BeginsRun c past h → IsRun c h entries → Headline c past h [] entries

@@ -1,5 +1,6 @@
 pub mod Acting
 pub mod Answering
+pub mod Counting
 pub mod Heading
 pub mod Knowing
 pub mod Moments

@@ -1,5 +1,6 @@
 -- The headline: what a run is to a pool that the devices had when it began, or that it made.
 use Rattle.std.specs.Prelude.{◌≡◌, ◌≢◌, ◌⊎◌, ℕ, Bool, true, false, List, [], ◌∷◌, ◌++◌, Some, take}
+use Rattle.bank_core.specs.Calls.{AllCaused}
 use Rattle.bank_core.specs.Disk.{run}
 use Rattle.txg_history.specs.Copies.{IsCopiedGroup, MayTakeGroup}
 use Rattle.txg_history.specs.Events.{Event, Clears, calls_of}
@@ -13,10 +14,11 @@ use Rattle.pool_moves.specs.Missing.{AllMissed}
 use Rattle.pool_moves.specs.ReadRow.{Gives, Exhausted}
 use Rattle.pool_moves.specs.States.{PoolState}
 use Rattle.pool_runs.specs.Acts.{Act, calls_along, pool_along, history}
+use Rattle.pool_runs.specs.Counting.{SomeRose, HasLostBoard, Suspends}
 use Rattle.pool_runs.specs.HostRows.{acts_in}
 use Rattle.pool_runs.specs.Hosts.{Host, IsOpen}
 use Rattle.pool_runs.specs.Knowing.{HasSeats}
-use Rattle.pool_runs.specs.Lines.{Asks_read, Asks_offline, Reply, To_read, To_offline, No_memory, Entry}
+use Rattle.pool_runs.specs.Lines.{Asks_read, Asks_turn, Asks_sync, Asks_offline, Reply, To_read, To_offline, No_memory, Entry}
 use Rattle.pool_runs.specs.Moments.{Moment, events_at, pool_at, past_at, host_at, LineOf, pool_before, host_before, calls_in_line, IsOpenAs}
 use Rattle.pool_runs.specs.Pasts.{Past, pool_of, Left, HasFrozen}
 
@@ -64,3 +66,6 @@ pub record Headline (c : Codec) (past : Past) (h : Host) (acts : List Act) (entr
   -- scans clear only copied groups, and else a group leaves a log only where its number is burned, at an opening, or with its leaf
   pub scans : (m : Moment c past acts entries) (before : List Event) (v : Event) (d g : ℕ) → events_at m ≡ before ++ (v ∷ []) → (pool_after before (pool_of past)).member d ≡ true
       → (pool_after before (pool_of past)).owes d g ≡ true → (pool_at m).owes d g ≡ false → TakesFor (pool_of past) before v d g
+  -- a turn or a sync is refused as suspended only where a device's count rose in that very line, or some top had nobody left on its board before
+  pub counts : (l : LineOf c past acts entries) (name : List ℕ) (s : PoolState) (from to : ℕ → ℕ) → (l.entry.asked ≡ Asks_turn name) ⊎ (l.entry.asked ≡ Asks_sync name)
+      → IsOpenAs (pool_before l) (host_before h l) name s → AllCaused (calls_in_line l) from to → Suspends l.entry.reply → SomeRose from to ⊎ HasLostBoard s

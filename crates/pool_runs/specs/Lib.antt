@@ -1,4 +1,5 @@
 pub mod Acts
+pub mod Counting
 pub mod Devices
 pub mod Fairness
 pub mod Headline
