@@ -107,7 +107,7 @@ open_by true s u more pools rest (inl e) = inl e
 open_by true s u more pools rest (inr is) = inr (rest is)
 open_by false s u more pools rest is = inr (rest is)
 
-open_kept : (keep : PoolState → Bool) (s : PoolState) (pools : List PoolState) → IsOpen s (filter keep pools) → IsOpen s pools
+pub open_kept : (keep : PoolState → Bool) (s : PoolState) (pools : List PoolState) → IsOpen s (filter keep pools) → IsOpen s pools
 open_kept keep s [] is = absurd is
 open_kept keep s (u ∷ pools) is = open_by (keep u) s u (filter keep pools) pools (λ more. open_kept keep s pools more) is
 
@@ -159,7 +159,7 @@ calls_known c [] h p may knows = knows
 calls_known c (noted ∷ made) h p may knows = calls_known c made (record h { disk = run (noted ∷ []) h.disk }) (after (Calls noted) p) may.1 (call_known c h p noted (may.0, tt) knows)
 
 -- Other open pools come and go.
-pools_known : (c : Codec) (h : Host) (p : Pool) (pools : List PoolState) → ((s : PoolState) → IsOpen s pools → s.core.pool.0 ≡ p.pool.0 → IsOpen s h.pools) → Knows c h p
+pub pools_known : (c : Codec) (h : Host) (p : Pool) (pools : List PoolState) → ((s : PoolState) → IsOpen s pools → s.core.pool.0 ≡ p.pool.0 → IsOpen s h.pools) → Knows c h p
     → Knows c (record h { pools = pools }) p
 pools_known c h p pools were knows = record {
   survives = knows.survives;

@@ -1,6 +1,8 @@
 pub mod Acting
 pub mod Answering
+pub mod Bearing
 pub mod Counting
+pub mod Creating
 pub mod Heading
 pub mod Knowing
 pub mod Moments

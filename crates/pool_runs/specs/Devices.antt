@@ -14,6 +14,11 @@ abbrev pub number_in : List ℕ → List Device → Option ℕ
 number_in name [] = None
 number_in name (device ∷ table) = cond (bytes_eq device.name name) device.number (number_in name table)
 
+-- the name of the device of this number
+abbrev pub name_in : List Device → ℕ → List ℕ
+name_in [] d = []
+name_in (device ∷ table) d = cond (is_dev d device.number) device.name (name_in table d)
+
 -- how many sectors the device of this number has, 0 where the run lacks it
 abbrev pub size_in : List Device → ℕ → ℕ
 size_in [] d = 0

@@ -12,10 +12,11 @@ use Rattle.pool_moves.specs.Moves.{Move, Makes}
 use Rattle.pool_moves.specs.ReadRow.{ReadReply, RowRead}
 use Rattle.pool_moves.specs.States.{PoolState}
 use Rattle.pool_runs.specs.Acts.{Act, Hears, Bare, Does, Gave, Looked, Shows, Opens_as, Names, Takes, Bears, Closes, does, calls_along}
+use Rattle.pool_runs.specs.Creating.{RowCreate}
 use Rattle.pool_runs.specs.Devices.{size_in}
 use Rattle.pool_runs.specs.Hosts.{Host, named, host_by, host_along}
 use Rattle.pool_runs.specs.Knowing.{AreOwnActs}
-use Rattle.pool_runs.specs.Lines.{Asked, Asks_nothing, Asks_write, Asks_read, Asks_freeze, Asks_turn, Asks_sync, Asks_offline, Asks_logs, Reply, To_nothing, To_write, To_read, To_freeze, To_turn, To_sync, To_offline, To_logs, No_pool, No_memory, Entry}
+use Rattle.pool_runs.specs.Lines.{Asked, Asks_nothing, Asks_write, Asks_read, Asks_freeze, Asks_turn, Asks_sync, Asks_offline, Asks_logs, Asks_create, Reply, To_nothing, To_write, To_read, To_freeze, To_turn, To_sync, To_offline, To_logs, No_pool, No_memory, Entry}
 
 -- Device calls that a line made: each on a device that the run has, with an answer by the disk model.
 pub record AreMade (h : Host) (calls : List Noted) : Type 0 where
@@ -90,6 +91,7 @@ RowOf c h (Asks_turn name) acts reply = OnPool (named name h.pools) (TurnLine c 
 RowOf c h (Asks_sync name) acts reply = OnPool (named name h.pools) (SyncLine c h) acts reply
 RowOf c h (Asks_offline name device temporary) acts reply = OnPool (named name h.pools) (OfflineLine h device temporary) acts reply
 RowOf c h (Asks_logs name) acts reply = OnPool (named name h.pools) (LogsLine h) acts reply
+RowOf c h (Asks_create name blocks tops) acts reply = RowCreate c h name blocks tops acts reply
 
 -- the act changes no pool: it is a call, or it marks something
 abbrev pub ChangesNone : Act → Type 0

@@ -1,5 +1,6 @@
 pub mod Acts
 pub mod Counting
+pub mod Creating
 pub mod Devices
 pub mod Fairness
 pub mod Headline

@@ -16,6 +16,25 @@ pub data Asked : Type 0 where
   Asks_sync : (name : List ℕ) → Asked
   Asks_offline : (name device : List ℕ) (temporary : Bool) → Asked
   Asks_logs : (name : List ℕ) → Asked
+  -- a pool of so many blocks over these mirrors, each of devices by name
+  Asks_create : (name : List ℕ) (blocks : ℕ) (tops : List (List (List ℕ))) → Asked
+
+-- Why a create is refused: its name is taken; a limit would be passed; its blocks are too few or too many; a device is named twice, or isn't
+-- there, or is an open pool's, which is named; or it is too small.
+pub data CreateRefusal : Type 0 where
+  NameTaken : CreateRefusal
+  TooMany : (limit count : ℕ) → CreateRefusal
+  BadBlocks : (limit : ℕ) → CreateRefusal
+  NameTwice : CreateRefusal
+  UnknownDevice : (name : List ℕ) → CreateRefusal
+  InUse : (by : List ℕ) → CreateRefusal
+  TooSmall : (need has : ℕ) → CreateRefusal
+
+-- What a create answers: the number that it committed, the device that failed in it, or why it did nothing.
+pub data CreateReply : Type 0 where
+  Created : (number : ℕ) → CreateReply
+  DeviceFault : (device : List ℕ) → CreateReply
+  Uncreated : (refusal : CreateRefusal) → CreateReply
 
 pub data Reply : Type 0 where
   To_nothing : Reply
@@ -26,6 +45,7 @@ pub data Reply : Type 0 where
   To_sync : (reply : SyncReply) → Reply
   To_offline : (reply : OfflineReply) → Reply
   To_logs : (logs : List NamedLog) → Reply
+  To_create : (reply : CreateReply) → Reply
   -- no open pool has the name
   No_pool : Reply
   -- there was no memory
