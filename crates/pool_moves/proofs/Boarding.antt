@@ -30,17 +30,17 @@ abbrev pub leaves_of : Pool → List Seat → List LeafSeen
 leaves_of p seats = map (leaf_seen true p.scan.running (told p)) seats
 
 -- the list with this leaf is one of these, where the rest is, and with its device too
-before_all : (P : List Member → Type 0) (t : Bool) (dev : Option ℕ) (m : Guid) (ms : List Member) → P ms → ((d : ℕ) → t ≡ true → dev ≡ Some d → P (record { dev = d; guid = m } ∷ ms))
+pub before_all : (P : List Member → Type 0) (t : Bool) (dev : Option ℕ) (m : Guid) (ms : List Member) → P ms → ((d : ℕ) → t ≡ true → dev ≡ Some d → P (record { dev = d; guid = m } ∷ ms))
     → P (member_before t dev m ms)
 before_all P true (Some d) m ms rest new = new d refl refl
 before_all P true None m ms rest new = rest
 before_all P false dev m ms rest new = rest
 
-dev_is : (found : Bool) (d e : ℕ) → dev_if found d ≡ Some e → (found ≡ true) × (d ≡ e)
+pub dev_is : (found : Bool) (d e : ℕ) → dev_if found d ≡ Some e → (found ≡ true) × (d ≡ e)
 dev_is true d e is = (refl, let same : d ≡ e = cc in same)
 dev_is false d e is = absurd (cc)
 
-no_dev : {A : Type 0} (dev : Option ℕ) (d : ℕ) → dev ≡ None → dev ≡ Some d → A
+pub no_dev : {A : Type 0} (dev : Option ℕ) (d : ℕ) → dev ≡ None → dev ≡ Some d → A
 no_dev dev d none is = absurd (cc)
 
 members_are : (which : LeafSeen → Bool) (p : Pool) (Which : ℕ → Type 0) → Shows which p Which → (seats : List Seat) → AllByRecursion IsAway seats

@@ -38,13 +38,13 @@ all_remove P (y ∷ xs) zero all = all.1
 all_remove P (y ∷ xs) (suc i) all = (all.0, all_remove P xs i all.1)
 
 -- Seats on devices of their own.
-abbrev KeepsPlace : Seat → Seat → Type 0
+abbrev pub KeepsPlace : Seat → Seat → Type 0
 KeepsPlace (At d found own) (At e was is) = d ≡ e
 KeepsPlace (At d found own) (Adrift leaf) = Unit {0}
 KeepsPlace (Adrift leaf) (At e was is) = ⊥
 KeepsPlace (Adrift leaf) (Adrift other) = Unit {0}
 
-place_kept : (v : Move) (p : Pool) (seat : Seat) → KeepsPlace seat (seat_step v p seat)
+pub place_kept : (v : Move) (p : Pool) (seat : Seat) → KeepsPlace seat (seat_step v p seat)
 place_kept (Lose e) p (At d found own) = by (e == d)
   where
     by : (t : Bool) → KeepsPlace (At d found own) (cond t (Adrift (leaf_seen p.group.frozen p.scan.running (told p) (At d found own))) (At d found own))
@@ -55,7 +55,7 @@ place_kept (Finds m e) p (At d found own) = refl
 place_kept v p (Adrift leaf) = tt
 place_kept v p (At d found own) = refl
 
-elsewhere_kept : (d : ℕ) (a b : Seat) → KeepsPlace a b → IsElsewhere d a → IsElsewhere d b
+pub elsewhere_kept : (d : ℕ) (a b : Seat) → KeepsPlace a b → IsElsewhere d a → IsElsewhere d b
 elsewhere_kept d (At e found own) (At x was is) same off = subst (λ n. (d == n) ≡ false) same off
 elsewhere_kept d (At e found own) (Adrift leaf) same off = tt
 elsewhere_kept d (Adrift leaf) (At x was is) same off = absurd same
@@ -138,7 +138,7 @@ come_seated p d m (At e found own ∷ seats) off others all =
     (ap (λ t. cond t true (other_than m p.guid p.member e)) off.0 ∙ (ap (λ t. cond t false (p.member e)) others.0 ∙ all.0), come_seated p d m seats off.1 others.1 all.1)
 come_seated p d m (Adrift leaf ∷ seats) off others all = (tt, come_seated p d m seats off.1 others.1 all.1)
 
-here : (d : ℕ) → (d == d) ≡ true
+pub here : (d : ℕ) → (d == d) ≡ true
 here d = grind (arith, nat_tests)
 
 seated_kept : (v : Move) (t : Side) → Admits t v → AllByRecursion (IsSeated t.pool.member) t.seats → AllByRecursion (IsSeated (after_move v t).pool.member) (seats_by v t)
@@ -541,7 +541,7 @@ topped_kept c (Shapes top children) s t may ok kept d is one = kept.topped d is 
 topped_kept c v s t may ok kept d is one = under_step v t.pool (t.pool.in_top d) (λ e found own under. under) t.seats (kept.topped d is one)
 
 -- No leaf that the run has not found is eligible.
-of_found_step : (which : ℕ → Bool) (v : Move) (p : Pool) → ((d : ℕ) (found : Bool) (own : OwnLeaf) → IsOfFound which (At d found own) → IsOfFound which (seat_step v p (At d found own)))
+pub of_found_step : (which : ℕ → Bool) (v : Move) (p : Pool) → ((d : ℕ) (found : Bool) (own : OwnLeaf) → IsOfFound which (At d found own) → IsOfFound which (seat_step v p (At d found own)))
     → (seats : List Seat) → AllByRecursion (IsOfFound which) seats → AllByRecursion (IsOfFound which) (map (seat_step v p) seats)
 of_found_step which v p at seats all = all_map (IsOfFound which) (IsOfFound which) (seat_step v p)
     (seat_cases (λ seat. IsOfFound which seat → IsOfFound which (seat_step v p seat)) at (λ leaf is. tt)) seats all
@@ -636,7 +636,7 @@ above_all : (a m : ℕ) → m < max a (m + 1)
 above_all a m = grind (arith)
 
 -- a number that is below none of the leaves' is none of theirs
-other_numbers : (guid : ℕ → Guid) (n : ℕ) (m : Guid) → n ≤ m.0 → (seats : List Seat) → AllByRecursion (HasNumberBelow guid n) seats → AllByRecursion (HasOtherNumber guid m) seats
+pub other_numbers : (guid : ℕ → Guid) (n : ℕ) (m : Guid) → n ≤ m.0 → (seats : List Seat) → AllByRecursion (HasNumberBelow guid n) seats → AllByRecursion (HasOtherNumber guid m) seats
 other_numbers guid n m low [] all = tt
 other_numbers guid n m low (At d found own ∷ seats) all = (differ (guid d).0 m.0 (let less = all.0 in omega (arith, less, low)), other_numbers guid n m low seats all.1)
   where

@@ -4,6 +4,7 @@ pub mod CommitWalks
 pub mod Drafting
 pub mod FreeWalks
 pub mod FreezeWalks
+pub mod GraftWalks
 pub mod Keeping
 pub mod LineWalks
 pub mod Making
@@ -11,5 +12,9 @@ pub mod Missing
 pub mod Needing
 pub mod ReadWalks
 pub mod RoundWalks
+pub mod ScanCalls
+pub mod ScanEnds
+pub mod ScanSteps
 pub mod Seeing
+pub mod Shaping
 pub mod TurnWalks

@@ -10,7 +10,7 @@ use Rattle.pool_moves.specs.Boards.{board_of, board_under, emptied}
 use Rattle.pool_moves.specs.Keeping.{Kept, Walks}
 use Rattle.pool_moves.specs.Leaves.{LeafSeen, Seat}
 use Rattle.pool_moves.specs.LineRows.{IsSized, TurnReply, Write, Flush, Round, Committed, sets_failed, has_number, count_moves, EndsBy, EndsTurn, IsTurnOf, IsWritePart, IsFlushPart, IsRoundPart, StartsBy, TurnBy, RowTurn, AreTurns, moves_in, EndsGroup, CommitsOpen, FreezeReply, FreezeFor, FreezeBy, RowFreezeLine, SyncReply, CommitsFor, SyncOpen, SyncBehind, SyncBy, RowSync}
-use Rattle.pool_moves.specs.Moves.{Draft, Move, Makes, Freeze, Wrote_key, Flushed_all, Burn, Draw, Commits, Sets, steps, after_move, after_moves}
+use Rattle.pool_moves.specs.Moves.{Draft, Move, Makes, Wrote_key, Flushed_all, Draw, Leave, Burn, Starts, Copies, Copied, Commits, Sets, steps, after_move, after_moves}
 use Rattle.pool_moves.specs.Refusing.{FreezeRefusal}
 use Rattle.pool_moves.specs.States.{PoolSeen, PoolState, Side}
 use Rattle.pool_moves.specs.TurnRows.{turn_moves, ended, IsThirdMoves, RowWriteTurn, RowFlushTurn, RowRound}
@@ -48,7 +48,7 @@ failed_sets : (found : Option LeafSeen) → AllByRecursion IsSet (sets_failed fo
 failed_sets None = tt
 failed_sets (Some leaf) = (tt, tt)
 
-counts_set : (leaves : List LeafSeen) (ms : List Member) (results : List Bool) → AllByRecursion IsSet (count_moves leaves ms results)
+pub counts_set : (leaves : List LeafSeen) (ms : List Member) (results : List Bool) → AllByRecursion IsSet (count_moves leaves ms results)
 counts_set leaves [] results = tt
 counts_set leaves (m ∷ ms) [] = tt
 counts_set leaves (m ∷ ms) (true ∷ results) = counts_set leaves ms results
@@ -59,33 +59,45 @@ counted : (c : Codec) (t : Side) (part : List Move) (leaves : List LeafSeen) (ms
 counted c t part leaves ms results walks = walks_more c part (count_moves leaves ms results) t walks (sets_walk c (count_moves leaves ms results) (after_moves part t) (counts_set leaves ms results))
 
 -- Moves within a group leave it frozen.
-abbrev IsWithin : Move → Type 0
-IsWithin (Freeze cells board) = ⊥
-IsWithin Burn = ⊥
-IsWithin (Commits draft) = ⊥
-IsWithin v = Unit {0}
+abbrev pub IsWithin : Move → Type 0
+IsWithin (Makes noted) = Unit {0}
+IsWithin (Wrote_key k) = Unit {0}
+IsWithin Flushed_all = Unit {0}
+IsWithin Draw = Unit {0}
+IsWithin (Leave d) = Unit {0}
+IsWithin (Starts draft) = Unit {0}
+IsWithin (Copies draft d) = Unit {0}
+IsWithin (Copied draft d) = Unit {0}
+IsWithin (Sets m own) = Unit {0}
+IsWithin v = ⊥
 
 within_step : (v : Move) (t : Side) → IsWithin v → (after_move v t).pool.group.frozen ≡ t.pool.group.frozen
-within_step (Freeze cells board) t is = absurd is
-within_step Burn t is = absurd is
-within_step (Commits draft) t is = absurd is
-within_step v t is = refl
+within_step (Makes noted) t is = refl
+within_step (Wrote_key k) t is = refl
+within_step Flushed_all t is = refl
+within_step Draw t is = refl
+within_step (Leave d) t is = refl
+within_step (Starts draft) t is = refl
+within_step (Copies draft d) t is = refl
+within_step (Copied draft d) t is = refl
+within_step (Sets m own) t is = refl
+within_step v t is = absurd is
 
-still_frozen : (vs : List Move) (t : Side) → AllByRecursion IsWithin vs → (after_moves vs t).pool.group.frozen ≡ t.pool.group.frozen
+pub still_frozen : (vs : List Move) (t : Side) → AllByRecursion IsWithin vs → (after_moves vs t).pool.group.frozen ≡ t.pool.group.frozen
 still_frozen [] t all = refl
 still_frozen (v ∷ vs) t all = still_frozen vs (after_move v t) all.1 ∙ within_step v t all.0
 
-calls_within : (made : List Noted) → AllByRecursion IsWithin (as_moves made)
+pub calls_within : (made : List Noted) → AllByRecursion IsWithin (as_moves made)
 calls_within [] = tt
 calls_within (noted ∷ made) = (tt, calls_within made)
 
-leaves_within : (ms : List Member) (results : List Bool) → AllByRecursion IsWithin (leave_moves ms results)
+pub leaves_within : (ms : List Member) (results : List Bool) → AllByRecursion IsWithin (leave_moves ms results)
 leaves_within [] results = tt
 leaves_within (m ∷ ms) [] = tt
 leaves_within (m ∷ ms) (true ∷ results) = leaves_within ms results
 leaves_within (m ∷ ms) (false ∷ results) = (tt, leaves_within ms results)
 
-sets_within : (vs : List Move) → AllByRecursion IsSet vs → AllByRecursion IsWithin vs
+pub sets_within : (vs : List Move) → AllByRecursion IsSet vs → AllByRecursion IsWithin vs
 sets_within [] all = tt
 sets_within (Sets m own ∷ vs) all = (tt, sets_within vs all.1)
 sets_within (v ∷ vs) all = absurd all.0
@@ -94,7 +106,7 @@ ended_within : (c : Bool) (draft : Draft) (d : ℕ) → AllByRecursion IsWithin 
 ended_within true draft d = (tt, tt)
 ended_within false draft d = tt
 
-thirds_within : (plan : Member → List Ask) (draft : Draft) (ms : List Member) (was is : List Bool) (vs : List Move) → IsThirdMoves plan draft ms was is vs → AllByRecursion IsWithin vs
+pub thirds_within : (plan : Member → List Ask) (draft : Draft) (ms : List Member) (was is : List Bool) (vs : List Move) → IsThirdMoves plan draft ms was is vs → AllByRecursion IsWithin vs
 thirds_within plan draft [] [] [] vs r = subst (AllByRecursion IsWithin) (sym r) tt
 thirds_within plan draft (m ∷ ms) (true ∷ was) (c ∷ is) vs r = subst (AllByRecursion IsWithin) (sym r.2) (
   tt,
@@ -107,11 +119,11 @@ thirds_within plan draft [] (b ∷ was) is vs r = absurd r
 thirds_within plan draft (m ∷ ms) [] is vs r = absurd r
 thirds_within plan draft (m ∷ ms) (b ∷ was) [] vs r = absurd r
 
-turn_within : (made : List Noted) (ms : List Member) (results : List Bool) (mark : Move) → IsWithin mark → AllByRecursion IsWithin (turn_moves made ms results mark)
+pub turn_within : (made : List Noted) (ms : List Member) (results : List Bool) (mark : Move) → IsWithin mark → AllByRecursion IsWithin (turn_moves made ms results mark)
 turn_within made ms results mark is = all_append IsWithin (as_moves made) (leave_moves ms results ++ (mark ∷ [])) (calls_within made)
     (all_append IsWithin (leave_moves ms results) (mark ∷ []) (leaves_within ms results) (is, tt))
 
-round_within : (c : Codec) (size : ℕ → ℕ) (s : PoolSeen) (vs : List Move) → RowRound c size s vs false → AllByRecursion IsWithin vs
+pub round_within : (c : Codec) (size : ℕ → ℕ) (s : PoolSeen) (vs : List Move) → RowRound c size s vs false → AllByRecursion IsWithin vs
 round_within c size s vs row = subst (AllByRecursion IsWithin) (sym row.moves) (
   tt,
   all_append IsWithin (as_moves row.first) (as_moves row.second ++ (row.thirds ++ leave_moves (board_of s.leaves) row.results))
@@ -120,7 +132,7 @@ round_within c size s vs row = subst (AllByRecursion IsWithin) (sym row.moves) (
       (thirds_within (third_plan size row.draft.commit) row.draft (board_of s.leaves) row.in_second row.results row.thirds row.copies) (leaves_within (board_of s.leaves) row.results))),
 )
 
-counted_within : (part : List Move) (leaves : List LeafSeen) (ms : List Member) (results : List Bool) → AllByRecursion IsWithin part → AllByRecursion IsWithin (part ++ count_moves leaves ms results)
+pub counted_within : (part : List Move) (leaves : List LeafSeen) (ms : List Member) (results : List Bool) → AllByRecursion IsWithin part → AllByRecursion IsWithin (part ++ count_moves leaves ms results)
 counted_within part leaves ms results all = all_append IsWithin part (count_moves leaves ms results) all (sets_within (count_moves leaves ms results) (counts_set leaves ms results))
 
 -- How a turn ends.
@@ -197,7 +209,7 @@ turns_walk c size s t (turn ∷ (next ∷ turns)) reply kept same are = let walk
 pub group_walks : (c : Codec) (size : ℕ → ℕ) (s : PoolState) (t : Side) (vs : List Move) (reply : TurnReply) → Kept c s t → IsSized size t → EndsGroup c size s vs reply → Walks c t vs
 group_walks c size s t vs reply kept same ends = subst (Walks c t) (sym ends.moves) (turns_walk c size s t ends.turns reply kept same ends.are)
 
-open_walks : (c : Codec) (size : ℕ → ℕ) (s : PoolState) (t : Side) (vs : List Move) (reply : TurnReply) → Kept c s t → IsSized size t → CommitsOpen c size s vs reply → Walks c t vs
+pub open_walks : (c : Codec) (size : ℕ → ℕ) (s : PoolState) (t : Side) (vs : List Move) (reply : TurnReply) → Kept c s t → IsSized size t → CommitsOpen c size s vs reply → Walks c t vs
 open_walks c size s t vs reply kept same row = let walks = freeze_walks c s t row.first kept row.freeze in
     subst (Walks c t) (sym row.moves) (walks_more c row.first row.rest t walks
     (group_walks c size (steps row.first s) (after_moves row.first t) row.rest reply (walk_keeps c row.first s t walks kept) (sized_along size row.first t same) row.ends))

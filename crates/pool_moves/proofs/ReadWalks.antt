@@ -40,7 +40,7 @@ use Rattle.pool_moves.proofs.FreeWalks.{walks_more, all_append}
 use Rattle.pool_moves.proofs.LineWalks.{IsSet, sets_walk}
 
 -- A read is always allowed.
-read_sparing : (p : Pool) (d at : ℕ) (bytes : List ℕ) (fault : Option Fault) → IsSparing p (Read d at bytes fault)
+pub read_sparing : (p : Pool) (d at : ℕ) (bytes : List ℕ) (fault : Option Fault) → IsSparing p (Read d at bytes fault)
 read_sparing p d at bytes fault = record {
   plain = tt;
   firm = λ d s bytes is n. refl;
@@ -56,7 +56,7 @@ pub record IsCopy (member : ℕ → Bool) (in_top : ℕ → ℕ) (owes : Logs) (
   pub lacks_is : owes copy.dev cell.birth ≡ copy.lacks
 
 -- it gave wrong bytes, and its leaf doesn't owe the block: its sector is damaged
-abbrev IsHurt : Cell → Sectors → CopyOf → Type 0
+abbrev pub IsHurt : Cell → Sectors → CopyOf → Type 0
 IsHurt cell sectors copy = copy.lacks ≡ false → (sectors copy.dev (data_start + cell.sector)).damaged ≡ true
 
 -- only reads and writes are among these calls
@@ -79,7 +79,7 @@ none_heals (noted ∷ made) d all = (one noted.call all.0, none_heals made d all
     one (Eject e) is = absurd is
 
 -- what the reads of some copies may do and leave
-record AreRead (c : Codec) (p : Pool) (cell : Cell) (made : List Noted) (wrong : List CopyOf) : Type 0 where
+pub record AreRead (c : Codec) (p : Pool) (cell : Cell) (made : List Noted) (wrong : List CopyOf) : Type 0 where
   pub may : Mays c p (as_events made)
   pub only : AllByRecursion (λ noted. IsReadOrWrite noted.call) made
   pub hurt : AllByRecursion (IsHurt cell (run made p.sectors)) wrong
@@ -99,7 +99,7 @@ hurt_one c p k cell copy noted bytes sv at is call long other answers lacks =
     read_damage c p noted copy.dev (data_start + cell.sector) bytes cell.block sv is.is_member
     (inr (record { k = k; cell = cell; cell_is = at; top_is = is.top_is; has = is.lacks_is ∙ lacks; at = record { sector_is = refl; bytes_are = refl } })) call long answers (λ same. other (ap sha256 same))
 
-copies_read : (c : Codec) (p : Pool) (k : Key) (cell : Cell) (copies : List CopyOf) (made : List Noted) (wrong : List CopyOf) (outcome : Option (List ℕ)) → Survives c p → p.reads.cells k ≡ Some cell
+pub copies_read : (c : Codec) (p : Pool) (k : Key) (cell : Cell) (copies : List CopyOf) (made : List Noted) (wrong : List CopyOf) (outcome : Option (List ℕ)) → Survives c p → p.reads.cells k ≡ Some cell
     → AllByRecursion (IsCopy p.member p.in_top p.owes cell) copies → AllAnswer p.sectors made → IsReads (data_start + cell.sector) (sha256 cell.block) copies made wrong outcome → AreRead c p cell made wrong
 copies_read c p k cell [] made wrong outcome sv at are answers reads = none made wrong reads.0 reads.1
   where
@@ -135,7 +135,7 @@ copies_read c p k cell (copy ∷ more) (noted ∷ made) wrong outcome sv at are 
     one [] (copy ∷ wrong) a b sparing plain = absurd (cc)
 
 -- a call that asked for a write is one
-write_call : (call : Call) (d at : ℕ) (bytes : List ℕ) → ask_of call ≡ Writes d at bytes → (fault : Option Fault) × (call ≡ Write d at bytes fault)
+pub write_call : (call : Call) (d at : ℕ) (bytes : List ℕ) → ask_of call ≡ Writes d at bytes → (fault : Option Fault) × (call ≡ Write d at bytes fault)
 write_call (Read e from found fault) d at bytes is = absurd (cc)
 write_call (Write e from found fault) d at bytes is = (fault, let a : e ≡ d = cc in let b : from ≡ at = cc in let c : found ≡ bytes = cc in ap (λ x. Write x from found fault) a ∙ (ap (λ x. Write d x found fault) b ∙ ap (λ x. Write d at x fault) c))
 write_call (Flush e fault) d at bytes is = absurd (cc)
@@ -164,7 +164,7 @@ heal_first c p k cell copy wrong (noted ∷ made) sv at are hurt has asks rest =
           (let more : asks_of made ≡ rewrites (data_start + cell.sector) cell.block (filter (λ copy. not copy.lacks) wrong) = cc in more),
     )
 
-heals_may : (c : Codec) (p : Pool) (k : Key) (cell : Cell) (wrong : List CopyOf) (made : List Noted) → Survives c p → p.reads.cells k ≡ Some cell
+pub heals_may : (c : Codec) (p : Pool) (k : Key) (cell : Cell) (wrong : List CopyOf) (made : List Noted) → Survives c p → p.reads.cells k ≡ Some cell
     → AllByRecursion (IsCopy p.member p.in_top p.owes cell) wrong → AllByRecursion (IsHurt cell p.sectors) wrong
     → asks_of made ≡ rewrites (data_start + cell.sector) cell.block (filter (λ copy. not copy.lacks) wrong) → Mays c p (as_events made)
 heals_may c p k cell [] [] sv at are hurt asks = tt
@@ -175,7 +175,7 @@ heals_may c p k cell (copy ∷ wrong) made sv at are hurt asks = by_bool copy.la
     (λ noted made plain sv asks. heals_may c (after (Calls noted) p) k cell wrong made sv at are.1 (healed_rest cell p noted plain wrong hurt.1) asks))
 
 -- The copies on the leaves of a top.
-all_filter : {A : Type 0} (P Q : A → Type 0) (test : A → Bool) → ((x : A) → P x → test x ≡ true → Q x) → (xs : List A) → AllByRecursion P xs → AllByRecursion Q (filter test xs)
+pub all_filter : {A : Type 0} (P Q : A → Type 0) (test : A → Bool) → ((x : A) → P x → test x ≡ true → Q x) → (xs : List A) → AllByRecursion P xs → AllByRecursion Q (filter test xs)
 all_filter P Q test one [] all = tt
 all_filter P Q test one (x ∷ xs) all = step (all_filter P Q test one xs all.1) (test x) refl
   where
@@ -186,7 +186,7 @@ all_filter P Q test one (x ∷ xs) all = step (all_filter P Q test one xs all.1)
 abbrev pub IsReadable : Pool → Cell → CopyOf → Type 0
 IsReadable p cell copy = copy.readable ≡ true → IsCopy p.member p.in_top p.owes cell copy
 
-copy_at_seat : (p : Pool) (cell : Cell) (f r : Bool) (seat : Seat) → IsAway seat → IsSeated p.member seat → stands_under cell.top (leaf_seen f r (told p) seat) ≡ true
+pub copy_at_seat : (p : Pool) (cell : Cell) (f r : Bool) (seat : Seat) → IsAway seat → IsSeated p.member seat → stands_under cell.top (leaf_seen f r (told p) seat) ≡ true
     → IsReadable p cell (copy_of cell.birth (leaf_seen f r (told p) seat))
 copy_at_seat p cell f r (At d true own) away seated under readable = record { is_member = seated; top_is = same_device (p.in_top d) cell.top under; lacks_is = refl }
 copy_at_seat p cell f r (At d false own) away seated under readable = absurd (let no : false ≡ true = readable in cc)
@@ -210,7 +210,7 @@ tried_all p cell copies all = all_append (IsCopy p.member p.in_top p.owes cell) 
     (all_filter (IsReadable p cell) (IsCopy p.member p.in_top p.owes cell) (is_due true) (λ copy is due. is (and_parts copy.readable copy.lacks due).0) copies all)
 
 -- what a read's outcome is worth
-outcome_sum : (at : ℕ) (sum : List ℕ) (copies : List CopyOf) (made : List Noted) (wrong : List CopyOf) (bytes : List ℕ) → IsReads at sum copies made wrong (Some bytes) → sha256 bytes ≡ sum
+pub outcome_sum : (at : ℕ) (sum : List ℕ) (copies : List CopyOf) (made : List Noted) (wrong : List CopyOf) (bytes : List ℕ) → IsReads at sum copies made wrong (Some bytes) → sha256 bytes ≡ sum
 outcome_sum at sum [] made wrong bytes reads = absurd (let no : Some bytes ≡ None = reads.2 in cc)
 outcome_sum at sum (copy ∷ more) [] wrong bytes reads = absurd reads
 outcome_sum at sum (copy ∷ more) (noted ∷ made) wrong bytes (inl (fails, rest)) = outcome_sum at sum more made wrong bytes rest
@@ -222,11 +222,11 @@ outcome_sum at sum (copy ∷ more) (noted ∷ made) wrong bytes (inr (inr (found
     some_same a b e = cc
 
 -- calls alone, and then what no event tells
-calls_walk : (c : Codec) (made : List Noted) (t : Side) → Mays c t.pool (as_events made) → Walks c t (as_moves made)
+pub calls_walk : (c : Codec) (made : List Noted) (t : Side) → Mays c t.pool (as_events made) → Walks c t (as_moves made)
 calls_walk c [] t may = tt
 calls_walk c (noted ∷ made) t may = (((may.0, tt), tt), calls_walk c made (after_move (Makes noted) t) may.1)
 
-read_sets : (sum : List ℕ) (made : List Noted) (leaves : List LeafSeen) → AllByRecursion IsSet (count_reads sum made leaves)
+pub read_sets : (sum : List ℕ) (made : List Noted) (leaves : List LeafSeen) → AllByRecursion IsSet (count_reads sum made leaves)
 read_sets sum made [] = tt
 read_sets sum made (leaf ∷ leaves) = (tt, read_sets sum made leaves)
 

@@ -11,7 +11,9 @@ pub mod Missing
 pub mod Moves
 pub mod ReadRow
 pub mod Refusing
+pub mod ScanRows
 pub mod States
+pub mod TreeRows
 pub mod Trees
 pub mod TurnRows
 pub mod Walking

@@ -3,9 +3,11 @@
 
 mod laws;
 mod rows;
+mod scans;
 
 pub use laws::{moves_step_what_is_seen, walks_keep_the_state};
 pub use rows::{
     freezes_may_be_made, leaves_may_go_offline, made_pools_are_kept, pools_may_be_opened,
     reads_give_the_block, turns_may_be_made,
 };
+pub use scans::scans_may_be_made;
