@@ -35,7 +35,7 @@ use Rattle.pool_runs.specs.Knowing.{HasSeats, Knows, MayActs, AreOwnActs}
 use Rattle.pool_runs.specs.Lines.{CreateRefusal, NameTaken, TooMany, BadBlocks, NameTwice, TooSmall, Reply, Entry}
 use Rattle.pool_runs.specs.Pasts.{Past, Born, pool_of, IsAllowed, Left}
 use Rattle.pool_runs.proofs.Acting.{acts_more}
-use Rattle.pool_runs.proofs.Creating.{In, all_in, all_one, all_two, IsLookedUp, looked_up, LeafAt, leaf_at, Between, new_between, AreNumbersApart, new_apart, same_leaf, new_top, IsAtMost, under_low, room_low, none_under}
+use Rattle.pool_runs.proofs.Creating.{or_first, or_second, none_refused, In, all_in, all_one, all_two, IsLookedUp, looked_up, LeafAt, leaf_at, Between, new_between, AreNumbersApart, new_apart, same_leaf, new_top, IsAtMost, under_low, room_low, none_under}
 use Rattle.pool_runs.proofs.Heading.{headline_from}
 use Rattle.pool_runs.proofs.Knowing.{may_more, open_kept, pools_known, walk_may, acts_number}
 use Rattle.pool_runs.proofs.Moments.{host_more, acts_table}
@@ -157,14 +157,6 @@ stamps_pools pool size (leaf ∷ leaves) acts failed h are = ap (λ a. (host_alo
     of (inr stop) rest = ap (λ a. (host_along a (record (host_by (Takes pool.0 leaf.dev) h) { disk = run are.0 h.disk })).pools) stop.2
 
 -- What it takes that no refusal came.
-or_first : (a b : Option CreateRefusal) → or_else a b ≡ None → a ≡ None
-or_first (Some x) b is = absurd (cc)
-or_first None b is = refl
-
-or_second : (a b : Option CreateRefusal) → or_else a b ≡ None → b ≡ None
-or_second (Some x) b is = absurd (cc)
-or_second None b is = is
-
 few : (limit count : ℕ) → too_many limit count ≡ None → count ≤ limit
 few limit count is = by_bool (nat_lt limit count) (λ yes. absurd (let no : Some (TooMany limit count) ≡ None = sym (ap (λ t. cond t (Some (TooMany limit count)) None) yes) ∙ is in cc))
     (λ no. let low : count ≤ limit = grind (arith, nat_tests) in low)
@@ -187,24 +179,8 @@ record IsGoodCreate (table : List Device) (tops : List (List (List ℕ))) : Type
   low : next_number tops 1 < 2 ^ 64
   big : AllByRecursion (λ l. 320 ≤ size_in table l.dev) (new_leaves table tops 1 1)
 
-all_none : (refusals : List (Option CreateRefusal)) → first_some refusals ≡ None → AllByRecursion (λ refusal. refusal ≡ None) refusals
-all_none [] is = tt
-all_none (refusal ∷ more) is = (or_first refusal (first_some more) is, all_none more (or_second refusal (first_some more) is))
-
 good_create : (h : Host) (name : List ℕ) (blocks : ℕ) (tops : List (List (List ℕ))) → create_refusal h name blocks tops ≡ None → IsGoodCreate h.table tops
-good_create h name blocks tops none =
-    let all = all_none (
-      refused_if (is_some (named name h.pools)) NameTaken
-      ∷ too_many 16 (length h.pools + 1)
-      ∷ too_many 8 (length tops)
-      ∷ too_wide tops
-      ∷ too_many 32 (length (all_names tops))
-      ∷ refused_if ((blocks == 0) || nat_lt 262144 blocks) (BadBlocks 262144)
-      ∷ refused_if (has_twice (all_names tops)) NameTwice
-      ∷ unknown h.table (all_names tops)
-      ∷ used h.pools (new_leaves h.table tops 1 1)
-      ∷ too_small h.table (new_leaves h.table tops 1 1)
-      ∷ []) none in record {
+good_create h name blocks tops none = let all = none_refused h name blocks tops none in record {
   low = let count = next_count tops 1 in
       let one = few 8 (length tops) all.1.1.0 in
       let two = few 32 (length (all_names tops)) all.1.1.1.1.0 in omega (arith, count, one, two);

@@ -22,11 +22,11 @@ use Rattle.pool_moves.specs.States.{PoolState, Side, seen}
 use Rattle.pool_moves.proofs.Making.{made_kept}
 use Rattle.pool_moves.proofs.CommitWalks.{found_walks}
 use Rattle.pool_runs.specs.Acts.{Act, Birth, Bare, Names, Takes, Bears, Closes, does, bare, born, pool_by, pool_along}
-use Rattle.pool_runs.specs.Creating.{NewLeaf, leaves_of, new_leaves, next_number, is_at, guid_at, top_at, least, least_under, room_or_none, room_under, new_own, new_leaf_seen, new_state, new_birth, create_refusal, too_small, AreStamps, AreDevsApart, MayCreate, FailsStamp, FoundBy, Creates, RowCreate, IsNew}
+use Rattle.pool_runs.specs.Creating.{NewLeaf, leaves_of, new_leaves, next_number, is_at, guid_at, top_at, least, least_under, room_or_none, room_under, new_own, new_leaf_seen, new_state, new_birth, or_else, first_some, refusals_of, create_refusal, AreStamps, AreDevsApart, MayCreate, FailsStamp, FoundBy, Creates, RowCreate, IsNew}
 use Rattle.pool_runs.specs.Devices.{Device, number_in, name_in, size_in}
 use Rattle.pool_runs.specs.Hosts.{Host, IsOpen, is_of, host_by, host_along}
 use Rattle.pool_runs.specs.Knowing.{Knows, MayActs, AreOwnActs}
-use Rattle.pool_runs.specs.Lines.{Reply}
+use Rattle.pool_runs.specs.Lines.{CreateRefusal, Reply}
 use Rattle.pool_runs.proofs.Knowing.{other_may}
 
 -- Other pools.
@@ -40,6 +40,24 @@ create_may c h p name blocks tops acts reply knows (inl row) = subst (MayActs c 
 create_may c h p name blocks tops acts reply knows (inr (inl row)) = names_may c h p row.pool.0 row.stamps acts knows row.all row.own
 create_may c h p name blocks tops acts reply knows (inr (inr row)) =
     names_may c h p row.pool.0 (row.stamps ++ (Bears (new_birth name row.pool blocks h.table tops) ∷ row.rest)) acts knows row.all row.own
+
+-- What it takes that no refusal came.
+pub or_first : (a b : Option CreateRefusal) → or_else a b ≡ None → a ≡ None
+or_first (Some x) b is = absurd (cc)
+or_first None b is = refl
+
+pub or_second : (a b : Option CreateRefusal) → or_else a b ≡ None → b ≡ None
+or_second (Some x) b is = absurd (cc)
+or_second None b is = is
+
+all_none : (refusals : List (Option CreateRefusal)) → first_some refusals ≡ None → AllByRecursion (λ refusal. refusal ≡ None) refusals
+all_none [] is = tt
+all_none (refusal ∷ more) is = (or_first refusal (first_some more) is, all_none more (or_second refusal (first_some more) is))
+
+-- none of its refusals came
+pub none_refused : (h : Host) (name : List ℕ) (blocks : ℕ) (tops : List (List (List ℕ))) → create_refusal h name blocks tops ≡ None
+    → AllByRecursion (λ refusal. refusal ≡ None) (refusals_of h name blocks tops)
+none_refused h name blocks tops none = all_none (refusals_of h name blocks tops) none
 
 -- Lists of new leaves.
 pub all_two : {A : Type 0} (P Q R : A → Type 0) → ((x : A) → P x → Q x → R x) → (xs : List A) → AllByRecursion P xs → AllByRecursion Q xs → AllByRecursion R xs

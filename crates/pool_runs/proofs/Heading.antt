@@ -62,6 +62,7 @@ use Rattle.pool_runs.proofs.Acting.{acts_more, history_pool}
 use Rattle.pool_runs.proofs.Answering.{all_answer, does_calls, read_calls}
 use Rattle.pool_runs.proofs.Counting.{NoFault, fault_or, turn_suspends, sync_suspends, line_answered}
 use Rattle.pool_runs.proofs.Knowing.{may_more, acts_keep, acts_number}
+use Rattle.pool_runs.proofs.Members.{entry_keeps}
 use Rattle.pool_runs.proofs.Moments.{has_moment, acts_mays, keeps_all, may_take, acts_table, host_more, run_at, run_front}
 use Rattle.pool_runs.proofs.Pasting.{begins_known, then_pool, then_called, then_allowed, live_frozen}
 use Rattle.pool_runs.proofs.Running.{named_open, heard, run_may}
@@ -244,6 +245,7 @@ headline_from c past h acts entries f = record {
   loses = λ l name a s asked at is. line_loses c (host_before h l) (pool_before l) l.entry name a s (meets c past h acts entries f l) asked at is;
   required = λ l name device temporary s leaf group asked at is plain up. line_required c (host_before h l) (pool_before l) l.entry name device temporary s leaf group (meets c past h acts entries f l) asked at is plain up;
   scans = at_scans c past h acts entries f;
+  keeps = λ l d is. entry_keeps c (host_before h l) l.entry d (pool_before l) (meets c past h acts entries f l).row is;
   counts = λ l name s from to asked at caused bad. line_counts c (host_before h l) (pool_before l) l.entry name s from to (meets c past h acts entries f l) asked at caused bad;
 }
 

@@ -5,6 +5,7 @@ pub mod Counting
 pub mod Creating
 pub mod Heading
 pub mod Knowing
+pub mod Members
 pub mod Moments
 pub mod Pasting
 pub mod Running

@@ -201,19 +201,22 @@ abbrev pub first_some : List (Option CreateRefusal) → Option CreateRefusal
 first_some [] = None
 first_some (refusal ∷ more) = or_else refusal (first_some more)
 
+abbrev pub refusals_of : Host → (name : List ℕ) → (blocks : ℕ) → (tops : List (List (List ℕ))) → List (Option CreateRefusal)
+refusals_of h name blocks tops =
+    refused_if (is_some (named name h.pools)) NameTaken
+    ∷ too_many 16 (length h.pools + 1)
+    ∷ too_many 8 (length tops)
+    ∷ too_wide tops
+    ∷ too_many 32 (length (all_names tops))
+    ∷ refused_if ((blocks == 0) || nat_lt 262144 blocks) (BadBlocks 262144)
+    ∷ refused_if (has_twice (all_names tops)) NameTwice
+    ∷ unknown h.table (all_names tops)
+    ∷ used h.pools (new_leaves h.table tops 1 1)
+    ∷ too_small h.table (new_leaves h.table tops 1 1)
+    ∷ []
+
 abbrev pub create_refusal : Host → (name : List ℕ) → (blocks : ℕ) → (tops : List (List (List ℕ))) → Option CreateRefusal
-create_refusal h name blocks tops = first_some (
-  refused_if (is_some (named name h.pools)) NameTaken
-  ∷ too_many 16 (length h.pools + 1)
-  ∷ too_many 8 (length tops)
-  ∷ too_wide tops
-  ∷ too_many 32 (length (all_names tops))
-  ∷ refused_if ((blocks == 0) || nat_lt 262144 blocks) (BadBlocks 262144)
-  ∷ refused_if (has_twice (all_names tops)) NameTwice
-  ∷ unknown h.table (all_names tops)
-  ∷ used h.pools (new_leaves h.table tops 1 1)
-  ∷ too_small h.table (new_leaves h.table tops 1 1)
-  ∷ [])
+create_refusal h name blocks tops = first_some (refusals_of h name blocks tops)
 
 -- The stamps of these leaves, one after another, up to the first call that failed, with the leaf on whose device it did.
 abbrev pub AreStamps : (pool : Guid) → (size : ℕ → ℕ) → List NewLeaf → List Act → (failed : Option NewLeaf) → Type 0

@@ -19,8 +19,9 @@ use Rattle.pool_runs.specs.HostRows.{acts_in}
 use Rattle.pool_runs.specs.Hosts.{Host, IsOpen}
 use Rattle.pool_runs.specs.Knowing.{HasSeats}
 use Rattle.pool_runs.specs.Lines.{Asks_read, Asks_turn, Asks_sync, Asks_offline, Reply, To_read, To_offline, No_memory, Entry}
-use Rattle.pool_runs.specs.Moments.{Moment, events_at, pool_at, past_at, host_at, LineOf, pool_before, host_before, calls_in_line, IsOpenAs}
+use Rattle.pool_runs.specs.Moments.{Moment, events_at, pool_at, past_at, host_at, LineOf, pool_before, pool_behind, host_before, calls_in_line, IsOpenAs}
 use Rattle.pool_runs.specs.Pasts.{Past, pool_of, Left, HasFrozen}
+use Rattle.pool_runs.specs.Taking.{IsTakenBy}
 
 -- Behind so many of the run's device calls there is a moment, and the pool's history has just these calls then.
 pub record HasMoment (past : Past) (acts : List Act) (entries : List Entry) (k : ℕ) : Type 0 where
@@ -66,6 +67,8 @@ pub record Headline (c : Codec) (past : Past) (h : Host) (acts : List Act) (entr
   -- scans clear only copied groups, and else a group leaves a log only where its number is burned, at an opening, or with its leaf
   pub scans : (m : Moment c past acts entries) (before : List Event) (v : Event) (d g : ℕ) → events_at m ≡ before ++ (v ∷ []) → (pool_after before (pool_of past)).member d ≡ true
       → (pool_after before (pool_of past)).owes d g ≡ true → (pool_at m).owes d g ≡ false → TakesFor (pool_of past) before v d g
+  -- a member stays one, unless this very line is a create that names its device and wasn't refused
+  pub keeps : (l : LineOf c past acts entries) (d : ℕ) → (pool_before l).member d ≡ true → ((pool_behind l).member d ≡ true) ⊎ IsTakenBy (host_before h l) l.entry d
   -- a turn or a sync is refused as suspended only where a device's count rose in that very line, or some top had nobody left on its board before
   pub counts : (l : LineOf c past acts entries) (name : List ℕ) (s : PoolState) (from to : ℕ → ℕ) → (l.entry.asked ≡ Asks_turn name) ⊎ (l.entry.asked ≡ Asks_sync name)
       → IsOpenAs (pool_before l) (host_before h l) name s → AllCaused (calls_in_line l) from to → Suspends l.entry.reply → SomeRose from to ⊎ HasLostBoard s

@@ -10,3 +10,4 @@ pub mod Knowing
 pub mod Lines
 pub mod Moments
 pub mod Pasts
+pub mod Taking

@@ -38,9 +38,12 @@ pub record LineOf (c : Codec) (past : Past) (acts : List Act) (entries : List En
   pub all : entries ≡ before ++ (entry ∷ later)
   pub fair : AreFair c (pool_of past) (acts ++ acts_in before)
 
--- the pool and the host as the line meets them, and its device calls
+-- the pool as the line meets it and as it leaves it, the host as the line meets it, and its device calls
 abbrev pub pool_before : {c : Codec} {past : Past} {acts : List Act} {entries : List Entry} → LineOf c past acts entries → Pool
 pool_before {c} {past} {acts} {entries} l = pool_along (acts ++ acts_in l.before) (pool_of past)
+
+abbrev pub pool_behind : {c : Codec} {past : Past} {acts : List Act} {entries : List Entry} → LineOf c past acts entries → Pool
+pool_behind {c} {past} {acts} {entries} l = pool_along l.entry.acts (pool_before l)
 
 abbrev pub host_before : {c : Codec} {past : Past} {acts : List Act} {entries : List Entry} → Host → LineOf c past acts entries → Host
 host_before {c} {past} {acts} {entries} h l = host_by (Hears l.entry.second) (host_along (acts ++ acts_in l.before) h)
