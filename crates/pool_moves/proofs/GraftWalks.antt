@@ -55,7 +55,7 @@ lose_elsewhere p d (At e found own ∷ seats) = (by (d == e) refl, lose_elsewher
     by false off = off
 lose_elsewhere p d (Adrift leaf ∷ seats) = (tt, lose_elsewhere p d seats)
 
-step_elsewhere : (v : Move) (p : Pool) (d : ℕ) (seats : List Seat) → AllByRecursion (IsElsewhere d) seats → AllByRecursion (IsElsewhere d) (map (seat_step v p) seats)
+pub step_elsewhere : (v : Move) (p : Pool) (d : ℕ) (seats : List Seat) → AllByRecursion (IsElsewhere d) seats → AllByRecursion (IsElsewhere d) (map (seat_step v p) seats)
 step_elsewhere v p d seats all = all_map (IsElsewhere d) (IsElsewhere d) (seat_step v p) (λ seat off. elsewhere_kept d seat (seat_step v p seat) (place_kept v p seat) off) seats all
 
 -- Behind calls the seats and the state are as they were.

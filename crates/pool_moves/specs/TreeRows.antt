@@ -1,5 +1,5 @@
 -- `attach`, `replace` and `detach` as rows.
-use Rattle.std.specs.Prelude.{◌≡◌, ◌⊎◌, ℕ, suc, ◌+◌, ◌≤◌, ◌^◌, ◌==◌, nat_le, nat_lt, Bool, true, false, not, cond, Option, Some, None, List, [], ◌∷◌, ◌++◌, length}
+use Rattle.std.specs.Prelude.{◌≡◌, ◌⊎◌, ℕ, suc, ◌+◌, ◌≤◌, ◌^◌, ◌==◌, nat_le, nat_lt, Bool, true, false, not, cond, Option, Some, None, List, [], ◌∷◌, ◌++◌, length, slice_get}
 use Rattle.std.specs.List.{AllByRecursion, list_any}
 use Rattle.std.specs.Str.{bytes_eq}
 use Rattle.mp_base.specs.declared.number.Guid.{Guid}
@@ -19,7 +19,7 @@ use Rattle.pool_moves.specs.LineRows.{TurnReply, Committed, Suspended, CommitsOp
 use Rattle.pool_moves.specs.Moves.{Move, Lose, Comes, Goes, Returns, Rest, Shapes, steps}
 use Rattle.pool_moves.specs.Refusing.{FreezeRefusal, IsRefused}
 use Rattle.pool_moves.specs.ScanRows.{starts_scan}
-use Rattle.pool_moves.specs.States.{PoolState}
+use Rattle.pool_moves.specs.States.{PoolState, Side}
 use Rattle.pool_moves.specs.Trees.{Child, has_child, has_replaceable, attached, replaced, pruned}
 use Rattle.pool_moves.specs.Walking.{as_moves}
 
@@ -231,3 +231,7 @@ DetachBy (Some leaf) c size s name seat vs reply = DetachLeaf s.core.group.froze
 -- `detach`, where the history has the leaf at this seat, which no code knows: the row is one for each seat
 abbrev pub RowDetach : Codec → (size : ℕ → ℕ) → PoolState → (name : List ℕ) → Seat → List Move → DetachReply → Type 0
 RowDetach c size s name seat vs reply = DetachBy (leaf_named name s.core.leaves) c size s name seat vs reply
+
+-- where the list has a leaf of this name, the history has it at this seat
+abbrev pub IsSeatOf : PoolState → Side → (name : List ℕ) → Seat → Type 0
+IsSeatOf s t name seat = (leaf : LeafSeen) → leaf_named name s.core.leaves ≡ Some leaf → slice_get t.seats (place_named name s.core.leaves) ≡ Some seat
