@@ -1,5 +1,5 @@
 -- Writes may be taken and leaves may go offline: their walks from their rows.
-use Rattle.std.proofs.Common.{◌≡◌, ◌⊎◌, inl, inr, ⊎_elim, ℕ, ◌==◌, nat_lt, Bool, true, false, cond, Option, Some, None, List, [], ◌∷◌, ◌++◌, map, refl, sym, ap, ◌∙◌, subst, arith}
+use Rattle.std.proofs.Common.{◌≡◌, inl, inr, ℕ, ◌==◌, nat_lt, Bool, true, false, cond, Option, Some, None, List, [], ◌∷◌, ◌++◌, map, refl, sym, ap, ◌∙◌, subst, arith}
 use Rattle.std.specs.List.{AllByRecursion, find}
 use Rattle.std.specs.Str.{bytes_eq}
 use Rattle.std.proofs.lemmas.Bool.Decides.{nat_tests}
@@ -8,10 +8,10 @@ use Rattle.txg_history.specs.Pools.{Pool}
 use Rattle.txg_history.proofs.Logging.{by_bool, same_device, true_not_false}
 use Rattle.pool_moves.specs.AwayRows.{WriteReply, WriteFits, WriteBy, RowWrite, OfflineReply, is_offline, is_spare, leave_if, drop_if, gone, away_moves, OfflineLeaf, OfflineHere, OfflineBy, leaf_named, RowOffline}
 use Rattle.pool_moves.specs.Keeping.{IsElsewhere, AreSeatsApart, IsAway, IsOfFound, IsFoundAt, HasFound, Kept, Walks}
-use Rattle.pool_moves.specs.Leaves.{OwnLeaf, LeafSeen, Seat, At, Adrift, Told, told, dev_if, leaf_seen}
-use Rattle.pool_moves.specs.Moves.{Move, Puts, Leave, Drop, Sets, after_moves}
+use Rattle.pool_moves.specs.Leaves.{LeafSeen, Seat, At, Adrift, told, dev_if, leaf_seen}
+use Rattle.pool_moves.specs.Moves.{Move, Leave, Sets, after_moves}
 use Rattle.pool_moves.specs.Refusing.{count_below, keys_needed, written_with, dirty_with}
-use Rattle.pool_moves.specs.States.{PoolSeen, PoolState, Side, seen}
+use Rattle.pool_moves.specs.States.{PoolState, Side}
 use Rattle.pool_moves.proofs.Boarding.{found_alone}
 use Rattle.pool_moves.proofs.FreeWalks.{walks_more, found_stays}
 use Rattle.pool_moves.proofs.FreezeWalks.{found_elsewhere}
@@ -110,8 +110,8 @@ away_walk c t leaf temporary apart at =
     walks_more c (leave_if leaf.on leaf.dev) (drop_if leaf.eligible leaf.dev ++ (Sets leaf.guid (gone temporary leaf.own) ∷ [])) t
     (leave_walk c t leaf.on leaf.dev apart at.0)
     (walks_more c (drop_if leaf.eligible leaf.dev) (Sets leaf.guid (gone temporary leaf.own) ∷ []) behind (drop_walk c behind leaf.eligible leaf.dev (λ on d dev. (
-    leave_scan leaf.on leaf.dev t ∙ (at.1 on d dev).0,
-    leave_found leaf.on leaf.dev t d (λ out e is. only_found e t.seats apart ((at.0 out).1 e is)) (only_found d t.seats apart (at.1 on d dev).1),
+      leave_scan leaf.on leaf.dev t ∙ (at.1 on d dev).0,
+      leave_found leaf.on leaf.dev t d (λ out e is. only_found e t.seats apart ((at.0 out).1 e is)) (only_found d t.seats apart (at.1 on d dev).1),
     ))) ((tt, tt), tt))
   where
     behind : Side

@@ -1,13 +1,10 @@
 -- A leaf may be taken out: the walk of `detach` from its row.
-use Rattle.std.proofs.Common.{◌≡◌, ◌⊎◌, inl, inr, ⊎_elim, ℕ, suc, ◌+◌, ◌≤◌, ◌==◌, ◌&&◌, Bool, true, false, cond, Option, Some, None, List, [], ◌∷◌, ◌++◌, map, refl, sym, ap, ◌∙◌, subst, arith, append_assoc}
+use Rattle.std.proofs.Common.{◌≡◌, inl, inr, ℕ, ◌≤◌, ◌==◌, ◌&&◌, Bool, true, false, cond, Option, Some, None, List, [], ◌∷◌, ◌++◌, refl, sym, ap, ◌∙◌, subst, arith}
 use Rattle.std.specs.Prelude.{slice_get}
 use Rattle.std.specs.List.{AllByRecursion, remove}
 use Rattle.std.specs.Str.{bytes_eq}
 use Rattle.std.proofs.lemmas.Bool.Decides.{nat_tests}
 use Rattle.mp_base.specs.declared.number.Guid.{Guid}
-use Rattle.bank_core.specs.declared.bank.Fault.{Fault}
-use Rattle.bank_core.specs.Asks.{IsPart}
-use Rattle.bank_core.specs.Disk.{Noted}
 use Rattle.txg_history.specs.Groups.{no_log}
 use Rattle.txg_history.specs.Losses.{IsStampPlan, IsWipe, IsMark}
 use Rattle.txg_history.specs.Pages.{Codec}
@@ -16,15 +13,13 @@ use Rattle.txg_history.specs.Survival.{Survives}
 use Rattle.txg_history.proofs.Logging.{by_bool, same_device, true_not_false}
 use Rattle.txg_history.proofs.Losing.{stamps_may}
 use Rattle.pool_moves.specs.AwayRows.{IsRequired, is_spare, leaf_named}
-use Rattle.pool_moves.specs.FreezeRow.{RowFreeze}
 use Rattle.pool_moves.specs.Keeping.{IsElsewhere, AreSeatsApart, IsAway, IsSeated, IsOwnNumber, IsUnder, HasUnder, IsOfFound, IsNotFoundAt, MayReturn, MayGo, Kept, Walks}
 use Rattle.pool_moves.specs.Leaves.{OwnLeaf, LeafSeen, Seat, At, Adrift, dev_if, told, leaf_seen}
 use Rattle.pool_moves.specs.LineRows.{IsSized, TurnReply, Idle, Write, Flush, Round, Committed, Suspended, CommitsOpen}
-use Rattle.pool_moves.specs.Moves.{Move, Makes, Freeze, Burn, Lose, Goes, Returns, Shapes, steps, after_move, after_moves}
+use Rattle.pool_moves.specs.Moves.{Move, Freeze, Burn, Lose, steps, after_move, after_moves}
 use Rattle.pool_moves.specs.Refusing.{FreezeRefusal}
 use Rattle.pool_moves.specs.States.{PoolSeen, PoolState, Side, seen}
-use Rattle.pool_moves.specs.TreeRows.{place_named, DetachReply, goes_out, comes_back, is_there, clean_plan, IsCleaned, DetachBehind, CommitsWithout, DetachFor, DetachLeaf, DetachBy, RowDetach, IsSeatOf}
-use Rattle.pool_moves.specs.Walking.{as_moves}
+use Rattle.pool_moves.specs.TreeRows.{place_named, DetachReply, goes_out, is_there, clean_plan, IsCleaned, DetachBehind, CommitsWithout, DetachFor, DetachLeaf, DetachBy, RowDetach, IsSeatOf}
 use Rattle.pool_moves.proofs.Boarding.{all_at}
 use Rattle.pool_moves.proofs.FreeWalks.{walks_more, moves_more}
 use Rattle.pool_moves.proofs.FreezeWalks.{is_idle}
@@ -32,7 +27,7 @@ use Rattle.pool_moves.proofs.Keeping.{walk_keeps}
 use Rattle.pool_moves.proofs.LineWalks.{IsWithin, open_walks, sized_along}
 use Rattle.pool_moves.proofs.Leaving.{leaf_there, not_required, sibling_left, under_kept, top_is_one, apart_others, elsewhere_along, Aside, aside, aside_along, AsideIn, aside_stays, aside_frozen, aside_burnt}
 use Rattle.pool_moves.proofs.ReadWalks.{calls_walk}
-use Rattle.pool_moves.proofs.Shaping.{IsOfCommit, BurnsLast, AreCommitMoves, IsFreeze, commit_moves}
+use Rattle.pool_moves.proofs.Shaping.{IsOfCommit, IsFreeze, commit_moves}
 
 -- The leaf of a name, by the history: where it is in the list, and that it has a sibling.
 record IsThere (t : Side) (i : ℕ) (leaf : LeafSeen) (seat : Seat) : Type 0 where

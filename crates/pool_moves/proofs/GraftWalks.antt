@@ -1,36 +1,34 @@
 -- A leaf may be brought in: the walk of `attach` and of `replace` from its row.
-use Rattle.std.proofs.Common.{◌≡◌, ◌⊎◌, inl, inr, ℕ, suc, ◌+◌, ◌<◌, ◌≤◌, ◌^◌, ◌==◌, nat_le, nat_lt, Bool, true, false, cond, Option, Some, None, List, [], ◌∷◌, ◌++◌, map, length, refl, sym, ap, ◌∙◌, subst, arith, append_assoc}
+use Rattle.std.proofs.Common.{◌≡◌, ℕ, ◌+◌, ◌<◌, ◌≤◌, ◌^◌, ◌==◌, nat_le, nat_lt, Bool, true, false, cond, Option, Some, None, List, [], ◌∷◌, ◌++◌, map, length, refl, sym, ap, ◌∙◌, subst, arith}
 use Rattle.std.specs.List.{AllByRecursion}
 use Rattle.std.proofs.lemmas.Bool.Decides.{nat_tests}
 use Rattle.mp_base.specs.declared.number.Guid.{Guid}
 use Rattle.bank_core.specs.declared.bank.Fault.{Fault}
 use Rattle.bank_core.specs.Asks.{IsPart}
-use Rattle.bank_core.specs.Disk.{Noted, run}
+use Rattle.bank_core.specs.Disk.{Noted}
 use Rattle.label_store.specs.Plans.{stamp_plan}
-use Rattle.txg_history.specs.Events.{Loses, Rests, as_events}
+use Rattle.txg_history.specs.Events.{Loses, Rests}
 use Rattle.txg_history.specs.Groups.{at_device}
 use Rattle.txg_history.specs.Losses.{IsStamp}
-use Rattle.txg_history.specs.Moves.{Mays, MayJoin}
+use Rattle.txg_history.specs.Moves.{MayJoin}
 use Rattle.txg_history.specs.Pages.{Codec}
 use Rattle.txg_history.specs.Pools.{Pool, after}
 use Rattle.txg_history.proofs.Folding.{with_calls}
-use Rattle.txg_history.proofs.Logging.{by_bool}
 use Rattle.txg_history.proofs.Losing.{stamps_may}
 use Rattle.txg_history.proofs.Stamping.{stamp_blanks}
-use Rattle.pool_moves.specs.AwayRows.{leaf_named, is_listed}
+use Rattle.pool_moves.specs.AwayRows.{leaf_named}
 use Rattle.pool_moves.specs.FreezeRow.{is_dev}
 use Rattle.pool_moves.specs.Keeping.{IsElsewhere, IsNotFoundAt, Kept, Walks}
 use Rattle.pool_moves.specs.Leaves.{OwnLeaf, LeafSeen, Seat, At, Adrift, dev_if, told, leaf_seen}
 use Rattle.pool_moves.specs.LineRows.{IsSized}
-use Rattle.pool_moves.specs.Moves.{Move, Makes, Lose, Comes, Rest, Shapes, seat_step, step, state_step, steps, after_move, after_moves}
+use Rattle.pool_moves.specs.Moves.{Move, Makes, Lose, Comes, Rest, Shapes, seat_step, state_step, steps, after_move, after_moves}
 use Rattle.pool_moves.specs.ScanRows.{starts_scan}
-use Rattle.pool_moves.specs.States.{PoolState, Side, seen}
+use Rattle.pool_moves.specs.States.{PoolState, Side}
 use Rattle.pool_moves.specs.Trees.{Child}
-use Rattle.pool_moves.specs.TreeRows.{Graft, Attach, Replace, TreeRefusal, limit_if, last_member, numbers_limit, leaves_limit, limits_of, graft_limits, refusal_at, graft_refusal, unnamed, has_place, numbered, new_number, grafted, new_place, new_own, GraftReply, comes_in, graft_first, GraftEnds, IsStamped, GraftOn, GraftAt, GraftFor, RowGraft}
+use Rattle.pool_moves.specs.TreeRows.{Graft, Attach, Replace, TreeRefusal, limit_if, last_member, numbers_limit, leaves_limit, limits_of, graft_limits, refusal_at, graft_refusal, has_place, new_number, grafted, new_place, new_own, GraftReply, comes_in, graft_first, GraftEnds, GraftOn, GraftAt, GraftFor, RowGraft}
 use Rattle.pool_moves.specs.Walking.{as_moves}
 use Rattle.pool_moves.proofs.FreeWalks.{walks_more, moves_more}
 use Rattle.pool_moves.proofs.Keeping.{all_map, walk_keeps, other_numbers, elsewhere_kept, place_kept, here}
-use Rattle.pool_moves.proofs.LineWalks.{sized_along}
 use Rattle.pool_moves.proofs.ReadWalks.{calls_walk}
 use Rattle.pool_moves.proofs.ScanEnds.{start_walk}
 use Rattle.pool_moves.proofs.ScanSteps.{calls_pool}
@@ -146,13 +144,16 @@ comes_walk : (c : Codec) (s : PoolState) (t : Side) (i d : ℕ) (m : Guid) (top 
 comes_walk c s t i d m top own children made kept may above walks = (
   ((tt, tt), tt),
   (
-    ((subst (λ p. MayJoin (after Rests p) d m top) (sym (calls_pool made (after_move (Lose d) t))) may, tt), record {
-      elsewhere = step_elsewhere Rest stamped.pool d stamped.seats
-          (subst (AllByRecursion (IsElsewhere d)) (sym (calls_seats made (after_move (Lose d) t))) (lose_elsewhere t.pool d t.seats));
-      others = other_numbers (after_move Rest stamped).pool.guid rested.own.next_member m (subst (λ n. n ≤ m.0) (sym same_next) above) (after_move Rest stamped).seats
-          (walk_keeps c (Rest ∷ []) (steps (Lose d ∷ as_moves made) s) stamped (((tt, tt), tt), tt) (walk_keeps c (Lose d ∷ as_moves made) s t walks kept)).numbers.below;
-      at_rest = refl;
-    }),
+    (
+      (subst (λ p. MayJoin (after Rests p) d m top) (sym (calls_pool made (after_move (Lose d) t))) may, tt),
+      record {
+        elsewhere = step_elsewhere Rest stamped.pool d stamped.seats
+            (subst (AllByRecursion (IsElsewhere d)) (sym (calls_seats made (after_move (Lose d) t))) (lose_elsewhere t.pool d t.seats));
+        others = other_numbers (after_move Rest stamped).pool.guid rested.own.next_member m (subst (λ n. n ≤ m.0) (sym same_next) above) (after_move Rest stamped).seats
+            (walk_keeps c (Rest ∷ []) (steps (Lose d ∷ as_moves made) s) stamped (((tt, tt), tt), tt) (walk_keeps c (Lose d ∷ as_moves made) s t walks kept)).numbers.below;
+        at_rest = refl;
+      },
+    ),
     ((tt, tt), tt),
   ),
 )

@@ -1,20 +1,19 @@
 -- A state keeps, behind a move that the history allows and the state admits, what it kept before.
-use Rattle.std.proofs.Common.{◌≡◌, ◌⊎◌, inl, inr, ⊎_elim, ℕ, suc, zero, ◌+◌, ◌<◌, ◌≤◌, ◌==◌, max, Bool, true, false, cond, Option, Some, None, List, [], ◌∷◌, ◌++◌, map, take, drop, refl, sym, ap, ◌∙◌, subst, arith}
+use Rattle.std.proofs.Common.{◌≡◌, ◌⊎◌, inl, inr, ⊎_elim, ℕ, suc, zero, ◌+◌, ◌<◌, ◌≤◌, ◌==◌, max, Bool, true, false, cond, Option, Some, None, List, [], ◌∷◌, map, take, refl, sym, ap, ◌∙◌, subst, arith}
 use Rattle.std.specs.List.{AllByRecursion, insert, remove}
 use Rattle.std.proofs.lemmas.Bool.Decides.{nat_tests}
 use Rattle.mp_base.specs.declared.number.Guid.{Guid}
 use Rattle.txg_history.specs.Groups.{at_device}
 use Rattle.txg_history.specs.Moves.{Mays}
 use Rattle.txg_history.specs.Pages.{Codec}
-use Rattle.txg_history.specs.Pools.{Pool, after, pool_after, other_than}
-use Rattle.txg_history.specs.Records.{Rec, IsIn, Cell, block_of, block_in, cell_over, laid_over, key}
-use Rattle.txg_history.specs.Survival.{Survives}
+use Rattle.txg_history.specs.Pools.{Pool, other_than}
+use Rattle.txg_history.specs.Records.{Rec, Cell, block_of, block_in, cell_over, key}
 use Rattle.txg_history.proofs.Logging.{by_bool, same_device, true_not_false, not_true}
 use Rattle.txg_history.proofs.Surviving.{history_survives}
-use Rattle.pool_moves.specs.Keeping.{IsElsewhere, AreSeatsApart, IsAway, IsSeated, IsOwnNumber, IsFoundAt, HasFound, IsUnder, HasUnder, IsDrafted, over, beneath, HasNumberBelow, KnowsBelow, AreNumbered, KnowsJust, Kept, IsOfFound, IsNotFoundAt, HasOtherNumber, MayReturn, MayCome, Admits, Walks}
+use Rattle.pool_moves.specs.Keeping.{IsElsewhere, AreSeatsApart, IsAway, IsSeated, IsOwnNumber, IsFoundAt, HasFound, IsUnder, HasUnder, IsDrafted, over, beneath, HasNumberBelow, KnowsBelow, AreNumbered, KnowsJust, Kept, IsOfFound, IsNotFoundAt, HasOtherNumber, MayCome, Admits, Walks}
 use Rattle.pool_moves.specs.Leaves.{OwnLeaf, LeafSeen, Seat, At, Adrift, dev_if, told, leaf_seen}
-use Rattle.pool_moves.specs.Moves.{Draft, Move, Makes, Puts, Freeze, Wrote_key, Flushed_all, Draw, Leave, Widen, Burn, Starts, Copies, Copied, Commits, Sets, Finds, Lose, Comes, Goes, Returns, Scan_from, Pass, Drop, Clear, Rest, Scrubs, Shapes, on_dev, leaf_cleared, leaf_step, step, burned, rec_of, state_step, steps, events_of, seat_step, seats_by, after_move, after_moves}
-use Rattle.pool_moves.specs.States.{group_seen, Side, seen, PoolState}
+use Rattle.pool_moves.specs.Moves.{Draft, Move, Makes, Puts, Freeze, Wrote_key, Flushed_all, Leave, Burn, Starts, Copies, Copied, Commits, Sets, Finds, Lose, Comes, Goes, Returns, Scan_from, Drop, Clear, Rest, Scrubs, Shapes, on_dev, leaf_cleared, leaf_step, step, burned, rec_of, state_step, steps, events_of, seat_step, seats_by, after_move, after_moves}
+use Rattle.pool_moves.specs.States.{group_seen, Side, PoolState}
 use Rattle.pool_moves.proofs.Seeing.{seen_step}
 
 -- Lists of seats.

@@ -1,13 +1,13 @@
 -- A leaf that is put aside while the pool commits without it: where it was in the list, and what the history has of it behind.
-use Rattle.std.proofs.Common.{◌≡◌, ◌⊎◌, inl, inr, ⊎_elim, ℕ, zero, suc, ◌+◌, ◌<◌, ◌≤◌, ◌==◌, ◌&&◌, not, Bool, true, false, cond, Option, Some, None, List, [], ◌∷◌, ◌++◌, map, refl, sym, ap, ◌∙◌, subst, arith}
+use Rattle.std.proofs.Common.{◌≡◌, inl, inr, ℕ, zero, suc, ◌+◌, ◌<◌, ◌≤◌, ◌==◌, ◌&&◌, not, Bool, true, false, cond, Some, List, [], ◌∷◌, map, refl, sym, ap, ◌∙◌, subst, arith}
 use mathlib.Core.Path.{fun_ext}
 use Rattle.std.specs.Prelude.{slice_get}
-use Rattle.std.specs.List.{AllByRecursion, find, filter, remove}
+use Rattle.std.specs.List.{AllByRecursion, find, remove}
 use Rattle.std.proofs.lemmas.Bool.{and_parts}
 use Rattle.std.proofs.lemmas.Bool.Decides.{nat_tests}
 use Rattle.mp_base.specs.declared.number.Guid.{Guid}
 use Rattle.txg_history.specs.Events.{Freezes}
-use Rattle.txg_history.specs.Groups.{between, grown, cleared, off, no_log}
+use Rattle.txg_history.specs.Groups.{between, off}
 use Rattle.txg_history.specs.Pages.{Codec}
 use Rattle.txg_history.specs.Pools.{Pool, after}
 use Rattle.txg_history.specs.Records.{Cells}
@@ -16,7 +16,7 @@ use Rattle.txg_history.specs.Survival.{Survives}
 use Rattle.txg_history.proofs.Logging.{by_bool, same_device, true_not_false, is_between, of_between}
 use Rattle.pool_moves.specs.AwayRows.{all_out, is_sibling, siblings, IsRequired}
 use Rattle.pool_moves.specs.Keeping.{IsElsewhere, AreSeatsApart, IsUnder, HasUnder}
-use Rattle.pool_moves.specs.Leaves.{OwnLeaf, LeafSeen, Seat, At, Adrift, dev_if, told, leaf_seen}
+use Rattle.pool_moves.specs.Leaves.{OwnLeaf, LeafSeen, Seat, At, Adrift, told, leaf_seen}
 use Rattle.pool_moves.specs.Moves.{Move, Makes, Freeze, Wrote_key, Flushed_all, Draw, Leave, Burn, Starts, Copies, Copied, Commits, Sets, seats_by, after_move, after_moves}
 use Rattle.pool_moves.specs.States.{Side}
 use Rattle.pool_moves.specs.TreeRows.{place_where}

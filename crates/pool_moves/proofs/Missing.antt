@@ -1,14 +1,13 @@
 -- A read is exhausted only where each leaf of the block's top missed it.
-use Rattle.std.proofs.Common.{◌≡◌, ◌⊎◌, inl, inr, ⊎_elim, ℕ, ◌+◌, ◌==◌, ◌&&◌, not, Bool, true, false, cond, Option, Some, None, List, [], ◌∷◌, ◌++◌, map, refl, sym, ap, ◌∙◌, subst, arith, append-nil}
+use Rattle.std.proofs.Common.{◌≡◌, inl, inr, ⊎_elim, ℕ, ◌+◌, ◌==◌, ◌&&◌, not, Bool, true, false, cond, Option, Some, None, List, [], ◌∷◌, ◌++◌, map, refl, sym, ap, ◌∙◌, subst, arith, append-nil}
 use Rattle.std.specs.List.{AllByRecursion, filter}
 use Rattle.std.proofs.lemmas.Bool.Decides.{nat_tests}
 use Rattle.sha2.specs.Sha256.{sha256}
 use Rattle.mp_base.specs.Block.{zero_block}
 use Rattle.mp_base.specs.declared.place.Key.{Key}
-use Rattle.bank_core.specs.Disk.{Read, Noted, Sectors, AllAnswer, run}
+use Rattle.bank_core.specs.Disk.{Noted, Sectors, AllAnswer, run}
 use Rattle.mirror_io.specs.declared.copies.CopyOf.{CopyOf}
 use Rattle.mirror_io.specs.Copies.{is_due, tries}
-use Rattle.mirror_io.specs.Mirror.{IsHealed}
 use Rattle.mirror_io.specs.Reads.{IsReads}
 use Rattle.txg_history.specs.Events.{Calls}
 use Rattle.txg_history.specs.Pages.{Codec, Sum, sum_of}
@@ -21,13 +20,12 @@ use Rattle.txg_history.proofs.Showing.{stays_damaged}
 use Rattle.vdev_tree.specs.Leaf.{is_up}
 use Rattle.pool_moves.specs.Keeping.{Kept}
 use Rattle.pool_moves.specs.Leaves.{LeafSeen}
-use Rattle.pool_moves.specs.Missing.{FailedAt, Lacked, Missed, AllMissed}
-use Rattle.pool_moves.specs.Moves.{Move, Makes, Sets}
-use Rattle.pool_moves.specs.ReadRow.{copy_at, copy_of, stands_under, copies_of, count_reads, RowCopies, ReadReply, Gives, Exhausted, NoAddress, reply_by, ReadRecord, ReadGroup, ReadOpen, RowRead, made_in}
+use Rattle.pool_moves.specs.Missing.{Lacked, Missed, AllMissed}
+use Rattle.pool_moves.specs.Moves.{Move}
+use Rattle.pool_moves.specs.ReadRow.{copy_at, copy_of, stands_under, copies_of, count_reads, RowCopies, Gives, Exhausted, NoAddress, reply_by, ReadRecord, ReadGroup, ReadOpen, RowRead, made_in}
 use Rattle.pool_moves.specs.States.{PoolState, Side, seen}
-use Rattle.pool_moves.specs.Walking.{as_moves}
 use Rattle.pool_moves.proofs.Keeping.{all_same}
-use Rattle.pool_moves.proofs.ReadWalks.{IsCopy, IsReadOrWrite, none_heals, read_one, plain_one, hurt_one, copies_on, tried_all, made_calls, answers_front, sum_of_cell}
+use Rattle.pool_moves.proofs.ReadWalks.{IsCopy, IsReadOrWrite, none_heals, read_one, plain_one, hurt_one, copies_on, tried_all, made_calls, sum_of_cell}
 
 -- What a copy's device shows behind the reads of a list: it lacked the block where its leaf doesn't owe it.
 abbrev IsLacked : (sectors : Sectors) → (at : ℕ) → List Noted → CopyOf → Type 0
@@ -88,8 +86,10 @@ unfiltered : {A : Type 0} (P : A → Type 0) (test : A → Bool) (xs : List A) �
 unfiltered P test [] all = tt
 unfiltered P test (x ∷ xs) all = by_bool (test x)
     (λ is. let here = subst (λ t. AllByRecursion P (cond t (x ∷ filter test xs) (filter test xs))) is all in ((λ t. here.0), unfiltered P test xs here.1))
-    (λ off. ((λ is. absurd (let no : true ≡ false = sym is ∙ off in cc)),
-    unfiltered P test xs (subst (λ t. AllByRecursion P (cond t (x ∷ filter test xs) (filter test xs))) off all)))
+    (λ off. (
+      (λ is. absurd (let no : true ≡ false = sym is ∙ off in cc)),
+      unfiltered P test xs (subst (λ t. AllByRecursion P (cond t (x ∷ filter test xs) (filter test xs))) off all),
+    ))
 
 unmapped : {A B : Type 0} (Q : B → Type 0) (f : A → B) (xs : List A) → AllByRecursion Q (map f xs) → AllByRecursion (λ x. Q (f x)) xs
 unmapped Q f [] all = tt

@@ -4,7 +4,7 @@ use Rattle.std.specs.Option.{option_map, is_some}
 use Rattle.txg_history.specs.Pages.{Codec}
 use Rattle.txg_history.specs.Records.{Cell, Cells, key}
 use Rattle.txg_history.proofs.Logging.{by_bool}
-use Rattle.pool_moves.specs.FreezeRow.{HasChild, AreDirtyKeys}
+use Rattle.pool_moves.specs.FreezeRow.{AreDirtyKeys}
 use Rattle.pool_moves.specs.Refusing.{any_below, dirty_at, is_written}
 use Rattle.pool_moves.specs.States.{PoolState}
 

@@ -1,19 +1,19 @@
 -- The calls of a scan's step may be made, and leave each copy where the scan may come past it.
-use Rattle.std.proofs.Common.{◌≡◌, ◌≢◌, ◌⊎◌, inl, inr, ⊎_elim, ℕ, suc, zero, ◌+◌, ◌==◌, ◌&&◌, ◌||◌, not, Bool, true, false, cond, Option, Some, None, List, [], ◌∷◌, ◌++◌, map, length, drop, refl, sym, ap, ◌∙◌, subst, arith}
-use Rattle.std.specs.List.{AllByRecursion, filter, list_any}
-use Rattle.std.specs.Option.{is_none, is_some}
+use Rattle.std.proofs.Common.{◌≡◌, ◌⊎◌, inl, inr, ⊎_elim, ℕ, ◌+◌, ◌==◌, ◌&&◌, ◌||◌, Bool, true, false, cond, Option, Some, None, List, [], ◌∷◌, ◌++◌, map, length, refl, sym, ap, ◌∙◌, subst, arith}
+use Rattle.std.specs.List.{AllByRecursion, filter}
+use Rattle.std.specs.Option.{is_none}
 use Rattle.std.proofs.lemmas.Bool.{and_parts}
 use Rattle.std.proofs.lemmas.Bool.Decides.{nat_tests}
 use Rattle.sha2.specs.Sha256.{sha256}
 use Rattle.mp_base.specs.declared.place.Key.{Key}
 use Rattle.bank_core.specs.declared.bank.Fault.{Fault}
-use Rattle.bank_core.specs.Asks.{Ask, Writes, ask_of, asks_of}
+use Rattle.bank_core.specs.Asks.{Writes, ask_of, asks_of}
 use Rattle.bank_core.specs.Calls.{device_of, fault_of}
-use Rattle.bank_core.specs.Disk.{Call, Read, Write, Noted, Sectors, AllAnswer, run, covers, sectors_in}
+use Rattle.bank_core.specs.Disk.{Call, Read, Write, Noted, AllAnswer, covers, sectors_in}
 use Rattle.bank_core.specs.Standing.{touches, Untouched}
 use Rattle.bank_core.proofs.Standing.{untouched_more}
 use Rattle.mirror_io.specs.declared.copies.CopyOf.{CopyOf}
-use Rattle.mirror_io.specs.Copies.{is_due, tries}
+use Rattle.mirror_io.specs.Copies.{is_due}
 use Rattle.mirror_io.specs.Reads.{IsReads, rewrites}
 use Rattle.txg_history.specs.Events.{Calls, as_events}
 use Rattle.txg_history.specs.Groups.{Logs}
@@ -30,7 +30,7 @@ use Rattle.txg_history.proofs.Writing.{heal_sparing, copy_sparing}
 use Rattle.pool_moves.specs.FreezeRow.{is_dev}
 use Rattle.pool_moves.specs.Keeping.{IsElsewhere, AreSeatsApart, IsAway, IsSeated}
 use Rattle.pool_moves.specs.Leaves.{LeafSeen, Seat, At, Adrift, told, leaf_seen}
-use Rattle.pool_moves.specs.ReadRow.{copy_at, copy_of, stands_under}
+use Rattle.pool_moves.specs.ReadRow.{copy_at, copy_of}
 use Rattle.pool_moves.specs.ScanRows.{is_settled_under, targets, AreLooked, has_copied, WereRead}
 use Rattle.pool_moves.proofs.ReadWalks.{IsCopy, hurt_one, read_one, write_call}
 
@@ -78,7 +78,7 @@ copy_first c p k cell copy more [] sv at ahead target asks rest = absurd (cc)
 copy_first c p k cell copy more (noted ∷ made) sv at ahead target asks rest =
     let call = write_call noted.call copy.dev (data_start + cell.sector) cell.block (let a : ask_of noted.call ≡ Writes copy.dev (data_start + cell.sector) cell.block = cc in a) in
     let sparing = subst (IsSparing p) (sym call.1) (copy_sparing c p k cell copy.dev call.0 sv at
-        (λ is. (target.is_copy.top_is, target.is_settled, not_scanned c p k cell copy.dev sv at ahead target.is_copy.top_is))) in
+    (λ is. (target.is_copy.top_is, target.is_settled, not_scanned c p k cell copy.dev sv at ahead target.is_copy.top_is))) in
     (sparing, rest noted made (event_survives c p (Calls noted) sv sparing) (let b : asks_of made ≡ rewrites (data_start + cell.sector) cell.block more = cc in b))
 
 pub copies_may : (c : Codec) (p : Pool) (k : Key) (cell : Cell) (copies : List CopyOf) (made : List Noted) → Survives c p → p.reads.cells k ≡ Some cell → p.scan.passed k ≡ false
@@ -109,8 +109,7 @@ looks_may c p k cell (copy ∷ more) (noted ∷ made) sv at are has answers (inr
     let sparing = read_one c p noted copy.dev (data_start + cell.sector) differs.bytes None differs.gives.is in
     let read = event_survives c p (Calls noted) sv sparing in
     let hurt = hurt_one c p k cell copy noted differs.bytes sv at are.0 differs.gives.is differs.gives.whole differs.other answers.0 has.0 in
-    let again = look_rewrite c (after (Calls noted) p) k cell copy rewrite read at are.0 hurt ask in
-    (
+    let again = look_rewrite c (after (Calls noted) p) k cell copy rewrite read at are.0 hurt ask in (
       sparing,
       subst (λ made. Mays c (after (Calls noted) p) (as_events made)) (sym made_is) (
         again,

@@ -1,8 +1,7 @@
 -- A scan may start, end and be stopped: the walks from their rows.
-use Rattle.std.proofs.Common.{◌≡◌, ◌⊎◌, inl, inr, ⊎_elim, ℕ, ◌+◌, ◌≤◌, ◌==◌, ◌&&◌, Bool, true, false, cond, Option, Some, None, List, [], ◌∷◌, ◌++◌, map, refl, sym, ap, ◌∙◌, subst, arith}
+use Rattle.std.proofs.Common.{◌≡◌, ◌⊎◌, inl, inr, ℕ, ◌≤◌, ◌==◌, ◌&&◌, Bool, true, false, cond, Option, Some, None, List, [], ◌∷◌, ◌++◌, map, refl, sym, ap, ◌∙◌, subst, arith}
 use Rattle.std.specs.List.{AllByRecursion, find}
 use Rattle.std.proofs.lemmas.Bool.Decides.{nat_tests}
-use Rattle.mp_base.specs.declared.number.Guid.{Guid}
 use Rattle.mp_base.specs.declared.place.Key.{Key}
 use Rattle.bank_core.specs.declared.bank.Fault.{Fault}
 use Rattle.bank_core.specs.Asks.{Flushes, ask_of}
@@ -12,24 +11,22 @@ use Rattle.label_store.specs.declared.member.Member.{Member}
 use Rattle.txg_history.specs.Events.{Calls, Drops, Clears}
 use Rattle.txg_history.specs.Groups.{at_device}
 use Rattle.txg_history.specs.Moves.{Mays}
-use Rattle.txg_history.specs.Pages.{Codec, Sum, sum_of}
+use Rattle.txg_history.specs.Pages.{Codec, sum_of}
 use Rattle.txg_history.specs.Pools.{Pool}
 use Rattle.txg_history.specs.Records.{Cell}
 use Rattle.txg_history.specs.Survival.{Survives}
-use Rattle.txg_history.proofs.Logging.{by_bool}
 use Rattle.txg_history.proofs.Showing.{clear_may}
 use Rattle.txg_history.proofs.Sparing.{part_may}
 use Rattle.txg_history.proofs.Surviving.{history_survives}
 use Rattle.txg_history.proofs.Turning.{flush_sparing}
 use Rattle.pool_moves.specs.Boards.{members_where}
-use Rattle.pool_moves.specs.FreezeRow.{up_devs}
 use Rattle.pool_moves.specs.Keeping.{IsElsewhere, AreSeatsApart, IsAway, HasFound, IsOfFound, Kept, Walks}
-use Rattle.pool_moves.specs.Leaves.{OwnLeaf, LeafSeen, Seat, At, Adrift, dev_if, told, leaf_seen}
+use Rattle.pool_moves.specs.Leaves.{LeafSeen, Seat, At, Adrift, dev_if, told, leaf_seen}
 use Rattle.pool_moves.specs.LineRows.{has_number, write_failed, sets_failed}
-use Rattle.pool_moves.specs.Moves.{Move, Makes, Sets, Drop, Clear, Rest, Scrubs, after_move, after_moves}
+use Rattle.pool_moves.specs.Moves.{Move, Makes, Sets, Drop, Clear, Rest, Scrubs, after_move}
 use Rattle.pool_moves.specs.ReadRow.{made_in}
-use Rattle.pool_moves.specs.ScanRows.{HasNoKey, flush_end, AreFlushed, is_eligible, RowScanEnd, StepReply, StepBy, RowStep, FoundClash, starts_scan, ScrubReply, ScrubBy, RowScrub, StopReply, StopBy, RowStopScrub}
-use Rattle.pool_moves.specs.States.{PoolSeen, PoolState, Side, seen}
+use Rattle.pool_moves.specs.ScanRows.{flush_end, AreFlushed, is_eligible, RowScanEnd, StepReply, StepBy, RowStep, FoundClash, starts_scan, ScrubReply, ScrubBy, RowScrub, StopReply, StopBy, RowStopScrub}
+use Rattle.pool_moves.specs.States.{PoolState, Side}
 use Rattle.pool_moves.proofs.AwayWalks.{only_found}
 use Rattle.pool_moves.proofs.Boarding.{before_all, no_dev, dev_is}
 use Rattle.pool_moves.proofs.FreeWalks.{walks_more}
@@ -134,15 +131,18 @@ cleared_walk c t m ms noted rest left call next = (
 failed_walk : (c : Codec) (t : Side) (ms : List Member) (leaf : Option LeafSeen) (rest : List Move) → AreLeft c t ms → ((t : Side) → AreLeft c t ms → Walks c t rest)
     → Walks c t (sets_failed leaf ++ rest)
 failed_walk c t ms None rest left next = next t left
-failed_walk c t ms (Some leaf) rest left next = ((tt, tt), next (after_move (Sets leaf.guid (write_failed leaf.own)) t) (record {
-  survives = left.survives;
-  running = left.running;
-  passed = left.passed;
-  eligible = left.eligible;
-  apart = left.apart;
-  found = found_mapped (Sets leaf.guid (write_failed leaf.own)) t ms (after_move (Sets leaf.guid (write_failed leaf.own)) t).seats
-      (λ which all. of_found_step which (Sets leaf.guid (write_failed leaf.own)) t.pool (λ d found own is. is) t.seats all) left.found;
-}))
+failed_walk c t ms (Some leaf) rest left next = (
+  (tt, tt),
+  next (after_move (Sets leaf.guid (write_failed leaf.own)) t) (record {
+    survives = left.survives;
+    running = left.running;
+    passed = left.passed;
+    eligible = left.eligible;
+    apart = left.apart;
+    found = found_mapped (Sets leaf.guid (write_failed leaf.own)) t ms (after_move (Sets leaf.guid (write_failed leaf.own)) t).seats
+        (λ which all. of_found_step which (Sets leaf.guid (write_failed leaf.own)) t.pool (λ d found own is. is) t.seats all) left.found;
+  }),
+)
 
 dropped_walk : (c : Codec) (t : Side) (m : Member) (ms : List Member) (noted : Noted) (fault : Fault) (leaf : Option LeafSeen) (rest : List Move) → AreLeft c t (m ∷ ms)
     → ask_of noted.call ≡ Flushes m.dev → fault_of noted.call ≡ Some fault → ((t : Side) → AreLeft c t ms → Walks c t rest)

@@ -1,5 +1,5 @@
 -- A step of a scan may be made: its walk from its row.
-use Rattle.std.proofs.Common.{◌≡◌, ◌≢◌, ◌⊎◌, inl, inr, ⊎_elim, ℕ, suc, zero, ◌+◌, ◌<◌, ◌≤◌, ◌==◌, ◌&&◌, ◌||◌, nat_lt, nat_le, not, Bool, true, false, cond, Option, Some, None, List, [], ◌∷◌, ◌++◌, map, length, drop, refl, sym, ap, ◌∙◌, subst, arith}
+use Rattle.std.proofs.Common.{◌≡◌, ◌⊎◌, inl, inr, ⊎_elim, ℕ, suc, zero, ◌+◌, ◌<◌, ◌≤◌, ◌==◌, ◌&&◌, ◌||◌, nat_lt, nat_le, not, Bool, true, false, cond, Option, Some, None, List, [], ◌∷◌, ◌++◌, map, length, drop, refl, sym, ap, ◌∙◌, subst, arith}
 use Rattle.std.specs.List.{AllByRecursion, filter, list_any}
 use Rattle.std.specs.Str.{bytes_eq}
 use Rattle.std.proofs.lemmas.Bool.{and_parts}
@@ -7,17 +7,16 @@ use Rattle.std.proofs.lemmas.Bool.Decides.{nat_tests}
 use Rattle.std.proofs.lemmas.Slice.Eq.{bytes_eq-Decides}
 use Rattle.sha2.specs.Sha256.{sha256}
 use Rattle.mp_base.specs.declared.place.Key.{Key}
-use Rattle.bank_core.specs.Asks.{asks_of}
 use Rattle.bank_core.specs.Disk.{Noted, Sectors, AllAnswer, run}
 use Rattle.bank_core.specs.Standing.{Untouched}
 use Rattle.mirror_io.specs.declared.copies.CopyOf.{CopyOf}
-use Rattle.mirror_io.specs.Copies.{is_due, tries}
+use Rattle.mirror_io.specs.Copies.{tries}
 use Rattle.mirror_io.specs.Mirror.{IsHealed}
-use Rattle.mirror_io.specs.Reads.{IsReads, rewrites}
+use Rattle.mirror_io.specs.Reads.{IsReads}
 use Rattle.txg_history.specs.Events.{as_events}
-use Rattle.txg_history.specs.Groups.{Logs, between, grown}
+use Rattle.txg_history.specs.Groups.{grown}
 use Rattle.txg_history.specs.Moves.{WasCopied, Mays, MayPass}
-use Rattle.txg_history.specs.Pages.{Codec, Sum, sum_of, IsClash}
+use Rattle.txg_history.specs.Pages.{Codec, Sum, sum_of}
 use Rattle.txg_history.specs.Pools.{Pool, pool_after}
 use Rattle.txg_history.specs.Records.{Cell, data_start}
 use Rattle.txg_history.specs.Scans.{up_to}
@@ -27,14 +26,14 @@ use Rattle.txg_history.proofs.Logging.{by_bool, same_device, true_not_false, gro
 use Rattle.txg_history.proofs.Surviving.{history_survives}
 use Rattle.pool_moves.specs.FreezeRow.{IsBefore, is_dev}
 use Rattle.pool_moves.specs.Keeping.{IsAway, Kept, Walks}
-use Rattle.pool_moves.specs.Leaves.{LeafSeen, Seat, At, Adrift, dev_if, told, leaf_seen}
+use Rattle.pool_moves.specs.Leaves.{LeafSeen, Seat, At, Adrift, told, leaf_seen}
 use Rattle.pool_moves.specs.Moves.{Move, Makes, Sets, Pass, after_move, after_moves}
 use Rattle.pool_moves.specs.ReadRow.{copies_of, stands_under, count_reads, made_in}
-use Rattle.pool_moves.specs.ScanRows.{IsNextKey, targets, AreCopied, untried, AreLooked, LooksBy, AreStepCalls, reads_key, StepCalls, has_copied, is_brought, is_spared, is_scrubbed, RowKey, WereRead, FoundClash}
-use Rattle.pool_moves.specs.States.{PoolSeen, PoolState, Side, seen, seen_by}
+use Rattle.pool_moves.specs.ScanRows.{IsNextKey, targets, AreCopied, untried, LooksBy, AreStepCalls, reads_key, StepCalls, has_copied, is_spared, is_scrubbed, RowKey, WereRead, FoundClash}
+use Rattle.pool_moves.specs.States.{PoolSeen, PoolState, Side, seen_by}
 use Rattle.pool_moves.specs.Walking.{as_moves}
 use Rattle.pool_moves.proofs.FreeWalks.{walks_more}
-use Rattle.pool_moves.proofs.LineWalks.{IsSet, sets_walk}
+use Rattle.pool_moves.proofs.LineWalks.{sets_walk}
 use Rattle.pool_moves.proofs.ReadWalks.{IsCopy, AreRead, copies_read, heals_may, copies_on, tried_all, all_filter, calls_walk, read_sets, outcome_sum, made_calls, answers_front, sum_of_cell}
 use Rattle.pool_moves.proofs.ScanCalls.{outcome_read, read_more, copies_may, looks_may, AreOthers, looks_untouched, copied_at, targets_are, targets_apart}
 
@@ -124,9 +123,17 @@ key_walk : (c : Codec) (s : PoolState) (t : Side) (calls : List Noted) (k : Key)
     → Walks c t (as_moves calls ++ (count_reads (sha256 cell.block) calls leaves ++ (Pass k cell.birth which ∷ [])))
 key_walk c s t calls k cell leaves which running at next may brought =
     walks_more c (as_moves calls) (count_reads (sha256 cell.block) calls leaves ++ (Pass k cell.birth which ∷ [])) t (calls_walk c calls t may)
-    (walks_more c (count_reads (sha256 cell.block) calls leaves) (Pass k cell.birth which ∷ []) called (sets_walk c (count_reads (sha256 cell.block) calls leaves) called (read_sets (sha256 cell.block) calls leaves))
-    (subst Passing (sym same) ((may_pass c t.pool calls k cell which running at next.low next.ahead
-    (λ j other there born passed before. next.least j (sum_of_cell other) (ap sum_of there) born passed before) brought, tt), running), tt))
+    (walks_more c (count_reads (sha256 cell.block) calls leaves) (Pass k cell.birth which ∷ []) called (sets_walk c (count_reads (sha256 cell.block) calls leaves) called (read_sets (sha256 cell.block) calls leaves)) (
+      subst Passing (sym same) (
+        (
+          may_pass c t.pool calls k cell which running at next.low next.ahead
+              (λ j other there born passed before. next.least j (sum_of_cell other) (ap sum_of there) born passed before) brought,
+          tt,
+        ),
+        running,
+      ),
+      tt,
+    ))
   where
     called : Side
     called = after_moves (as_moves calls) t

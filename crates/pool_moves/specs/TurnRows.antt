@@ -1,7 +1,5 @@
 -- Turns of a frozen group, each as a row: which moves it is made of, by the state before it.
-use Rattle.std.specs.Prelude.{◌≡◌, ◌⊎◌, ℕ, ◌+◌, ◌<◌, ◌^◌, Bool, true, false, not, List, [], ◌∷◌, ◌++◌, map, length, Option, Some, None}
-use Rattle.std.specs.List.{list_all}
-use Rattle.mp_base.specs.declared.number.Guid.{Guid}
+use Rattle.std.specs.Prelude.{◌≡◌, ℕ, ◌<◌, ◌^◌, Bool, true, false, List, [], ◌∷◌, ◌++◌, map, Some, None}
 use Rattle.mp_base.specs.declared.place.Key.{Key}
 use Rattle.bank_core.specs.Asks.{Ask}
 use Rattle.bank_core.specs.Disk.{Noted}
@@ -18,8 +16,8 @@ use Rattle.txg_history.specs.Turns.{write_plan, flush_plan}
 use Rattle.pool_moves.specs.Boards.{board_of, board_under, emptied}
 use Rattle.pool_moves.specs.Drafts.{draft_of}
 use Rattle.pool_moves.specs.FreezeRow.{IsBefore}
-use Rattle.pool_moves.specs.Moves.{Draft, Move, Wrote_key, Flushed_all, Draw, Burn, Starts, Copies, Copied, Commits, sums_over}
-use Rattle.pool_moves.specs.States.{PoolSeen, PoolState}
+use Rattle.pool_moves.specs.Moves.{Draft, Move, Wrote_key, Flushed_all, Starts, Copies, Copied, Commits, sums_over}
+use Rattle.pool_moves.specs.States.{PoolSeen}
 use Rattle.pool_moves.specs.Walking.{as_moves, leave_moves}
 
 -- one turn over some members: their calls, and those whose call failed leave the board
