@@ -40,7 +40,8 @@ there_is : (c : Codec) (s : PoolState) (t : Side) (name : List ℕ) (leaf : Leaf
 there_is c s t name leaf seat kept = subst Goal (sym kept.core) (λ named at free. record {
   at = at;
   leaf_is = leaf_there (λ leaf. bytes_eq leaf.own.name name) t.pool.group.frozen t.pool.scan.running t.pool t.seats leaf seat named at;
-  left = sibling_left (λ leaf. bytes_eq leaf.own.name name) t.pool.group.frozen t.pool.scan.running t.pool t.seats leaf named (not_required leaf (seen t).leaves free);
+  left = sibling_left (λ leaf. bytes_eq leaf.own.name name) t.pool.group.frozen t.pool.scan.running t.pool t.seats leaf named
+      (not_required leaf (seen t).leaves free);
 })
   where
     Goal : PoolSeen → Type 0
@@ -55,16 +56,19 @@ seat_top f r p top (Adrift leaf) is = is
 not_same : (a b : ℕ) → (a == b) ≡ false → a ≡ b → ⊥
 not_same a b off same = true_not_false (a == b) (let here : (a == b) ≡ true = grind (arith, nat_tests) in here) off
 
-may_go : (c : Codec) (s : PoolState) (t : Side) (i : ℕ) (leaf : LeafSeen) (seat : Seat) → Kept c s t → t.pool.group.frozen ≡ false → IsThere t i leaf seat → MayGo t i
+may_go : (c : Codec) (s : PoolState) (t : Side) (i : ℕ) (leaf : LeafSeen) (seat : Seat) → Kept c s t → t.pool.group.frozen ≡ false → IsThere t i leaf seat
+    → MayGo t i
 may_go c s t i leaf seat kept idle there = record {
   idle = idle;
   topped = λ d mine one. by_bool (t.pool.in_top d == leaf.top)
       (λ same. subst (λ top. HasUnder t.pool.in_top top (remove t.seats i)) (sym (same_device (t.pool.in_top d) leaf.top same)) there.left)
       (λ off. under_kept t.pool.in_top (t.pool.in_top d) t.seats i seat there.at (kept.topped d mine one)
-      (λ is. not_same (t.pool.in_top d) leaf.top off (sym (ap (λ x. x.top) there.leaf_is ∙ seat_top t.pool.group.frozen t.pool.scan.running t.pool (t.pool.in_top d) seat is))));
+      (λ is. not_same (t.pool.in_top d) leaf.top off (sym (ap (λ x. x.top) there.leaf_is
+      ∙ seat_top t.pool.group.frozen t.pool.scan.running t.pool (t.pool.in_top d) seat is))));
 }
 
-goes_walk : (c : Codec) (s : PoolState) (t : Side) (name : List ℕ) (leaf : LeafSeen) → MayGo t (place_named name s.core.leaves) → Walks c t (goes_out s name leaf)
+goes_walk : (c : Codec) (s : PoolState) (t : Side) (name : List ℕ) (leaf : LeafSeen) → MayGo t (place_named name s.core.leaves)
+    → Walks c t (goes_out s name leaf)
 goes_walk c s t name leaf may = ((tt, may), ((tt, tt), tt))
 
 -- The device of the leaf that went is cleaned.
@@ -77,7 +81,8 @@ none_found_at d [] off = tt
 none_found_at d (At e found own ∷ seats) off = ((λ same. true_not_false (d == e) same off.0), none_found_at d seats off.1)
 none_found_at d (Adrift leaf ∷ seats) off = (tt, none_found_at d seats off.1)
 
-cleaned_walk : (c : Codec) (size : ℕ → ℕ) (there spare : Bool) (dev : Option ℕ) (t : Side) (vs : List Move) → ((d : ℕ) → dev ≡ Some d → AllByRecursion (IsElsewhere d) t.seats)
+cleaned_walk : (c : Codec) (size : ℕ → ℕ) (there spare : Bool) (dev : Option ℕ) (t : Side) (vs : List Move)
+    → ((d : ℕ) → dev ≡ Some d → AllByRecursion (IsElsewhere d) t.seats)
     → IsCleaned there dev spare size vs → Walks c t vs
 cleaned_walk c size true spare (Some d) t vs off (made, outcome, calls, moves) = subst (Walks c t) (sym moves) (
   ((tt, tt), none_found_at d t.seats (off d refl)),
@@ -90,9 +95,11 @@ freeze_of : (v : Move) → IsFreeze v → IsOfCommit v
 freeze_of (Freeze cells board) is = tt
 freeze_of v is = absurd is
 
-dev_found : (f r : Bool) (p : Pool) (seats : List Seat) (i : ℕ) (seat : Seat) (d : ℕ) → AllByRecursion IsAway seats → AreSeatsApart seats → slice_get seats i ≡ Some seat
+dev_found : (f r : Bool) (p : Pool) (seats : List Seat) (i : ℕ) (seat : Seat) (d : ℕ) → AllByRecursion IsAway seats → AreSeatsApart seats
+    → slice_get seats i ≡ Some seat
     → (leaf_seen f r (told p) seat).dev ≡ Some d → AllByRecursion (IsElsewhere d) (remove seats i)
-dev_found f r p seats i (At e found own) d away apart at dev = subst (λ n. AllByRecursion (IsElsewhere n) (remove seats i)) (is_at found dev) (apart_others seats i e found own apart at)
+dev_found f r p seats i (At e found own) d away apart at dev =
+    subst (λ n. AllByRecursion (IsElsewhere n) (remove seats i)) (is_at found dev) (apart_others seats i e found own apart at)
   where
     is_at : (found : Bool) → dev_if found e ≡ Some d → e ≡ d
     is_at true is = cc
@@ -117,17 +124,21 @@ leaf_by a d found own owes settled = record {
 }
 
 -- The leaf comes back as it was, behind a suspended group.
-seat_back : (c : Codec) (s : PoolState) (t : Side) (i : ℕ) (leaf : LeafSeen) (seat : Seat) (behind : Pool) → Kept c s t → t.pool.group.frozen ≡ false → IsThere t i leaf seat
-    → aside behind ≡ aside t.pool → behind.group.frozen ≡ false → ((d : ℕ) (found : Bool) (own : OwnLeaf) → seat ≡ At d found own → (behind.owes d ≡ t.pool.owes d) × (behind.settled d ≡ t.pool.settled d))
+seat_back : (c : Codec) (s : PoolState) (t : Side) (i : ℕ) (leaf : LeafSeen) (seat : Seat) (behind : Pool) → Kept c s t → t.pool.group.frozen ≡ false
+    → IsThere t i leaf seat
+    → aside behind ≡ aside t.pool → behind.group.frozen ≡ false → ((d : ℕ) (found : Bool) (own : OwnLeaf) → seat ≡ At d found own
+    → (behind.owes d ≡ t.pool.owes d) × (behind.settled d ≡ t.pool.settled d))
     → leaf ≡ leaf_seen behind.group.frozen behind.scan.running (told behind) seat
-seat_back c s t i leaf (At d found own) behind kept idle there same over logs = there.leaf_is ∙ (ap (λ f. leaf_seen f t.pool.scan.running (told t.pool) (At d found own)) idle
+seat_back c s t i leaf (At d found own) behind kept idle there same over logs =
+    there.leaf_is ∙ (ap (λ f. leaf_seen f t.pool.scan.running (told t.pool) (At d found own)) idle
     ∙ (ap (λ a. leaf_by a d found own (t.pool.owes d) (t.pool.settled d)) (sym same)
     ∙ (ap (λ log. leaf_by (aside behind) d found own log (t.pool.settled d)) (sym (logs d found own refl).0)
     ∙ (ap (λ log. leaf_by (aside behind) d found own (behind.owes d) log) (sym (logs d found own refl).1)
     ∙ sym (ap (λ f. leaf_seen f behind.scan.running (told behind) (At d found own)) over)))))
 seat_back c s t i leaf (Adrift other) behind kept idle there same over logs = there.leaf_is
 
-back_apart : (seat : Seat) (seats : List Seat) → ((d : ℕ) (found : Bool) (own : OwnLeaf) → seat ≡ At d found own → AllByRecursion (IsElsewhere d) seats) → AreSeatsApart seats → AreSeatsApart (seat ∷ seats)
+back_apart : (seat : Seat) (seats : List Seat) → ((d : ℕ) (found : Bool) (own : OwnLeaf) → seat ≡ At d found own → AllByRecursion (IsElsewhere d) seats)
+    → AreSeatsApart seats → AreSeatsApart (seat ∷ seats)
 back_apart (At d found own) seats off apart = (off d found own refl, apart)
 back_apart (Adrift leaf) seats off apart = apart
 
@@ -135,7 +146,8 @@ back_numbered : (guid : ℕ → Guid) (member : ℕ → Bool) (seats : List Seat
     → ((d : ℕ) → member d ≡ true → AllByRecursion (IsOwnNumber guid d) seats) → (d : ℕ) → member d ≡ true → IsOwnNumber guid d seat
 back_numbered guid member seats i seat at numbered d mine = all_at (IsOwnNumber guid d) seats i seat (numbered d mine) at
 
-may_return : (c : Codec) (s : PoolState) (t behind : Side) (i : ℕ) (leaf : LeafSeen) (seat : Seat) → Kept c s t → t.pool.group.frozen ≡ false → IsThere t i leaf seat
+may_return : (c : Codec) (s : PoolState) (t behind : Side) (i : ℕ) (leaf : LeafSeen) (seat : Seat) → Kept c s t → t.pool.group.frozen ≡ false
+    → IsThere t i leaf seat
     → aside behind.pool ≡ aside t.pool → behind.pool.group.frozen ≡ false → AreSeatsApart behind.seats
     → ((d : ℕ) (found : Bool) (own : OwnLeaf) → seat ≡ At d found own → AllByRecursion (IsElsewhere d) behind.seats)
     → ((d : ℕ) (found : Bool) (own : OwnLeaf) → seat ≡ At d found own → (behind.pool.owes d ≡ t.pool.owes d) × (behind.pool.settled d ≡ t.pool.settled d))
@@ -146,7 +158,8 @@ may_return c s t behind i leaf seat kept idle there same over apart off logs = r
   apart = back_apart seat behind.seats off apart;
   seated = subst (λ a. IsSeated a.member seat) (sym same) (all_at (IsSeated t.pool.member) t.seats i seat kept.seated there.at);
   away = all_at IsAway t.seats i seat kept.away there.at;
-  numbered = subst (λ a. (d : ℕ) → a.member d ≡ true → IsOwnNumber a.guid d seat) (sym same) (back_numbered t.pool.guid t.pool.member t.seats i seat there.at kept.numbered);
+  numbered = subst (λ a. (d : ℕ) → a.member d ≡ true → IsOwnNumber a.guid d seat) (sym same)
+      (back_numbered t.pool.guid t.pool.member t.seats i seat there.at kept.numbered);
   scanned = subst (λ a. a.scan.running ≡ true → IsOfFound a.scan.eligible seat) (sym same)
       (λ r. all_at (IsOfFound t.pool.scan.eligible) t.seats i seat (kept.scanned r) there.at);
 }
@@ -156,7 +169,8 @@ freeze_aside : (v : Move) (t : Side) → IsFreeze v → aside (after_move v t).p
 freeze_aside (Freeze cells board) t is = refl
 freeze_aside v t is = absurd is
 
-freeze_logs : (c : Codec) (v : Move) (t : Side) (d : ℕ) → IsFreeze v → Survives c t.pool → t.pool.member d ≡ true → 1 ≤ t.pool.in_top d → AsideIn (t.pool.owes d) (t.pool.settled d) d (after_move v t).pool
+freeze_logs : (c : Codec) (v : Move) (t : Side) (d : ℕ) → IsFreeze v → Survives c t.pool → t.pool.member d ≡ true → 1 ≤ t.pool.in_top d
+    → AsideIn (t.pool.owes d) (t.pool.settled d) d (after_move v t).pool
 freeze_logs c (Freeze cells board) t d is sv mine top = aside_frozen c t.pool cells board d sv mine top
 freeze_logs c v t d is sv mine top = absurd is
 
@@ -168,7 +182,8 @@ record AreSuspended (part : List Move) : Type 0 where
   pub within : AllByRecursion IsWithin body
   pub moves : part ≡ freeze ∷ (body ++ (Burn ∷ []))
 
-suspended_are : (c : Codec) (size : ℕ → ℕ) (s : PoolState) (part : List Move) (group : ℕ) (top : Guid) (faults : ℕ) → CommitsOpen c size s part (Suspended group top faults) → AreSuspended part
+suspended_are : (c : Codec) (size : ℕ → ℕ) (s : PoolState) (part : List Move) (group : ℕ) (top : Guid) (faults : ℕ)
+    → CommitsOpen c size s part (Suspended group top faults) → AreSuspended part
 suspended_are c size s part group top faults commit = let are = commit_moves c size s part (Suspended group top faults) commit in let last = are.burns refl in
     record { freeze = are.freeze; is_freeze = are.is_freeze; body = last.body; within = last.within; moves = are.moves ∙ ap (λ l. are.freeze ∷ l) last.moves }
 
@@ -197,14 +212,17 @@ kept_aside c t part sv are = subst (IsKeptAside t) (sym there) (record {
     there = ap (λ vs. after_moves vs t) are.moves ∙ moves_more are.body (Burn ∷ []) (after_move are.freeze t)
 
 -- the leaf's own top
-own_top : (f r : Bool) (p : Pool) (leaf : LeafSeen) (d : ℕ) (found : Bool) (own : OwnLeaf) → leaf ≡ leaf_seen f r (told p) (At d found own) → leaf.top ≡ p.in_top d
+own_top : (f r : Bool) (p : Pool) (leaf : LeafSeen) (d : ℕ) (found : Bool) (own : OwnLeaf) → leaf ≡ leaf_seen f r (told p) (At d found own)
+    → leaf.top ≡ p.in_top d
 own_top f r p leaf d found own is = ap (λ x. x.top) is
 
 -- The row, where the leaf isn't required and the freeze isn't refused.
-commits_walk : (c : Codec) (size : ℕ → ℕ) (s : PoolState) (t : Side) (name : List ℕ) (leaf : LeafSeen) (seat : Seat) (vs : List Move) (reply : DetachReply) → Kept c s t → IsSized size t
+commits_walk : (c : Codec) (size : ℕ → ℕ) (s : PoolState) (t : Side) (name : List ℕ) (leaf : LeafSeen) (seat : Seat) (vs : List Move) (reply : DetachReply)
+    → Kept c s t → IsSized size t
     → t.pool.group.frozen ≡ false → IsThere t (place_named name s.core.leaves) leaf seat → CommitsWithout c size s name leaf seat vs reply → Walks c t vs
 commits_walk c size s t name leaf seat vs reply kept sized idle there row =
-    subst (Walks c t) (sym row.moves) (walks_more c out (row.part ++ row.rest) t goes (walks_more c row.part row.rest without commits (behind_walk row.turn row.commit row.behind)))
+    subst (Walks c t) (sym row.moves) (walks_more c out (row.part ++ row.rest) t goes
+    (walks_more c row.part row.rest without commits (behind_walk row.turn row.commit row.behind)))
   where
     i : ℕ
     i = place_named name s.core.leaves
@@ -222,7 +240,9 @@ commits_walk c size s t name leaf seat vs reply kept sized idle there row =
     kept_without = walk_keeps c (goes_out s name leaf) s t goes kept
 
     commits : Walks c (after_moves (goes_out s name leaf) t) row.part
-    commits = open_walks c size (steps (goes_out s name leaf) s) (after_moves (goes_out s name leaf) t) row.part row.turn kept_without (sized_along size (goes_out s name leaf) t sized) row.commit
+    commits =
+        open_walks c size (steps (goes_out s name leaf) s) (after_moves (goes_out s name leaf) t) row.part row.turn kept_without
+        (sized_along size (goes_out s name leaf) t sized) row.commit
 
     behind : Side
     behind = after_moves row.part (after_moves (goes_out s name leaf) t)
@@ -234,26 +254,37 @@ commits_walk c size s t name leaf seat vs reply kept sized idle there row =
     of_commit = commit_of c size (steps (goes_out s name leaf) s) row.part row.turn row.commit
 
     off_dev : (d : ℕ) → leaf.dev ≡ Some d → AllByRecursion (IsElsewhere d) (after_moves row.part (after_moves (goes_out s name leaf) t)).seats
-    off_dev d dev = elsewhere_along row.part without d of_commit (dev_found t.pool.group.frozen t.pool.scan.running t.pool t.seats i seat d kept.away kept.apart there.at
+    off_dev d dev =
+        elsewhere_along row.part without d of_commit (dev_found t.pool.group.frozen t.pool.scan.running t.pool t.seats i seat d kept.away kept.apart there.at
         (sym (ap (λ x. x.dev) there.leaf_is) ∙ dev))
 
-    off_seat : (d : ℕ) (found : Bool) (own : OwnLeaf) → seat ≡ At d found own → AllByRecursion (IsElsewhere d) (after_moves row.part (after_moves (goes_out s name leaf) t)).seats
+    off_seat : (d : ℕ) (found : Bool) (own : OwnLeaf) → seat ≡ At d found own
+        → AllByRecursion (IsElsewhere d) (after_moves row.part (after_moves (goes_out s name leaf) t)).seats
     off_seat d found own is = elsewhere_along row.part without d of_commit (apart_others t.seats i d found own kept.apart (there.at ∙ ap Some is))
 
     top_one : (d : ℕ) (found : Bool) (own : OwnLeaf) → seat ≡ At d found own → 1 ≤ t.pool.in_top d
-    top_one d found own is = subst (λ n. 1 ≤ n) (own_top t.pool.group.frozen t.pool.scan.running t.pool leaf d found own (there.leaf_is ∙ ap (leaf_seen t.pool.group.frozen t.pool.scan.running (told t.pool)) is))
+    top_one d found own is =
+        subst (λ n. 1 ≤ n) (own_top t.pool.group.frozen t.pool.scan.running t.pool leaf d found own
+        (there.leaf_is ∙ ap (leaf_seen t.pool.group.frozen t.pool.scan.running (told t.pool)) is))
         (top_is_one t.pool.group.frozen t.pool.scan.running t.pool leaf.top (remove t.seats i) there.left
         (subst (λ core. AllByRecursion (λ leaf. 1 ≤ leaf.top) core.leaves) kept_without.core row.commit.freeze.tops))
 
     mine : (d : ℕ) (found : Bool) (own : OwnLeaf) → seat ≡ At d found own → t.pool.member d ≡ true
     mine d found own is = subst (IsSeated t.pool.member) is (all_at (IsSeated t.pool.member) t.seats i seat kept.seated there.at)
 
-    behind_walk : (turn : TurnReply) → CommitsOpen c size (steps (goes_out s name leaf) s) row.part turn → DetachBehind turn size s name leaf seat row.rest reply
+    behind_walk : (turn : TurnReply) → CommitsOpen c size (steps (goes_out s name leaf) s) row.part turn
+        → DetachBehind turn size s name leaf seat row.rest reply
         → Walks c (after_moves row.part (after_moves (goes_out s name leaf) t)) row.rest
     behind_walk (Committed number) commit ends = cleaned_walk c size (is_there leaf.own.mode) (is_spare s leaf) leaf.dev behind row.rest off_dev ends.0
-    behind_walk (Suspended group top faults) commit ends = let back = kept_aside c without row.part kept_without.survives (suspended_are c size (steps (goes_out s name leaf) s) row.part group top faults commit) in
+    behind_walk (Suspended group top faults) commit ends =
+        let back = kept_aside c without row.part kept_without.survives
+        (suspended_are c size (steps (goes_out s name leaf) s) row.part group top faults commit) in
         subst (Walks c behind) (sym ends.0) (
-          (tt, may_return c s t behind i leaf seat kept idle there back.same back.over kept_behind.apart off_seat (λ d found own is. back.logs d (mine d found own is) (top_one d found own is))),
+          (
+            tt,
+            may_return c s t behind i leaf seat kept idle there back.same back.over kept_behind.apart off_seat
+                (λ d found own is. back.logs d (mine d found own is) (top_one d found own is)),
+          ),
           ((tt, tt), tt),
         )
     behind_walk Idle commit ends = absurd ends
@@ -262,24 +293,30 @@ commits_walk c size s t name leaf seat vs reply kept sized idle there row =
     behind_walk (Round number) commit ends = absurd ends
 
 -- `detach`
-detach_for : (c : Codec) (size : ℕ → ℕ) (refusal : Option FreezeRefusal) (s : PoolState) (t : Side) (name : List ℕ) (leaf : LeafSeen) (seat : Seat) (vs : List Move) (reply : DetachReply) → Kept c s t → IsSized size t
+detach_for : (c : Codec) (size : ℕ → ℕ) (refusal : Option FreezeRefusal) (s : PoolState) (t : Side) (name : List ℕ) (leaf : LeafSeen) (seat : Seat)
+    (vs : List Move) (reply : DetachReply) → Kept c s t → IsSized size t
     → t.pool.group.frozen ≡ false → IsThere t (place_named name s.core.leaves) leaf seat → DetachFor refusal c size s name leaf seat vs reply → Walks c t vs
 detach_for c size (Some refusal) s t name leaf seat vs reply kept sized idle there row = subst (Walks c t) (sym row.0) tt
 detach_for c size None s t name leaf seat vs reply kept sized idle there row = commits_walk c size s t name leaf seat vs reply kept sized idle there row
 
-detach_leaf : (c : Codec) (size : ℕ → ℕ) (frozen : Bool) (s : PoolState) (t : Side) (name : List ℕ) (leaf : LeafSeen) (seat : Seat) (vs : List Move) (reply : DetachReply) → Kept c s t → IsSized size t
+detach_leaf : (c : Codec) (size : ℕ → ℕ) (frozen : Bool) (s : PoolState) (t : Side) (name : List ℕ) (leaf : LeafSeen) (seat : Seat) (vs : List Move)
+    (reply : DetachReply) → Kept c s t → IsSized size t
     → s.core.group.frozen ≡ frozen → leaf_named name s.core.leaves ≡ Some leaf → slice_get t.seats (place_named name s.core.leaves) ≡ Some seat
     → DetachLeaf frozen c size s name leaf seat vs reply → Walks c t vs
 detach_leaf c size true s t name leaf seat vs reply kept sized f named at row = subst (Walks c t) (sym row.0) tt
 detach_leaf c size false s t name leaf seat vs reply kept sized f named at (inl row) = subst (Walks c t) (sym row.2) tt
-detach_leaf c size false s t name leaf seat vs reply kept sized f named at (inr row) = detach_for c size row.1.0 s t name leaf seat vs reply kept sized (is_idle c s t kept f)
+detach_leaf c size false s t name leaf seat vs reply kept sized f named at (inr row) =
+    detach_for c size row.1.0 s t name leaf seat vs reply kept sized (is_idle c s t kept f)
     (there_is c s t name leaf seat kept named at row.0) row.1.2
 
-detach_by : (c : Codec) (size : ℕ → ℕ) (found : Option LeafSeen) (s : PoolState) (t : Side) (name : List ℕ) (seat : Seat) (vs : List Move) (reply : DetachReply) → Kept c s t → IsSized size t
+detach_by : (c : Codec) (size : ℕ → ℕ) (found : Option LeafSeen) (s : PoolState) (t : Side) (name : List ℕ) (seat : Seat) (vs : List Move)
+    (reply : DetachReply) → Kept c s t → IsSized size t
     → leaf_named name s.core.leaves ≡ found → IsSeatOf s t name seat → DetachBy found c size s name seat vs reply → Walks c t vs
 detach_by c size None s t name seat vs reply kept sized named at row = subst (Walks c t) (sym row.0) tt
-detach_by c size (Some leaf) s t name seat vs reply kept sized named at row = detach_leaf c size s.core.group.frozen s t name leaf seat vs reply kept sized refl named (at leaf named) row
+detach_by c size (Some leaf) s t name seat vs reply kept sized named at row =
+    detach_leaf c size s.core.group.frozen s t name leaf seat vs reply kept sized refl named (at leaf named) row
 
-pub detach_walks : (c : Codec) (size : ℕ → ℕ) (s : PoolState) (t : Side) (name : List ℕ) (seat : Seat) (vs : List Move) (reply : DetachReply) → Kept c s t → IsSized size t → IsSeatOf s t name seat
+pub detach_walks : (c : Codec) (size : ℕ → ℕ) (s : PoolState) (t : Side) (name : List ℕ) (seat : Seat) (vs : List Move) (reply : DetachReply) → Kept c s t
+    → IsSized size t → IsSeatOf s t name seat
     → RowDetach c size s name seat vs reply → Walks c t vs
 detach_walks c size s t name seat vs reply kept sized at row = detach_by c size (leaf_named name s.core.leaves) s t name seat vs reply kept sized refl at row

@@ -34,11 +34,13 @@ some_leaf a b e = cc
 some_seat : (a b : Seat) → Some a ≡ Some b → a ≡ b
 some_seat a b e = cc
 
-pub leaf_there : (test : LeafSeen → Bool) (f r : Bool) (p : Pool) (seats : List Seat) (leaf : LeafSeen) (seat : Seat) → find test (seen_as f r p seats) ≡ Some leaf
+pub leaf_there : (test : LeafSeen → Bool) (f r : Bool) (p : Pool) (seats : List Seat) (leaf : LeafSeen) (seat : Seat)
+    → find test (seen_as f r p seats) ≡ Some leaf
     → slice_get seats (place_where test (seen_as f r p seats)) ≡ Some seat → leaf ≡ leaf_seen f r (told p) seat
 leaf_there test f r p [] leaf seat found at = absurd (cc)
 leaf_there test f r p (x ∷ seats) leaf seat found at = by_bool (test (leaf_seen f r (told p) x))
-    (λ is. sym (some_leaf (leaf_seen f r (told p) x) leaf (sym (ap (λ t. cond t (Some (leaf_seen f r (told p) x)) (find test (seen_as f r p seats))) is) ∙ found))
+    (λ is. sym (some_leaf (leaf_seen f r (told p) x) leaf (sym (ap (λ t. cond t (Some (leaf_seen f r (told p) x)) (find test (seen_as f r p seats))) is)
+    ∙ found))
     ∙ ap (leaf_seen f r (told p)) (some_seat x seat (sym (ap (λ t. slice_get (x ∷ seats) (cond t 0 (suc (place_where test (seen_as f r p seats))))) is) ∙ at)))
     (λ off. leaf_there test f r p seats leaf seat (sym (ap (λ t. cond t (Some (leaf_seen f r (told p) x)) (find test (seen_as f r p seats))) off) ∙ found)
     (sym (ap (λ t. slice_get (x ∷ seats) (cond t 0 (suc (place_where test (seen_as f r p seats))))) off) ∙ at))
@@ -70,20 +72,24 @@ no_sibling leaf = both (leaf.top == leaf.top) (leaf.guid.0 == leaf.guid.0) (here
     both true u is = ap not is
     both false u is = refl
 
-pub sibling_left : (test : LeafSeen → Bool) (f r : Bool) (p : Pool) (seats : List Seat) (leaf : LeafSeen) → find test (seen_as f r p seats) ≡ Some leaf → HasSibling leaf (seen_as f r p seats)
+pub sibling_left : (test : LeafSeen → Bool) (f r : Bool) (p : Pool) (seats : List Seat) (leaf : LeafSeen) → find test (seen_as f r p seats) ≡ Some leaf
+    → HasSibling leaf (seen_as f r p seats)
     → HasUnder p.in_top leaf.top (remove seats (place_where test (seen_as f r p seats)))
 sibling_left test f r p [] leaf found has = absurd (has refl)
 sibling_left test f r p (x ∷ seats) leaf found has = by_bool (test (leaf_seen f r (told p) x))
     (λ is. subst (λ t. HasUnder p.in_top leaf.top (remove (x ∷ seats) (cond t 0 (suc (place_where test (seen_as f r p seats)))))) (sym is)
-    (any_under f r p leaf seats (λ none. has (ap (λ t. cond t (leaf_seen f r (told p) x ∷ siblings leaf (seen_as f r p seats)) (siblings leaf (seen_as f r p seats)))
-    (subst (λ y. is_sibling leaf y ≡ false) (sym (some_leaf (leaf_seen f r (told p) x) leaf (sym (ap (λ t. cond t (Some (leaf_seen f r (told p) x)) (find test (seen_as f r p seats))) is) ∙ found))) (no_sibling leaf)) ∙ none))))
+    (any_under f r p leaf seats (λ none. has (ap (λ t. cond t (leaf_seen f r (told p) x ∷ siblings leaf (seen_as f r p seats))
+    (siblings leaf (seen_as f r p seats)))
+    (subst (λ y. is_sibling leaf y ≡ false) (sym (some_leaf (leaf_seen f r (told p) x) leaf
+    (sym (ap (λ t. cond t (Some (leaf_seen f r (told p) x)) (find test (seen_as f r p seats))) is) ∙ found))) (no_sibling leaf)) ∙ none))))
     (λ off. subst (λ t. HasUnder p.in_top leaf.top (remove (x ∷ seats) (cond t 0 (suc (place_where test (seen_as f r p seats)))))) (sym off) (deeper
     (sibling_left test f r p seats leaf (sym (ap (λ t. cond t (Some (leaf_seen f r (told p) x)) (find test (seen_as f r p seats))) off) ∙ found))))
   where
     deeper : (HasSibling leaf (seen_as f r p seats) → HasUnder p.in_top leaf.top (remove seats (place_where test (seen_as f r p seats))))
         → HasUnder p.in_top leaf.top (x ∷ remove seats (place_where test (seen_as f r p seats)))
     deeper rest = by_bool (is_sibling leaf (leaf_seen f r (told p) x)) (λ is. inl (sibling_under f r p leaf x is))
-        (λ off. inr (rest (λ none. has (ap (λ t. cond t (leaf_seen f r (told p) x ∷ siblings leaf (seen_as f r p seats)) (siblings leaf (seen_as f r p seats))) off ∙ none))))
+        (λ off. inr (rest (λ none. has (ap (λ t. cond t (leaf_seen f r (told p) x ∷ siblings leaf (seen_as f r p seats)) (siblings leaf (seen_as f r p seats)))
+        off ∙ none))))
 
 -- Each other top that had a leaf has one without the leaf at a place.
 pub under_kept : (in_top : ℕ → ℕ) (top : ℕ) (seats : List Seat) (i : ℕ) (seat : Seat) → slice_get seats i ≡ Some seat → HasUnder in_top top seats
@@ -95,7 +101,8 @@ under_kept in_top top (x ∷ seats) (suc i) seat at (inl is) other = inl is
 under_kept in_top top (x ∷ seats) (suc i) seat at (inr has) other = inr (under_kept in_top top seats i seat at has other)
 
 -- a leaf's top is one of the tops that the others stand under
-pub top_is_one : (f r : Bool) (p : Pool) (top : ℕ) (seats : List Seat) → HasUnder p.in_top top seats → AllByRecursion (λ leaf. 1 ≤ leaf.top) (seen_as f r p seats) → 1 ≤ top
+pub top_is_one : (f r : Bool) (p : Pool) (top : ℕ) (seats : List Seat) → HasUnder p.in_top top seats
+    → AllByRecursion (λ leaf. 1 ≤ leaf.top) (seen_as f r p seats) → 1 ≤ top
 top_is_one f r p top [] has ones = absurd has
 top_is_one f r p top (At d found own ∷ seats) (inl is) ones = subst (λ n. 1 ≤ n) is ones.0
 top_is_one f r p top (Adrift leaf ∷ seats) (inl is) ones = subst (λ n. 1 ≤ n) is ones.0
@@ -106,14 +113,17 @@ top_is_one f r p top (Adrift leaf ∷ seats) (inr has) ones = top_is_one f r p t
 off_both : (d e : ℕ) → (d == e) ≡ false → (e == d) ≡ false
 off_both d e off = grind (arith, nat_tests)
 
-others_off : (d e : ℕ) (seats : List Seat) (i : ℕ) (found : Bool) (own : OwnLeaf) → slice_get seats i ≡ Some (At e found own) → AllByRecursion (IsElsewhere d) seats → (d == e) ≡ false
+others_off : (d e : ℕ) (seats : List Seat) (i : ℕ) (found : Bool) (own : OwnLeaf) → slice_get seats i ≡ Some (At e found own)
+    → AllByRecursion (IsElsewhere d) seats → (d == e) ≡ false
 others_off d e [] i found own at off = absurd (cc)
 others_off d e (x ∷ seats) zero found own at off = subst (IsElsewhere d) (some_seat x (At e found own) at) off.0
 others_off d e (x ∷ seats) (suc i) found own at off = others_off d e seats i found own at off.1
 
-pub apart_others : (seats : List Seat) (i d : ℕ) (found : Bool) (own : OwnLeaf) → AreSeatsApart seats → slice_get seats i ≡ Some (At d found own) → AllByRecursion (IsElsewhere d) (remove seats i)
+pub apart_others : (seats : List Seat) (i d : ℕ) (found : Bool) (own : OwnLeaf) → AreSeatsApart seats → slice_get seats i ≡ Some (At d found own)
+    → AllByRecursion (IsElsewhere d) (remove seats i)
 apart_others [] i d found own apart at = absurd (cc)
-apart_others (At e was is ∷ seats) zero d found own apart at = subst (λ n. AllByRecursion (IsElsewhere n) seats) (dev_same (At e was is) (At d found own) (some_seat (At e was is) (At d found own) at)) apart.0
+apart_others (At e was is ∷ seats) zero d found own apart at =
+    subst (λ n. AllByRecursion (IsElsewhere n) seats) (dev_same (At e was is) (At d found own) (some_seat (At e was is) (At d found own) at)) apart.0
   where
     dev_of : Seat → ℕ
     dev_of (At n f o) = n
@@ -121,7 +131,8 @@ apart_others (At e was is ∷ seats) zero d found own apart at = subst (λ n. Al
 
     dev_same : (a b : Seat) → a ≡ b → dev_of a ≡ dev_of b
     dev_same a b e = ap dev_of e
-apart_others (At e was is ∷ seats) (suc i) d found own apart at = (off_both e d (others_off e d seats i found own at apart.0), apart_others seats i d found own apart.1 at)
+apart_others (At e was is ∷ seats) (suc i) d found own apart at =
+    (off_both e d (others_off e d seats i found own at apart.0), apart_others seats i d found own apart.1 at)
 apart_others (Adrift leaf ∷ seats) zero d found own apart at = absurd (cc)
 apart_others (Adrift leaf ∷ seats) (suc i) d found own apart at = (tt, apart_others seats i d found own apart at)
 
@@ -140,7 +151,8 @@ elsewhere_step (Commits draft) t d is all = step_elsewhere (Commits draft) t.poo
 elsewhere_step (Sets m own) t d is all = step_elsewhere (Sets m own) t.pool d t.seats all
 elsewhere_step v t d is all = absurd is
 
-pub elsewhere_along : (vs : List Move) (t : Side) (d : ℕ) → AllByRecursion IsOfCommit vs → AllByRecursion (IsElsewhere d) t.seats → AllByRecursion (IsElsewhere d) (after_moves vs t).seats
+pub elsewhere_along : (vs : List Move) (t : Side) (d : ℕ) → AllByRecursion IsOfCommit vs → AllByRecursion (IsElsewhere d) t.seats
+    → AllByRecursion (IsElsewhere d) (after_moves vs t).seats
 elsewhere_along [] t d are all = all
 elsewhere_along (v ∷ vs) t d are all = elsewhere_along vs (after_move v t) d are.1 (elsewhere_step v t d are.0 all)
 
@@ -182,11 +194,14 @@ abbrev pub AsideIn : (log settled : ℕ → Bool) → (d : ℕ) → Pool → Typ
 AsideIn log settled d p = IsAside log settled p.group.first p.highest (p.owes d) (p.settled d)
 
 -- a number that isn't one of the group's so far, with its last one
-out_of : (first highest g : ℕ) → first ≤ highest → between first (highest + 1) g ≡ false → (between first highest g ≡ false) × (between (highest + 1) (highest + 1) g ≡ false)
+out_of : (first highest g : ℕ) → first ≤ highest → between first (highest + 1) g ≡ false
+    → (between first highest g ≡ false) × (between (highest + 1) (highest + 1) g ≡ false)
 out_of first highest g order out = (
-  by_bool (between first highest g) (λ inside. absurd (let at = of_between first highest g inside in let never = true_not_false (between first (highest + 1) g) (is_between first (highest + 1) g at.0 (omega (arith, at.1))) out in never)) (λ off. off),
+  by_bool (between first highest g) (λ inside. absurd (let at = of_between first highest g inside in let never = true_not_false (between first (highest + 1) g)
+      (is_between first (highest + 1) g at.0 (omega (arith, at.1))) out in never)) (λ off. off),
   by_bool (between (highest + 1) (highest + 1) g) (λ inside. absurd (let at = of_between (highest + 1) (highest + 1) g inside in
-      let never = true_not_false (between first (highest + 1) g) (is_between first (highest + 1) g (omega (arith, at.0, order)) at.1) out in never)) (λ off. off),
+      let never = true_not_false (between first (highest + 1) g) (is_between first (highest + 1) g (omega (arith, at.0, order)) at.1) out in never))
+      (λ off. off),
 )
 
 grown_off : (t u v : Bool) → u ≡ false → cond (t && u) true v ≡ v
@@ -218,12 +233,14 @@ aside_within log settled d (Copied draft e) t is a = a
 aside_within log settled d (Sets m own) t is a = a
 aside_within log settled d v t is a = absurd is
 
-pub aside_stays : (log settled : ℕ → Bool) (d : ℕ) (vs : List Move) (t : Side) → AllByRecursion IsWithin vs → AsideIn log settled d t.pool → AsideIn log settled d (after_moves vs t).pool
+pub aside_stays : (log settled : ℕ → Bool) (d : ℕ) (vs : List Move) (t : Side) → AllByRecursion IsWithin vs → AsideIn log settled d t.pool
+    → AsideIn log settled d (after_moves vs t).pool
 aside_stays log settled d [] t all a = a
 aside_stays log settled d (v ∷ vs) t all a = aside_stays log settled d vs (after_move v t) all.1 (aside_within log settled d v t all.0 a)
 
 -- at the freeze
-pub aside_frozen : (c : Codec) (p : Pool) (cells : Cells) (board : ℕ → Bool) (d : ℕ) → Survives c p → p.member d ≡ true → 1 ≤ p.in_top d → AsideIn (p.owes d) (p.settled d) d (after (Freezes cells board) p)
+pub aside_frozen : (c : Codec) (p : Pool) (cells : Cells) (board : ℕ → Bool) (d : ℕ) → Survives c p → p.member d ≡ true → 1 ≤ p.in_top d
+    → AsideIn (p.owes d) (p.settled d) d (after (Freezes cells board) p)
 aside_frozen c p cells board d sv mine top = record {
   order = omega arith;
   low = λ g is. let at = (sv.logs.now d mine top g is).1 in omega (arith, at);

@@ -145,9 +145,10 @@ pub record MayGo (t : Side) (i : ℕ) : Type 0 where
   pub idle : t.pool.group.frozen ≡ false
   pub topped : (d : ℕ) → t.pool.member d ≡ true → 1 ≤ t.pool.in_top d → HasUnder t.pool.in_top (t.pool.in_top d) (remove t.seats i)
 
--- The moves of a frozen group come while one is frozen, and those of a scan while one runs. A record knows the leaves of the list
--- alone. Moves name no device of a leaf that the run has not found, and a scan's end clears the logs of eligible leaves. A leaf is found where the history has it; a device that is lost is no found leaf's; one that
--- comes in is no leaf's, under a number of its own; and a leaf comes back as the history has it.
+-- The moves of a frozen group come while one is frozen, and those of a scan while one runs. A record knows the leaves of the
+-- list alone. Moves name no device of a leaf that the run has not found, and a scan's end clears the logs of eligible leaves. A
+-- leaf is found where the history has it; a device that is lost is no found leaf's; one that comes in is no leaf's, under a
+-- number of its own; and a leaf comes back as the history has it.
 abbrev pub Admits : Side → Move → Type 0
 Admits t (Freeze cells board) = AllByRecursion (IsOfFound board) t.seats
     × ((d : ℕ) → t.pool.member d ≡ true → board d ≡ true → HasFound d t.seats)

@@ -69,7 +69,8 @@ abbrev pub EndsTurn : PoolState → (more : List Move) (going : TurnReply) → L
 EndsTurn s more going vs reply = EndsBy (emptied s.core.leaves) s more going vs reply
 
 -- a part of a turn, the counts behind it, and how it ends
-pub record IsTurnOf (s : PoolState) (part : List Move) (members : List Member) (results : List Bool) (more : List Move) (going : TurnReply) (vs : List Move) (reply : TurnReply) : Type 0 where
+pub record IsTurnOf (s : PoolState) (part : List Move) (members : List Member) (results : List Bool) (more : List Move) (going : TurnReply) (vs : List Move)
+    (reply : TurnReply) : Type 0 where
   pub ending : List Move
   pub ends : EndsTurn (steps (part ++ count_moves s.core.leaves members results) s) more going ending reply
   pub moves : vs ≡ (part ++ count_moves s.core.leaves members results) ++ ending
