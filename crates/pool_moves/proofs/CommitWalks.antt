@@ -1,10 +1,10 @@
 -- Openings and creates may commit their groups without keys.
 use Rattle.std.proofs.Common.{◌≡◌, ℕ, Bool, true, false, cond, Some, None, List, [], ◌∷◌, ◌++◌, refl, sym, ap, ◌∙◌, subst}
 use Rattle.mp_base.specs.declared.place.Key.{Key}
-use Rattle.txg_history.specs.Events.{Opens, Flushed}
-use Rattle.txg_history.specs.Moves.{Mays, MayFlush}
+use Rattle.txg_history.specs.Events.{Opens}
+use Rattle.txg_history.specs.Moves.{MayFlush}
 use Rattle.txg_history.specs.Pages.{Codec}
-use Rattle.txg_history.specs.Pools.{Pool, after}
+use Rattle.txg_history.specs.Pools.{Pool}
 use Rattle.txg_history.specs.Records.{Cell, Cells, block_in}
 use Rattle.txg_history.specs.Survival.{Survives}
 use Rattle.txg_history.proofs.Moving.{event_survives}
@@ -13,7 +13,7 @@ use Rattle.pool_moves.specs.FreezeRow.{RowEmptyFreeze, up_devs, joins}
 use Rattle.pool_moves.specs.Keeping.{over, Kept, Walks}
 use Rattle.pool_moves.specs.LineRows.{IsSized, TurnReply}
 use Rattle.pool_moves.specs.Moves.{Move, Freeze, Flushed_all, steps, after_move, after_moves}
-use Rattle.pool_moves.specs.States.{PoolState, Side, seen}
+use Rattle.pool_moves.specs.States.{PoolState, Side}
 use Rattle.pool_moves.proofs.FreeWalks.{walks_more}
 use Rattle.pool_moves.proofs.FreezeWalks.{empty_freeze_walks, joins_stay}
 use Rattle.pool_moves.proofs.Keeping.{walk_keeps}

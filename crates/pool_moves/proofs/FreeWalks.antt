@@ -1,5 +1,5 @@
 -- Free moves, one after another, and what the history gets of them.
-use Rattle.std.proofs.Common.{◌≡◌, ℕ, ◌==◌, Bool, true, false, List, [], ◌∷◌, ◌++◌, map, refl, sym, ap, ◌∙◌, subst, append-nil, append_assoc}
+use Rattle.std.proofs.Common.{◌≡◌, ℕ, ◌==◌, Bool, true, false, List, [], ◌∷◌, ◌++◌, refl, sym, ap, ◌∙◌, append-nil, append_assoc}
 use Rattle.std.specs.List.{AllByRecursion}
 use Rattle.bank_core.specs.Disk.{Noted}
 use Rattle.label_store.specs.declared.member.Member.{Member}
@@ -10,8 +10,8 @@ use Rattle.txg_history.specs.Pools.{Pool, pool_after}
 use Rattle.txg_history.specs.Turns.{leavers}
 use Rattle.txg_history.proofs.Folding.{mays_first, mays_second, pool_more}
 use Rattle.pool_moves.specs.Keeping.{IsOfFound, Admits, Walks}
-use Rattle.pool_moves.specs.Leaves.{Seat, At, Adrift}
-use Rattle.pool_moves.specs.Moves.{Move, Makes, Puts, Freeze, Wrote_key, Flushed_all, Draw, Leave, Widen, Burn, Starts, Copies, Copied, Commits, Sets, Finds, Lose, Comes, Goes, Returns, Scan_from, Pass, Drop, Clear, Rest, seat_step, seats_by, events_of, after_move, after_moves}
+use Rattle.pool_moves.specs.Leaves.{Seat}
+use Rattle.pool_moves.specs.Moves.{Move, Makes, Puts, Wrote_key, Flushed_all, Draw, Leave, Copies, Copied, Sets, seat_step, seats_by, events_of, after_move, after_moves}
 use Rattle.pool_moves.specs.States.{Side}
 use Rattle.pool_moves.specs.TurnRows.{turn_moves}
 use Rattle.pool_moves.specs.Walking.{events_along, AreAdmitted, IsFree, as_moves, leave_moves}

@@ -1,11 +1,13 @@
 pub mod AwayWalks
 pub mod Boarding
 pub mod CommitWalks
+pub mod DetachWalks
 pub mod Drafting
 pub mod FreeWalks
 pub mod FreezeWalks
 pub mod GraftWalks
 pub mod Keeping
+pub mod Leaving
 pub mod LineWalks
 pub mod Making
 pub mod Missing

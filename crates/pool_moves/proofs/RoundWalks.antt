@@ -1,6 +1,5 @@
 -- A round may be made: its walk from its row.
-use Rattle.std.proofs.Common.{◌≡◌, ◌≢◌, ℕ, zero, suc, ◌≤◌, ◌==◌, Bool, true, false, List, [], ◌∷◌, ◌++◌, map, Option, Some, None, refl, sym, ap, ◌∙◌, subst, arith, append-nil, append_assoc}
-use Rattle.std.specs.Prelude.{slice_get}
+use Rattle.std.proofs.Common.{◌≡◌, ℕ, zero, suc, ◌≤◌, ◌==◌, Bool, true, false, List, [], ◌∷◌, ◌++◌, map, refl, sym, ap, ◌∙◌, subst, arith, append-nil, append_assoc}
 use Rattle.std.specs.List.{AllByRecursion}
 use Rattle.mp_base.specs.declared.number.Guid.{Guid}
 use Rattle.bank_core.specs.Asks.{Ask}
@@ -11,9 +10,9 @@ use Rattle.label_store.specs.Rounds.{first_plan, second_plan, third_plan, uberbl
 use Rattle.label_store.specs.Layout.{even_labels, odd_labels}
 use Rattle.label_store.specs.Plans.{config_plan, ring_plan}
 use Rattle.label_store.specs.Seats.{AreSeated}
-use Rattle.txg_history.specs.Events.{Event, Begins, Third, Ends, Acks, as_events}
+use Rattle.txg_history.specs.Events.{Begins, Third, Ends, Acks, as_events}
 use Rattle.txg_history.specs.Groups.{Logs}
-use Rattle.txg_history.specs.Moves.{Mays, IsDrawnUp}
+use Rattle.txg_history.specs.Moves.{Mays}
 use Rattle.txg_history.specs.Pages.{Codec}
 use Rattle.txg_history.specs.Pools.{Pool}
 use Rattle.txg_history.specs.Records.{Rec, Cells, laid_over}
@@ -23,13 +22,13 @@ use Rattle.txg_history.proofs.RoundMoves.{round_may}
 use Rattle.pool_moves.specs.Boards.{board_of}
 use Rattle.pool_moves.specs.Keeping.{IsOfFound, IsDraftedBy, Kept, Walks}
 use Rattle.pool_moves.specs.Leaves.{Seat, At, Adrift}
-use Rattle.pool_moves.specs.Moves.{Draft, Move, Makes, Starts, Copies, Copied, Commits, rec_of, events_of, after_move, after_moves}
-use Rattle.pool_moves.specs.States.{PoolSeen, PoolState, Side}
+use Rattle.pool_moves.specs.Moves.{Draft, Move, Makes, Starts, Copies, Copied, rec_of, after_move, after_moves}
+use Rattle.pool_moves.specs.States.{PoolState, Side}
 use Rattle.pool_moves.specs.TurnRows.{ended, IsThirdMoves, round_end, RowRound}
 use Rattle.pool_moves.specs.Walking.{events_along, AreAdmitted, IsFree, as_moves, leave_moves}
-use Rattle.pool_moves.proofs.Boarding.{frozen_core, is_frozen, seen_frozen, board_just, board_apart, board_found, all_at}
+use Rattle.pool_moves.proofs.Boarding.{frozen_core, is_frozen, seen_frozen, board_just, board_apart, board_found}
 use Rattle.pool_moves.proofs.Drafting.{HasDraftTop, drawn_up, draft_tops, draft_knows}
-use Rattle.pool_moves.proofs.FreeWalks.{walk_of, free_walk, free_then, all_append, calls_free, leaves_free, calls_along, leaves_along, events_more, frozen_along}
+use Rattle.pool_moves.proofs.FreeWalks.{walk_of, free_walk, free_then, all_append, leaves_free, calls_along, leaves_along, events_more, frozen_along}
 
 -- Calls, and marks of labels.
 abbrev IsLabelMove : Move → Type 0

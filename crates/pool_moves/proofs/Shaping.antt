@@ -1,20 +1,20 @@
 -- Which moves a group's turns are made of.
-use Rattle.std.proofs.Common.{◌≡◌, ◌⊎◌, inl, inr, ℕ, Bool, true, false, cond, Option, Some, None, List, [], ◌∷◌, ◌++◌, refl, sym, ap, ◌∙◌, subst, append-nil, append_assoc}
+use Rattle.std.proofs.Common.{◌≡◌, inl, inr, ℕ, Bool, true, false, cond, Option, Some, None, List, [], ◌∷◌, ◌++◌, refl, sym, ap, ◌∙◌, subst, append-nil, append_assoc}
 use Rattle.std.specs.List.{AllByRecursion}
 use Rattle.label_store.specs.declared.member.Member.{Member}
 use Rattle.label_store.specs.Rounds.{third_plan}
 use Rattle.txg_history.specs.Pages.{Codec}
 use Rattle.pool_moves.specs.Boards.{board_of, board_under, emptied}
-use Rattle.pool_moves.specs.FreezeRow.{joins, RowFreeze}
+use Rattle.pool_moves.specs.FreezeRow.{joins}
 use Rattle.pool_moves.specs.Leaves.{LeafSeen}
-use Rattle.pool_moves.specs.LineRows.{TurnReply, Idle, Write, Flush, Round, Committed, Suspended, count_moves, EndsBy, EndsTurn, IsTurnOf, IsWritePart, IsFlushPart, IsRoundPart, StartsBy, TurnBy, RowTurn, Ends, AreTurns, moves_in, EndsGroup, CommitsOpen}
-use Rattle.pool_moves.specs.Moves.{Draft, Move, Makes, Freeze, Wrote_key, Flushed_all, Draw, Leave, Burn, Starts, Copies, Copied, Commits, Sets, steps}
+use Rattle.pool_moves.specs.LineRows.{TurnReply, Idle, Write, Flush, Round, Committed, Suspended, count_moves, EndsBy, EndsTurn, IsTurnOf, IsRoundPart, StartsBy, TurnBy, Ends, AreTurns, moves_in, EndsGroup, CommitsOpen}
+use Rattle.pool_moves.specs.Moves.{Move, Makes, Freeze, Wrote_key, Flushed_all, Draw, Leave, Burn, Starts, Copies, Copied, Commits, Sets, steps}
 use Rattle.pool_moves.specs.States.{PoolSeen, PoolState}
-use Rattle.pool_moves.specs.TurnRows.{round_end, RowRound}
-use Rattle.pool_moves.specs.Walking.{as_moves, leave_moves}
+use Rattle.pool_moves.specs.TurnRows.{RowRound}
+use Rattle.pool_moves.specs.Walking.{as_moves}
 use Rattle.pool_moves.proofs.FreeWalks.{all_append}
 use Rattle.pool_moves.proofs.Keeping.{all_same}
-use Rattle.pool_moves.proofs.LineWalks.{IsSet, IsWithin, calls_within, leaves_within, sets_within, thirds_within, turn_within, round_within, counted_within, counts_set}
+use Rattle.pool_moves.proofs.LineWalks.{IsSet, IsWithin, calls_within, sets_within, thirds_within, turn_within, round_within, counted_within, counts_set}
 
 -- The moves of a commit: those within a group, its freeze, its acknowledgement and its end.
 abbrev pub IsOfCommit : Move → Type 0
@@ -77,27 +77,33 @@ going_on vs reply all off = record {
   within = λ on. all;
 }
 
-ended_by : (top : Option ℕ) (s : PoolState) (body more : List Move) (going : TurnReply) (ending : List Move) (reply : TurnReply) → AllByRecursion IsWithin body → AllByRecursion IsWithin more
+ended_by : (top : Option ℕ) (s : PoolState) (body more : List Move) (going : TurnReply) (ending : List Move) (reply : TurnReply) → AllByRecursion IsWithin body
+    → AllByRecursion IsWithin more
     → is_suspended going ≡ false → EndsBy top s more going ending reply → AreTurnMoves (body ++ ending) reply
 ended_by (Some top) s body more going ending reply all rest off ends =
     subst (λ e. AreTurnMoves (body ++ e) reply) (sym ends.0) (burnt body reply all (ap Ends ends.1))
 ended_by None s body more going ending reply all rest off ends =
-    subst (λ e. AreTurnMoves (body ++ e) reply) (sym ends.0) (subst (AreTurnMoves (body ++ more)) (sym ends.1) (going_on (body ++ more) going (all_append IsWithin body more all rest) off))
+    subst (λ e. AreTurnMoves (body ++ e) reply) (sym ends.0) (subst (AreTurnMoves (body ++ more)) (sym ends.1)
+    (going_on (body ++ more) going (all_append IsWithin body more all rest) off))
 
-part_moves : (s : PoolState) (part : List Move) (ms : List Member) (results : List Bool) (going : TurnReply) (vs : List Move) (reply : TurnReply) → AllByRecursion IsWithin part → is_suspended going ≡ false
+part_moves : (s : PoolState) (part : List Move) (ms : List Member) (results : List Bool) (going : TurnReply) (vs : List Move) (reply : TurnReply)
+    → AllByRecursion IsWithin part → is_suspended going ≡ false
     → IsTurnOf s part ms results [] going vs reply → AreTurnMoves vs reply
 part_moves s part ms results going vs reply all off turn = subst (λ l. AreTurnMoves l reply) (sym turn.moves)
-    (ended_by (emptied (steps (part ++ count_moves s.core.leaves ms results) s).core.leaves) (steps (part ++ count_moves s.core.leaves ms results) s) (part ++ count_moves s.core.leaves ms results) []
+    (ended_by (emptied (steps (part ++ count_moves s.core.leaves ms results) s).core.leaves) (steps (part ++ count_moves s.core.leaves ms results) s)
+    (part ++ count_moves s.core.leaves ms results) []
     going turn.ending reply (counted_within part s.core.leaves ms results all) tt off turn.ends)
 
 -- a round that was acknowledged
 whole_moves : (c : Codec) (size : ℕ → ℕ) (s : PoolSeen) (vs : List Move) → RowRound c size s vs true → AllByRecursion IsOfCommit vs
 whole_moves c size s vs row = subst (AllByRecursion IsOfCommit) (sym row.moves) (
   tt,
-  all_append IsOfCommit (as_moves row.first) (as_moves row.second ++ (row.thirds ++ (Commits row.draft ∷ []))) (of_within (as_moves row.first) (calls_within row.first))
+  all_append IsOfCommit (as_moves row.first) (as_moves row.second ++ (row.thirds ++ (Commits row.draft ∷ [])))
+      (of_within (as_moves row.first) (calls_within row.first))
       (all_append IsOfCommit (as_moves row.second) (row.thirds ++ (Commits row.draft ∷ [])) (of_within (as_moves row.second) (calls_within row.second))
       (all_append IsOfCommit row.thirds (Commits row.draft ∷ [])
-      (of_within row.thirds (thirds_within (third_plan size row.draft.commit) row.draft (board_of s.leaves) row.in_second row.results row.thirds row.copies)) (tt, tt))),
+      (of_within row.thirds (thirds_within (third_plan size row.draft.commit) row.draft (board_of s.leaves) row.in_second row.results row.thirds row.copies))
+      (tt, tt))),
 )
 
 round_moves : (c : Codec) (size : ℕ → ℕ) (s : PoolState) (vs : List Move) (reply : TurnReply) → IsRoundPart c size s vs reply → AreTurnMoves vs reply
@@ -112,8 +118,10 @@ round_moves c size s vs reply is = subst (λ l. AreTurnMoves l reply) (sym is.mo
     by_whole : (whole : Bool) → RowRound c size s.core is.part whole → cond whole ((is.ending ≡ []) × (reply ≡ Committed s.core.number))
         (EndsTurn (steps is.behind s) (Draw ∷ []) (Round s.core.number) is.ending reply) → AreTurnMoves (is.behind ++ is.ending) reply
     by_whole true row ends = record {
-      of_commit = subst (λ l. AllByRecursion IsOfCommit (l ++ is.ending)) (sym is.counted) (subst (λ l. AllByRecursion IsOfCommit ((is.part ++ counts) ++ l)) (sym ends.0)
-          (all_append IsOfCommit (is.part ++ counts) [] (all_append IsOfCommit is.part counts (whole_moves c size s.core is.part row) (of_within counts sets)) tt));
+      of_commit = subst (λ l. AllByRecursion IsOfCommit (l ++ is.ending)) (sym is.counted)
+          (subst (λ l. AllByRecursion IsOfCommit ((is.part ++ counts) ++ l)) (sym ends.0)
+          (all_append IsOfCommit (is.part ++ counts) [] (all_append IsOfCommit is.part counts (whole_moves c size s.core is.part row) (of_within counts sets))
+          tt));
       burns = λ on. absurd (let never : true ≡ false = sym on ∙ ap is_suspended ends.1 in cc);
       within = λ off. absurd (let never : false ≡ true = sym off ∙ ap Ends ends.1 in cc);
     }
@@ -121,15 +129,18 @@ round_moves c size s vs reply is = subst (λ l. AreTurnMoves l reply) (sym is.mo
         (subst (AllByRecursion IsWithin) (sym is.counted) (all_append IsWithin is.part counts (round_within c size s.core is.part row) sets)) (tt, tt) refl ends
 
 -- A turn.
-starts_moves : (c : Codec) (size : ℕ → ℕ) (top : Option ℕ) (s : PoolState) (vs : List Move) (reply : TurnReply) → StartsBy top c size s vs reply → AreTurnMoves vs reply
+starts_moves : (c : Codec) (size : ℕ → ℕ) (top : Option ℕ) (s : PoolState) (vs : List Move) (reply : TurnReply) → StartsBy top c size s vs reply
+    → AreTurnMoves vs reply
 starts_moves c size (Some top) s vs reply row = subst (λ l. AreTurnMoves l reply) (sym row.0) (burnt [] reply tt (ap Ends row.1))
 starts_moves c size None s vs reply (inl is) = part_moves s is.part (board_under is.row.cell.top s.core.leaves) is.row.results Write vs reply
-    (subst (AllByRecursion IsWithin) (sym is.row.moves) (turn_within is.row.made (board_under is.row.cell.top s.core.leaves) is.row.results (Wrote_key is.row.key) tt)) refl is.turn
+    (subst (AllByRecursion IsWithin) (sym is.row.moves) (turn_within is.row.made (board_under is.row.cell.top s.core.leaves) is.row.results
+    (Wrote_key is.row.key) tt)) refl is.turn
 starts_moves c size None s vs reply (inr (inl is)) = part_moves s is.part (board_of s.core.leaves) is.row.results Flush vs reply
     (subst (AllByRecursion IsWithin) (sym is.row.moves) (turn_within is.row.made (board_of s.core.leaves) is.row.results Flushed_all tt)) refl is.turn
 starts_moves c size None s vs reply (inr (inr is)) = round_moves c size s vs reply is
 
-turn_moves_are : (c : Codec) (size : ℕ → ℕ) (frozen : Bool) (s : PoolState) (vs : List Move) (reply : TurnReply) → TurnBy frozen c size s vs reply → AreTurnMoves vs reply
+turn_moves_are : (c : Codec) (size : ℕ → ℕ) (frozen : Bool) (s : PoolState) (vs : List Move) (reply : TurnReply) → TurnBy frozen c size s vs reply
+    → AreTurnMoves vs reply
 turn_moves_are c size false s vs reply row = subst (λ l. AreTurnMoves l reply) (sym row.0) (subst (AreTurnMoves []) (sym row.1) (going_on [] Idle tt refl))
 turn_moves_are c size true s vs reply row = starts_moves c size (emptied s.core.leaves) s vs reply row
 
@@ -138,13 +149,17 @@ record AreGroupMoves (vs : List Move) (reply : TurnReply) : Type 0 where
   pub of_commit : AllByRecursion IsOfCommit vs
   pub burns : is_suspended reply ≡ true → BurnsLast vs
 
-turns_moves : (c : Codec) (size : ℕ → ℕ) (s : PoolState) (turns : List (List Move × TurnReply)) (reply : TurnReply) → AreTurns c size s turns reply → AreGroupMoves (moves_in turns) reply
+turns_moves : (c : Codec) (size : ℕ → ℕ) (s : PoolState) (turns : List (List Move × TurnReply)) (reply : TurnReply) → AreTurns c size s turns reply
+    → AreGroupMoves (moves_in turns) reply
 turns_moves c size s [] reply are = absurd are
 turns_moves c size s (turn ∷ []) reply are = last (turn_moves_are c size s.core.group.frozen s turn.0 turn.1 are.0)
   where
     last : AreTurnMoves turn.0 turn.1 → AreGroupMoves (turn.0 ++ []) reply
-    last is = subst (λ l. AreGroupMoves l reply) (sym (append-nil turn.0)) (record { of_commit = is.of_commit; burns = λ on. is.burns (ap is_suspended (sym are.2) ∙ on) })
-turns_moves c size s (turn ∷ (next ∷ turns)) reply are = first (turn_moves_are c size s.core.group.frozen s turn.0 turn.1 are.0) (turns_moves c size (steps turn.0 s) (next ∷ turns) reply are.2)
+    last is =
+        subst (λ l. AreGroupMoves l reply) (sym (append-nil turn.0)) (record
+        { of_commit = is.of_commit; burns = λ on. is.burns (ap is_suspended (sym are.2) ∙ on) })
+turns_moves c size s (turn ∷ (next ∷ turns)) reply are =
+    first (turn_moves_are c size s.core.group.frozen s turn.0 turn.1 are.0) (turns_moves c size (steps turn.0 s) (next ∷ turns) reply are.2)
   where
     first : AreTurnMoves turn.0 turn.1 → AreGroupMoves (moves_in (next ∷ turns)) reply → AreGroupMoves (turn.0 ++ moves_in (next ∷ turns)) reply
     first is more = record {
@@ -182,7 +197,8 @@ commit_moves c size s vs reply row = record {
   is_freeze = tt;
   rest = joins s.core.leaves ++ row.rest;
   moves = row.moves ∙ ap (λ l. l ++ row.rest) row.freeze.moves;
-  of_commit = all_append IsOfCommit (joins s.core.leaves) row.rest (of_within (joins s.core.leaves) set) (group_moves c size (steps row.first s) row.rest reply row.ends).of_commit;
+  of_commit = all_append IsOfCommit (joins s.core.leaves) row.rest (of_within (joins s.core.leaves) set)
+      (group_moves c size (steps row.first s) row.rest reply row.ends).of_commit;
   burns = λ on. let rest = (group_moves c size (steps row.first s) row.rest reply row.ends).burns on in record {
     body = joins s.core.leaves ++ rest.body;
     within = all_append IsWithin (joins s.core.leaves) rest.body set rest.within;

@@ -1,22 +1,20 @@
 -- Turns may be made: their walks from their rows.
-use Rattle.std.proofs.Common.{◌≡◌, ◌⊎◌, ℕ, ◌==◌, Bool, true, false, List, [], ◌∷◌, ◌++◌, map, Some, refl, sym, ap, ◌∙◌, subst}
+use Rattle.std.proofs.Common.{◌≡◌, ◌==◌, Bool, true, List, [], ◌∷◌, ◌++◌, refl, sym, subst}
 use Rattle.std.specs.List.{AllByRecursion}
-use Rattle.std.specs.Prelude.{slice_get}
 use Rattle.bank_core.specs.Disk.{Noted}
 use Rattle.label_store.specs.declared.member.Member.{Member}
 use Rattle.txg_history.specs.Events.{Wrote, Flushed, as_events}
 use Rattle.txg_history.specs.Moves.{Mays}
 use Rattle.txg_history.specs.Pages.{Codec}
-use Rattle.txg_history.specs.Records.{Cell}
-use Rattle.txg_history.specs.Turns.{leavers, OnBoard, OnTop}
+use Rattle.txg_history.specs.Turns.{leavers}
 use Rattle.txg_history.proofs.Turning.{write_turn_may, flush_turn_may}
-use Rattle.pool_moves.specs.Boards.{members_where, board_of, board_under}
-use Rattle.pool_moves.specs.Keeping.{IsOfFound, IsAway, Kept, Walks}
-use Rattle.pool_moves.specs.Leaves.{LeafSeen, Seat, At, Adrift, leaf_seen, told}
-use Rattle.pool_moves.specs.Moves.{Move, Wrote_key, Flushed_all, Leave}
-use Rattle.pool_moves.specs.States.{PoolSeen, PoolState, Side, seen_by}
+use Rattle.pool_moves.specs.Boards.{board_of, board_under}
+use Rattle.pool_moves.specs.Keeping.{IsOfFound, Kept, Walks}
+use Rattle.pool_moves.specs.Leaves.{Seat}
+use Rattle.pool_moves.specs.Moves.{Move, Wrote_key, Flushed_all}
+use Rattle.pool_moves.specs.States.{PoolState, Side}
 use Rattle.pool_moves.specs.TurnRows.{turn_moves, RowWriteTurn, RowFlushTurn}
-use Rattle.pool_moves.specs.Walking.{events_along, IsFree, as_moves, leave_moves}
+use Rattle.pool_moves.specs.Walking.{IsFree, as_moves, leave_moves}
 use Rattle.pool_moves.proofs.Boarding.{frozen_core, is_frozen, seen_frozen, board_just, board_apart, board_found, under_just, under_apart, under_found}
 use Rattle.pool_moves.proofs.FreeWalks.{walk_of, free_walk, all_append, calls_free, leaves_free, turn_along}
 

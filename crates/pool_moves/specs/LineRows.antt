@@ -1,10 +1,8 @@
 -- The lines that end a group, as rows: a turn, and a sync.
 use Rattle.std.specs.Prelude.{◌≡◌, ◌⊎◌, ℕ, ◌+◌, ◌-◌, ◌≤◌, ◌^◌, ◌==◌, ◌&&◌, min, Bool, true, false, cond, List, [], ◌∷◌, ◌++◌, Option, Some, None}
 use Rattle.std.specs.List.{find}
-use Rattle.std.specs.Option.{option_map}
 use Rattle.mp_base.specs.declared.number.Guid.{Guid}
 use Rattle.label_store.specs.declared.member.Member.{Member}
-use Rattle.vdev_tree.specs.declared.vdev.Counts.{Counts}
 use Rattle.txg_history.specs.Pages.{Codec}
 use Rattle.pool_moves.specs.Boards.{board_of, board_under, emptied}
 use Rattle.pool_moves.specs.FreezeRow.{RowFreeze}
@@ -71,7 +69,8 @@ abbrev pub EndsTurn : PoolState → (more : List Move) (going : TurnReply) → L
 EndsTurn s more going vs reply = EndsBy (emptied s.core.leaves) s more going vs reply
 
 -- a part of a turn, the counts behind it, and how it ends
-pub record IsTurnOf (s : PoolState) (part : List Move) (members : List Member) (results : List Bool) (more : List Move) (going : TurnReply) (vs : List Move) (reply : TurnReply) : Type 0 where
+pub record IsTurnOf (s : PoolState) (part : List Move) (members : List Member) (results : List Bool) (more : List Move) (going : TurnReply) (vs : List Move)
+    (reply : TurnReply) : Type 0 where
   pub ending : List Move
   pub ends : EndsTurn (steps (part ++ count_moves s.core.leaves members results) s) more going ending reply
   pub moves : vs ≡ (part ++ count_moves s.core.leaves members results) ++ ending

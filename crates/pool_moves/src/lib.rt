@@ -4,6 +4,7 @@
 mod laws;
 mod rows;
 mod scans;
+mod trees;
 
 pub use laws::{moves_step_what_is_seen, walks_keep_the_state};
 pub use rows::{
@@ -11,3 +12,4 @@ pub use rows::{
     reads_give_the_block, turns_may_be_made,
 };
 pub use scans::scans_may_be_made;
+pub use trees::trees_may_be_changed;
