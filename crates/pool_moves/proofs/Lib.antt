@@ -8,10 +8,12 @@ pub mod Keeping
 pub mod LineWalks
 pub mod Making
 pub mod OpenedSeats
+pub mod OpeningWalks
 pub mod PagesBack
 pub mod PageTurns
 pub mod ReadWalks
 pub mod Rosters
 pub mod RoundWalks
 pub mod Seeing
+pub mod Seeking
 pub mod TurnWalks

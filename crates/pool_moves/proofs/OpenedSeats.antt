@@ -73,11 +73,11 @@ ArePaired (leaf ∷ leaves) [] = ⊥
 ArePaired (leaf ∷ leaves) (dev ∷ devs) = ArePaired leaves devs
 
 -- The seat of a leaf.
-abbrev IsSeatOf : Pool → LeafKept → Seat → Type 0
+abbrev pub IsSeatOf : Pool → LeafKept → Seat → Type 0
 IsSeatOf p leaf (At d found own) = (p.member d ≡ true) × (p.guid d ≡ leaf.guid)
 IsSeatOf p leaf (Adrift other) = (other ≡ opened_leaf leaf None) × ((d : ℕ) → p.member d ≡ true → (leaf.guid.0 == (p.guid d).0) ≡ false)
 
-abbrev AreSeatsOf : Pool → List LeafKept → List Seat → Type 0
+abbrev pub AreSeatsOf : Pool → List LeafKept → List Seat → Type 0
 AreSeatsOf p [] [] = Unit {0}
 AreSeatsOf p [] (seat ∷ seats) = ⊥
 AreSeatsOf p (leaf ∷ leaves) [] = ⊥
