@@ -1,15 +1,13 @@
 -- Openings and creates may commit their groups without keys.
 use Rattle.std.proofs.Common.{◌≡◌, ℕ, Bool, true, false, cond, Some, None, List, [], ◌∷◌, ◌++◌, refl, sym, ap, ◌∙◌, subst}
 use Rattle.mp_base.specs.declared.place.Key.{Key}
-use Rattle.txg_history.specs.Events.{Opens, Flushed, as_events}
+use Rattle.txg_history.specs.Events.{Opens, Flushed}
 use Rattle.txg_history.specs.Moves.{Mays, MayFlush}
 use Rattle.txg_history.specs.Pages.{Codec}
 use Rattle.txg_history.specs.Pools.{Pool, after}
 use Rattle.txg_history.specs.Records.{Cell, Cells, block_in}
 use Rattle.txg_history.specs.Survival.{Survives}
-use Rattle.txg_history.proofs.Folding.{with_calls, calls_after}
 use Rattle.txg_history.proofs.Moving.{event_survives}
-use Rattle.txg_history.proofs.Surviving.{history_survives}
 use Rattle.pool_moves.specs.CommitRows.{IsOpened, RowReopen, RowFound, NamedLog, RowLogs}
 use Rattle.pool_moves.specs.FreezeRow.{RowEmptyFreeze, up_devs}
 use Rattle.pool_moves.specs.Keeping.{over, Kept, Walks}
@@ -29,15 +27,12 @@ opened_kept c s t o = record {
   seated = o.seated;
   away = o.away;
   numbered = o.numbered;
-  boarded = λ f. absurd (let no : false ≡ true = sym (ap (λ p. p.group.frozen) is) ∙ f in cc);
+  boarded = λ f. absurd (let no : false ≡ true = sym (ap (λ p. p.group.frozen) o.is) ∙ f in cc);
   topped = o.topped;
-  written = λ a. subst (λ p. p.written a ≡ over (s.own.writes a) (cond p.group.frozen (p.group.content a) (block_in p.reads.cells a))) (sym is)
+  written = λ a. subst (λ p. p.written a ≡ over (s.own.writes a) (cond p.group.frozen (p.group.content a) (block_in p.reads.cells a))) (sym o.is)
       (ap (λ w. over w (block_in o.r.cells a)) (sym (o.unwritten a)));
-  survives = subst (Survives c) (sym o.is) (history_survives c (as_events o.made) (after (Opens o.r) o.before) (event_survives c o.before (Opens o.r) o.survives o.live) o.calls);
+  survives = subst (Survives c) (sym o.is) (event_survives c o.before (Opens o.r) o.survives o.live);
 }
-  where
-    is : t.pool ≡ with_calls o.made (after (Opens o.r) o.before)
-    is = o.is ∙ calls_after o.made (after (Opens o.r) o.before)
 
 pub reopen_walks : (c : Codec) (size : ℕ → ℕ) (s : PoolState) (t : Side) (vs : List Move) (reply : TurnReply) → Kept c s t → IsSized size t → RowReopen c size s vs reply → Walks c t vs
 reopen_walks c size s t vs reply kept same row = let walks = empty_freeze_walks c s t row.first kept row.freeze in

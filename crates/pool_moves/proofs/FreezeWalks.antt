@@ -70,7 +70,7 @@ with_away leaf which (At d was is ∷ seats) none all =
     ((λ un. neither (is_up leaf.own.mode) (is_dev d leaf.dev) (which d) (ap (is_dev d) none) (all.0 un)), with_away leaf which seats none all.1)
 with_away leaf which (Adrift other ∷ seats) none all = (tt, with_away leaf which seats none all.1)
 
-up_of_found : (f : Bool) (p : Pool) (seats : List Seat) → AllByRecursion IsAway seats → AreSeatsApart seats → AllByRecursion (IsOfFound (up_devs (leaves_by f p seats))) seats
+pub up_of_found : (f : Bool) (p : Pool) (seats : List Seat) → AllByRecursion IsAway seats → AreSeatsApart seats → AllByRecursion (IsOfFound (up_devs (leaves_by f p seats))) seats
 up_of_found f p [] away apart = tt
 up_of_found f p (At e found own ∷ seats) away apart = (
   (λ un. neither (is_up own.mode) (is_dev e (dev_if found e)) (up_devs (leaves_by f p seats) e) (ap (λ x. is_dev e (dev_if x e)) un)

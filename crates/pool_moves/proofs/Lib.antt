@@ -12,6 +12,7 @@ pub mod OpeningWalks
 pub mod PagesBack
 pub mod PageTurns
 pub mod ReadWalks
+pub mod ResilverWalks
 pub mod Rosters
 pub mod RoundWalks
 pub mod Seeing

@@ -25,7 +25,7 @@ use Rattle.txg_history.proofs.ReadingBack.{numbered_fits}
 use Rattle.txg_history.proofs.Surviving.{history_survives}
 use Rattle.pool_moves.specs.CommitRows.{IsOpened}
 use Rattle.pool_moves.specs.FreezeRow.{is_dev, up_devs}
-use Rattle.pool_moves.specs.Keeping.{HasUnder}
+use Rattle.pool_moves.specs.Keeping.{Walks}
 use Rattle.pool_moves.specs.Leaves.{LeafSeen, Seat}
 use Rattle.pool_moves.specs.Opened.{AreValidLeaves, opened_leaf, opened_leaves, opened_state, opened_seats, claims_of}
 use Rattle.pool_moves.specs.OpeningRow.{HasSizes, IsLiveOne, OpenReply, Opens_state, NoPage, reading_of, RowOpen}
@@ -35,7 +35,8 @@ use Rattle.pool_moves.specs.States.{Sums, sums, no_group_seen, no_scan_seen, Poo
 use Rattle.pool_moves.proofs.OpenedSeats.{IsIn as IsKeptIn, kept_in_record, ArePaired, AreSeatsOf, seats_are, opened_seated, opened_away, opened_apart, opened_numbered, opened_topped, seats_seen}
 use Rattle.pool_moves.proofs.PagesBack.{of_volume_or, volume_width, IsClosed, below_known, known_right, before_more, above_before, closed_before, IsReadOf}
 use Rattle.pool_moves.proofs.PageTurns.{IsTrueLeaf, IsOn, on_behind, IsRightTurn, answers_behind, turns_may, stop_may, stop_never}
-use Rattle.pool_moves.proofs.ReadWalks.{answers_front}
+use Rattle.pool_moves.specs.Walking.{as_moves}
+use Rattle.pool_moves.proofs.ReadWalks.{answers_front, calls_walk}
 use Rattle.pool_moves.proofs.Seeking.{reads_may, sought_reads, sought_paired}
 
 -- What the configuration says of the record.
@@ -203,7 +204,7 @@ module _ (c : Codec) (size : ℕ → ℕ) (handed : List ℕ → Option ℕ) (na
   seats roster = opened_seats p roster leaves o.row.devs
 
   abbrev side : (roster : List ℕ) → Side
-  side roster = record { pool = with_calls made q; seats = seats roster }
+  side roster = record { pool = q; seats = seats roster }
 
   seated : (roster : List ℕ) → IsRoster p roster → AreSeatsOf p leaves (seats roster)
   seated roster ros = seats_are p r roster leaves o.row.devs ros kept (sought_paired found.pool size (c.room config) handed leaves o.row.ids o.row.devs o.row.sought) o.home
@@ -217,16 +218,13 @@ module _ (c : Codec) (size : ℕ → ℕ) (handed : List ℕ → Option ℕ) (na
       ∙ (ap (λ f. core_of p.name p.pool (number_of r) (sums r.cells) f (opened_leaves leaves o.row.devs)) room_is
       ∙ ap (core_of p.name p.pool (number_of r) (sums r.cells) p.room) (sym (seats_seen p r roster p.group.board p.scan.eligible p.scan.scrub leaves o.row.devs kept (seated roster ros)))))))
 
-  opened_at : (roster : List ℕ) (s : PoolState) → IsRoster p roster → s ≡ opened_state c name found o.row.devs o.row.got → ((k : Key) → x.got k ≡ sum_of (r.cells k)) → Mays c q (as_events made)
-      → IsOpened c s (side roster)
-  opened_at roster s ros is right may = record {
+  opened_at : (roster : List ℕ) (s : PoolState) → IsRoster p roster → s ≡ opened_state c name found o.row.devs o.row.got → ((k : Key) → x.got k ≡ sum_of (r.cells k)) → IsOpened c s (side roster)
+  opened_at roster s ros is right = record {
     before = p;
     r = r;
     survives = o.survives;
     live = o.is.is_live;
-    made = made;
-    calls = may;
-    is = sym (calls_after made q);
+    is = refl;
     apart = opened_apart p leaves (seats roster) o.row.valid.apart (seated roster ros);
     seated = opened_seated p leaves (seats roster) (seated roster ros);
     away = opened_away p leaves (seats roster) (seated roster ros);
@@ -336,10 +334,10 @@ module _ (c : Codec) (size : ℕ → ℕ) (handed : List ℕ → Option ℕ) (na
 -- An opening that comes to a state.
 pub opening_opens : (c : Codec) (size : ℕ → ℕ) (handed : List ℕ → Option ℕ) (name : List ℕ) (p : Pool) (r : Rec) (roster : List ℕ) (found : Found) (made : List Noted) (s : PoolState) → Survives c p → p.name ≡ name
     → IsLiveOne p found r → IsRoster p roster → (row : RowOpen c size handed name found made (Opens_state s)) → AllAnswer p.sectors made → HasNoTwin p r (claims_of (c.leaves found.blob.items) row.devs)
-    → IsOpened c s (record { pool = pool_after (as_events made) (after (Opens r) p); seats = opened_seats p roster (c.leaves found.blob.items) row.devs }) ⊎ ClashesAt r.cells row.bytes
+    → (IsOpened c s (record { pool = after (Opens r) p; seats = opened_seats p roster (c.leaves found.blob.items) row.devs })
+    × Walks c (record { pool = after (Opens r) p; seats = opened_seats p roster (c.leaves found.blob.items) row.devs }) (as_moves made)) ⊎ ClashesAt r.cells row.bytes
 opening_opens c size handed name p r roster found made s sv named is ros row answers home = ⊎_elim
-    (λ right. ⊎_elim (λ may. inl (subst (λ u. IsOpened c s (record { pool = u; seats = opened_seats p roster (c.leaves found.blob.items) row.devs })) (sym (calls_after made (after (Opens r) p)))
-    (opened_at c size handed name p r found made (Opens_state s) o roster s ros row.ends.1 right may)))
+    (λ right. ⊎_elim (λ may. inl (opened_at c size handed name p r found made (Opens_state s) o roster s ros row.ends.1 right, calls_walk c made (side c size handed name p r found made (Opens_state s) o roster) may))
     (λ clash. inr clash) (map_may c size handed name p r found made (Opens_state s) o row.ends.0 right))
     (λ clash. inr clash) (map_right c size handed name p r found made (Opens_state s) o row.ends.0.back)
   where

@@ -1,11 +1,9 @@
 -- The commits of a create and of an opening as rows: groups without keys. And `logs`.
 use Rattle.std.specs.Prelude.{◌≡◌, ℕ, ◌≤◌, Bool, true, List, [], ◌∷◌, ◌++◌, map, None}
 use Rattle.std.specs.List.{AllByRecursion}
-use Rattle.bank_core.specs.Disk.{Noted}
-use Rattle.txg_history.specs.Events.{Opens, as_events}
-use Rattle.txg_history.specs.Moves.{Mays}
+use Rattle.txg_history.specs.Events.{Opens}
 use Rattle.txg_history.specs.Pages.{Codec}
-use Rattle.txg_history.specs.Pools.{Pool, after, pool_after}
+use Rattle.txg_history.specs.Pools.{Pool, after}
 use Rattle.txg_history.specs.Records.{Rec, IsIn}
 use Rattle.txg_history.specs.Survival.{Survives}
 use Rattle.pool_moves.specs.FreezeRow.{RowEmptyFreeze}
@@ -17,15 +15,12 @@ use Rattle.pool_moves.specs.States.{PoolState, Side, seen}
 use Rattle.pool_moves.specs.TurnRows.{FitsOwn, RowRound}
 
 -- A pool whose opening has read a live record: its leaves are the record's, each where the history has it, found by this run or not.
--- These calls were made since it reads the record, for its leaves' identities and its map.
 pub record IsOpened (c : Codec) (s : PoolState) (t : Side) : Type 0 where
   pub before : Pool
   pub r : Rec
   pub survives : Survives c before
   pub live : IsIn r before.live
-  pub made : List Noted
-  pub calls : Mays c (after (Opens r) before) (as_events made)
-  pub is : t.pool ≡ pool_after (as_events made) (after (Opens r) before)
+  pub is : t.pool ≡ after (Opens r) before
   pub apart : AreSeatsApart t.seats
   pub seated : AllByRecursion (IsSeated t.pool.member) t.seats
   pub away : AllByRecursion IsAway t.seats
