@@ -7,6 +7,7 @@ pub mod FreezeWalks
 pub mod Keeping
 pub mod LineWalks
 pub mod Making
+pub mod OnlineWalks
 pub mod OpenedSeats
 pub mod OpeningWalks
 pub mod PagesBack

@@ -171,7 +171,7 @@ search_home c p m d made sv mine s whole = given_home c p m d s.before s.hit.cal
 abbrev IsClaimed : Pool → (size : ℕ → ℕ) → List Noted → ℕ → Guid → Type 0
 IsClaimed p size made d m = (mine : List Noted) × IsSearch p.pool m d (size d) mine (Ok true) × (1 ≤ size d) × (AreWholeReads p made → AreWholeReads p mine)
 
-all_first : {A : Type 0} (P : A → Type 0) (xs ys : List A) → AllByRecursion P (xs ++ ys) → AllByRecursion P xs
+pub all_first : {A : Type 0} (P : A → Type 0) (xs ys : List A) → AllByRecursion P (xs ++ ys) → AllByRecursion P xs
 all_first P [] ys all = tt
 all_first P (x ∷ xs) ys all = (all.0, all_first P xs ys all.1)
 

@@ -8,6 +8,7 @@ pub mod Leaves
 pub mod LineRows
 pub mod Making
 pub mod Moves
+pub mod OnlineRow
 pub mod Opened
 pub mod OpeningRow
 pub mod PageReads

@@ -1,5 +1,5 @@
-//! What openings find, read and commit (docs/MODEL.md, "Moves").
-ghost use Rattle.std.specs.Prelude.{◌≡◌, ◌⊎◌, ℕ, true, List, map, Option};
+//! What openings find, read and commit, and leaves that come back (docs/MODEL.md, "Moves").
+ghost use Rattle.std.specs.Prelude.{◌≡◌, ◌⊎◌, ℕ, Bool, true, List, map, Option};
 ghost use Rattle.bank_core.specs.Disk.{Noted, AllAnswer};
 ghost use Rattle.label_store.specs.declared.found.Found.{Found};
 ghost use Rattle.mp_base.specs.declared.number.Guid.{Guid};
@@ -18,9 +18,11 @@ ghost use Rattle.pool_moves.specs.Keeping.{Kept, Walks};
 ghost use Rattle.pool_moves.specs.LineRows.{IsSized, TurnReply};
 ghost use Rattle.pool_moves.specs.Making.{IsMade};
 ghost use Rattle.pool_moves.specs.Moves.{Move};
+ghost use Rattle.pool_moves.specs.OnlineRow.{HostDevice, OnlineReply, RowOnline, FindMembers};
 ghost use Rattle.pool_moves.specs.Opened.{opened_leaves, opened_seats, claims_of};
 ghost use Rattle.pool_moves.specs.OpeningRow.{SeekReply, RowSeek, HasSizes, IsLiveOne, SeeksLive, AreWholeReads, AreSought, OpenReply, Opens_state, NoPage, RowOpen, RowResume};
 ghost use Rattle.pool_moves.specs.PageReads.{LeafShown, answers_in};
+ghost use Rattle.pool_moves.specs.ReadRow.{made_in};
 ghost use Rattle.pool_moves.specs.Resilvers.{Resilvers};
 ghost use Rattle.pool_moves.specs.Rosters.{IsRoster, roster_after, devices_of};
 ghost use Rattle.pool_moves.specs.States.{PoolState, Side};
@@ -81,4 +83,14 @@ pub fn openings_read_the_record()
 pub fn openings_may_be_committed()
     ensures commit { (c : Codec) (size : ℕ → ℕ) (s : PoolState) (t : Side) (vs : List Move) (reply : TurnReply) → Kept c s t → IsSized size t → RowResume c size s vs reply → Walks c t vs }
     ensures resilver { (c : Codec) (s : PoolState) (t : Side) (vs : List Move) → Kept c s t → Resilvers s.core vs → Walks c t vs }
+{}
+
+/// A leaf may come online, also in the middle of a group, and where nothing is to be done. It computes nothing: its clause is
+/// the law.
+///
+/// It is assumed that no ring sector that was read is torn into a correct uberblock, and that a device which has the leaf's identity, and is
+/// handed in under its name, is a member. That it is the leaf's own device follows.
+pub fn leaves_may_come_online()
+    ensures { (c : Codec) (size : ℕ → ℕ) (s : PoolState) (t : Side) (name : List ℕ) (listed : Bool) (device : HostDevice) (vs : List Move) (reply : OnlineReply) → Kept c s t → IsSized size t
+        → RowOnline size s name listed device vs reply → AreWholeReads t.pool (made_in vs) → FindMembers t.pool vs → Walks c t vs }
 {}
