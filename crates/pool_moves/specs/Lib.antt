@@ -9,8 +9,14 @@ pub mod LineRows
 pub mod Making
 pub mod Missing
 pub mod Moves
+pub mod OnlineRow
+pub mod Opened
+pub mod OpeningRow
+pub mod PageReads
 pub mod ReadRow
 pub mod Refusing
+pub mod Resilvers
+pub mod Rosters
 pub mod ScanRows
 pub mod States
 pub mod TreeRows

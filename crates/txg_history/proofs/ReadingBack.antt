@@ -55,7 +55,7 @@ same_or (x ∷ a) (y ∷ b) = ⊎_elim {A = x ≡ y} {B = x ≢ y} (λ e. ⊎_el
     head_of x y a b g = cc
 
 -- something of each below a bound, or something else
-all_or : (P : ℕ → Type 0) (Q : Type 0) (n : ℕ) → ((i : ℕ) → i < n → P i ⊎ Q) → ((i : ℕ) → i < n → P i) ⊎ Q
+pub all_or : (P : ℕ → Type 0) (Q : Type 0) (n : ℕ) → ((i : ℕ) → i < n → P i ⊎ Q) → ((i : ℕ) → i < n → P i) ⊎ Q
 all_or P Q zero each = inl (λ i lt. absurd (omega (arith, lt)))
 all_or P Q (suc n) each = ⊎_elim (λ all. ⊎_elim (λ last. inl (λ i lt. by_last all last i lt (cases_eq i n))) (λ q. inr q) (each n (omega arith))) (λ q. inr q)
     (all_or P Q n (λ i lt. each i (omega (arith, lt))))
