@@ -25,14 +25,14 @@ use Rattle.txg_history.proofs.ReadingBack.{numbered_fits}
 use Rattle.txg_history.proofs.Surviving.{history_survives}
 use Rattle.pool_moves.specs.CommitRows.{IsOpened}
 use Rattle.pool_moves.specs.FreezeRow.{is_dev, up_devs}
-use Rattle.pool_moves.specs.Keeping.{Walks}
+use Rattle.pool_moves.specs.Keeping.{HasNumberBelow, Walks}
 use Rattle.pool_moves.specs.Leaves.{LeafSeen, Seat}
-use Rattle.pool_moves.specs.Opened.{AreValidLeaves, opened_leaf, opened_leaves, opened_state, opened_seats, claims_of}
+use Rattle.pool_moves.specs.Opened.{ShapeKept, AreValidLeaves, opened_leaf, opened_leaves, opened_state, opened_seats, claims_of}
 use Rattle.pool_moves.specs.OpeningRow.{HasSizes, IsLiveOne, OpenReply, Opens_state, NoPage, reading_of, RowOpen}
 use Rattle.pool_moves.specs.PageReads.{Reading, is_read_before, IsBelow, IsKnown, PageTurn, page_of, calls_of_turns, IsPageTurn, IsReadTo, ReadsMap, LeafShown, StopsAt, failed_on, answers_in}
 use Rattle.pool_moves.specs.Rosters.{IsRoster}
 use Rattle.pool_moves.specs.States.{Sums, sums, no_group_seen, no_scan_seen, PoolSeen, PoolState, Side, seen}
-use Rattle.pool_moves.proofs.OpenedSeats.{IsIn as IsKeptIn, kept_in_record, ArePaired, AreSeatsOf, seats_are, opened_seated, opened_away, opened_apart, opened_numbered, opened_topped, seats_seen}
+use Rattle.pool_moves.proofs.OpenedSeats.{IsIn as IsKeptIn, kept_in_record, ArePaired, AreSeatsOf, seats_are, opened_seated, opened_away, opened_apart, opened_below, opened_numbered, opened_topped, seats_seen}
 use Rattle.pool_moves.proofs.PagesBack.{of_volume_or, volume_width, IsClosed, below_known, known_right, before_more, above_before, closed_before, IsReadOf}
 use Rattle.pool_moves.proofs.PageTurns.{IsTrueLeaf, IsOn, on_behind, IsRightTurn, answers_behind, turns_may, stop_may, stop_never}
 use Rattle.pool_moves.specs.Walking.{as_moves}
@@ -113,7 +113,7 @@ module _ (c : Codec) (size : ℕ → ℕ) (handed : List ℕ → Option ℕ) (na
   logs = ap (λ b. kept_log (c.leaves b)) o.is.config_is ∙ fits.config.owes
 
   kept : AllByRecursion (IsKeptIn r.tops r.owes) leaves
-  kept = kept_in_record r leaves o.row.valid tops logs
+  kept = kept_in_record r (c.next_member config) leaves o.row.valid tops logs
 
   ids_may : Mays c q (as_events o.row.ids)
   ids_may = reads_may c q o.row.ids (sought_reads found.pool size (c.room config) handed leaves o.row.ids o.row.devs o.row.sought)
@@ -209,8 +209,8 @@ module _ (c : Codec) (size : ℕ → ℕ) (handed : List ℕ → Option ℕ) (na
   seated : (roster : List ℕ) → IsRoster p roster → AreSeatsOf p leaves (seats roster)
   seated roster ros = seats_are p r roster leaves o.row.devs ros kept (sought_paired found.pool size (c.room config) handed leaves o.row.ids o.row.devs o.row.sought) o.home
 
-  core_seen : (roster : List ℕ) → IsRoster p roster → ((k : Key) → x.got k ≡ sum_of (r.cells k)) → (opened_state c name found o.row.devs o.row.got).core ≡ seen (side roster)
-  core_seen roster ros right =
+  core_seen : (roster : List ℕ) → IsRoster p roster → ((k : Key) → x.got k ≡ sum_of (r.cells k)) → (shape : ShapeKept) → (opened_state c shape name found o.row.devs o.row.got).core ≡ seen (side roster)
+  core_seen roster ros right shape =
       ap (λ n. core_of n found.pool found.number.0 o.row.got (c.room config) (opened_leaves leaves o.row.devs)) (sym o.named)
       ∙ (ap (λ g. core_of p.name g found.number.0 o.row.got (c.room config) (opened_leaves leaves o.row.devs)) o.is.pool_is
       ∙ (ap (λ n. core_of p.name p.pool n o.row.got (c.room config) (opened_leaves leaves o.row.devs)) (ap (λ n. n.0) o.is.number_is)
@@ -218,8 +218,8 @@ module _ (c : Codec) (size : ℕ → ℕ) (handed : List ℕ → Option ℕ) (na
       ∙ (ap (λ f. core_of p.name p.pool (number_of r) (sums r.cells) f (opened_leaves leaves o.row.devs)) room_is
       ∙ ap (core_of p.name p.pool (number_of r) (sums r.cells) p.room) (sym (seats_seen p r roster p.group.board p.scan.eligible p.scan.scrub leaves o.row.devs kept (seated roster ros)))))))
 
-  opened_at : (roster : List ℕ) (s : PoolState) → IsRoster p roster → s ≡ opened_state c name found o.row.devs o.row.got → ((k : Key) → x.got k ≡ sum_of (r.cells k)) → IsOpened c s (side roster)
-  opened_at roster s ros is right = record {
+  opened_at : (roster : List ℕ) (s : PoolState) → IsRoster p roster → (shape : ShapeKept) → s ≡ opened_state c shape name found o.row.devs o.row.got → ((k : Key) → x.got k ≡ sum_of (r.cells k)) → IsOpened c s (side roster)
+  opened_at roster s ros shape is right = record {
     before = p;
     r = r;
     survives = o.survives;
@@ -230,7 +230,9 @@ module _ (c : Codec) (size : ℕ → ℕ) (handed : List ℕ → Option ℕ) (na
     away = opened_away p leaves (seats roster) (seated roster ros);
     numbered = λ d mine. opened_numbered p roster leaves (seats roster) d ros (seated roster ros) mine;
     topped = λ d mine one. opened_topped p r leaves (seats roster) d kept tops (seated roster ros) one;
-    core = ap (λ u. u.core) is ∙ core_seen roster ros right;
+    below = subst (λ n. AllByRecursion (HasNumberBelow q.guid n) (seats roster)) (sym (ap (λ u. u.own.next_member) is))
+        (opened_below p (c.next_member config) leaves (seats roster) (seated roster ros) o.row.valid.below);
+    core = ap (λ u. u.core) is ∙ core_seen roster ros right shape;
     unwritten = λ a. ap (λ u. u.own.writes a) is;
   }
 
@@ -337,9 +339,9 @@ pub opening_opens : (c : Codec) (size : ℕ → ℕ) (handed : List ℕ → Opti
     → (IsOpened c s (record { pool = after (Opens r) p; seats = opened_seats p roster (c.leaves found.blob.items) row.devs })
     × Walks c (record { pool = after (Opens r) p; seats = opened_seats p roster (c.leaves found.blob.items) row.devs }) (as_moves made)) ⊎ ClashesAt r.cells row.bytes
 opening_opens c size handed name p r roster found made s sv named is ros row answers home = ⊎_elim
-    (λ right. ⊎_elim (λ may. inl (opened_at c size handed name p r found made (Opens_state s) o roster s ros row.ends.1 right, calls_walk c made (side c size handed name p r found made (Opens_state s) o roster) may))
-    (λ clash. inr clash) (map_may c size handed name p r found made (Opens_state s) o row.ends.0 right))
-    (λ clash. inr clash) (map_right c size handed name p r found made (Opens_state s) o row.ends.0.back)
+    (λ right. ⊎_elim (λ may. inl (opened_at c size handed name p r found made (Opens_state s) o roster s ros row.ends.0 row.ends.2 right, calls_walk c made (side c size handed name p r found made (Opens_state s) o roster) may))
+    (λ clash. inr clash) (map_may c size handed name p r found made (Opens_state s) o row.ends.1 right))
+    (λ clash. inr clash) (map_right c size handed name p r found made (Opens_state s) o row.ends.1.back)
   where
     o : Opening c size handed name p r found made (Opens_state s)
     o = record { survives = sv; named = named; is = is; row = row; answers = answers; home = home }
@@ -349,7 +351,7 @@ pub opening_may : (c : Codec) (size : ℕ → ℕ) (handed : List ℕ → Option
     → IsLiveOne p found r → (row : RowOpen c size handed name found made reply) → AllAnswer p.sectors made → HasNoTwin p r (claims_of (c.leaves found.blob.items) row.devs)
     → Mays c (after (Opens r) p) (as_events made) ⊎ ClashesAt r.cells row.bytes
 opening_may c size handed name p r found made (Opens_state s) sv named is row answers home =
-    ⊎_elim (λ right. map_may c size handed name p r found made (Opens_state s) o row.ends.0 right) (λ clash. inr clash) (map_right c size handed name p r found made (Opens_state s) o row.ends.0.back)
+    ⊎_elim (λ right. map_may c size handed name p r found made (Opens_state s) o row.ends.1 right) (λ clash. inr clash) (map_right c size handed name p r found made (Opens_state s) o row.ends.1.back)
   where
     o : Opening c size handed name p r found made (Opens_state s)
     o = record { survives = sv; named = named; is = is; row = row; answers = answers; home = home }

@@ -1,5 +1,5 @@
 -- The state of a pool behind an opening, and where the history has its leaves.
-use Rattle.std.specs.Prelude.{◌≡◌, ◌⊎◌, ℕ, ◌≤◌, ◌==◌, ◌&&◌, ◌||◌, Bool, true, false, Option, Some, None, List, [], ◌∷◌}
+use Rattle.std.specs.Prelude.{◌≡◌, ◌⊎◌, ℕ, ◌<◌, ◌≤◌, ◌==◌, ◌&&◌, ◌||◌, Bool, true, false, Option, Some, None, List, [], ◌∷◌}
 use Rattle.std.specs.List.{AllByRecursion}
 use Rattle.mp_base.specs.declared.number.Guid.{Guid}
 use Rattle.vdev_tree.specs.declared.vdev.Counts.{Counts}
@@ -13,6 +13,7 @@ use Rattle.pool_moves.specs.FreezeRow.{is_dev}
 use Rattle.pool_moves.specs.Leaves.{OwnLeaf, LeafSeen, Seat, At, Adrift}
 use Rattle.pool_moves.specs.Rosters.{member_of}
 use Rattle.pool_moves.specs.States.{Sums, no_group_seen, no_scan_seen, PoolState}
+use Rattle.pool_moves.specs.Trees.{Child}
 
 -- a leaf of this number is among these
 abbrev pub HasKept : Guid → List LeafKept → Type 0
@@ -24,10 +25,11 @@ abbrev pub AreNumbersApart : List LeafKept → Type 0
 AreNumbersApart [] = Unit {0}
 AreNumbersApart (leaf ∷ leaves) = AllByRecursion (λ other. (leaf.guid.0 == other.guid.0) ≡ false) leaves × AreNumbersApart leaves
 
--- Leaves that a valid configuration may have: each under a top and with a number of its own.
-pub record AreValidLeaves (leaves : List LeafKept) : Type 0 where
+-- Leaves that a valid configuration may have: each under a top and with a number of its own, below the next one.
+pub record AreValidLeaves (next : ℕ) (leaves : List LeafKept) : Type 0 where
   pub apart : AreNumbersApart leaves
   pub under : AllByRecursion (λ leaf. 1 ≤ leaf.top) leaves
+  pub below : AllByRecursion (λ leaf. leaf.guid.0 < next) leaves
 
 abbrev pub no_counts : Counts
 no_counts = record { reads = 0; writes = 0; mismatches = 0 }
@@ -67,14 +69,22 @@ opened_leaves [] devs = []
 opened_leaves (leaf ∷ leaves) [] = []
 opened_leaves (leaf ∷ leaves) (dev ∷ devs) = opened_leaf leaf dev ∷ opened_leaves leaves devs
 
+-- What a configuration tells of the trees of its tops and of listed spares, as the code reads it.
+pub record ShapeKept : Type 0 where
+  pub children : ℕ → List Child
+  pub spares : List (List ℕ)
+
 -- The state behind an opening of this record, with its leaves on these devices and the pointers that were read back.
-abbrev pub opened_state : Codec → (name : List ℕ) → Found → (devs : List (Option ℕ)) → (got : Sums) → PoolState
-opened_state c name found devs got = record {
+abbrev pub opened_state : Codec → ShapeKept → (name : List ℕ) → Found → (devs : List (Option ℕ)) → (got : Sums) → PoolState
+opened_state c shape name found devs got = record {
   own = record {
     blocks = c.blocks found.blob.items;
     writes = λ a. None;
     top_number = c.top_number found.blob.items;
+    children = shape.children;
+    spares = shape.spares;
     next_member = c.next_member found.blob.items;
+    scrubs = false;
   };
   core = record {
     name = name;

@@ -21,7 +21,7 @@ use Rattle.pool_moves.specs.CommitRows.{RowReopen}
 use Rattle.pool_moves.specs.Leaves.{LeafSeen}
 use Rattle.pool_moves.specs.LineRows.{TurnReply, Idle, Write, Flush, Round, Committed, Suspended}
 use Rattle.pool_moves.specs.Moves.{Move, steps}
-use Rattle.pool_moves.specs.Opened.{AreValidLeaves, opened_leaves, opened_state}
+use Rattle.pool_moves.specs.Opened.{ShapeKept, AreValidLeaves, opened_leaves, opened_state}
 use Rattle.pool_moves.specs.PageReads.{Reading, ReadsMap, LeafShown, StopsAt}
 use Rattle.pool_moves.specs.Resilvers.{Resilvers}
 use Rattle.pool_moves.specs.States.{Sums, PoolState}
@@ -116,7 +116,7 @@ pub data OpenReply : Type 0 where
 
 -- how the reading of the map ends
 abbrev pub OpenEnds : OpenReply → Codec → (name : List ℕ) → Found → (devs : List (Option ℕ)) → Reading → List Noted → Type 0
-OpenEnds (Opens_state s) c name found devs x made = ReadsMap x made × (s ≡ opened_state c name found devs x.got)
+OpenEnds (Opens_state s) c name found devs x made = (shape : ShapeKept) × ReadsMap x made × (s ≡ opened_state c shape name found devs x.got)
 OpenEnds (NoPage page shown) c name found devs x made = (level : ℕ) × (page ≡ key (suc level) page.index) × StopsAt x level page.index shown made
 
 abbrev pub reading_of : Codec → Found → (devs : List (Option ℕ)) → (Key → Option (List ℕ)) → Sums → Reading
@@ -133,7 +133,7 @@ reading_of c found devs bytes got = record {
 -- the map are read back.
 pub record RowOpen (c : Codec) (size : ℕ → ℕ) (handed : List ℕ → Option ℕ) (name : List ℕ) (found : Found) (made : List Noted) (reply : OpenReply) : Type 0 where
   pub volume : c.blocks found.blob.items ≤ 262144
-  pub valid : AreValidLeaves (c.leaves found.blob.items)
+  pub valid : AreValidLeaves (c.next_member found.blob.items) (c.leaves found.blob.items)
   pub devs : List (Option ℕ)
   pub ids : List Noted
   pub sought : AreSought found.pool size (c.room found.blob.items) handed (c.leaves found.blob.items) ids devs
