@@ -1,5 +1,5 @@
 -- The board by leaves is the board of the history.
-use Rattle.std.proofs.Common.{◌≡◌, ◌≢◌, inl, inr, ℕ, zero, suc, ◌+◌, ◌<◌, ◌==◌, ◌&&◌, Bool, true, false, Option, Some, None, List, [], ◌∷◌, map, refl, sym, ap, ◌∙◌, subst, arith}
+use Rattle.std.proofs.Common.{◌≡◌, ◌≢◌, inl, inr, ℕ, zero, suc, ◌==◌, ◌&&◌, Bool, true, false, Option, Some, None, List, [], ◌∷◌, map, refl, sym, ap, ◌∙◌, subst, arith}
 use Rattle.std.specs.Prelude.{slice_get}
 use Rattle.std.specs.List.{AllByRecursion}
 use Rattle.std.proofs.lemmas.Bool.{and_parts}
@@ -12,9 +12,9 @@ use Rattle.txg_history.specs.Pools.{Pool, seat}
 use Rattle.txg_history.specs.Turns.{AreJust, OnBoard, OnTop}
 use Rattle.txg_history.proofs.Logging.{by_bool, same_device, true_not_false}
 use Rattle.pool_moves.specs.Boards.{member_before, members_where, is_on, is_on_under, board_of, board_under}
-use Rattle.pool_moves.specs.Keeping.{IsElsewhere, AreSeatsApart, IsAway, HasFound, IsFoundAt, IsOfFound, Kept}
-use Rattle.pool_moves.specs.Leaves.{OwnLeaf, LeafSeen, Seat, At, Adrift, Told, told, dev_if, leaf_seen}
-use Rattle.pool_moves.specs.States.{PoolSeen, Side, PoolState, seen, seen_by}
+use Rattle.pool_moves.specs.Keeping.{IsElsewhere, AreSeatsApart, IsAway, HasFound, IsOfFound, Kept}
+use Rattle.pool_moves.specs.Leaves.{OwnLeaf, LeafSeen, Seat, At, Adrift, told, dev_if, leaf_seen}
+use Rattle.pool_moves.specs.States.{PoolSeen, Side, PoolState, seen_by}
 
 -- what is so of each is so of the one at a place
 pub all_at : {A : Type 0} (P : A → Type 0) (xs : List A) (i : ℕ) (x : A) → AllByRecursion P xs → slice_get xs i ≡ Some x → P x

@@ -2,10 +2,10 @@
 use Rattle.std.proofs.Common.{◌≡◌, ℕ, Bool, true, false, cond, Some, None, List, [], ◌∷◌, ◌++◌, refl, sym, ap, ◌∙◌, subst}
 use Rattle.std.specs.List.{AllByRecursion}
 use Rattle.mp_base.specs.declared.place.Key.{Key}
-use Rattle.txg_history.specs.Events.{Opens, Flushed}
-use Rattle.txg_history.specs.Moves.{Mays, MayFlush}
+use Rattle.txg_history.specs.Events.{Opens}
+use Rattle.txg_history.specs.Moves.{MayFlush}
 use Rattle.txg_history.specs.Pages.{Codec}
-use Rattle.txg_history.specs.Pools.{Pool, after}
+use Rattle.txg_history.specs.Pools.{Pool}
 use Rattle.txg_history.specs.Records.{Cell, Cells, block_in}
 use Rattle.txg_history.specs.Survival.{Survives}
 use Rattle.txg_history.proofs.Moving.{event_survives}

@@ -1,7 +1,7 @@
 -- The record that is drawn up by the leaves of a tree has each member as the history has it.
-use Rattle.std.proofs.Common.{◌≡◌, ◌≢◌, ◌⊎◌, inl, inr, ⊎_elim, ℕ, zero, suc, ◌+◌, ◌≤◌, ◌==◌, ◌&&◌, ◌||◌, Bool, true, false, cond, Option, Some, None, List, [], ◌∷◌, map, refl, sym, ap, ◌∙◌, subst, arith}
+use Rattle.std.proofs.Common.{◌≡◌, ◌⊎◌, inl, inr, ⊎_elim, ℕ, ◌==◌, ◌&&◌, ◌||◌, Bool, true, false, cond, Some, None, List, [], ◌∷◌, map, refl, sym, ap, ◌∙◌, subst, arith}
 use mathlib.Core.Path.{fun_ext}
-use Rattle.std.specs.List.{AllByRecursion, list_any}
+use Rattle.std.specs.List.{AllByRecursion}
 use Rattle.std.proofs.lemmas.Bool.{and_parts}
 use Rattle.std.proofs.lemmas.Bool.Decides.{nat_tests}
 use Rattle.sha2.specs.Sha256.{sha256}
@@ -17,8 +17,8 @@ use Rattle.pool_moves.specs.Drafts.{kept_leaf, top_in, owes_in, draft_of}
 use Rattle.pool_moves.specs.Keeping.{IsElsewhere, IsAway, IsSeated, IsOwnNumber, IsFoundAt, HasFound, IsUnder, HasUnder, HasOtherNumber, KnowsJust, Kept}
 use Rattle.pool_moves.specs.Leaves.{OwnLeaf, LeafSeen, Seat, At, Adrift, told, leaf_seen}
 use Rattle.pool_moves.specs.Making.{HasSeat}
-use Rattle.pool_moves.specs.Moves.{Draft, rec_of, sums_over}
-use Rattle.pool_moves.specs.States.{PoolSeen, PoolState, Side, sums, seen_by}
+use Rattle.pool_moves.specs.Moves.{Draft, rec_of}
+use Rattle.pool_moves.specs.States.{PoolState, Side}
 use Rattle.pool_moves.specs.TurnRows.{FitsState}
 use Rattle.pool_moves.proofs.Boarding.{leaves_of, frozen_core}
 use Rattle.pool_moves.proofs.Seeing.{laid_sum}

@@ -1,5 +1,5 @@
 -- Free moves, one after another, and what the history gets of them.
-use Rattle.std.proofs.Common.{◌≡◌, ℕ, ◌==◌, Bool, true, false, List, [], ◌∷◌, ◌++◌, map, refl, sym, ap, ◌∙◌, subst, append-nil, append_assoc}
+use Rattle.std.proofs.Common.{◌≡◌, ℕ, ◌==◌, Bool, true, false, List, [], ◌∷◌, ◌++◌, refl, sym, ap, ◌∙◌, append-nil, append_assoc}
 use Rattle.std.specs.List.{AllByRecursion}
 use Rattle.bank_core.specs.Disk.{Noted}
 use Rattle.label_store.specs.declared.member.Member.{Member}
@@ -9,8 +9,8 @@ use Rattle.txg_history.specs.Pages.{Codec}
 use Rattle.txg_history.specs.Pools.{Pool, pool_after}
 use Rattle.txg_history.proofs.Folding.{mays_first, mays_second, pool_more}
 use Rattle.pool_moves.specs.Keeping.{IsOfFound, Admits, Walks}
-use Rattle.pool_moves.specs.Leaves.{Seat, At, Adrift}
-use Rattle.pool_moves.specs.Moves.{Move, Makes, Puts, Freeze, Wrote_key, Flushed_all, Draw, Leave, Widen, Burn, Starts, Copies, Copied, Commits, Sets, Finds, Lose, Comes, Goes, Returns, Scan_from, Pass, Drop, Clear, Rest, seat_step, seats_by, events_of, after_move, after_moves}
+use Rattle.pool_moves.specs.Leaves.{Seat}
+use Rattle.pool_moves.specs.Moves.{Move, Makes, Puts, Wrote_key, Flushed_all, Draw, Leave, Copies, Copied, Sets, seat_step, seats_by, events_of, after_move, after_moves}
 use Rattle.pool_moves.specs.States.{Side}
 use Rattle.pool_moves.specs.Walking.{events_along, AreAdmitted, IsFree, as_moves}
 use Rattle.pool_moves.proofs.Keeping.{all_map, all_same, seat_cases}
@@ -48,7 +48,6 @@ free_frozen (Wrote_key k) t free = refl
 free_frozen Flushed_all t free = refl
 free_frozen Draw t free = refl
 free_frozen (Leave d) t free = refl
-free_frozen (Widen m low high) t free = refl
 free_frozen (Copies draft d) t free = refl
 free_frozen (Copied draft d) t free = refl
 free_frozen (Sets m own) t free = refl
@@ -61,7 +60,6 @@ free_admitted (Wrote_key k) t f free = f
 free_admitted Flushed_all t f free = f
 free_admitted Draw t f free = f
 free_admitted (Leave d) t f free = (f, free)
-free_admitted (Widen m low high) t f free = tt
 free_admitted (Copies draft d) t f free = tt
 free_admitted (Copied draft d) t f free = tt
 free_admitted (Sets m own) t f free = tt
@@ -76,8 +74,6 @@ found_stays which Draw t free all = all_map (IsOfFound which) (IsOfFound which) 
     (seat_cases (λ seat. IsOfFound which seat → IsOfFound which (seat_step Draw t.pool seat)) (λ d found own is. is) (λ leaf is. tt)) t.seats all
 found_stays which (Leave d) t free all = all_map (IsOfFound which) (IsOfFound which) (seat_step (Leave d) t.pool)
     (seat_cases (λ seat. IsOfFound which seat → IsOfFound which (seat_step (Leave d) t.pool seat)) (λ d found own is. is) (λ leaf is. tt)) t.seats all
-found_stays which (Widen m low high) t free all = all_map (IsOfFound which) (IsOfFound which) (seat_step (Widen m low high) t.pool)
-    (seat_cases (λ seat. IsOfFound which seat → IsOfFound which (seat_step (Widen m low high) t.pool seat)) (λ d found own is. is) (λ leaf is. tt)) t.seats all
 found_stays which (Copies draft d) t free all = all
 found_stays which (Copied draft d) t free all = all
 found_stays which (Sets m own) t free all = all_map (IsOfFound which) (IsOfFound which) (seat_step (Sets m own) t.pool)
@@ -91,7 +87,6 @@ free_stays v (Wrote_key k) t free is = tt
 free_stays v Flushed_all t free is = tt
 free_stays v Draw t free is = tt
 free_stays v (Leave d) t free is = found_stays (λ e. d == e) v t free is
-free_stays v (Widen m low high) t free is = tt
 free_stays v (Copies draft d) t free is = tt
 free_stays v (Copied draft d) t free is = tt
 free_stays v (Sets m own) t free is = tt

@@ -1,16 +1,15 @@
 -- A freeze may be made: its walk from its row.
-use Rattle.std.proofs.Common.{◌≡◌, ◌⊎◌, inl, inr, ⊎_elim, ℕ, suc, ◌+◌, ◌*◌, ◌<◌, ◌≤◌, ◌==◌, ◌&&◌, ◌||◌, Bool, true, false, cond, Option, Some, None, List, [], ◌∷◌, map, refl, sym, ap, ◌∙◌, subst, arith}
+use Rattle.std.proofs.Common.{◌≡◌, ◌⊎◌, inl, inr, ⊎_elim, ℕ, ◌+◌, ◌*◌, ◌≤◌, ◌==◌, ◌&&◌, ◌||◌, Bool, true, false, cond, Option, Some, None, List, [], ◌∷◌, map, refl, sym, ap, ◌∙◌, subst, arith}
 use Rattle.std.specs.Option.{option_map, is_some}
 use Rattle.std.specs.List.{AllByRecursion}
 use Rattle.std.proofs.lemmas.Bool.{and_parts}
 use Rattle.std.proofs.lemmas.Bool.Decides.{nat_tests}
-use Rattle.mp_base.specs.declared.place.Key.{Key}
 use Rattle.vdev_tree.specs.Leaf.{is_up}
-use Rattle.txg_history.specs.Moves.{Mays, MayFreeze}
-use Rattle.txg_history.specs.Pages.{Codec, Sum, sum_of}
+use Rattle.txg_history.specs.Moves.{MayFreeze}
+use Rattle.txg_history.specs.Pages.{Codec, sum_of}
 use Rattle.txg_history.specs.Places.{HaveNone, AllHaveNone}
 use Rattle.txg_history.specs.Pools.{Pool}
-use Rattle.txg_history.specs.Records.{Cell, Cells, block_of, block_in, cell_over, laid_over, key}
+use Rattle.txg_history.specs.Records.{Cell, Cells, block_of, block_in, cell_over, key}
 use Rattle.txg_history.proofs.Freezing.{empty_freeze}
 use Rattle.txg_history.proofs.Logging.{by_bool, same_device, true_not_false}
 use Rattle.pool_moves.specs.FreezeRow.{is_dev, up_devs, IsAtPlace, IsAtPinned, RowFreeze, RowEmptyFreeze}

@@ -1,42 +1,41 @@
 -- A leaf may be brought in: the walk of `attach` and of `replace` from its row.
-use Rattle.std.proofs.Common.{◌≡◌, ◌⊎◌, inl, inr, ℕ, suc, ◌+◌, ◌<◌, ◌≤◌, ◌^◌, ◌==◌, nat_le, nat_lt, Bool, true, false, cond, Option, Some, None, List, [], ◌∷◌, ◌++◌, map, length, refl, sym, ap, ◌∙◌, subst, arith, append_assoc}
+use Rattle.std.proofs.Common.{◌≡◌, ℕ, ◌+◌, ◌<◌, ◌≤◌, ◌^◌, ◌==◌, nat_le, nat_lt, Bool, true, false, cond, Option, Some, None, List, [], ◌∷◌, ◌++◌, map, length, refl, sym, ap, ◌∙◌, subst, arith}
 use Rattle.std.specs.List.{AllByRecursion}
 use Rattle.std.proofs.lemmas.Bool.Decides.{nat_tests}
 use Rattle.mp_base.specs.declared.number.Guid.{Guid}
 use Rattle.bank_core.specs.declared.bank.Fault.{Fault}
 use Rattle.bank_core.specs.Asks.{IsPart}
-use Rattle.bank_core.specs.Disk.{Noted, run}
+use Rattle.bank_core.specs.Disk.{Noted}
 use Rattle.label_store.specs.Plans.{stamp_plan}
-use Rattle.txg_history.specs.Events.{Loses, Rests, as_events}
+use Rattle.txg_history.specs.Events.{Loses, Rests}
 use Rattle.txg_history.specs.Groups.{at_device}
 use Rattle.txg_history.specs.Losses.{IsStamp}
-use Rattle.txg_history.specs.Moves.{Mays, MayJoin}
+use Rattle.txg_history.specs.Moves.{MayJoin}
 use Rattle.txg_history.specs.Pages.{Codec}
 use Rattle.txg_history.specs.Pools.{Pool, after}
 use Rattle.txg_history.proofs.Folding.{with_calls}
-use Rattle.txg_history.proofs.Logging.{by_bool}
 use Rattle.txg_history.proofs.Losing.{stamps_may}
 use Rattle.txg_history.proofs.Stamping.{stamp_blanks}
-use Rattle.pool_moves.specs.AwayRows.{leaf_named, is_listed}
+use Rattle.pool_moves.specs.AwayRows.{leaf_named}
 use Rattle.pool_moves.specs.FreezeRow.{is_dev}
 use Rattle.pool_moves.specs.Keeping.{IsElsewhere, IsNotFoundAt, Kept, Walks}
 use Rattle.pool_moves.specs.Leaves.{OwnLeaf, LeafSeen, Seat, At, Adrift, dev_if, told, leaf_seen}
 use Rattle.pool_moves.specs.LineRows.{IsSized}
-use Rattle.pool_moves.specs.Moves.{Move, Makes, Lose, Comes, Rest, Shapes, seat_step, step, state_step, steps, after_move, after_moves}
+use Rattle.pool_moves.specs.Moves.{Move, Makes, Lose, Comes, Rest, Shapes, seat_step, state_step, steps, after_move, after_moves}
 use Rattle.pool_moves.specs.ScanRows.{starts_scan}
-use Rattle.pool_moves.specs.States.{PoolState, Side, seen}
+use Rattle.pool_moves.specs.States.{PoolState, Side}
 use Rattle.pool_moves.specs.Trees.{Child}
-use Rattle.pool_moves.specs.TreeRows.{Graft, Attach, Replace, TreeRefusal, limit_if, last_member, numbers_limit, leaves_limit, limits_of, graft_limits, refusal_at, graft_refusal, unnamed, has_place, numbered, new_number, grafted, new_place, new_own, GraftReply, comes_in, graft_first, GraftEnds, IsStamped, GraftOn, GraftAt, GraftFor, RowGraft}
+use Rattle.pool_moves.specs.TreeRows.{Graft, Attach, Replace, TreeRefusal, limit_if, last_member, numbers_limit, leaves_limit, limits_of, graft_limits, refusal_at, graft_refusal, has_place, new_number, grafted, new_place, new_own, GraftReply, comes_in, graft_first, GraftEnds, GraftOn, GraftAt, GraftFor, RowGraft}
 use Rattle.pool_moves.specs.Walking.{as_moves}
 use Rattle.pool_moves.proofs.FreeWalks.{walks_more, moves_more}
 use Rattle.pool_moves.proofs.Keeping.{all_map, walk_keeps, other_numbers, elsewhere_kept, place_kept, here}
-use Rattle.pool_moves.proofs.LineWalks.{sized_along}
 use Rattle.pool_moves.proofs.ReadWalks.{calls_walk}
 use Rattle.pool_moves.proofs.ScanEnds.{start_walk}
 use Rattle.pool_moves.proofs.ScanSteps.{calls_pool}
 
 -- No leaf that was found is on the device.
-not_found_at : (f r : Bool) (p : Pool) (d : ℕ) (seats : List Seat) → AllByRecursion (λ leaf. is_dev d leaf.dev ≡ false) (map (leaf_seen f r (told p)) seats) → AllByRecursion (IsNotFoundAt d) seats
+not_found_at : (f r : Bool) (p : Pool) (d : ℕ) (seats : List Seat) → AllByRecursion (λ leaf. is_dev d leaf.dev ≡ false) (map (leaf_seen f r (told p)) seats)
+    → AllByRecursion (IsNotFoundAt d) seats
 not_found_at f r p d [] off = tt
 not_found_at f r p d (At e found own ∷ seats) off = ((λ same. of found same off.0), not_found_at f r p d seats off.1)
   where
@@ -55,8 +54,10 @@ lose_elsewhere p d (At e found own ∷ seats) = (by (d == e) refl, lose_elsewher
     by false off = off
 lose_elsewhere p d (Adrift leaf ∷ seats) = (tt, lose_elsewhere p d seats)
 
-step_elsewhere : (v : Move) (p : Pool) (d : ℕ) (seats : List Seat) → AllByRecursion (IsElsewhere d) seats → AllByRecursion (IsElsewhere d) (map (seat_step v p) seats)
-step_elsewhere v p d seats all = all_map (IsElsewhere d) (IsElsewhere d) (seat_step v p) (λ seat off. elsewhere_kept d seat (seat_step v p seat) (place_kept v p seat) off) seats all
+pub step_elsewhere : (v : Move) (p : Pool) (d : ℕ) (seats : List Seat) → AllByRecursion (IsElsewhere d) seats
+    → AllByRecursion (IsElsewhere d) (map (seat_step v p) seats)
+step_elsewhere v p d seats all =
+    all_map (IsElsewhere d) (IsElsewhere d) (seat_step v p) (λ seat off. elsewhere_kept d seat (seat_step v p seat) (place_kept v p seat) off) seats all
 
 -- Behind calls the seats and the state are as they were.
 calls_seats : (made : List Noted) (t : Side) → (after_moves (as_moves made) t).seats ≡ t.seats
@@ -72,10 +73,15 @@ steps_more [] ws s = refl
 steps_more (v ∷ vs) ws s = steps_more vs ws (state_step v s)
 
 -- The stamp of a new leaf's device, whichever call fails.
-stamp_walk : (c : Codec) (s : PoolState) (t : Side) (d size : ℕ) (pool m : Guid) (made : List Noted) (outcome : Option Fault) → Kept c s t → AllByRecursion (λ leaf. is_dev d leaf.dev ≡ false) s.core.leaves
+stamp_walk : (c : Codec) (s : PoolState) (t : Side) (d size : ℕ) (pool m : Guid) (made : List Noted) (outcome : Option Fault) → Kept c s t
+    → AllByRecursion (λ leaf. is_dev d leaf.dev ≡ false) s.core.leaves
     → IsPart (stamp_plan d size pool m) made outcome → Walks c t (Lose d ∷ as_moves made)
 stamp_walk c s t d size pool m made outcome kept off calls = (
-  ((tt, tt), not_found_at t.pool.group.frozen t.pool.scan.running t.pool d t.seats (subst (λ core. AllByRecursion (λ leaf. is_dev d leaf.dev ≡ false) core.leaves) kept.core off)),
+  (
+    (tt, tt),
+    not_found_at t.pool.group.frozen t.pool.scan.running t.pool d t.seats
+        (subst (λ core. AllByRecursion (λ leaf. is_dev d leaf.dev ≡ false) core.leaves) kept.core off),
+  ),
   calls_walk c made (after_move (Lose d) t) (stamps_may c t.pool d size (stamp_plan d size pool m) made outcome (IsStamp pool m) calls).0.1,
 )
 
@@ -117,7 +123,8 @@ new_above Replace s = omega arith
 lost_member : (d : ℕ) (member : ℕ → Bool) → at_device d false member d ≡ false
 lost_member d member = ap (λ t. cond t false (member d)) (here d)
 
-may_join : (c : Codec) (size : ℕ → ℕ) (s : PoolState) (t : Side) (d : ℕ) (m : Guid) (top : ℕ) (made : List Noted) → Kept c s t → IsSized size t → t.pool.opened ≡ true
+may_join : (c : Codec) (size : ℕ → ℕ) (s : PoolState) (t : Side) (d : ℕ) (m : Guid) (top : ℕ) (made : List Noted) → Kept c s t → IsSized size t
+    → t.pool.opened ≡ true
     → 320 ≤ size d → t.pool.room top + 256 ≤ size d → m.0 < 2 ^ 64 → s.own.next_member ≤ m.0 → IsPart (stamp_plan d (size d) t.pool.pool m) made None
     → MayJoin (after Rests (with_calls made (after (Loses d) t.pool))) d m top
 may_join c size s t d m top made kept sized opened big rooms range above calls = record {
@@ -146,13 +153,19 @@ comes_walk : (c : Codec) (s : PoolState) (t : Side) (i d : ℕ) (m : Guid) (top 
 comes_walk c s t i d m top own children made kept may above walks = (
   ((tt, tt), tt),
   (
-    ((subst (λ p. MayJoin (after Rests p) d m top) (sym (calls_pool made (after_move (Lose d) t))) may, tt), record {
-      elsewhere = step_elsewhere Rest stamped.pool d stamped.seats
-          (subst (AllByRecursion (IsElsewhere d)) (sym (calls_seats made (after_move (Lose d) t))) (lose_elsewhere t.pool d t.seats));
-      others = other_numbers (after_move Rest stamped).pool.guid rested.own.next_member m (subst (λ n. n ≤ m.0) (sym same_next) above) (after_move Rest stamped).seats
-          (walk_keeps c (Rest ∷ []) (steps (Lose d ∷ as_moves made) s) stamped (((tt, tt), tt), tt) (walk_keeps c (Lose d ∷ as_moves made) s t walks kept)).numbers.below;
-      at_rest = refl;
-    }),
+    (
+      (subst (λ p. MayJoin (after Rests p) d m top) (sym (calls_pool made (after_move (Lose d) t))) may, tt),
+      record {
+        elsewhere = step_elsewhere Rest stamped.pool d stamped.seats
+            (subst (AllByRecursion (IsElsewhere d)) (sym (calls_seats made (after_move (Lose d) t))) (lose_elsewhere t.pool d t.seats));
+        others =
+            other_numbers (after_move Rest stamped).pool.guid rested.own.next_member m (subst (λ n. n ≤ m.0) (sym same_next) above)
+            (after_move Rest stamped).seats
+            (walk_keeps c (Rest ∷ []) (steps (Lose d ∷ as_moves made) s) stamped (((tt, tt), tt), tt)
+            (walk_keeps c (Lose d ∷ as_moves made) s t walks kept)).numbers.below;
+        at_rest = refl;
+      },
+    ),
     ((tt, tt), tt),
   ),
 )
@@ -170,9 +183,12 @@ comes_walk c s t i d m top own children made kept may above walks = (
 opened_calls : (made : List Noted) (t : Side) → (after_moves (as_moves made) t).pool.opened ≡ t.pool.opened
 opened_calls made t = ap (λ p. p.opened) (calls_pool made t)
 
-graft_ends : (c : Codec) (size : ℕ → ℕ) (outcome : Option Fault) (graft : Graft) (s : PoolState) (t : Side) (name : List ℕ) (leaf : LeafSeen) (new : List ℕ) (d : ℕ) (made : List Noted) (vs : List Move) (reply : GraftReply)
-    → Kept c s t → IsSized size t → s.core.opened ≡ true → AllByRecursion (λ leaf. is_dev d leaf.dev ≡ false) s.core.leaves → 320 ≤ size d → s.core.room leaf.top + 256 ≤ size d
-    → s.own.next_member + 1 < last_member → IsPart (stamp_plan d (size d) s.core.pool (new_number graft s)) made outcome → GraftEnds outcome graft s name leaf new d made vs reply → Walks c t vs
+graft_ends : (c : Codec) (size : ℕ → ℕ) (outcome : Option Fault) (graft : Graft) (s : PoolState) (t : Side) (name : List ℕ) (leaf : LeafSeen) (new : List ℕ)
+    (d : ℕ) (made : List Noted) (vs : List Move) (reply : GraftReply)
+    → Kept c s t → IsSized size t → s.core.opened ≡ true → AllByRecursion (λ leaf. is_dev d leaf.dev ≡ false) s.core.leaves → 320 ≤ size d
+    → s.core.room leaf.top + 256 ≤ size d
+    → s.own.next_member + 1 < last_member → IsPart (stamp_plan d (size d) s.core.pool (new_number graft s)) made outcome
+    → GraftEnds outcome graft s name leaf new d made vs reply → Walks c t vs
 graft_ends c size (Some fault) graft s t name leaf new d made vs reply kept sized opened off big rooms left calls ends =
     subst (Walks c t) (sym ends.0) (stamp_walk c s t d (size d) s.core.pool (new_number graft s) made (Some fault) kept off calls)
 graft_ends c size None graft s t name leaf new d made vs reply kept sized opened off big rooms left calls ends =
@@ -192,7 +208,8 @@ graft_ends c size None graft s t name leaf new d made vs reply kept sized opened
     walk = walks_more c (Lose d ∷ as_moves made) (comes_in graft s name leaf new d) t stamp
         (comes_walk c s t (new_place graft name leaf.top s.core.leaves) d (new_number graft s) leaf.top (new_own graft new) (grafted graft s leaf) made kept
         (may_join c size s t d (new_number graft s) leaf.top made kept sized now_opened big (subst (λ core. core.room leaf.top + 256 ≤ size d) kept.core rooms)
-        (new_range graft s left) (new_above graft s) (subst (λ core. IsPart (stamp_plan d (size d) core.pool (new_number graft s)) made None) kept.core calls)) (new_above graft s) stamp)
+        (new_range graft s left) (new_above graft s) (subst (λ core. IsPart (stamp_plan d (size d) core.pool (new_number graft s)) made None) kept.core calls))
+        (new_above graft s) stamp)
 
     behind : Kept c (steps (graft_first graft s name leaf new d made) s) (after_moves (graft_first graft s name leaf new d made) t)
     behind = walk_keeps c (graft_first graft s name leaf new d made) s t walk kept
@@ -202,24 +219,33 @@ graft_ends c size None graft s t name leaf new d made vs reply kept sized opened
         ∙ (opened_calls made (after_move (Lose d) t) ∙ now_opened)
 
 -- `attach` and `replace`
-graft_on : (c : Codec) (small : Bool) (size : ℕ → ℕ) (graft : Graft) (s : PoolState) (t : Side) (name : List ℕ) (leaf : LeafSeen) (new : List ℕ) (d : ℕ) (vs : List Move) (reply : GraftReply) → Kept c s t
-    → IsSized size t → nat_lt (size d) (s.core.room leaf.top + 256) ≡ small → s.own.next_member + 1 < last_member → GraftOn small size graft s name leaf new d vs reply → Walks c t vs
+graft_on : (c : Codec) (small : Bool) (size : ℕ → ℕ) (graft : Graft) (s : PoolState) (t : Side) (name : List ℕ) (leaf : LeafSeen) (new : List ℕ) (d : ℕ)
+    (vs : List Move) (reply : GraftReply) → Kept c s t
+    → IsSized size t → nat_lt (size d) (s.core.room leaf.top + 256) ≡ small → s.own.next_member + 1 < last_member
+    → GraftOn small size graft s name leaf new d vs reply → Walks c t vs
 graft_on c true size graft s t name leaf new d vs reply kept sized is left row = subst (Walks c t) (sym row.0) tt
 graft_on c false size graft s t name leaf new d vs reply kept sized is left row =
-    graft_ends c size row.outcome graft s t name leaf new d row.made vs reply kept sized row.opened row.elsewhere row.big (not_small (size d) (s.core.room leaf.top + 256) is) left row.calls row.ends
+    graft_ends c size row.outcome graft s t name leaf new d row.made vs reply kept sized row.opened row.elsewhere row.big
+    (not_small (size d) (s.core.room leaf.top + 256) is) left row.calls row.ends
 
-graft_at : (c : Codec) (named : Option LeafSeen) (size : ℕ → ℕ) (graft : Graft) (s : PoolState) (t : Side) (name new : List ℕ) (d : ℕ) (vs : List Move) (reply : GraftReply) → Kept c s t → IsSized size t
+graft_at : (c : Codec) (named : Option LeafSeen) (size : ℕ → ℕ) (graft : Graft) (s : PoolState) (t : Side) (name new : List ℕ) (d : ℕ) (vs : List Move)
+    (reply : GraftReply) → Kept c s t → IsSized size t
     → graft_refusal graft s name named ≡ None → GraftAt named size graft s name new d vs reply → Walks c t vs
 graft_at c None size graft s t name new d vs reply kept sized none row = absurd row
-graft_at c (Some leaf) size graft s t name new d vs reply kept sized none row = graft_on c (nat_lt (size d) (s.core.room leaf.top + 256)) size graft s t name leaf new d vs reply kept sized refl
+graft_at c (Some leaf) size graft s t name new d vs reply kept sized none row =
+    graft_on c (nat_lt (size d) (s.core.room leaf.top + 256)) size graft s t name leaf new d vs reply kept sized refl
     (graft_left graft (length (s.own.children leaf.top)) (length s.core.leaves) s.own.next_member
     (placed_limits (has_place graft leaf.guid (s.own.children leaf.top)) (graft_limits graft s leaf.top) none)) row
 
-graft_for : (c : Codec) (refusal : Option TreeRefusal) (size : ℕ → ℕ) (graft : Graft) (s : PoolState) (t : Side) (name new : List ℕ) (d : ℕ) (vs : List Move) (reply : GraftReply) → Kept c s t → IsSized size t
+graft_for : (c : Codec) (refusal : Option TreeRefusal) (size : ℕ → ℕ) (graft : Graft) (s : PoolState) (t : Side) (name new : List ℕ) (d : ℕ) (vs : List Move)
+    (reply : GraftReply) → Kept c s t → IsSized size t
     → graft_refusal graft s name (leaf_named name s.core.leaves) ≡ refusal → GraftFor refusal size graft s name new d vs reply → Walks c t vs
 graft_for c (Some refusal) size graft s t name new d vs reply kept sized is row = subst (Walks c t) (sym row.0) tt
-graft_for c None size graft s t name new d vs reply kept sized is row = graft_at c (leaf_named name s.core.leaves) size graft s t name new d vs reply kept sized is row
+graft_for c None size graft s t name new d vs reply kept sized is row =
+    graft_at c (leaf_named name s.core.leaves) size graft s t name new d vs reply kept sized is row
 
-pub graft_walks : (c : Codec) (size : ℕ → ℕ) (graft : Graft) (s : PoolState) (t : Side) (name new : List ℕ) (d : ℕ) (vs : List Move) (reply : GraftReply) → Kept c s t → IsSized size t
+pub graft_walks : (c : Codec) (size : ℕ → ℕ) (graft : Graft) (s : PoolState) (t : Side) (name new : List ℕ) (d : ℕ) (vs : List Move) (reply : GraftReply)
+    → Kept c s t → IsSized size t
     → RowGraft size graft s name new d vs reply → Walks c t vs
-graft_walks c size graft s t name new d vs reply kept sized row = graft_for c (graft_refusal graft s name (leaf_named name s.core.leaves)) size graft s t name new d vs reply kept sized refl row
+graft_walks c size graft s t name new d vs reply kept sized row =
+    graft_for c (graft_refusal graft s name (leaf_named name s.core.leaves)) size graft s t name new d vs reply kept sized refl row

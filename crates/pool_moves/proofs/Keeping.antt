@@ -1,20 +1,19 @@
 -- A state keeps, behind a move that the history allows and the state admits, what it kept before.
-use Rattle.std.proofs.Common.{◌≡◌, ◌⊎◌, inl, inr, ⊎_elim, ℕ, suc, zero, ◌+◌, ◌<◌, ◌≤◌, ◌==◌, max, Bool, true, false, cond, Option, Some, None, List, [], ◌∷◌, ◌++◌, map, take, drop, refl, sym, ap, ◌∙◌, subst, arith}
+use Rattle.std.proofs.Common.{◌≡◌, ◌⊎◌, inl, inr, ⊎_elim, ℕ, suc, zero, ◌+◌, ◌<◌, ◌≤◌, ◌==◌, max, Bool, true, false, cond, Option, Some, None, List, [], ◌∷◌, map, take, refl, sym, ap, ◌∙◌, subst, arith}
 use Rattle.std.specs.List.{AllByRecursion, insert, remove}
 use Rattle.std.proofs.lemmas.Bool.Decides.{nat_tests}
 use Rattle.mp_base.specs.declared.number.Guid.{Guid}
 use Rattle.txg_history.specs.Groups.{at_device}
 use Rattle.txg_history.specs.Moves.{Mays}
 use Rattle.txg_history.specs.Pages.{Codec}
-use Rattle.txg_history.specs.Pools.{Pool, after, pool_after, other_than}
-use Rattle.txg_history.specs.Records.{Rec, IsIn, Cell, block_of, block_in, cell_over, laid_over, key}
-use Rattle.txg_history.specs.Survival.{Survives}
+use Rattle.txg_history.specs.Pools.{Pool, other_than}
+use Rattle.txg_history.specs.Records.{Rec, Cell, block_of, block_in, cell_over, key}
 use Rattle.txg_history.proofs.Logging.{by_bool, same_device, true_not_false, not_true}
 use Rattle.txg_history.proofs.Surviving.{history_survives}
-use Rattle.pool_moves.specs.Keeping.{IsElsewhere, AreSeatsApart, IsAway, IsSeated, IsOwnNumber, IsFoundAt, HasFound, IsUnder, HasUnder, IsDrafted, over, beneath, HasNumberBelow, KnowsBelow, AreNumbered, KnowsJust, Kept, IsOfFound, IsNotFoundAt, HasOtherNumber, MayReturn, MayCome, Admits, Walks}
+use Rattle.pool_moves.specs.Keeping.{IsElsewhere, AreSeatsApart, IsAway, IsSeated, IsOwnNumber, IsFoundAt, HasFound, IsUnder, HasUnder, IsDrafted, over, beneath, HasNumberBelow, KnowsBelow, AreNumbered, KnowsJust, Kept, IsOfFound, IsNotFoundAt, HasOtherNumber, MayCome, Admits, Walks}
 use Rattle.pool_moves.specs.Leaves.{OwnLeaf, LeafSeen, Seat, At, Adrift, dev_if, told, leaf_seen}
-use Rattle.pool_moves.specs.Moves.{Draft, Move, Makes, Puts, Freeze, Wrote_key, Flushed_all, Draw, Leave, Widen, Burn, Starts, Copies, Copied, Commits, Sets, Finds, Lose, Comes, Goes, Returns, Scan_from, Pass, Drop, Clear, Rest, Scrubs, Shapes, on_dev, leaf_cleared, leaf_step, step, burned, rec_of, state_step, steps, events_of, seat_step, seats_by, after_move, after_moves}
-use Rattle.pool_moves.specs.States.{group_seen, Side, seen, PoolState}
+use Rattle.pool_moves.specs.Moves.{Draft, Move, Makes, Puts, Freeze, Wrote_key, Flushed_all, Leave, Burn, Starts, Copies, Copied, Commits, Sets, Finds, Lose, Comes, Goes, Returns, Scan_from, Drop, Clear, Rest, Scrubs, Shapes, on_dev, leaf_cleared, leaf_step, step, burned, rec_of, state_step, steps, events_of, seat_step, seats_by, after_move, after_moves}
+use Rattle.pool_moves.specs.States.{group_seen, Side, PoolState}
 use Rattle.pool_moves.proofs.Seeing.{seen_step}
 
 -- Lists of seats.
@@ -541,7 +540,8 @@ topped_kept c (Shapes top children) s t may ok kept d is one = kept.topped d is 
 topped_kept c v s t may ok kept d is one = under_step v t.pool (t.pool.in_top d) (λ e found own under. under) t.seats (kept.topped d is one)
 
 -- No leaf that the run has not found is eligible.
-pub of_found_step : (which : ℕ → Bool) (v : Move) (p : Pool) → ((d : ℕ) (found : Bool) (own : OwnLeaf) → IsOfFound which (At d found own) → IsOfFound which (seat_step v p (At d found own)))
+pub of_found_step : (which : ℕ → Bool) (v : Move) (p : Pool) → ((d : ℕ) (found : Bool) (own : OwnLeaf) → IsOfFound which (At d found own)
+    → IsOfFound which (seat_step v p (At d found own)))
     → (seats : List Seat) → AllByRecursion (IsOfFound which) seats → AllByRecursion (IsOfFound which) (map (seat_step v p) seats)
 of_found_step which v p at seats all = all_map (IsOfFound which) (IsOfFound which) (seat_step v p)
     (seat_cases (λ seat. IsOfFound which seat → IsOfFound which (seat_step v p seat)) at (λ leaf is. tt)) seats all
@@ -562,7 +562,8 @@ lose_of_found which p e d found own is = by (e == d)
     by true = tt
     by false = is
 
-drop_of_found : (which : ℕ → Bool) (e : ℕ) (seats : List Seat) → AllByRecursion (IsOfFound which) seats → AllByRecursion (IsOfFound (at_device e false which)) seats
+drop_of_found : (which : ℕ → Bool) (e : ℕ) (seats : List Seat) → AllByRecursion (IsOfFound which) seats
+    → AllByRecursion (IsOfFound (at_device e false which)) seats
 drop_of_found which e [] all = tt
 drop_of_found which e (At d found own ∷ seats) all = ((λ un. by (e == d) (all.0 un)), drop_of_found which e seats all.1)
   where
@@ -594,7 +595,8 @@ scanned_kept Rest t ok all r = never_both false refl r
 scanned_kept v t ok all r = of_found_step t.pool.scan.eligible v t.pool (λ d found own is. is) t.seats (all r)
 
 -- The next member number is above all others.
-below_more : (guid : ℕ → Guid) (n more : ℕ) → n ≤ more → (seats : List Seat) → AllByRecursion (HasNumberBelow guid n) seats → AllByRecursion (HasNumberBelow guid more) seats
+below_more : (guid : ℕ → Guid) (n more : ℕ) → n ≤ more → (seats : List Seat) → AllByRecursion (HasNumberBelow guid n) seats
+    → AllByRecursion (HasNumberBelow guid more) seats
 below_more guid n more up [] all = tt
 below_more guid n more up (At d found own ∷ seats) all = ((let low = all.0 in omega (arith, low, up)), below_more guid n more up seats all.1)
 below_more guid n more up (Adrift leaf ∷ seats) all = ((let low = all.0 in omega (arith, low, up)), below_more guid n more up seats all.1)
@@ -610,7 +612,8 @@ numbers_more n more guid opened live frozen begun seats up are = record {
   newest = λ f b q rest is. known_more n more up q (are.newest f b q rest is);
 }
 
-below_map : (guid : ℕ → Guid) (n : ℕ) (v : Move) (p : Pool) → ((d : ℕ) (found : Bool) (own : OwnLeaf) → (guid d).0 < n → HasNumberBelow guid n (seat_step v p (At d found own)))
+below_map : (guid : ℕ → Guid) (n : ℕ) (v : Move) (p : Pool) → ((d : ℕ) (found : Bool) (own : OwnLeaf) → (guid d).0 < n
+    → HasNumberBelow guid n (seat_step v p (At d found own)))
     → (seats : List Seat) → AllByRecursion (HasNumberBelow guid n) seats → AllByRecursion (HasNumberBelow guid n) (map (seat_step v p) seats)
 below_map guid n v p at seats all = all_map (HasNumberBelow guid n) (HasNumberBelow guid n) (seat_step v p)
     (seat_cases (λ seat. HasNumberBelow guid n seat → HasNumberBelow guid n (seat_step v p seat)) at
@@ -636,24 +639,29 @@ above_all : (a m : ℕ) → m < max a (m + 1)
 above_all a m = grind (arith)
 
 -- a number that is below none of the leaves' is none of theirs
-pub other_numbers : (guid : ℕ → Guid) (n : ℕ) (m : Guid) → n ≤ m.0 → (seats : List Seat) → AllByRecursion (HasNumberBelow guid n) seats → AllByRecursion (HasOtherNumber guid m) seats
+pub other_numbers : (guid : ℕ → Guid) (n : ℕ) (m : Guid) → n ≤ m.0 → (seats : List Seat) → AllByRecursion (HasNumberBelow guid n) seats
+    → AllByRecursion (HasOtherNumber guid m) seats
 other_numbers guid n m low [] all = tt
-other_numbers guid n m low (At d found own ∷ seats) all = (differ (guid d).0 m.0 (let less = all.0 in omega (arith, less, low)), other_numbers guid n m low seats all.1)
+other_numbers guid n m low (At d found own ∷ seats) all =
+    (differ (guid d).0 m.0 (let less = all.0 in omega (arith, less, low)), other_numbers guid n m low seats all.1)
   where
     differ : (a b : ℕ) → a < b → (a == b) ≡ false
     differ a b less = grind (arith, nat_tests)
-other_numbers guid n m low (Adrift leaf ∷ seats) all = (differ leaf.guid.0 m.0 (let less = all.0 in omega (arith, less, low)), other_numbers guid n m low seats all.1)
+other_numbers guid n m low (Adrift leaf ∷ seats) all =
+    (differ leaf.guid.0 m.0 (let less = all.0 in omega (arith, less, low)), other_numbers guid n m low seats all.1)
   where
     differ : (a b : ℕ) → a < b → (a == b) ≡ false
     differ a b less = grind (arith, nat_tests)
 
-draft_below : (p : Pool) (n : ℕ) (draft : Draft) (seats : List Seat) → KnowsJust p.guid seats draft → AllByRecursion (HasNumberBelow p.guid n) seats → KnowsBelow n (rec_of p draft)
+draft_below : (p : Pool) (n : ℕ) (draft : Draft) (seats : List Seat) → KnowsJust p.guid seats draft → AllByRecursion (HasNumberBelow p.guid n) seats
+    → KnowsBelow n (rec_of p draft)
 draft_below p n draft seats just below m low = let known = just m (other_numbers p.guid n m low seats below) in record { no_top = known.0; all = known.1 }
 
 first_same : (q r : Rec) (a b : List Rec) → q ∷ a ≡ r ∷ b → q ≡ r
 first_same q r a b e = cc
 
-returned_below : (t : Side) (n : ℕ) (seat : Seat) (leaf : LeafSeen) → leaf ≡ leaf_seen t.pool.group.frozen t.pool.scan.running (told t.pool) seat → leaf.guid.0 < n
+returned_below : (t : Side) (n : ℕ) (seat : Seat) (leaf : LeafSeen) → leaf ≡ leaf_seen t.pool.group.frozen t.pool.scan.running (told t.pool) seat
+    → leaf.guid.0 < n
     → HasNumberBelow t.pool.guid n seat
 returned_below t n (At d found own) leaf is low = subst (λ x. x.guid.0 < n) is low
 returned_below t n (Adrift other) leaf is low = subst (λ x. x.guid.0 < n) is low
@@ -722,7 +730,9 @@ numbers_kept c (Returns i seat leaf) s t may ok kept = record {
 }
   where
     more : AreNumbered (max s.own.next_member (leaf.guid.0 + 1)) t.pool.guid t.pool.opened t.pool.live t.pool.group.frozen t.pool.group.begun t.seats
-    more = numbers_more s.own.next_member (max s.own.next_member (leaf.guid.0 + 1)) t.pool.guid t.pool.opened t.pool.live t.pool.group.frozen t.pool.group.begun t.seats
+    more =
+        numbers_more s.own.next_member (max s.own.next_member (leaf.guid.0 + 1)) t.pool.guid t.pool.opened t.pool.live t.pool.group.frozen t.pool.group.begun
+        t.seats
         (at_most s.own.next_member (leaf.guid.0 + 1)) kept.numbers
 numbers_kept c v s t may ok kept = record {
   below = below_map t.pool.guid s.own.next_member v t.pool (λ d found own is. is) t.seats kept.numbers.below;

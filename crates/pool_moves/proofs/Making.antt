@@ -1,18 +1,16 @@
 -- A pool that was just made is kept.
-use Rattle.std.proofs.Common.{◌≡◌, ◌⊎◌, inl, inr, ℕ, ◌≤◌, ◌==◌, Bool, true, false, cond, List, [], ◌∷◌, refl, sym, ap, ◌∙◌, subst, arith}
+use Rattle.std.proofs.Common.{◌≡◌, inl, inr, ℕ, ◌≤◌, ◌==◌, Bool, true, false, cond, List, [], ◌∷◌, sym, ap, ◌∙◌, subst}
 use Rattle.std.specs.List.{AllByRecursion}
-use Rattle.std.proofs.lemmas.Bool.Decides.{nat_tests}
 use Rattle.mp_base.specs.declared.number.Guid.{Guid}
 use Rattle.txg_history.specs.Pages.{Codec}
-use Rattle.txg_history.specs.Pools.{Pool, stamped}
 use Rattle.txg_history.specs.Records.{block_in, nothing}
 use Rattle.txg_history.specs.Survival.{Survives}
-use Rattle.txg_history.proofs.Logging.{by_bool, same_device, true_not_false}
+use Rattle.txg_history.proofs.Logging.{by_bool, same_device}
 use Rattle.txg_history.proofs.Stamping.{stamped_survives}
 use Rattle.pool_moves.specs.Keeping.{IsSeated, IsAway, IsOwnNumber, HasUnder, AreNumbered, over, Kept}
 use Rattle.pool_moves.specs.Leaves.{Seat, At, Adrift}
 use Rattle.pool_moves.specs.Making.{HasSeat, IsHere, IsMade}
-use Rattle.pool_moves.specs.States.{PoolState, Side, seen}
+use Rattle.pool_moves.specs.States.{PoolState, Side}
 use Rattle.pool_moves.proofs.Keeping.{all_same}
 
 here_away : (seat : Seat) → IsHere seat → IsAway seat

@@ -1,14 +1,13 @@
 -- A read is exhausted only where each leaf of the block's top missed it.
-use Rattle.std.proofs.Common.{◌≡◌, ◌⊎◌, inl, inr, ⊎_elim, ℕ, ◌+◌, ◌==◌, ◌&&◌, not, Bool, true, false, cond, Option, Some, None, List, [], ◌∷◌, ◌++◌, map, refl, sym, ap, ◌∙◌, subst, arith, append-nil}
+use Rattle.std.proofs.Common.{◌≡◌, inl, inr, ⊎_elim, ℕ, ◌+◌, ◌==◌, ◌&&◌, not, Bool, true, false, cond, Option, Some, None, List, [], ◌∷◌, ◌++◌, map, refl, sym, ap, ◌∙◌, subst, arith, append-nil}
 use Rattle.std.specs.List.{AllByRecursion, filter}
 use Rattle.std.proofs.lemmas.Bool.Decides.{nat_tests}
 use Rattle.sha2.specs.Sha256.{sha256}
 use Rattle.mp_base.specs.Block.{zero_block}
 use Rattle.mp_base.specs.declared.place.Key.{Key}
-use Rattle.bank_core.specs.Disk.{Read, Noted, Sectors, AllAnswer, run}
+use Rattle.bank_core.specs.Disk.{Noted, Sectors, AllAnswer, run}
 use Rattle.mirror_io.specs.declared.copies.CopyOf.{CopyOf}
 use Rattle.mirror_io.specs.Copies.{is_due, tries}
-use Rattle.mirror_io.specs.Mirror.{IsHealed}
 use Rattle.mirror_io.specs.Reads.{IsReads}
 use Rattle.txg_history.specs.Events.{Calls}
 use Rattle.txg_history.specs.Pages.{Codec, Sum, sum_of}
@@ -21,19 +20,19 @@ use Rattle.txg_history.proofs.Showing.{stays_damaged}
 use Rattle.vdev_tree.specs.Leaf.{is_up}
 use Rattle.pool_moves.specs.Keeping.{Kept}
 use Rattle.pool_moves.specs.Leaves.{LeafSeen}
-use Rattle.pool_moves.specs.Missing.{FailedAt, Lacked, Missed, AllMissed}
-use Rattle.pool_moves.specs.Moves.{Move, Makes, Sets}
-use Rattle.pool_moves.specs.ReadRow.{copy_at, copy_of, stands_under, copies_of, count_reads, RowCopies, ReadReply, Gives, Exhausted, NoAddress, reply_by, ReadRecord, ReadGroup, ReadOpen, RowRead, made_in}
+use Rattle.pool_moves.specs.Missing.{Lacked, Missed, AllMissed}
+use Rattle.pool_moves.specs.Moves.{Move}
+use Rattle.pool_moves.specs.ReadRow.{copy_at, copy_of, stands_under, copies_of, count_reads, RowCopies, Gives, Exhausted, NoAddress, reply_by, ReadRecord, ReadGroup, ReadOpen, RowRead, made_in}
 use Rattle.pool_moves.specs.States.{PoolState, Side, seen}
-use Rattle.pool_moves.specs.Walking.{as_moves}
 use Rattle.pool_moves.proofs.Keeping.{all_same}
-use Rattle.pool_moves.proofs.ReadWalks.{IsCopy, IsReadOrWrite, none_heals, read_one, plain_one, hurt_one, copies_on, tried_all, made_calls, answers_front, sum_of_cell}
+use Rattle.pool_moves.proofs.ReadWalks.{IsCopy, IsReadOrWrite, none_heals, read_one, plain_one, hurt_one, copies_on, tried_all, made_calls, sum_of_cell}
 
 -- What a copy's device shows behind the reads of a list: it lacked the block where its leaf doesn't owe it.
 abbrev IsLacked : (sectors : Sectors) → (at : ℕ) → List Noted → CopyOf → Type 0
 IsLacked sectors at made copy = copy.lacks ≡ false → Lacked sectors at made copy.dev
 
-lacked_more : (sectors : Sectors) (at : ℕ) (noted : Noted) (made : List Noted) (copy : CopyOf) → IsLacked sectors at made copy → IsLacked sectors at (noted ∷ made) copy
+lacked_more : (sectors : Sectors) (at : ℕ) (noted : Noted) (made : List Noted) (copy : CopyOf) → IsLacked sectors at made copy
+    → IsLacked sectors at (noted ∷ made) copy
 lacked_more sectors at noted made copy is lacks = ⊎_elim (λ failed. inl (inr failed)) (λ damaged. inr damaged) (is lacks)
 
 -- reads that none of the copies served
@@ -71,7 +70,8 @@ none_served c p k cell (copy ∷ more) (noted ∷ made) wrong sv at are answers 
     record {
       only = (plain_one noted copy.dev (data_start + cell.sector) differs.bytes None call, later.only);
       each = (
-        (λ lacks. inr (stays_damaged made copy.dev (data_start + cell.sector) (after (Calls noted) p).sectors (none_heals made copy.dev later.only) (hurt lacks))),
+        (λ lacks. inr (stays_damaged made copy.dev (data_start + cell.sector) (after (Calls noted) p).sectors (none_heals made copy.dev later.only)
+            (hurt lacks))),
         all_same (IsLacked (run made (after (Calls noted) p).sectors) (data_start + cell.sector) made)
             (IsLacked (run made (after (Calls noted) p).sectors) (data_start + cell.sector) (noted ∷ made))
             (λ x is. lacked_more (run made (after (Calls noted) p).sectors) (data_start + cell.sector) noted made x is) more later.each,
@@ -88,8 +88,10 @@ unfiltered : {A : Type 0} (P : A → Type 0) (test : A → Bool) (xs : List A) �
 unfiltered P test [] all = tt
 unfiltered P test (x ∷ xs) all = by_bool (test x)
     (λ is. let here = subst (λ t. AllByRecursion P (cond t (x ∷ filter test xs) (filter test xs))) is all in ((λ t. here.0), unfiltered P test xs here.1))
-    (λ off. ((λ is. absurd (let no : true ≡ false = sym is ∙ off in cc)),
-    unfiltered P test xs (subst (λ t. AllByRecursion P (cond t (x ∷ filter test xs) (filter test xs))) off all)))
+    (λ off. (
+      (λ is. absurd (let no : true ≡ false = sym is ∙ off in cc)),
+      unfiltered P test xs (subst (λ t. AllByRecursion P (cond t (x ∷ filter test xs) (filter test xs))) off all),
+    ))
 
 unmapped : {A B : Type 0} (Q : B → Type 0) (f : A → B) (xs : List A) → AllByRecursion Q (map f xs) → AllByRecursion (λ x. Q (f x)) xs
 unmapped Q f [] all = tt
@@ -102,7 +104,8 @@ under_top : (a b : ℕ) → a ≡ b → (a == b) ≡ true
 under_top a b e = grind (arith, nat_tests)
 
 missed_leaf : (sum : Sum) (made : List Noted) (sectors : Sectors) (leaf : LeafSeen)
-    → (stands_under sum.top leaf ≡ true → is_due false (copy_of sum.birth leaf) ≡ true → IsLacked sectors (data_start + sum.sector) made (copy_of sum.birth leaf))
+    → (stands_under sum.top leaf ≡ true → is_due false (copy_of sum.birth leaf) ≡ true
+    → IsLacked sectors (data_start + sum.sector) made (copy_of sum.birth leaf))
     → Missed sum made sectors leaf
 missed_leaf sum made sectors leaf one top up d dev = by_bool (leaf.owes sum.birth) (λ owes. inl owes)
     (λ has. inr (subst Shows dev (one (under_top leaf.top sum.top top)) (due_leaf (is_up leaf.own.mode) (leaf.owes sum.birth) up has) has))
@@ -114,12 +117,16 @@ missed_leaf sum made sectors leaf one top up d dev = by_bool (leaf.owes sum.birt
 missed_leaves : (sum : Sum) (made : List Noted) (sectors : Sectors) (leaves : List LeafSeen)
     → AllByRecursion (IsLacked sectors (data_start + sum.sector) made) (tries (copies_of sum leaves)) → AllByRecursion (Missed sum made sectors) leaves
 missed_leaves sum made sectors leaves all = all_same
-    (λ leaf. stands_under sum.top leaf ≡ true → is_due false (copy_of sum.birth leaf) ≡ true → IsLacked sectors (data_start + sum.sector) made (copy_of sum.birth leaf))
+    (λ leaf. stands_under sum.top leaf ≡ true → is_due false (copy_of sum.birth leaf) ≡ true
+    → IsLacked sectors (data_start + sum.sector) made (copy_of sum.birth leaf))
     (Missed sum made sectors) (λ leaf one. missed_leaf sum made sectors leaf one) leaves
-    (unfiltered (λ leaf. is_due false (copy_of sum.birth leaf) ≡ true → IsLacked sectors (data_start + sum.sector) made (copy_of sum.birth leaf)) (stands_under sum.top) leaves
-    (unmapped (λ copy. is_due false copy ≡ true → IsLacked sectors (data_start + sum.sector) made copy) (copy_of sum.birth) (filter (stands_under sum.top) leaves)
+    (unfiltered (λ leaf. is_due false (copy_of sum.birth leaf) ≡ true → IsLacked sectors (data_start + sum.sector) made (copy_of sum.birth leaf))
+    (stands_under sum.top) leaves
+    (unmapped (λ copy. is_due false copy ≡ true → IsLacked sectors (data_start + sum.sector) made copy) (copy_of sum.birth)
+    (filter (stands_under sum.top) leaves)
     (unfiltered (IsLacked sectors (data_start + sum.sector) made) (is_due false) (copies_of sum leaves)
-    (all_front (IsLacked sectors (data_start + sum.sector) made) (filter (is_due false) (copies_of sum leaves)) (filter (is_due true) (copies_of sum leaves)) all))))
+    (all_front (IsLacked sectors (data_start + sum.sector) made) (filter (is_due false) (copies_of sum leaves))
+    (filter (is_due true) (copies_of sum leaves)) all))))
 
 -- The calls of an exhausted read are its reads alone.
 counts_make_none : (sum : List ℕ) (made : List Noted) (leaves : List LeafSeen) → made_in (count_reads sum made leaves) ≡ []
@@ -150,7 +157,8 @@ exhausted_copies c s t a cell vs kept at answers row = subst (λ made. AllMissed
     calls = exhausted_calls (record { own = s.own; core = seen t }) (sum_of_cell cell) vs row
 
 exhausted_record : (c : Codec) (s : PoolState) (t : Side) (a : ℕ) (sum : Option Sum) (vs : List Move) → Kept c s t → sum ≡ sum_of (t.pool.reads.cells (key 0 a))
-    → AllAnswer t.pool.sectors (made_in vs) → ReadRecord sum (seen t) vs Exhausted → AllMissed sum (made_in vs) (run (made_in vs) t.pool.sectors) (seen t).leaves
+    → AllAnswer t.pool.sectors (made_in vs) → ReadRecord sum (seen t) vs Exhausted
+    → AllMissed sum (made_in vs) (run (made_in vs) t.pool.sectors) (seen t).leaves
 exhausted_record c s t a None vs kept is answers row = absurd (let no : Exhausted ≡ Gives zero_block = row.1 in cc)
 exhausted_record c s t a (Some sum) vs kept is answers row = by_outcome row.0 row.1 row.2
   where
@@ -188,7 +196,9 @@ exhausted_at c s t a vs kept answers (inl row) = absurd (let no : Exhausted ≡ 
 exhausted_at c s t a vs kept answers (inr row) = exhausted_open c s t a (s.own.writes a) vs kept answers row.1
 
 -- The law of an exhausted read.
-pub exhausted_missed : (c : Codec) (s : PoolState) (t : Side) (a : ℕ) (vs : List Move) → Kept c s t → AllAnswer t.pool.sectors (made_in vs) → RowRead s a vs Exhausted
+pub exhausted_missed : (c : Codec) (s : PoolState) (t : Side) (a : ℕ) (vs : List Move) → Kept c s t → AllAnswer t.pool.sectors (made_in vs)
+    → RowRead s a vs Exhausted
     → AllMissed (s.core.committed (key 0 a)) (made_in vs) (run (made_in vs) t.pool.sectors) s.core.leaves
-exhausted_missed c s t a vs kept answers row = subst (λ core. AllMissed (core.committed (key 0 a)) (made_in vs) (run (made_in vs) t.pool.sectors) core.leaves) (sym kept.core)
+exhausted_missed c s t a vs kept answers row =
+    subst (λ core. AllMissed (core.committed (key 0 a)) (made_in vs) (run (made_in vs) t.pool.sectors) core.leaves) (sym kept.core)
     (exhausted_at c s t a vs kept answers (subst (λ core. RowRead (record { own = s.own; core = core }) a vs Exhausted) kept.core row))

@@ -1,5 +1,5 @@
 -- Behind an opening each leaf of the record has a seat: where it was found, at the member of its number, or at none.
-use Rattle.std.proofs.Common.{◌≡◌, ◌⊎◌, inl, inr, ⊎_elim, ℕ, ◌≤◌, ◌==◌, ◌&&◌, ◌||◌, Bool, true, false, cond, Option, Some, None, List, [], ◌∷◌, map, refl, sym, ap, ◌∙◌, subst, arith}
+use Rattle.std.proofs.Common.{◌≡◌, ◌⊎◌, inl, inr, ⊎_elim, ℕ, ◌<◌, ◌≤◌, ◌==◌, ◌&&◌, ◌||◌, Bool, true, false, cond, Option, Some, None, List, [], ◌∷◌, map, refl, sym, ap, ◌∙◌, subst, arith}
 use mathlib.Core.Path.{fun_ext}
 use Rattle.std.specs.List.{AllByRecursion}
 use Rattle.std.proofs.lemmas.Bool.Decides.{nat_tests}
@@ -11,7 +11,7 @@ use Rattle.txg_history.specs.Premises.{HasNoTwin}
 use Rattle.txg_history.specs.Records.{Rec}
 use Rattle.txg_history.proofs.Logging.{by_bool, same_device, true_not_false}
 use Rattle.pool_moves.specs.FreezeRow.{is_dev}
-use Rattle.pool_moves.specs.Keeping.{IsElsewhere, AreSeatsApart, IsAway, IsSeated, IsOwnNumber, HasUnder}
+use Rattle.pool_moves.specs.Keeping.{IsElsewhere, AreSeatsApart, IsAway, IsSeated, IsOwnNumber, HasUnder, HasNumberBelow}
 use Rattle.pool_moves.specs.Leaves.{OwnLeaf, LeafSeen, Seat, At, Adrift, Told, dev_if, leaf_seen}
 use Rattle.pool_moves.specs.Opened.{HasKept, AreNumbersApart, AreValidLeaves, opened_own, opened_leaf, opened_leaves, seat_unfound, opened_seat, opened_seats, claims_of}
 use Rattle.pool_moves.specs.Rosters.{IsRoster, member_of}
@@ -57,8 +57,8 @@ pub record IsIn (tops : Guid → ℕ) (owes : Guid → ℕ → Bool) (leaf : Lea
   pub log_is : owes leaf.guid ≡ leaf.owes
   pub under : 1 ≤ leaf.top
 
-pub kept_in_record : (r : Rec) (leaves : List LeafKept) → AreValidLeaves leaves → kept_top leaves ≡ r.tops → kept_log leaves ≡ r.owes → AllByRecursion (IsIn r.tops r.owes) leaves
-kept_in_record r leaves valid tops owes = all_two (IsOwnKept leaves) (λ leaf. 1 ≤ leaf.top) (IsIn r.tops r.owes)
+pub kept_in_record : (r : Rec) (next : ℕ) (leaves : List LeafKept) → AreValidLeaves next leaves → kept_top leaves ≡ r.tops → kept_log leaves ≡ r.owes → AllByRecursion (IsIn r.tops r.owes) leaves
+kept_in_record r next leaves valid tops owes = all_two (IsOwnKept leaves) (λ leaf. 1 ≤ leaf.top) (IsIn r.tops r.owes)
     (λ leaf own under. record {
       top_is = ap (λ f. f leaf.guid) (sym tops) ∙ own.top_is;
       log_is = ap (λ f. f leaf.guid) (sym owes) ∙ fun_ext own.log_is;
@@ -73,11 +73,11 @@ ArePaired (leaf ∷ leaves) [] = ⊥
 ArePaired (leaf ∷ leaves) (dev ∷ devs) = ArePaired leaves devs
 
 -- The seat of a leaf.
-abbrev IsSeatOf : Pool → LeafKept → Seat → Type 0
+abbrev pub IsSeatOf : Pool → LeafKept → Seat → Type 0
 IsSeatOf p leaf (At d found own) = (p.member d ≡ true) × (p.guid d ≡ leaf.guid)
 IsSeatOf p leaf (Adrift other) = (other ≡ opened_leaf leaf None) × ((d : ℕ) → p.member d ≡ true → (leaf.guid.0 == (p.guid d).0) ≡ false)
 
-abbrev AreSeatsOf : Pool → List LeafKept → List Seat → Type 0
+abbrev pub AreSeatsOf : Pool → List LeafKept → List Seat → Type 0
 AreSeatsOf p [] [] = Unit {0}
 AreSeatsOf p [] (seat ∷ seats) = ⊥
 AreSeatsOf p (leaf ∷ leaves) [] = ⊥
@@ -145,6 +145,14 @@ off_each p leaf d here (other ∷ leaves) (At e found own ∷ seats) off are = (
   off_each p leaf d here leaves seats off.1 are.1,
 )
 off_each p leaf d here (other ∷ leaves) (Adrift x ∷ seats) off are = (tt, off_each p leaf d here leaves seats off.1 are.1)
+
+pub opened_below : (p : Pool) (next : ℕ) (leaves : List LeafKept) (seats : List Seat) → AreSeatsOf p leaves seats → AllByRecursion (λ leaf. leaf.guid.0 < next) leaves
+    → AllByRecursion (HasNumberBelow p.guid next) seats
+opened_below p next [] [] are below = tt
+opened_below p next [] (seat ∷ seats) are below = absurd are
+opened_below p next (leaf ∷ leaves) [] are below = absurd are
+opened_below p next (leaf ∷ leaves) (At d found own ∷ seats) are below = (subst (λ m. m.0 < next) (sym are.0.1) below.0, opened_below p next leaves seats are.1 below.1)
+opened_below p next (leaf ∷ leaves) (Adrift other ∷ seats) are below = (subst (λ l. l.guid.0 < next) (sym are.0.0) below.0, opened_below p next leaves seats are.1 below.1)
 
 pub opened_apart : (p : Pool) (leaves : List LeafKept) (seats : List Seat) → AreNumbersApart leaves → AreSeatsOf p leaves seats → AreSeatsApart seats
 opened_apart p [] [] apart are = tt

@@ -97,16 +97,16 @@ level_below x cells reached level tree back low inside known above =
         subst (λ n. x.got (key level n) ≡ sum_of (cells (key level n))) index_is
         (all b.index under (subst (λ l. reached (key (suc l) b.index) ≡ true) level_is b.reaches) b.j b.few)
 
--- A page that is read is known itself, where the one above it is read too.
-pub page_known : (reached : Key → Bool) (level index : ℕ) → IsClosed reached → level < 2 → reached (key (suc level) index) ≡ true → IsKnown reached (key (suc level) index)
-page_known reached level index closed low on = inr (record {
+-- A page is known where the one above it is read; so it is where it is read itself.
+pub below_known : (reached : Key → Bool) (level index : ℕ) → level < 2 → reached (key (suc (suc level)) (index / 64)) ≡ true → IsKnown reached (key (suc level) index)
+below_known reached level index low on = inr (record {
   level = suc level;
   index = index / 64;
   j = index % 64;
   low = omega (arith, low);
   few = rest index;
   is = ap (key (suc level)) (sym (whole index));
-  reaches = closed level index low on;
+  reaches = on;
 })
   where
     whole : (n : ℕ) → 64 * (n / 64) + n % 64 ≡ n
@@ -114,6 +114,9 @@ page_known reached level index closed low on = inr (record {
 
     rest : (n : ℕ) → n % 64 < 64
     rest n = omega arith
+
+page_known : (reached : Key → Bool) (level index : ℕ) → IsClosed reached → level < 2 → reached (key (suc level) index) ≡ true → IsKnown reached (key (suc level) index)
+page_known reached level index closed low on = below_known reached level index low (closed level index low on)
 
 -- What is known of a record's pointers is right, or some page's bytes clash.
 pub known_right : (x : Reading) (r : Rec) (room : ℕ → ℕ) (reached : Key → Bool) → IsTree x.codec r.cells → IsReadTo x reached → IsClosed reached → x.codec.blocks x.config ≤ 262144
@@ -184,6 +187,10 @@ before_more a b c x y = is_before a c (⊎_elim (λ up. ⊎_elim (λ more. inl (
 
 pub not_itself : (a : Key) → is_read_before a a ≡ true → ⊥
 not_itself a x = ⊎_elim (λ up. absurd (omega (arith, up))) (λ same. let i = same.1 in absurd (omega (arith, i))) (before_of a a x)
+
+-- the page above one is read before it
+pub above_before : (level index i : ℕ) → is_read_before (key (suc (suc level)) i) (key (suc level) index) ≡ true
+above_before level index i = is_before (key (suc (suc level)) i) (key (suc level) index) (inl (omega arith))
 
 -- pages up to one are closed
 pub closed_before : (stop : Key) → IsClosed (λ k. is_read_before k stop)

@@ -1,6 +1,5 @@
 -- A round may be made: its walk from its row.
-use Rattle.std.proofs.Common.{◌≡◌, ◌≢◌, ℕ, zero, suc, ◌≤◌, ◌==◌, Bool, true, false, List, [], ◌∷◌, ◌++◌, map, Option, Some, None, refl, sym, ap, ◌∙◌, subst, arith, append-nil, append_assoc}
-use Rattle.std.specs.Prelude.{slice_get}
+use Rattle.std.proofs.Common.{◌≡◌, ℕ, zero, suc, ◌≤◌, ◌==◌, Bool, true, false, List, [], ◌∷◌, ◌++◌, map, refl, sym, ap, ◌∙◌, subst, arith, append-nil, append_assoc}
 use Rattle.std.specs.List.{AllByRecursion}
 use Rattle.mp_base.specs.declared.number.Guid.{Guid}
 use Rattle.bank_core.specs.Asks.{Ask}
@@ -13,7 +12,7 @@ use Rattle.label_store.specs.Plans.{config_plan, ring_plan}
 use Rattle.label_store.specs.Seats.{AreSeated}
 use Rattle.txg_history.specs.Events.{Event, Begins, Third, Ends, Acks, as_events}
 use Rattle.txg_history.specs.Groups.{Logs}
-use Rattle.txg_history.specs.Moves.{Mays, IsDrawnUp}
+use Rattle.txg_history.specs.Moves.{Mays}
 use Rattle.txg_history.specs.Pages.{Codec}
 use Rattle.txg_history.specs.Pools.{Pool, pool_after}
 use Rattle.txg_history.specs.Records.{Rec, Cells, laid_over}
@@ -31,7 +30,7 @@ use Rattle.pool_moves.specs.Walking.{events_along, AreAdmitted, IsFree, as_moves
 use Rattle.pool_moves.specs.Widening.{AreLeaves, seen_along}
 use Rattle.pool_moves.proofs.Boarding.{frozen_core, is_frozen, seen_frozen, board_just, board_apart, board_found, all_at}
 use Rattle.pool_moves.proofs.Drafting.{HasDraftTop, drawn_up, draft_tops, draft_knows}
-use Rattle.pool_moves.proofs.FreeWalks.{walk_of, walks_more, free_walk, all_append, calls_along, frozen_along, pool_along}
+use Rattle.pool_moves.proofs.FreeWalks.{walk_of, walks_more, free_walk, all_append, calls_along, frozen_along, pool_along, free_then, events_more}
 use Rattle.pool_moves.proofs.Keeping.{walk_keeps}
 use Rattle.pool_moves.proofs.Widenings.{seen_of, leaves_walk}
 

@@ -1,19 +1,19 @@
 -- The calls of a scan's step may be made, and leave each copy where the scan may come past it.
-use Rattle.std.proofs.Common.{◌≡◌, ◌≢◌, ◌⊎◌, inl, inr, ⊎_elim, ℕ, suc, zero, ◌+◌, ◌==◌, ◌&&◌, ◌||◌, not, Bool, true, false, cond, Option, Some, None, List, [], ◌∷◌, ◌++◌, map, length, drop, refl, sym, ap, ◌∙◌, subst, arith}
-use Rattle.std.specs.List.{AllByRecursion, filter, list_any}
-use Rattle.std.specs.Option.{is_none, is_some}
+use Rattle.std.proofs.Common.{◌≡◌, ◌⊎◌, inl, inr, ⊎_elim, ℕ, ◌+◌, ◌==◌, ◌&&◌, ◌||◌, Bool, true, false, cond, Option, Some, None, List, [], ◌∷◌, ◌++◌, map, length, refl, sym, ap, ◌∙◌, subst, arith}
+use Rattle.std.specs.List.{AllByRecursion, filter}
+use Rattle.std.specs.Option.{is_none}
 use Rattle.std.proofs.lemmas.Bool.{and_parts}
 use Rattle.std.proofs.lemmas.Bool.Decides.{nat_tests}
 use Rattle.sha2.specs.Sha256.{sha256}
 use Rattle.mp_base.specs.declared.place.Key.{Key}
 use Rattle.bank_core.specs.declared.bank.Fault.{Fault}
-use Rattle.bank_core.specs.Asks.{Ask, Writes, ask_of, asks_of}
+use Rattle.bank_core.specs.Asks.{Writes, ask_of, asks_of}
 use Rattle.bank_core.specs.Calls.{device_of, fault_of}
-use Rattle.bank_core.specs.Disk.{Call, Read, Write, Noted, Sectors, AllAnswer, run, covers, sectors_in}
+use Rattle.bank_core.specs.Disk.{Call, Read, Write, Noted, AllAnswer, covers, sectors_in}
 use Rattle.bank_core.specs.Standing.{touches, Untouched}
 use Rattle.bank_core.proofs.Standing.{untouched_more}
 use Rattle.mirror_io.specs.declared.copies.CopyOf.{CopyOf}
-use Rattle.mirror_io.specs.Copies.{is_due, tries}
+use Rattle.mirror_io.specs.Copies.{is_due}
 use Rattle.mirror_io.specs.Reads.{IsReads, rewrites}
 use Rattle.txg_history.specs.Events.{Calls, as_events}
 use Rattle.txg_history.specs.Groups.{Logs}
@@ -30,16 +30,18 @@ use Rattle.txg_history.proofs.Writing.{heal_sparing, copy_sparing}
 use Rattle.pool_moves.specs.FreezeRow.{is_dev}
 use Rattle.pool_moves.specs.Keeping.{IsElsewhere, AreSeatsApart, IsAway, IsSeated}
 use Rattle.pool_moves.specs.Leaves.{LeafSeen, Seat, At, Adrift, told, leaf_seen}
-use Rattle.pool_moves.specs.ReadRow.{copy_at, copy_of, stands_under}
+use Rattle.pool_moves.specs.ReadRow.{copy_at, copy_of}
 use Rattle.pool_moves.specs.ScanRows.{is_settled_under, targets, AreLooked, has_copied, WereRead}
 use Rattle.pool_moves.proofs.ReadWalks.{IsCopy, hurt_one, read_one, write_call}
 
 -- What a read gave was read.
-pub outcome_read : (at : ℕ) (sum : List ℕ) (copies : List CopyOf) (made : List Noted) (wrong : List CopyOf) (bytes : List ℕ) → IsReads at sum copies made wrong (Some bytes) → WereRead bytes made
+pub outcome_read : (at : ℕ) (sum : List ℕ) (copies : List CopyOf) (made : List Noted) (wrong : List CopyOf) (bytes : List ℕ)
+    → IsReads at sum copies made wrong (Some bytes) → WereRead bytes made
 outcome_read at sum [] made wrong bytes reads = absurd (let none : Some bytes ≡ None = reads.2 in cc)
 outcome_read at sum (copy ∷ more) [] wrong bytes reads = absurd reads
 outcome_read at sum (copy ∷ more) (noted ∷ made) wrong bytes (inl (fails, rest)) = inr (outcome_read at sum more made wrong bytes rest)
-outcome_read at sum (copy ∷ more) (noted ∷ made) wrong bytes (inr (inl (others, differs, wrong_is, rest))) = inr (outcome_read at sum more made others bytes rest)
+outcome_read at sum (copy ∷ more) (noted ∷ made) wrong bytes (inr (inl (others, differs, wrong_is, rest))) =
+    inr (outcome_read at sum more made others bytes rest)
 outcome_read at sum (copy ∷ more) (noted ∷ made) wrong bytes (inr (inr (found, serves, made_is, wrong_is, outcome_is))) =
     inl (copy.dev, at, serves.gives.is ∙ ap (λ b. Read copy.dev at b None) (sym (some_same bytes found outcome_is)))
   where
@@ -57,7 +59,8 @@ pub record IsTarget (member : ℕ → Bool) (in_top : ℕ → ℕ) (owes settled
   pub is_settled : settled copy.dev cell.birth ≡ true
 
 -- a scan that hasn't come past the key needs nothing at its place
-not_scanned : (c : Codec) (p : Pool) (k : Key) (cell : Cell) (d : ℕ) → Survives c p → p.reads.cells k ≡ Some cell → p.scan.passed k ≡ false → p.in_top d ≡ cell.top
+not_scanned : (c : Codec) (p : Pool) (k : Key) (cell : Cell) (d : ℕ) → Survives c p → p.reads.cells k ≡ Some cell → p.scan.passed k ≡ false
+    → p.in_top d ≡ cell.top
     → NeedsScan p.scan p.reads p.in_top d (data_start + cell.sector) cell.block → ⊥
 not_scanned c p k cell d sv at ahead top n =
     true_not_false (p.scan.passed k) (subst (λ j. p.scan.passed j ≡ true) (sym same.0) n.is_passed) ahead
@@ -69,28 +72,37 @@ not_scanned c p k cell d sv at ahead top n =
     same = sv.one_key.one p.reads p.reads k n.k cell n.cell sv.order.reads_live sv.order.reads_live at n.cell_is one
 
 -- Copies to targets.
-copy_first : (c : Codec) (p : Pool) (k : Key) (cell : Cell) (copy : CopyOf) (more : List CopyOf) (made : List Noted) → Survives c p → p.reads.cells k ≡ Some cell → p.scan.passed k ≡ false
+copy_first : (c : Codec) (p : Pool) (k : Key) (cell : Cell) (copy : CopyOf) (more : List CopyOf) (made : List Noted) → Survives c p
+    → p.reads.cells k ≡ Some cell → p.scan.passed k ≡ false
     → IsTarget p.member p.in_top p.owes p.settled cell copy
     → asks_of made ≡ Writes copy.dev (data_start + cell.sector) cell.block ∷ rewrites (data_start + cell.sector) cell.block more
     → ((noted : Noted) (made : List Noted) → Survives c (after (Calls noted) p) → asks_of made ≡ rewrites (data_start + cell.sector) cell.block more
     → Mays c (after (Calls noted) p) (as_events made)) → Mays c p (as_events made)
 copy_first c p k cell copy more [] sv at ahead target asks rest = absurd (cc)
 copy_first c p k cell copy more (noted ∷ made) sv at ahead target asks rest =
-    let call = write_call noted.call copy.dev (data_start + cell.sector) cell.block (let a : ask_of noted.call ≡ Writes copy.dev (data_start + cell.sector) cell.block = cc in a) in
+    let call = write_call noted.call copy.dev (data_start + cell.sector) cell.block
+    (let a : ask_of noted.call ≡ Writes copy.dev (data_start + cell.sector) cell.block = cc in a) in
     let sparing = subst (IsSparing p) (sym call.1) (copy_sparing c p k cell copy.dev call.0 sv at
-        (λ is. (target.is_copy.top_is, target.is_settled, not_scanned c p k cell copy.dev sv at ahead target.is_copy.top_is))) in
-    (sparing, rest noted made (event_survives c p (Calls noted) sv sparing) (let b : asks_of made ≡ rewrites (data_start + cell.sector) cell.block more = cc in b))
+    (λ is. (target.is_copy.top_is, target.is_settled, not_scanned c p k cell copy.dev sv at ahead target.is_copy.top_is))) in (
+      sparing,
+      rest noted made (event_survives c p (Calls noted) sv sparing)
+          (let b : asks_of made ≡ rewrites (data_start + cell.sector) cell.block more = cc in b),
+    )
 
-pub copies_may : (c : Codec) (p : Pool) (k : Key) (cell : Cell) (copies : List CopyOf) (made : List Noted) → Survives c p → p.reads.cells k ≡ Some cell → p.scan.passed k ≡ false
-    → AllByRecursion (IsTarget p.member p.in_top p.owes p.settled cell) copies → asks_of made ≡ rewrites (data_start + cell.sector) cell.block copies → Mays c p (as_events made)
+pub copies_may : (c : Codec) (p : Pool) (k : Key) (cell : Cell) (copies : List CopyOf) (made : List Noted) → Survives c p → p.reads.cells k ≡ Some cell
+    → p.scan.passed k ≡ false
+    → AllByRecursion (IsTarget p.member p.in_top p.owes p.settled cell) copies → asks_of made ≡ rewrites (data_start + cell.sector) cell.block copies
+    → Mays c p (as_events made)
 copies_may c p k cell [] [] sv at ahead are asks = tt
 copies_may c p k cell [] (noted ∷ made) sv at ahead are asks = absurd (cc)
 copies_may c p k cell (copy ∷ more) made sv at ahead are asks = copy_first c p k cell copy more made sv at ahead are.0 asks
     (λ noted made sv asks. copies_may c (after (Calls noted) p) k cell more made sv at ahead are.1 asks)
 
 -- Further looks of a scrub, at copies whose leaves don't owe the key.
-look_rewrite : (c : Codec) (p : Pool) (k : Key) (cell : Cell) (copy : CopyOf) (rewrite : Noted) → Survives c p → p.reads.cells k ≡ Some cell → IsCopy p.member p.in_top p.owes cell copy
-    → (p.sectors copy.dev (data_start + cell.sector)).damaged ≡ true → ask_of rewrite.call ≡ Writes copy.dev (data_start + cell.sector) cell.block → IsSparing p rewrite.call
+look_rewrite : (c : Codec) (p : Pool) (k : Key) (cell : Cell) (copy : CopyOf) (rewrite : Noted) → Survives c p → p.reads.cells k ≡ Some cell
+    → IsCopy p.member p.in_top p.owes cell copy
+    → (p.sectors copy.dev (data_start + cell.sector)).damaged ≡ true → ask_of rewrite.call ≡ Writes copy.dev (data_start + cell.sector) cell.block
+    → IsSparing p rewrite.call
 look_rewrite c p k cell copy rewrite sv at is hurt ask = let call = write_call rewrite.call copy.dev (data_start + cell.sector) cell.block ask in
     subst (IsSparing p) (sym call.1) (heal_sparing c p k cell copy.dev call.0 sv at (λ mine. (is.top_is, hurt)))
 
@@ -109,12 +121,12 @@ looks_may c p k cell (copy ∷ more) (noted ∷ made) sv at are has answers (inr
     let sparing = read_one c p noted copy.dev (data_start + cell.sector) differs.bytes None differs.gives.is in
     let read = event_survives c p (Calls noted) sv sparing in
     let hurt = hurt_one c p k cell copy noted differs.bytes sv at are.0 differs.gives.is differs.gives.whole differs.other answers.0 has.0 in
-    let again = look_rewrite c (after (Calls noted) p) k cell copy rewrite read at are.0 hurt ask in
-    (
+    let again = look_rewrite c (after (Calls noted) p) k cell copy rewrite read at are.0 hurt ask in (
       sparing,
       subst (λ made. Mays c (after (Calls noted) p) (as_events made)) (sym made_is) (
         again,
-        looks_may c (after (Calls rewrite) (after (Calls noted) p)) k cell more rest (event_survives c (after (Calls noted) p) (Calls rewrite) read again) at are.1 has.1
+        looks_may c (after (Calls rewrite) (after (Calls noted) p)) k cell more rest
+            (event_survives c (after (Calls noted) p) (Calls rewrite) read again) at are.1 has.1
             (subst (AllAnswer (after (Calls noted) p).sectors) made_is answers.1).1 later,
       ),
     )
@@ -134,7 +146,8 @@ write_off call e at bytes d s ask off = let is = write_call call e at bytes ask 
 read_off : (call : Call) (e at : ℕ) (bytes : List ℕ) (fault : Option Fault) (d s : ℕ) → call ≡ Read e at bytes fault → touches call d s ≡ false
 read_off call e at bytes fault d s is = subst (λ call. touches call d s ≡ false) (sym is) refl
 
-pub looks_untouched : (at : ℕ) (sum block : List ℕ) (copies : List CopyOf) (made : List Noted) (d s : ℕ) → AreOthers d copies → AreLooked at sum block copies made → Untouched made d s
+pub looks_untouched : (at : ℕ) (sum block : List ℕ) (copies : List CopyOf) (made : List Noted) (d s : ℕ) → AreOthers d copies
+    → AreLooked at sum block copies made → Untouched made d s
 looks_untouched at sum block [] made d s others looks = subst (λ made. Untouched made d s) (sym looks) tt
 looks_untouched at sum block (copy ∷ more) [] d s others looks = absurd looks
 looks_untouched at sum block (copy ∷ more) (noted ∷ made) d s others (inl (fails, rest)) =
@@ -143,10 +156,15 @@ looks_untouched at sum block (copy ∷ more) (noted ∷ made) d s others (inr (i
     (read_off noted.call copy.dev at bytes None d s serves.gives.is, looks_untouched at sum block more made d s others.1 rest)
 looks_untouched at sum block (copy ∷ more) (noted ∷ made) d s others (inr (inr (rewrite, rest, differs, made_is, ask, later))) = (
   read_off noted.call copy.dev at differs.bytes None d s differs.gives.is,
-  subst (λ made. Untouched made d s) (sym made_is) (write_off rewrite.call copy.dev at block d s ask others.0, looks_untouched at sum block more rest d s others.1 later),
+  subst (λ made. Untouched made d s) (sym made_is) (
+    write_off rewrite.call copy.dev at block d s ask others.0,
+    looks_untouched at sum block more rest d s
+        others.1 later,
+  ),
 )
 
-copies_untouched : (at : ℕ) (block : List ℕ) (copies : List CopyOf) (made : List Noted) (d s : ℕ) → AreOthers d copies → asks_of made ≡ rewrites at block copies → Untouched made d s
+copies_untouched : (at : ℕ) (block : List ℕ) (copies : List CopyOf) (made : List Noted) (d s : ℕ) → AreOthers d copies
+    → asks_of made ≡ rewrites at block copies → Untouched made d s
 copies_untouched at block [] [] d s others asks = tt
 copies_untouched at block [] (noted ∷ made) d s others asks = absurd (cc)
 copies_untouched at block (copy ∷ more) [] d s others asks = absurd (cc)
@@ -170,7 +188,8 @@ none_of None is = refl
 none_of (Some fault) is = absurd (cc)
 
 was_copied : (p : Pool) (cell : Cell) (d : ℕ) (copy : CopyOf) (noted : Noted) (made later : List Noted) → length cell.block ≡ 4096
-    → ask_of noted.call ≡ Writes copy.dev (data_start + cell.sector) cell.block → is_dev (device_of noted.call) (Some d) ≡ true → is_none (fault_of noted.call) ≡ true
+    → ask_of noted.call ≡ Writes copy.dev (data_start + cell.sector) cell.block → is_dev (device_of noted.call) (Some d) ≡ true
+    → is_none (fault_of noted.call) ≡ true
     → ((copy.dev == d) ≡ true → Untouched (made ++ later) d (data_start + cell.sector)) → WasCopied (pool_after (as_events (noted ∷ (made ++ later))) p) d cell
 was_copied p cell d copy noted made later long ask here ok rest = step_copies p noted (made ++ later) d cell is_write long (rest same)
   where
@@ -196,7 +215,8 @@ copied_at p cell d (copy ∷ more) [] later long apart asks ok u = absurd (cc)
 copied_at p cell d (copy ∷ more) (noted ∷ made) later long apart asks ok u = ⊎_elim
     (λ here. let parts = and_parts (is_dev (device_of noted.call) (Some d)) (is_none (fault_of noted.call)) here in
     was_copied p cell d copy noted made later long ask parts.0 parts.1
-    (λ same. untouched_more made later d (data_start + cell.sector) (copies_untouched (data_start + cell.sector) cell.block more made d (data_start + cell.sector)
+    (λ same. untouched_more made later d (data_start + cell.sector) (copies_untouched (data_start + cell.sector) cell.block more made d
+    (data_start + cell.sector)
     (others_at copy.dev d more same apart.0) rest) u))
     (λ deeper. copied_at (after (Calls noted) p) cell d more made later long apart.1 rest deeper u)
     (or_parts (is_dev (device_of noted.call) (Some d) && is_none (fault_of noted.call)) (has_copied (Some d) made) ok)
@@ -208,7 +228,8 @@ copied_at p cell d (copy ∷ more) (noted ∷ made) later long apart asks ok u =
     rest = cc
 
 -- Of leaves, those that pass a test, and of their copies those that are due.
-filter_step : {A B : Type 0} (P : List B → Type 0) (test : A → Bool) (g : A → B) (due : B → Bool) (x : A) (xs : List A) → P (filter due (map g (filter test xs)))
+filter_step : {A B : Type 0} (P : List B → Type 0) (test : A → Bool) (g : A → B) (due : B → Bool) (x : A) (xs : List A)
+    → P (filter due (map g (filter test xs)))
     → (test x ≡ true → due (g x) ≡ true → P (g x ∷ filter due (map g (filter test xs)))) → P (filter due (map g (filter test (x ∷ xs))))
 filter_step P test g due x xs rest new = by_bool (test x)
     (λ is. subst (λ t. P (filter due (map g (cond t (x ∷ filter test xs) (filter test xs))))) (sym is) (by_bool (due (g x))
@@ -225,37 +246,44 @@ no_copy readable lacks dev none due = absurd (let never : false ≡ true = sym (
 target_at : (p : Pool) (cell : Cell) (sum : Sum) (f r : Bool) (seat : Seat) → sum.birth ≡ cell.birth → sum.top ≡ cell.top → IsAway seat → IsSeated p.member seat
     → is_settled_under sum (leaf_seen f r (told p) seat) ≡ true → is_due true (copy_of sum.birth (leaf_seen f r (told p) seat)) ≡ true
     → IsTarget p.member p.in_top p.owes p.settled cell (copy_of sum.birth (leaf_seen f r (told p) seat))
-target_at p cell sum f r (At d true own) birth top away seated under due = let parts = and_parts (p.in_top d == sum.top) (p.settled d sum.birth) under in record {
-  is_copy = record { is_member = seated; top_is = same_device (p.in_top d) sum.top parts.0 ∙ top; lacks_is = ap (p.owes d) (sym birth) };
-  is_settled = ap (p.settled d) (sym birth) ∙ parts.1;
-}
+target_at p cell sum f r (At d true own) birth top away seated under due =
+    let parts = and_parts (p.in_top d == sum.top) (p.settled d sum.birth) under in record {
+      is_copy = record { is_member = seated; top_is = same_device (p.in_top d) sum.top parts.0 ∙ top; lacks_is = ap (p.owes d) (sym birth) };
+      is_settled = ap (p.settled d) (sym birth) ∙ parts.1;
+    }
 target_at p cell sum f r (At d false own) birth top away seated under due = absurd (let never : false ≡ true = due in cc)
 target_at p cell sum f r (Adrift leaf) birth top away seated under due = no_copy _ (leaf.owes sum.birth) leaf.dev away.0 due
 
-pub targets_are : (p : Pool) (cell : Cell) (sum : Sum) (f r : Bool) (seats : List Seat) → sum.birth ≡ cell.birth → sum.top ≡ cell.top → AllByRecursion IsAway seats → AllByRecursion (IsSeated p.member) seats
+pub targets_are : (p : Pool) (cell : Cell) (sum : Sum) (f r : Bool) (seats : List Seat) → sum.birth ≡ cell.birth → sum.top ≡ cell.top
+    → AllByRecursion IsAway seats → AllByRecursion (IsSeated p.member) seats
     → AllByRecursion (IsTarget p.member p.in_top p.owes p.settled cell) (targets sum (leaves_by f r p seats))
 targets_are p cell sum f r [] birth top away seated = tt
-targets_are p cell sum f r (seat ∷ seats) birth top away seated = filter_step (AllByRecursion (IsTarget p.member p.in_top p.owes p.settled cell)) (is_settled_under sum) (copy_of sum.birth) (is_due true)
+targets_are p cell sum f r (seat ∷ seats) birth top away seated =
+    filter_step (AllByRecursion (IsTarget p.member p.in_top p.owes p.settled cell)) (is_settled_under sum) (copy_of sum.birth) (is_due true)
     (leaf_seen f r (told p) seat) (leaves_by f r p seats) (targets_are p cell sum f r seats birth top away.1 seated.1)
     (λ under due. (target_at p cell sum f r seat birth top away.0 seated.0 under due, targets_are p cell sum f r seats birth top away.1 seated.1))
 
 other_way : (d e : ℕ) → (d == e) ≡ false → (e == d) ≡ false
 other_way d e off = grind (arith, nat_tests)
 
-other_target : (p : Pool) (sum : Sum) (f r : Bool) (d : ℕ) (seat : Seat) → IsAway seat → IsElsewhere d seat → is_due true (copy_of sum.birth (leaf_seen f r (told p) seat)) ≡ true
+other_target : (p : Pool) (sum : Sum) (f r : Bool) (d : ℕ) (seat : Seat) → IsAway seat → IsElsewhere d seat
+    → is_due true (copy_of sum.birth (leaf_seen f r (told p) seat)) ≡ true
     → ((copy_of sum.birth (leaf_seen f r (told p) seat)).dev == d) ≡ false
 other_target p sum f r d (At e true own) away off due = other_way d e off
 other_target p sum f r d (At e false own) away off due = absurd (let never : false ≡ true = due in cc)
 other_target p sum f r d (Adrift leaf) away off due = no_copy _ (leaf.owes sum.birth) leaf.dev away.0 due
 
-other_targets : (p : Pool) (sum : Sum) (f r : Bool) (d : ℕ) (seats : List Seat) → AllByRecursion IsAway seats → AllByRecursion (IsElsewhere d) seats → AreOthers d (targets sum (leaves_by f r p seats))
+other_targets : (p : Pool) (sum : Sum) (f r : Bool) (d : ℕ) (seats : List Seat) → AllByRecursion IsAway seats → AllByRecursion (IsElsewhere d) seats
+    → AreOthers d (targets sum (leaves_by f r p seats))
 other_targets p sum f r d [] away off = tt
-other_targets p sum f r d (seat ∷ seats) away off = filter_step (AreOthers d) (is_settled_under sum) (copy_of sum.birth) (is_due true) (leaf_seen f r (told p) seat) (leaves_by f r p seats)
+other_targets p sum f r d (seat ∷ seats) away off =
+    filter_step (AreOthers d) (is_settled_under sum) (copy_of sum.birth) (is_due true) (leaf_seen f r (told p) seat) (leaves_by f r p seats)
     (other_targets p sum f r d seats away.1 off.1)
     (λ under due. (other_target p sum f r d seat away.0 off.0 due, other_targets p sum f r d seats away.1 off.1))
 
 apart_target : (p : Pool) (sum : Sum) (f r : Bool) (seat : Seat) (seats : List Seat) → AllByRecursion IsAway (seat ∷ seats) → AreSeatsApart (seat ∷ seats)
-    → is_due true (copy_of sum.birth (leaf_seen f r (told p) seat)) ≡ true → AreOthers (copy_of sum.birth (leaf_seen f r (told p) seat)).dev (targets sum (leaves_by f r p seats))
+    → is_due true (copy_of sum.birth (leaf_seen f r (told p) seat)) ≡ true
+    → AreOthers (copy_of sum.birth (leaf_seen f r (told p) seat)).dev (targets sum (leaves_by f r p seats))
 apart_target p sum f r (At e true own) seats away apart due = other_targets p sum f r e seats away.1 apart.0
 apart_target p sum f r (At e false own) seats away apart due = absurd (let never : false ≡ true = due in cc)
 apart_target p sum f r (Adrift leaf) seats away apart due = no_copy _ (leaf.owes sum.birth) leaf.dev away.0.0 due
@@ -264,8 +292,10 @@ rest_apart : (seat : Seat) (seats : List Seat) → AreSeatsApart (seat ∷ seats
 rest_apart (At d found own) seats apart = apart.1
 rest_apart (Adrift leaf) seats apart = apart
 
-pub targets_apart : (p : Pool) (sum : Sum) (f r : Bool) (seats : List Seat) → AllByRecursion IsAway seats → AreSeatsApart seats → AreTargetsApart (targets sum (leaves_by f r p seats))
+pub targets_apart : (p : Pool) (sum : Sum) (f r : Bool) (seats : List Seat) → AllByRecursion IsAway seats → AreSeatsApart seats
+    → AreTargetsApart (targets sum (leaves_by f r p seats))
 targets_apart p sum f r [] away apart = tt
-targets_apart p sum f r (seat ∷ seats) away apart = filter_step AreTargetsApart (is_settled_under sum) (copy_of sum.birth) (is_due true) (leaf_seen f r (told p) seat) (leaves_by f r p seats)
+targets_apart p sum f r (seat ∷ seats) away apart =
+    filter_step AreTargetsApart (is_settled_under sum) (copy_of sum.birth) (is_due true) (leaf_seen f r (told p) seat) (leaves_by f r p seats)
     (targets_apart p sum f r seats away.1 (rest_apart seat seats apart))
     (λ under due. (apart_target p sum f r seat seats away apart due, targets_apart p sum f r seats away.1 (rest_apart seat seats apart)))

@@ -1,8 +1,7 @@
 -- A scan may start, end and be stopped: the walks from their rows.
-use Rattle.std.proofs.Common.{◌≡◌, ◌⊎◌, inl, inr, ⊎_elim, ℕ, ◌+◌, ◌≤◌, ◌==◌, ◌&&◌, Bool, true, false, cond, Option, Some, None, List, [], ◌∷◌, ◌++◌, map, refl, sym, ap, ◌∙◌, subst, arith}
+use Rattle.std.proofs.Common.{◌≡◌, ◌⊎◌, inl, inr, ℕ, ◌≤◌, ◌==◌, ◌&&◌, Bool, true, false, cond, Option, Some, None, List, [], ◌∷◌, ◌++◌, map, refl, sym, ap, ◌∙◌, subst, arith}
 use Rattle.std.specs.List.{AllByRecursion, find}
 use Rattle.std.proofs.lemmas.Bool.Decides.{nat_tests}
-use Rattle.mp_base.specs.declared.number.Guid.{Guid}
 use Rattle.mp_base.specs.declared.place.Key.{Key}
 use Rattle.bank_core.specs.declared.bank.Fault.{Fault}
 use Rattle.bank_core.specs.Asks.{Flushes, ask_of}
@@ -12,24 +11,22 @@ use Rattle.label_store.specs.declared.member.Member.{Member}
 use Rattle.txg_history.specs.Events.{Calls, Drops, Clears}
 use Rattle.txg_history.specs.Groups.{at_device}
 use Rattle.txg_history.specs.Moves.{Mays}
-use Rattle.txg_history.specs.Pages.{Codec, Sum, sum_of}
+use Rattle.txg_history.specs.Pages.{Codec, sum_of}
 use Rattle.txg_history.specs.Pools.{Pool}
 use Rattle.txg_history.specs.Records.{Cell}
 use Rattle.txg_history.specs.Survival.{Survives}
-use Rattle.txg_history.proofs.Logging.{by_bool}
 use Rattle.txg_history.proofs.Showing.{clear_may}
 use Rattle.txg_history.proofs.Sparing.{part_may}
 use Rattle.txg_history.proofs.Surviving.{history_survives}
 use Rattle.txg_history.proofs.Turning.{flush_sparing}
 use Rattle.pool_moves.specs.Boards.{members_where}
-use Rattle.pool_moves.specs.FreezeRow.{up_devs}
 use Rattle.pool_moves.specs.Keeping.{IsElsewhere, AreSeatsApart, IsAway, HasFound, IsOfFound, Kept, Walks}
-use Rattle.pool_moves.specs.Leaves.{OwnLeaf, LeafSeen, Seat, At, Adrift, dev_if, told, leaf_seen}
+use Rattle.pool_moves.specs.Leaves.{LeafSeen, Seat, At, Adrift, dev_if, told, leaf_seen}
 use Rattle.pool_moves.specs.LineRows.{has_number, write_failed, sets_failed}
-use Rattle.pool_moves.specs.Moves.{Move, Makes, Sets, Drop, Clear, Rest, Scrubs, after_move, after_moves}
+use Rattle.pool_moves.specs.Moves.{Move, Makes, Sets, Drop, Clear, Rest, Scrubs, after_move}
 use Rattle.pool_moves.specs.ReadRow.{made_in}
-use Rattle.pool_moves.specs.ScanRows.{HasNoKey, flush_end, AreFlushed, is_eligible, RowScanEnd, StepReply, StepBy, RowStep, FoundClash, starts_scan, ScrubReply, ScrubBy, RowScrub, StopReply, StopBy, RowStopScrub}
-use Rattle.pool_moves.specs.States.{PoolSeen, PoolState, Side, seen}
+use Rattle.pool_moves.specs.ScanRows.{flush_end, AreFlushed, is_eligible, RowScanEnd, StepReply, StepBy, RowStep, FoundClash, starts_scan, ScrubReply, ScrubBy, RowScrub, StopReply, StopBy, RowStopScrub}
+use Rattle.pool_moves.specs.States.{PoolState, Side}
 use Rattle.pool_moves.proofs.AwayWalks.{only_found}
 use Rattle.pool_moves.proofs.Boarding.{before_all, no_dev, dev_is}
 use Rattle.pool_moves.proofs.FreeWalks.{walks_more}
@@ -52,7 +49,8 @@ IsEligible p seats m = (p.scan.eligible m.dev ≡ true) × HasFound m.dev seats
 eligible_are : (f : Bool) (p : Pool) (all seats : List Seat) → AllByRecursion IsAway seats → ((d : ℕ) → HasFound d seats → HasFound d all)
     → AllByRecursion (IsEligible p all) (eligible_of f p seats)
 eligible_are f p all [] away up = tt
-eligible_are f p all (At d found own ∷ seats) away up = before_all (AllByRecursion (IsEligible p all)) (p.scan.eligible d) (dev_if found d) (p.guid d) (eligible_of f p seats)
+eligible_are f p all (At d found own ∷ seats) away up =
+    before_all (AllByRecursion (IsEligible p all)) (p.scan.eligible d) (dev_if found d) (p.guid d) (eligible_of f p seats)
     (eligible_are f p all seats away.1 (λ e has. up e (inr has)))
     (λ e on dev. let at = dev_is found d e dev in
     ((subst (λ n. p.scan.eligible n ≡ true) at.1 on, up e (inl (here e d (sym at.1), at.0))), eligible_are f p all seats away.1 (λ e has. up e (inr has))))
@@ -65,16 +63,22 @@ eligible_are f p all (Adrift leaf ∷ seats) away up = before_all (AllByRecursio
 eligible_off : (f : Bool) (p : Pool) (d : ℕ) (seats : List Seat) → AllByRecursion IsAway seats → AllByRecursion (IsElsewhere d) seats
     → AllByRecursion (λ n. (d == n.dev) ≡ false) (eligible_of f p seats)
 eligible_off f p d [] away off = tt
-eligible_off f p d (At e found own ∷ seats) away off = before_all (AllByRecursion (λ n. (d == n.dev) ≡ false)) (p.scan.eligible e) (dev_if found e) (p.guid e) (eligible_of f p seats)
+eligible_off f p d (At e found own ∷ seats) away off =
+    before_all (AllByRecursion (λ n. (d == n.dev) ≡ false)) (p.scan.eligible e) (dev_if found e) (p.guid e) (eligible_of f p seats)
     (eligible_off f p d seats away.1 off.1) (λ x on dev. (subst (λ n. (d == n) ≡ false) (dev_is found e x dev).1 off.0, eligible_off f p d seats away.1 off.1))
-eligible_off f p d (Adrift leaf ∷ seats) away off = before_all (AllByRecursion (λ n. (d == n.dev) ≡ false)) leaf.eligible leaf.dev leaf.guid (eligible_of f p seats)
+eligible_off f p d (Adrift leaf ∷ seats) away off =
+    before_all (AllByRecursion (λ n. (d == n.dev) ≡ false)) leaf.eligible leaf.dev leaf.guid (eligible_of f p seats)
     (eligible_off f p d seats away.1 off.1) (λ x on dev. no_dev leaf.dev x away.0.0 dev)
 
 eligible_apart : (f : Bool) (p : Pool) (seats : List Seat) → AllByRecursion IsAway seats → AreSeatsApart seats → AreDevicesApart (eligible_of f p seats)
 eligible_apart f p [] away apart = tt
 eligible_apart f p (At d found own ∷ seats) away apart = before_all AreDevicesApart (p.scan.eligible d) (dev_if found d) (p.guid d) (eligible_of f p seats)
     (eligible_apart f p seats away.1 apart.1)
-    (λ e on dev. (subst (λ n. AllByRecursion (λ x. (n == x.dev) ≡ false) (eligible_of f p seats)) (dev_is found d e dev).1 (eligible_off f p d seats away.1 apart.0), eligible_apart f p seats away.1 apart.1))
+    (λ e on dev. (
+      subst (λ n. AllByRecursion (λ x. (n == x.dev) ≡ false) (eligible_of f p seats)) (dev_is found d e dev).1
+          (eligible_off f p d seats away.1 apart.0),
+      eligible_apart f p seats away.1 apart.1,
+    ))
 eligible_apart f p (Adrift leaf ∷ seats) away apart = before_all AreDevicesApart leaf.eligible leaf.dev leaf.guid (eligible_of f p seats)
     (eligible_apart f p seats away.1 apart) (λ e on dev. no_dev leaf.dev e away.0.0 dev)
 
@@ -98,12 +102,16 @@ flush_call (Admit e holds) d ask = absurd (cc)
 flush_call (Eject e) d ask = absurd (cc)
 
 -- another member's device is no unfound leaf's, behind a move that leaves each where it was
-found_mapped : (v : Move) (t : Side) (ms : List Member) (seats : List Seat) → ((which : ℕ → Bool) → AllByRecursion (IsOfFound which) t.seats → AllByRecursion (IsOfFound which) seats)
-    → AllByRecursion (λ m. AllByRecursion (IsOfFound (λ e. m.dev == e)) t.seats) ms → AllByRecursion (λ m. AllByRecursion (IsOfFound (λ e. m.dev == e)) seats) ms
-found_mapped v t ms seats step all = all_same (λ m. AllByRecursion (IsOfFound (λ e. m.dev == e)) t.seats) (λ m. AllByRecursion (IsOfFound (λ e. m.dev == e)) seats)
+found_mapped : (v : Move) (t : Side) (ms : List Member) (seats : List Seat)
+    → ((which : ℕ → Bool) → AllByRecursion (IsOfFound which) t.seats → AllByRecursion (IsOfFound which) seats)
+    → AllByRecursion (λ m. AllByRecursion (IsOfFound (λ e. m.dev == e)) t.seats) ms
+    → AllByRecursion (λ m. AllByRecursion (IsOfFound (λ e. m.dev == e)) seats) ms
+found_mapped v t ms seats step all =
+    all_same (λ m. AllByRecursion (IsOfFound (λ e. m.dev == e)) t.seats) (λ m. AllByRecursion (IsOfFound (λ e. m.dev == e)) seats)
     (λ m is. step (λ e. m.dev == e) is) ms all
 
-still_eligible : (d : ℕ) (eligible : ℕ → Bool) (ms : List Member) → AllByRecursion (λ n. (d == n.dev) ≡ false) ms → AllByRecursion (λ m. eligible m.dev ≡ true) ms
+still_eligible : (d : ℕ) (eligible : ℕ → Bool) (ms : List Member) → AllByRecursion (λ n. (d == n.dev) ≡ false) ms
+    → AllByRecursion (λ m. eligible m.dev ≡ true) ms
     → AllByRecursion (λ m. at_device d false eligible m.dev ≡ true) ms
 still_eligible d eligible [] off all = tt
 still_eligible d eligible (m ∷ ms) off all = (ap (λ t. cond t false (eligible m.dev)) off.0 ∙ all.0, still_eligible d eligible ms off.1 all.1)
@@ -131,20 +139,25 @@ cleared_walk c t m ms noted rest left call next = (
     may = clear_may c t.pool m.dev noted left.survives left.running left.eligible.0 left.passed call
 
 -- one whose flush failed, and its count
-failed_walk : (c : Codec) (t : Side) (ms : List Member) (leaf : Option LeafSeen) (rest : List Move) → AreLeft c t ms → ((t : Side) → AreLeft c t ms → Walks c t rest)
+failed_walk : (c : Codec) (t : Side) (ms : List Member) (leaf : Option LeafSeen) (rest : List Move) → AreLeft c t ms
+    → ((t : Side) → AreLeft c t ms → Walks c t rest)
     → Walks c t (sets_failed leaf ++ rest)
 failed_walk c t ms None rest left next = next t left
-failed_walk c t ms (Some leaf) rest left next = ((tt, tt), next (after_move (Sets leaf.guid (write_failed leaf.own)) t) (record {
-  survives = left.survives;
-  running = left.running;
-  passed = left.passed;
-  eligible = left.eligible;
-  apart = left.apart;
-  found = found_mapped (Sets leaf.guid (write_failed leaf.own)) t ms (after_move (Sets leaf.guid (write_failed leaf.own)) t).seats
-      (λ which all. of_found_step which (Sets leaf.guid (write_failed leaf.own)) t.pool (λ d found own is. is) t.seats all) left.found;
-}))
+failed_walk c t ms (Some leaf) rest left next = (
+  (tt, tt),
+  next (after_move (Sets leaf.guid (write_failed leaf.own)) t) (record {
+    survives = left.survives;
+    running = left.running;
+    passed = left.passed;
+    eligible = left.eligible;
+    apart = left.apart;
+    found = found_mapped (Sets leaf.guid (write_failed leaf.own)) t ms (after_move (Sets leaf.guid (write_failed leaf.own)) t).seats
+        (λ which all. of_found_step which (Sets leaf.guid (write_failed leaf.own)) t.pool (λ d found own is. is) t.seats all) left.found;
+  }),
+)
 
-dropped_walk : (c : Codec) (t : Side) (m : Member) (ms : List Member) (noted : Noted) (fault : Fault) (leaf : Option LeafSeen) (rest : List Move) → AreLeft c t (m ∷ ms)
+dropped_walk : (c : Codec) (t : Side) (m : Member) (ms : List Member) (noted : Noted) (fault : Fault) (leaf : Option LeafSeen) (rest : List Move)
+    → AreLeft c t (m ∷ ms)
     → ask_of noted.call ≡ Flushes m.dev → fault_of noted.call ≡ Some fault → ((t : Side) → AreLeft c t ms → Walks c t rest)
     → Walks c t (Makes noted ∷ (Drop m.dev ∷ (sets_failed leaf ++ rest)))
 dropped_walk c t m ms noted fault leaf rest left ask fails next = (
@@ -171,7 +184,8 @@ flush_walk c leaves [] vs t left flushed = subst (Walks c t) (sym flushed) tt
 flush_walk c leaves (m ∷ ms) vs t left (noted, rest, ask, vs_is, later) =
     subst (Walks c t) (sym vs_is) (by_fault (fault_of noted.call) refl (λ t left. flush_walk c leaves ms rest t left later))
   where
-    by_fault : (fault : Option Fault) → fault_of noted.call ≡ fault → ((t : Side) → AreLeft c t ms → Walks c t rest) → Walks c t (Makes noted ∷ (flush_end fault leaves m ++ rest))
+    by_fault : (fault : Option Fault) → fault_of noted.call ≡ fault → ((t : Side) → AreLeft c t ms → Walks c t rest)
+        → Walks c t (Makes noted ∷ (flush_end fault leaves m ++ rest))
     by_fault None ok next = cleared_walk c t m ms noted rest left (flush_call noted.call m.dev ask ∙ ap (Flush m.dev) ok) next
     by_fault (Some fault) fails next = dropped_walk c t m ms noted fault (find (has_number m.guid) leaves) rest left ask fails next
 
@@ -182,25 +196,30 @@ end_at c s t vs kept running row = subst (Walks c t) (sym row.moves)
       survives = kept.survives;
       running = running;
       passed = λ k cell is low. row.none k (sum_of_cell cell) (ap sum_of is) low;
-      eligible = all_same (IsEligible t.pool t.seats) (λ m. t.pool.scan.eligible m.dev ≡ true) (λ m is. is.0) (eligible_of t.pool.group.frozen t.pool t.seats) are;
+      eligible = all_same (IsEligible t.pool t.seats) (λ m. t.pool.scan.eligible m.dev ≡ true) (λ m is. is.0)
+          (eligible_of t.pool.group.frozen t.pool t.seats) are;
       apart = eligible_apart t.pool.group.frozen t.pool t.seats kept.away kept.apart;
-      found = all_same (IsEligible t.pool t.seats) (λ m. AllByRecursion (IsOfFound (λ e. m.dev == e)) t.seats) (λ m is. only_found m.dev t.seats kept.apart is.1) (eligible_of t.pool.group.frozen t.pool t.seats) are;
+      found = all_same (IsEligible t.pool t.seats) (λ m. AllByRecursion (IsOfFound (λ e. m.dev == e)) t.seats)
+          (λ m is. only_found m.dev t.seats kept.apart is.1) (eligible_of t.pool.group.frozen t.pool t.seats) are;
     }) row.flushed) (((tt, tt), tt), tt))
   where
     are : AllByRecursion (IsEligible t.pool t.seats) (eligible_of t.pool.group.frozen t.pool t.seats)
     are = eligible_are t.pool.group.frozen t.pool t.seats t.seats kept.away (λ d has. has)
 
 end_walks : (c : Codec) (s : PoolState) (t : Side) (vs : List Move) → Kept c s t → s.core.scan.running ≡ true → RowScanEnd s.core vs → Walks c t vs
-end_walks c s t vs kept is row = let running = is_running c s t kept is in end_at c s t vs kept running (subst (λ core. RowScanEnd core vs) (seen_running c s t kept running) row)
+end_walks c s t vs kept is row =
+    let running = is_running c s t kept is in end_at c s t vs kept running (subst (λ core. RowScanEnd core vs) (seen_running c s t kept running) row)
 
 -- `step`
-step_by : (c : Codec) (running : Bool) (s : PoolState) (t : Side) (vs : List Move) (reply : StepReply) → Kept c s t → s.core.scan.running ≡ running → AllAnswer t.pool.sectors (made_in vs)
+step_by : (c : Codec) (running : Bool) (s : PoolState) (t : Side) (vs : List Move) (reply : StepReply) → Kept c s t → s.core.scan.running ≡ running
+    → AllAnswer t.pool.sectors (made_in vs)
     → StepBy running s vs reply → Walks c t vs ⊎ FoundClash t.pool (made_in vs)
 step_by c false s t vs reply kept is answers row = inl (subst (Walks c t) (sym row.0) tt)
 step_by c true s t vs reply kept is answers (inl row) = key_walks c s t s.own.scrubs vs kept is answers row.0
 step_by c true s t vs reply kept is answers (inr row) = inl (end_walks c s t vs kept is row.0)
 
-pub step_walks : (c : Codec) (s : PoolState) (t : Side) (vs : List Move) (reply : StepReply) → Kept c s t → AllAnswer t.pool.sectors (made_in vs) → RowStep s vs reply
+pub step_walks : (c : Codec) (s : PoolState) (t : Side) (vs : List Move) (reply : StepReply) → Kept c s t → AllAnswer t.pool.sectors (made_in vs)
+    → RowStep s vs reply
     → Walks c t vs ⊎ FoundClash t.pool (made_in vs)
 step_walks c s t vs reply kept answers row = step_by c s.core.scan.running s t vs reply kept refl answers row
 
@@ -210,9 +229,11 @@ start_walk c s t kept opened = subst (λ core. core.opened ≡ true → Walks c 
     (λ on. (((record { opened = on; hi_low = omega arith }, tt), up_of_found t.pool.group.frozen t.pool t.seats kept.away kept.apart), tt)) opened
 
 -- `scrub` and `scrub -s`
-scrub_by : (c : Codec) (running : Bool) (s : PoolState) (t : Side) (vs : List Move) (reply : ScrubReply) → Kept c s t → ScrubBy running s vs reply → Walks c t vs
+scrub_by : (c : Codec) (running : Bool) (s : PoolState) (t : Side) (vs : List Move) (reply : ScrubReply) → Kept c s t → ScrubBy running s vs reply
+    → Walks c t vs
 scrub_by c true s t vs reply kept row = subst (Walks c t) (sym row.0) tt
-scrub_by c false s t vs reply kept row = subst (Walks c t) (sym row.1) (walks_more c (starts_scan s ∷ []) (Scrubs ∷ []) t (start_walk c s t kept row.0) ((tt, tt), tt))
+scrub_by c false s t vs reply kept row =
+    subst (Walks c t) (sym row.1) (walks_more c (starts_scan s ∷ []) (Scrubs ∷ []) t (start_walk c s t kept row.0) ((tt, tt), tt))
 
 pub scrub_walks : (c : Codec) (s : PoolState) (t : Side) (vs : List Move) (reply : ScrubReply) → Kept c s t → RowScrub s vs reply → Walks c t vs
 scrub_walks c s t vs reply kept row = scrub_by c s.core.scan.running s t vs reply kept row

@@ -1,5 +1,5 @@
 -- A step of a scan may be made: its walk from its row.
-use Rattle.std.proofs.Common.{◌≡◌, ◌≢◌, ◌⊎◌, inl, inr, ⊎_elim, ℕ, suc, zero, ◌+◌, ◌<◌, ◌≤◌, ◌==◌, ◌&&◌, ◌||◌, nat_lt, nat_le, not, Bool, true, false, cond, Option, Some, None, List, [], ◌∷◌, ◌++◌, map, length, drop, refl, sym, ap, ◌∙◌, subst, arith}
+use Rattle.std.proofs.Common.{◌≡◌, ◌⊎◌, inl, inr, ⊎_elim, ℕ, suc, zero, ◌+◌, ◌<◌, ◌≤◌, ◌==◌, ◌&&◌, ◌||◌, nat_lt, nat_le, not, Bool, true, false, cond, Option, Some, None, List, [], ◌∷◌, ◌++◌, map, length, drop, refl, sym, ap, ◌∙◌, subst, arith}
 use Rattle.std.specs.List.{AllByRecursion, filter, list_any}
 use Rattle.std.specs.Str.{bytes_eq}
 use Rattle.std.proofs.lemmas.Bool.{and_parts}
@@ -7,17 +7,16 @@ use Rattle.std.proofs.lemmas.Bool.Decides.{nat_tests}
 use Rattle.std.proofs.lemmas.Slice.Eq.{bytes_eq-Decides}
 use Rattle.sha2.specs.Sha256.{sha256}
 use Rattle.mp_base.specs.declared.place.Key.{Key}
-use Rattle.bank_core.specs.Asks.{asks_of}
 use Rattle.bank_core.specs.Disk.{Noted, Sectors, AllAnswer, run}
 use Rattle.bank_core.specs.Standing.{Untouched}
 use Rattle.mirror_io.specs.declared.copies.CopyOf.{CopyOf}
-use Rattle.mirror_io.specs.Copies.{is_due, tries}
+use Rattle.mirror_io.specs.Copies.{tries}
 use Rattle.mirror_io.specs.Mirror.{IsHealed}
-use Rattle.mirror_io.specs.Reads.{IsReads, rewrites}
+use Rattle.mirror_io.specs.Reads.{IsReads}
 use Rattle.txg_history.specs.Events.{as_events}
-use Rattle.txg_history.specs.Groups.{Logs, between, grown}
+use Rattle.txg_history.specs.Groups.{grown}
 use Rattle.txg_history.specs.Moves.{WasCopied, Mays, MayPass}
-use Rattle.txg_history.specs.Pages.{Codec, Sum, sum_of, IsClash}
+use Rattle.txg_history.specs.Pages.{Codec, Sum, sum_of}
 use Rattle.txg_history.specs.Pools.{Pool, pool_after}
 use Rattle.txg_history.specs.Records.{Cell, data_start}
 use Rattle.txg_history.specs.Scans.{up_to}
@@ -27,14 +26,14 @@ use Rattle.txg_history.proofs.Logging.{by_bool, same_device, true_not_false, gro
 use Rattle.txg_history.proofs.Surviving.{history_survives}
 use Rattle.pool_moves.specs.FreezeRow.{IsBefore, is_dev}
 use Rattle.pool_moves.specs.Keeping.{IsAway, Kept, Walks}
-use Rattle.pool_moves.specs.Leaves.{LeafSeen, Seat, At, Adrift, dev_if, told, leaf_seen}
+use Rattle.pool_moves.specs.Leaves.{LeafSeen, Seat, At, Adrift, told, leaf_seen}
 use Rattle.pool_moves.specs.Moves.{Move, Makes, Sets, Pass, after_move, after_moves}
 use Rattle.pool_moves.specs.ReadRow.{copies_of, stands_under, count_reads, made_in}
-use Rattle.pool_moves.specs.ScanRows.{IsNextKey, targets, AreCopied, untried, AreLooked, LooksBy, AreStepCalls, reads_key, StepCalls, has_copied, is_brought, is_spared, is_scrubbed, RowKey, WereRead, FoundClash}
-use Rattle.pool_moves.specs.States.{PoolSeen, PoolState, Side, seen, seen_by}
+use Rattle.pool_moves.specs.ScanRows.{IsNextKey, targets, AreCopied, untried, LooksBy, AreStepCalls, reads_key, StepCalls, has_copied, is_spared, is_scrubbed, RowKey, WereRead, FoundClash}
+use Rattle.pool_moves.specs.States.{PoolSeen, PoolState, Side, seen_by}
 use Rattle.pool_moves.specs.Walking.{as_moves}
 use Rattle.pool_moves.proofs.FreeWalks.{walks_more}
-use Rattle.pool_moves.proofs.LineWalks.{IsSet, sets_walk}
+use Rattle.pool_moves.proofs.LineWalks.{sets_walk}
 use Rattle.pool_moves.proofs.ReadWalks.{IsCopy, AreRead, copies_read, heals_may, copies_on, tried_all, all_filter, calls_walk, read_sets, outcome_sum, made_calls, answers_front, sum_of_cell}
 use Rattle.pool_moves.proofs.ScanCalls.{outcome_read, read_more, copies_may, looks_may, AreOthers, looks_untouched, copied_at, targets_are, targets_apart}
 
@@ -88,7 +87,8 @@ answers_back : (first second : List Noted) (sectors : Sectors) → AllAnswer sec
 answers_back [] second sectors all = all
 answers_back (noted ∷ first) second sectors all = answers_back first second (run (noted ∷ []) sectors) all.1
 
-mays_both : (c : Codec) (first second : List Noted) (p : Pool) → Mays c p (as_events first) → Mays c (with_calls first p) (as_events second) → Mays c p (as_events (first ++ second))
+mays_both : (c : Codec) (first second : List Noted) (p : Pool) → Mays c p (as_events first) → Mays c (with_calls first p) (as_events second)
+    → Mays c p (as_events (first ++ second))
 mays_both c first second p a b = subst (Mays c p) (sym (events_more first second)) (mays_calls c first (as_events second) p a b)
 
 behind_calls : (c : Codec) (made : List Noted) (p : Pool) → Survives c p → Mays c p (as_events made) → Survives c (with_calls made p)
@@ -101,7 +101,8 @@ IsBrought p cell behind which = (d : ℕ) → p.in_top d ≡ cell.top → which 
 between_one : (b g : ℕ) → b ≤ g → g ≤ b → g ≡ b
 between_one b g low high = omega (arith, low, high)
 
-may_pass : (c : Codec) (p : Pool) (made : List Noted) (k : Key) (cell : Cell) (which : ℕ → Bool) → p.scan.running ≡ true → p.reads.cells k ≡ Some cell → cell.birth ≤ p.scan.hi
+may_pass : (c : Codec) (p : Pool) (made : List Noted) (k : Key) (cell : Cell) (which : ℕ → Bool) → p.scan.running ≡ true → p.reads.cells k ≡ Some cell
+    → cell.birth ≤ p.scan.hi
     → p.scan.passed k ≡ false → ((j : Key) (other : Cell) → p.reads.cells j ≡ Some other → other.birth ≤ p.scan.hi → p.scan.passed j ≡ false → IsBefore j k → ⊥)
     → IsBrought p cell (with_calls made p) which → MayPass (with_calls made p) k (grown which cell.birth cell.birth p.scan.scrub)
 may_pass c p made k cell which running at low ahead least brought = record {
@@ -119,14 +120,25 @@ may_pass c p made k cell which running at low ahead least brought = record {
 }
 
 -- the moves of a step, where its calls may be made
-key_walk : (c : Codec) (s : PoolState) (t : Side) (calls : List Noted) (k : Key) (cell : Cell) (leaves : List LeafSeen) (which : ℕ → Bool) → t.pool.scan.running ≡ true
-    → t.pool.reads.cells k ≡ Some cell → IsNextKey (scan_core t) k (sum_of_cell cell) → Mays c t.pool (as_events calls) → IsBrought t.pool cell (with_calls calls t.pool) which
+key_walk : (c : Codec) (s : PoolState) (t : Side) (calls : List Noted) (k : Key) (cell : Cell) (leaves : List LeafSeen) (which : ℕ → Bool)
+    → t.pool.scan.running ≡ true
+    → t.pool.reads.cells k ≡ Some cell → IsNextKey (scan_core t) k (sum_of_cell cell) → Mays c t.pool (as_events calls)
+    → IsBrought t.pool cell (with_calls calls t.pool) which
     → Walks c t (as_moves calls ++ (count_reads (sha256 cell.block) calls leaves ++ (Pass k cell.birth which ∷ [])))
 key_walk c s t calls k cell leaves which running at next may brought =
     walks_more c (as_moves calls) (count_reads (sha256 cell.block) calls leaves ++ (Pass k cell.birth which ∷ [])) t (calls_walk c calls t may)
-    (walks_more c (count_reads (sha256 cell.block) calls leaves) (Pass k cell.birth which ∷ []) called (sets_walk c (count_reads (sha256 cell.block) calls leaves) called (read_sets (sha256 cell.block) calls leaves))
-    (subst Passing (sym same) ((may_pass c t.pool calls k cell which running at next.low next.ahead
-    (λ j other there born passed before. next.least j (sum_of_cell other) (ap sum_of there) born passed before) brought, tt), running), tt))
+    (walks_more c (count_reads (sha256 cell.block) calls leaves) (Pass k cell.birth which ∷ []) called
+    (sets_walk c (count_reads (sha256 cell.block) calls leaves) called (read_sets (sha256 cell.block) calls leaves)) (
+      subst Passing (sym same) (
+        (
+          may_pass c t.pool calls k cell which running at next.low next.ahead
+              (λ j other there born passed before. next.least j (sum_of_cell other) (ap sum_of there) born passed before) brought,
+          tt,
+        ),
+        running,
+      ),
+      tt,
+    ))
   where
     called : Side
     called = after_moves (as_moves calls) t
@@ -157,7 +169,8 @@ abbrev HasOrGot : Pool → Cell → (copied : List Noted) → (d : ℕ) → Type
 HasOrGot p cell copied d = (p.owes d cell.birth ≡ false) ⊎ (has_copied (Some d) copied ≡ true)
 
 spared_seat : (p : Pool) (cell : Cell) (f r scrubs : Bool) (calls copied : List Noted) (d : ℕ) (seat : Seat) → IsAway seat → p.in_top d ≡ cell.top
-    → (is_dev d (leaf_seen f r (told p) seat).dev && is_spared scrubs (sum_of_cell cell) calls copied (leaf_seen f r (told p) seat)) ≡ true → HasOrGot p cell copied d
+    → (is_dev d (leaf_seen f r (told p) seat).dev && is_spared scrubs (sum_of_cell cell) calls copied (leaf_seen f r (told p) seat)) ≡ true
+    → HasOrGot p cell copied d
 spared_seat p cell f r scrubs calls copied d (At e true own) away top is =
     let parts = and_parts (d == e) (is_spared scrubs (sum_of_cell cell) calls copied (leaf_seen f r (told p) (At e true own))) is in
     let same = same_device d e parts.0 in
@@ -165,10 +178,13 @@ spared_seat p cell f r scrubs calls copied d (At e true own) away top is =
     (spared_here (p.owes e cell.birth) (has_copied (Some e) copied) _ (p.in_top e) cell.top (subst (λ n. p.in_top n ≡ cell.top) same top) parts.1)
 spared_seat p cell f r scrubs calls copied d (At e false own) away top is = absurd (let never : false ≡ true = is in cc)
 spared_seat p cell f r scrubs calls copied d (Adrift leaf) away top is =
-    absurd (let never : false ≡ true = sym (ap (is_dev d) away.0) ∙ (and_parts (is_dev d leaf.dev) (is_spared scrubs (sum_of_cell cell) calls copied leaf) is).0 in cc)
+    absurd (let never : false ≡ true = sym (ap (is_dev d) away.0) ∙ (and_parts (is_dev d leaf.dev)
+    (is_spared scrubs (sum_of_cell cell) calls copied leaf) is).0 in cc)
 
-spared_at : (p : Pool) (cell : Cell) (f r scrubs : Bool) (calls copied : List Noted) (d : ℕ) (seats : List Seat) → AllByRecursion IsAway seats → p.in_top d ≡ cell.top
-    → list_any (λ leaf. is_dev d leaf.dev && is_spared scrubs (sum_of_cell cell) calls copied leaf) (map (leaf_seen f r (told p)) seats) ≡ true → HasOrGot p cell copied d
+spared_at : (p : Pool) (cell : Cell) (f r scrubs : Bool) (calls copied : List Noted) (d : ℕ) (seats : List Seat) → AllByRecursion IsAway seats
+    → p.in_top d ≡ cell.top
+    → list_any (λ leaf. is_dev d leaf.dev && is_spared scrubs (sum_of_cell cell) calls copied leaf) (map (leaf_seen f r (told p)) seats) ≡ true
+    → HasOrGot p cell copied d
 spared_at p cell f r scrubs calls copied d [] away top is = absurd (cc)
 spared_at p cell f r scrubs calls copied d (seat ∷ seats) away top is = ⊎_elim (λ here. spared_seat p cell f r scrubs calls copied d seat away.0 top here)
     (λ more. spared_at p cell f r scrubs calls copied d seats away.1 top more)
@@ -181,7 +197,8 @@ no_copies d copied none = ap (has_copied (Some d)) none
 
 quiet_brought : (t : Side) (cell : Cell) (scrubs : Bool) (calls copied : List Noted) → AllByRecursion IsAway t.seats → copied ≡ []
     → IsBrought t.pool cell (with_calls calls t.pool) (is_scrubbed scrubs (sum_of_cell cell) calls copied (scan_core t).leaves)
-quiet_brought t cell scrubs calls copied away none d top off = ⊎_elim (λ has. inl has) (λ got. true_not_false (has_copied (Some d) copied) got (no_copies d copied none))
+quiet_brought t cell scrubs calls copied away none d top off =
+    ⊎_elim (λ has. inl has) (λ got. true_not_false (has_copied (Some d) copied) got (no_copies d copied none))
     (spared_at t.pool cell t.pool.group.frozen true scrubs calls copied d t.seats away top (not_cases _ off))
 
 -- A step that reads its key.
@@ -196,7 +213,8 @@ not_lacks false is = refl
 
 untried_are : (p : Pool) (cell : Cell) (copies : List CopyOf) (reads : List Noted) → AllByRecursion (IsCopy p.member p.in_top p.owes cell) (tries copies)
     → AllByRecursion (IsCopy p.member p.in_top p.owes cell) (untried copies reads)
-untried_are p cell copies reads all = all_filter (IsCopy p.member p.in_top p.owes cell) (IsCopy p.member p.in_top p.owes cell) (λ copy. not copy.lacks) (λ copy is has. is)
+untried_are p cell copies reads all =
+    all_filter (IsCopy p.member p.in_top p.owes cell) (IsCopy p.member p.in_top p.owes cell) (λ copy. not copy.lacks) (λ copy is has. is)
     (drop (length reads) (tries copies)) (all_drop (IsCopy p.member p.in_top p.owes cell) (length reads) (tries copies) all)
 
 all_any : {A : Type 0} (xs : List A) → AllByRecursion (λ x. Unit {0}) xs
@@ -229,7 +247,8 @@ good_brought c t cell scrubs calls copied away good d top off = by_bool (t.pool.
     (spared_at t.pool cell t.pool.group.frozen true scrubs calls copied d t.seats away top (not_cases _ off)))
     (λ has. inl has)
 
-looks_by : (c : Codec) (p : Pool) (k : Key) (cell : Cell) (scrubs : Bool) (copies : List CopyOf) (looks : List Noted) → Survives c p → p.reads.cells k ≡ Some cell
+looks_by : (c : Codec) (p : Pool) (k : Key) (cell : Cell) (scrubs : Bool) (copies : List CopyOf) (looks : List Noted) → Survives c p
+    → p.reads.cells k ≡ Some cell
     → AllByRecursion (IsCopy p.member p.in_top p.owes cell) copies → AllByRecursion (λ copy. copy.lacks ≡ false) copies → AllAnswer p.sectors looks
     → LooksBy scrubs (data_start + cell.sector) (sha256 cell.block) (Some cell.block) copies looks → Mays c p (as_events looks)
 looks_by c p k cell true copies looks sv at are have answers is = looks_may c p k cell copies looks sv at are have answers is
@@ -237,14 +256,17 @@ looks_by c p k cell false copies looks sv at are have answers is = subst (λ mad
 
 looks_off : (cell : Cell) (scrubs : Bool) (copies : List CopyOf) (looks : List Noted) (d : ℕ) → AreOthers d copies
     → LooksBy scrubs (data_start + cell.sector) (sha256 cell.block) (Some cell.block) copies looks → Untouched looks d (data_start + cell.sector)
-looks_off cell true copies looks d others is = looks_untouched (data_start + cell.sector) (sha256 cell.block) cell.block copies looks d (data_start + cell.sector) others is
+looks_off cell true copies looks d others is =
+    looks_untouched (data_start + cell.sector) (sha256 cell.block) cell.block copies looks d (data_start + cell.sector) others is
 looks_off cell false copies looks d others is = subst (λ made. Untouched made d (data_start + cell.sector)) (sym is) tt
 
 -- where a good copy was found, and it is the block
-found_good : (c : Codec) (s : PoolState) (t : Side) (k : Key) (cell : Cell) (scrubs : Bool) (reads rewritten copied looks : List Noted) (wrong : List CopyOf) → Kept c s t
+found_good : (c : Codec) (s : PoolState) (t : Side) (k : Key) (cell : Cell) (scrubs : Bool) (reads rewritten copied looks : List Noted) (wrong : List CopyOf)
+    → Kept c s t
     → t.pool.reads.cells k ≡ Some cell → t.pool.scan.passed k ≡ false → AllAnswer t.pool.sectors (reads ++ (rewritten ++ (copied ++ looks)))
     → IsReads (data_start + cell.sector) (sha256 cell.block) (tries (copies_of (sum_of_cell cell) (scan_core t).leaves)) reads wrong (Some cell.block)
-    → IsHealed (data_start + cell.sector) (Some cell.block) wrong rewritten → AreCopied (data_start + cell.sector) (Some cell.block) (targets (sum_of_cell cell) (scan_core t).leaves) copied
+    → IsHealed (data_start + cell.sector) (Some cell.block) wrong rewritten
+    → AreCopied (data_start + cell.sector) (Some cell.block) (targets (sum_of_cell cell) (scan_core t).leaves) copied
     → LooksBy scrubs (data_start + cell.sector) (sha256 cell.block) (Some cell.block) (untried (copies_of (sum_of_cell cell) (scan_core t).leaves) reads) looks
     → IsGood c t cell (reads ++ (rewritten ++ (copied ++ looks))) copied
 found_good c s t k cell scrubs reads rewritten copied looks wrong kept at ahead answers is_read is_healed is_copied is_looked = record {
@@ -253,14 +275,16 @@ found_good c s t k cell scrubs reads rewritten copied looks wrong kept at ahead 
       (looks_by c (with_calls copied (with_calls rewritten (with_calls reads p))) k cell scrubs (untried (copies_of sum (scan_core t).leaves) reads) looks
       (behind_calls c copied (with_calls rewritten (with_calls reads p)) second copies) at (untried_are p cell (copies_of sum (scan_core t).leaves) reads tried)
       (untried_have (copies_of sum (scan_core t).leaves) reads)
-      (answers_back copied looks (run rewritten (run reads p.sectors)) (answers_back rewritten (copied ++ looks) (run reads p.sectors) (answers_back reads (rewritten ++ (copied ++ looks)) p.sectors answers)))
+      (answers_back copied looks (run rewritten (run reads p.sectors))
+      (answers_back rewritten (copied ++ looks) (run reads p.sectors) (answers_back reads (rewritten ++ (copied ++ looks)) p.sectors answers)))
       is_looked)));
   got = λ d owes ok. subst (λ q. WasCopied q d cell) (sym behind)
       (copied_at (with_calls rewritten (with_calls reads p)) cell d (targets sum (scan_core t).leaves) copied looks
       (kept.survives.one_key.mapped t.pool.reads k cell kept.survives.order.reads_live at).long
       (targets_apart p sum t.pool.group.frozen true t.seats kept.away kept.apart) is_copied ok
       (looks_off cell scrubs (untried (copies_of sum (scan_core t).leaves) reads) looks d
-      (others_of p cell d (untried (copies_of sum (scan_core t).leaves) reads) owes (untried_are p cell (copies_of sum (scan_core t).leaves) reads tried) (untried_have (copies_of sum (scan_core t).leaves) reads)) is_looked));
+      (others_of p cell d (untried (copies_of sum (scan_core t).leaves) reads) owes (untried_are p cell (copies_of sum (scan_core t).leaves) reads tried)
+      (untried_have (copies_of sum (scan_core t).leaves) reads)) is_looked));
 }
   where
     p : Pool
@@ -270,7 +294,8 @@ found_good c s t k cell scrubs reads rewritten copied looks wrong kept at ahead 
     sum = sum_of_cell cell
 
     tried : AllByRecursion (IsCopy t.pool.member t.pool.in_top t.pool.owes cell) (tries (copies_of (sum_of_cell cell) (scan_core t).leaves))
-    tried = tried_all t.pool cell (copies_of (sum_of_cell cell) (scan_core t).leaves) (copies_on t.pool cell t.pool.group.frozen true t.seats kept.away kept.seated)
+    tried =
+        tried_all t.pool cell (copies_of (sum_of_cell cell) (scan_core t).leaves) (copies_on t.pool cell t.pool.group.frozen true t.seats kept.away kept.seated)
 
     are : AreRead c t.pool cell reads wrong
     are = copies_read c t.pool k cell (tries (copies_of (sum_of_cell cell) (scan_core t).leaves)) reads wrong (Some cell.block) kept.survives at tried
@@ -289,25 +314,31 @@ found_good c s t k cell scrubs reads rewritten copied looks wrong kept at ahead 
     copies = copies_may c (with_calls rewritten (with_calls reads t.pool)) k cell (targets sum (scan_core t).leaves) copied second at ahead
         (targets_are t.pool cell (sum_of_cell cell) t.pool.group.frozen true t.seats refl refl kept.away kept.seated) is_copied
 
-    behind : with_calls (reads ++ (rewritten ++ (copied ++ looks))) t.pool ≡ pool_after (as_events (copied ++ looks)) (with_calls rewritten (with_calls reads t.pool))
+    behind : with_calls (reads ++ (rewritten ++ (copied ++ looks))) t.pool ≡ pool_after (as_events (copied ++ looks))
+        (with_calls rewritten (with_calls reads t.pool))
     behind = sym (calls_after (reads ++ (rewritten ++ (copied ++ looks))) t.pool) ∙ (more_calls reads (rewritten ++ (copied ++ looks)) t.pool
         ∙ more_calls rewritten (copied ++ looks) (with_calls reads t.pool))
 
 -- where none was found, only reads were made
-none_good : (c : Codec) (s : PoolState) (t : Side) (k : Key) (cell : Cell) (reads : List Noted) (wrong : List CopyOf) → Kept c s t → t.pool.reads.cells k ≡ Some cell
-    → AllAnswer t.pool.sectors reads → IsReads (data_start + cell.sector) (sha256 cell.block) (tries (copies_of (sum_of_cell cell) (scan_core t).leaves)) reads wrong None
+none_good : (c : Codec) (s : PoolState) (t : Side) (k : Key) (cell : Cell) (reads : List Noted) (wrong : List CopyOf) → Kept c s t
+    → t.pool.reads.cells k ≡ Some cell
+    → AllAnswer t.pool.sectors reads → IsReads (data_start + cell.sector) (sha256 cell.block)
+    (tries (copies_of (sum_of_cell cell) (scan_core t).leaves)) reads wrong None
     → Mays c t.pool (as_events reads)
 none_good c s t k cell reads wrong kept at answers is_read =
     (copies_read c t.pool k cell (tries (copies_of (sum_of_cell cell) (scan_core t).leaves)) reads wrong None kept.survives at
-    (tried_all t.pool cell (copies_of (sum_of_cell cell) (scan_core t).leaves) (copies_on t.pool cell t.pool.group.frozen true t.seats kept.away kept.seated)) answers is_read).may
+    (tried_all t.pool cell (copies_of (sum_of_cell cell) (scan_core t).leaves) (copies_on t.pool cell t.pool.group.frozen true t.seats kept.away kept.seated))
+    answers is_read).may
 
 no_looks : (scrubs : Bool) (at : ℕ) (sum : List ℕ) (copies : List CopyOf) (looks : List Noted) → LooksBy scrubs at sum None copies looks → looks ≡ []
 no_looks true at sum copies looks is = is
 no_looks false at sum copies looks is = is
 
 -- The calls of a step that reads its key.
-step_calls : (c : Codec) (s : PoolState) (t : Side) (k : Key) (cell : Cell) (scrubs : Bool) (calls copied : List Noted) → Kept c s t → t.pool.reads.cells k ≡ Some cell
-    → t.pool.scan.passed k ≡ false → AllAnswer t.pool.sectors calls → AreStepCalls scrubs (scan_core t) (sum_of_cell cell) calls copied → IsGood c t cell calls copied ⊎ FoundClash t.pool calls
+step_calls : (c : Codec) (s : PoolState) (t : Side) (k : Key) (cell : Cell) (scrubs : Bool) (calls copied : List Noted) → Kept c s t
+    → t.pool.reads.cells k ≡ Some cell
+    → t.pool.scan.passed k ≡ false → AllAnswer t.pool.sectors calls → AreStepCalls scrubs (scan_core t) (sum_of_cell cell) calls copied
+    → IsGood c t cell calls copied ⊎ FoundClash t.pool calls
 step_calls c s t k cell scrubs calls copied kept at ahead answers row = by_outcome row.outcome row.is_read row.is_healed row.is_copied row.is_looked
   where
     split : AllAnswer t.pool.sectors (row.reads ++ (row.rewritten ++ (copied ++ row.looks)))
@@ -316,9 +347,12 @@ step_calls c s t k cell scrubs calls copied kept at ahead answers row = by_outco
     nothing_copied : {A : Type 0} (d : ℕ) (made : List Noted) → made ≡ [] → has_copied (Some d) made ≡ true → A
     nothing_copied d made none ok = true_not_false (has_copied (Some d) made) ok (no_copies d made none)
 
-    by_outcome : (outcome : Option (List ℕ)) → IsReads (data_start + cell.sector) (sha256 cell.block) (tries (copies_of (sum_of_cell cell) (scan_core t).leaves)) row.reads row.wrong outcome
-        → IsHealed (data_start + cell.sector) outcome row.wrong row.rewritten → AreCopied (data_start + cell.sector) outcome (targets (sum_of_cell cell) (scan_core t).leaves) copied
-        → LooksBy scrubs (data_start + cell.sector) (sha256 cell.block) outcome (untried (copies_of (sum_of_cell cell) (scan_core t).leaves) row.reads) row.looks
+    by_outcome : (outcome : Option (List ℕ)) → IsReads (data_start + cell.sector) (sha256 cell.block)
+        (tries (copies_of (sum_of_cell cell) (scan_core t).leaves)) row.reads row.wrong outcome
+        → IsHealed (data_start + cell.sector) outcome row.wrong row.rewritten
+        → AreCopied (data_start + cell.sector) outcome (targets (sum_of_cell cell) (scan_core t).leaves) copied
+        → LooksBy scrubs (data_start + cell.sector) (sha256 cell.block) outcome
+        (untried (copies_of (sum_of_cell cell) (scan_core t).leaves) row.reads) row.looks
         → IsGood c t cell calls copied ⊎ FoundClash t.pool calls
     by_outcome None reads healed copies looks = inl (record {
       may = subst (λ made. Mays c t.pool (as_events made)) (sym row.all) (mays_both c row.reads (row.rewritten ++ (copied ++ row.looks)) t.pool
@@ -326,26 +360,32 @@ step_calls c s t k cell scrubs calls copied kept at ahead answers row = by_outco
           (subst (λ made. Mays c (with_calls row.reads t.pool) (as_events (made ++ (copied ++ row.looks)))) (sym healed)
           (subst (λ made. Mays c (with_calls row.reads t.pool) (as_events (made ++ row.looks))) (sym copies)
           (subst (λ made. Mays c (with_calls row.reads t.pool) (as_events made))
-          (sym (no_looks scrubs (data_start + cell.sector) (sha256 cell.block) (untried (copies_of (sum_of_cell cell) (scan_core t).leaves) row.reads) row.looks looks)) tt))));
+          (sym (no_looks scrubs (data_start + cell.sector) (sha256 cell.block)
+          (untried (copies_of (sum_of_cell cell) (scan_core t).leaves) row.reads) row.looks looks)) tt))));
       got = λ d owes ok. nothing_copied d copied copies ok;
     })
     by_outcome (Some bytes) reads healed copies looks = by_bool (bytes_eq bytes cell.block)
         (λ same. let equal = (bytes_eq-Decides bytes cell.block).0 same in
-        inl (subst (λ made. IsGood c t cell made copied) (sym row.all) (found_good c s t k cell scrubs row.reads row.rewritten copied row.looks row.wrong kept at ahead split
-        (subst (λ b. IsReads (data_start + cell.sector) (sha256 cell.block) (tries (copies_of (sum_of_cell cell) (scan_core t).leaves)) row.reads row.wrong (Some b)) equal reads)
+        inl (subst (λ made. IsGood c t cell made copied) (sym row.all)
+        (found_good c s t k cell scrubs row.reads row.rewritten copied row.looks row.wrong kept at ahead split
+        (subst (λ b. IsReads (data_start + cell.sector) (sha256 cell.block) (tries (copies_of (sum_of_cell cell) (scan_core t).leaves)) row.reads row.wrong
+        (Some b)) equal reads)
         (subst (λ b. IsHealed (data_start + cell.sector) (Some b) row.wrong row.rewritten) equal healed)
         (subst (λ b. AreCopied (data_start + cell.sector) (Some b) (targets (sum_of_cell cell) (scan_core t).leaves) copied) equal copies)
-        (subst (λ b. LooksBy scrubs (data_start + cell.sector) (sha256 cell.block) (Some b) (untried (copies_of (sum_of_cell cell) (scan_core t).leaves) row.reads) row.looks) equal looks))))
+        (subst (λ b. LooksBy scrubs (data_start + cell.sector) (sha256 cell.block) (Some b)
+        (untried (copies_of (sum_of_cell cell) (scan_core t).leaves) row.reads) row.looks) equal looks))))
         (λ other. inr (record {
           k = k;
           cell = cell;
           cell_is = at;
           bytes = bytes;
           read = subst (WereRead bytes) (sym row.all) (read_more bytes row.reads (row.rewritten ++ (copied ++ row.looks))
-              (outcome_read (data_start + cell.sector) (sha256 cell.block) (tries (copies_of (sum_of_cell cell) (scan_core t).leaves)) row.reads row.wrong bytes reads));
+              (outcome_read (data_start + cell.sector) (sha256 cell.block)
+              (tries (copies_of (sum_of_cell cell) (scan_core t).leaves)) row.reads row.wrong bytes reads));
           clash = record {
             other = λ equal. absurd (let never : true ≡ false = sym ((bytes_eq-Decides bytes cell.block).1 equal) ∙ other in cc);
-            same_sum = outcome_sum (data_start + cell.sector) (sha256 cell.block) (tries (copies_of (sum_of_cell cell) (scan_core t).leaves)) row.reads row.wrong bytes reads;
+            same_sum = outcome_sum (data_start + cell.sector) (sha256 cell.block)
+                (tries (copies_of (sum_of_cell cell) (scan_core t).leaves)) row.reads row.wrong bytes reads;
           };
         }))
 
@@ -357,21 +397,33 @@ sum_cell (Some x) sum is = (x, refl, some_same (sum_of_cell x) sum is)
     some_same a b e = cc
 sum_cell None sum is = absurd (cc)
 
-key_at : (c : Codec) (s : PoolState) (t : Side) (scrubs : Bool) (k : Key) (cell : Cell) (calls copied : List Noted) (vs : List Move) → Kept c s t → t.pool.scan.running ≡ true
+key_at : (c : Codec) (s : PoolState) (t : Side) (scrubs : Bool) (k : Key) (cell : Cell) (calls copied : List Noted) (vs : List Move) → Kept c s t
+    → t.pool.scan.running ≡ true
     → t.pool.reads.cells k ≡ Some cell → AllAnswer t.pool.sectors (made_in vs) → IsNextKey (scan_core t) k (sum_of_cell cell)
     → (reading : Bool) → StepCalls reading scrubs (scan_core t) (sum_of_cell cell) calls copied
     → vs ≡ as_moves calls ++ (count_reads (sha256 cell.block) calls (filter (stands_under cell.top) (scan_core t).leaves)
     ++ (Pass k cell.birth (is_scrubbed scrubs (sum_of_cell cell) calls copied (scan_core t).leaves) ∷ []))
     → Walks c t vs ⊎ FoundClash t.pool (made_in vs)
 key_at c s t scrubs k cell calls copied vs kept running at answers next false row moves = inl (subst (Walks c t) (sym moves)
-    (key_walk c s t calls k cell (filter (stands_under cell.top) (scan_core t).leaves) (is_scrubbed scrubs (sum_of_cell cell) calls copied (scan_core t).leaves) running at next
+    (key_walk c s t calls k cell (filter (stands_under cell.top) (scan_core t).leaves)
+    (is_scrubbed scrubs (sum_of_cell cell) calls copied (scan_core t).leaves) running at next
     (subst (λ made. Mays c t.pool (as_events made)) (sym row.0) tt) (quiet_brought t cell scrubs calls copied kept.away row.1)))
 key_at c s t scrubs k cell calls copied vs kept running at answers next true row moves = ⊎_elim
     (λ good. inl (subst (Walks c t) (sym moves)
-    (key_walk c s t calls k cell (filter (stands_under cell.top) (scan_core t).leaves) (is_scrubbed scrubs (sum_of_cell cell) calls copied (scan_core t).leaves) running at next
+    (key_walk c s t calls k cell (filter (stands_under cell.top) (scan_core t).leaves)
+    (is_scrubbed scrubs (sum_of_cell cell) calls copied (scan_core t).leaves) running at next
     good.may (good_brought c t cell scrubs calls copied kept.away good))))
-    (λ clash. inr (record { k = clash.k; cell = clash.cell; cell_is = clash.cell_is; bytes = clash.bytes; read = subst (WereRead clash.bytes) (sym made_is) (read_more clash.bytes calls rest clash.read); clash = clash.clash }))
-    (step_calls c s t k cell scrubs calls copied kept at next.ahead (answers_front calls rest t.pool.sectors (subst (AllAnswer t.pool.sectors) made_is answers)) row)
+    (λ clash. inr (record {
+      k = clash.k;
+      cell = clash.cell;
+      cell_is = clash.cell_is;
+      bytes = clash.bytes;
+      read = subst (WereRead clash.bytes) (sym made_is)
+          (read_more clash.bytes calls rest clash.read);
+      clash = clash.clash;
+    }))
+    (step_calls c s t k cell scrubs calls copied kept at next.ahead (answers_front calls rest t.pool.sectors
+    (subst (AllAnswer t.pool.sectors) made_is answers)) row)
   where
     rest : List Noted
     rest = made_in (count_reads (sha256 cell.block) calls (filter (stands_under cell.top) (scan_core t).leaves)
@@ -381,7 +433,8 @@ key_at c s t scrubs k cell calls copied vs kept running at answers next true row
     made_is = ap made_in moves ∙ made_calls calls (count_reads (sha256 cell.block) calls (filter (stands_under cell.top) (scan_core t).leaves)
         ++ (Pass k cell.birth (is_scrubbed scrubs (sum_of_cell cell) calls copied (scan_core t).leaves) ∷ []))
 
-key_row : (c : Codec) (s : PoolState) (t : Side) (scrubs : Bool) (vs : List Move) → Kept c s t → t.pool.scan.running ≡ true → AllAnswer t.pool.sectors (made_in vs)
+key_row : (c : Codec) (s : PoolState) (t : Side) (scrubs : Bool) (vs : List Move) → Kept c s t → t.pool.scan.running ≡ true
+    → AllAnswer t.pool.sectors (made_in vs)
     → RowKey scrubs (scan_core t) vs → Walks c t vs ⊎ FoundClash t.pool (made_in vs)
 key_row c s t scrubs vs kept running answers row = let is = sum_cell (t.pool.reads.cells row.k) row.sum row.next.sum_is in
     subst Goal is.2 (λ next made moves. key_at c s t scrubs row.k is.0 row.calls row.copied vs kept running is.1 answers next
@@ -393,7 +446,8 @@ key_row c s t scrubs vs kept running answers row = let is = sum_cell (t.pool.rea
         ++ (Pass row.k sum.birth (is_scrubbed scrubs sum row.calls row.copied (scan_core t).leaves) ∷ []))
         → Walks c t vs ⊎ FoundClash t.pool (made_in vs)
 
-pub key_walks : (c : Codec) (s : PoolState) (t : Side) (scrubs : Bool) (vs : List Move) → Kept c s t → s.core.scan.running ≡ true → AllAnswer t.pool.sectors (made_in vs)
+pub key_walks : (c : Codec) (s : PoolState) (t : Side) (scrubs : Bool) (vs : List Move) → Kept c s t → s.core.scan.running ≡ true
+    → AllAnswer t.pool.sectors (made_in vs)
     → RowKey scrubs s.core vs → Walks c t vs ⊎ FoundClash t.pool (made_in vs)
 key_walks c s t scrubs vs kept is answers row = let running = is_running c s t kept is in
     key_row c s t scrubs vs kept running answers (subst (λ core. RowKey scrubs core vs) (seen_running c s t kept running) row)

@@ -6,13 +6,13 @@ use Rattle.std.proofs.lemmas.Bool.Decides.{nat_tests}
 use Rattle.std.proofs.lemmas.List.{map-append, take-map, drop-map}
 use Rattle.mp_base.specs.declared.number.Guid.{Guid}
 use Rattle.mp_base.specs.declared.place.Key.{Key}
-use Rattle.txg_history.specs.Events.{Freezes, Wrote, Flushed, Begins, Draws, Leaves, Grows, Burns, Acks, Joins, Loses, Scans, Passes, Drops, Clears, Rests}
-use Rattle.txg_history.specs.Groups.{at_device, grown, no_log}
-use Rattle.txg_history.specs.Pages.{Codec, Sum, sum_of}
-use Rattle.txg_history.specs.Pools.{Pool, after, pool_after, kept_in, whole_log}
+use Rattle.txg_history.specs.Events.{Freezes, Wrote, Flushed, Begins, Draws, Leaves, Grows, Burns, Acks, Joins, Scans, Passes, Drops, Clears, Rests}
+use Rattle.txg_history.specs.Groups.{grown, no_log}
+use Rattle.txg_history.specs.Pages.{Codec, sum_of}
+use Rattle.txg_history.specs.Pools.{Pool, after, kept_in, whole_log}
 use Rattle.txg_history.specs.Records.{Cell, Cells, cell_over, laid_over}
 use Rattle.txg_history.specs.Scans.{scanned_log}
-use Rattle.txg_history.proofs.Logging.{by_bool, same_device}
+use Rattle.txg_history.proofs.Logging.{same_device}
 use Rattle.pool_moves.specs.Keeping.{IsElsewhere, IsSeated, IsOwnNumber, IsOfFound, IsDrafted, MayCome, MayReturn, Admits, Kept}
 use Rattle.pool_moves.specs.Leaves.{OwnLeaf, LeafSeen, Seat, At, Adrift, dev_if, Told, told, leaf_seen}
 use Rattle.pool_moves.specs.Moves.{Draft, Move, Makes, Puts, Freeze, Wrote_key, Flushed_all, Draw, Leave, Widen, Burn, Starts, Copies, Copied, Commits, Sets, Finds, Lose, Comes, Goes, Returns, Scan_from, Pass, Drop, Clear, Rest, Scrubs, Shapes, joined_own, log_grown, log_scanned, leaf_cleared, leaf_step, leaves_step, step, sum_over, sums_over, rec_of, of_number, seat_step, seats_by, after_move, new_leaf}

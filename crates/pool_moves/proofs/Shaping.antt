@@ -1,5 +1,5 @@
 -- Which moves a group's turns are made of.
-use Rattle.std.proofs.Common.{◌≡◌, ◌⊎◌, inl, inr, ℕ, Bool, true, false, cond, Option, Some, None, List, [], ◌∷◌, ◌++◌, refl, sym, ap, ◌∙◌, subst, append-nil, append_assoc}
+use Rattle.std.proofs.Common.{◌≡◌, inl, inr, ℕ, Bool, true, false, cond, Option, Some, None, List, [], ◌∷◌, ◌++◌, refl, sym, ap, ◌∙◌, subst, append-nil, append_assoc}
 use Rattle.std.specs.List.{AllByRecursion}
 use Rattle.label_store.specs.declared.member.Member.{Member}
 use Rattle.label_store.specs.Rounds.{third_plan}
@@ -117,8 +117,10 @@ round_part_moves c size s vs reply is = subst (λ l. AreTurnMoves l reply) (sym 
     by_whole : (whole : Bool) → RowRound c size s.core is.part whole → cond whole ((is.ending ≡ []) × (reply ≡ Committed s.core.number))
         (EndsTurn (steps is.behind s) true (Round s.core.number) is.ending reply) → AreTurnMoves (is.behind ++ is.ending) reply
     by_whole true row ends = record {
-      of_commit = subst (λ l. AllByRecursion IsOfCommit (l ++ is.ending)) (sym is.counted) (subst (λ l. AllByRecursion IsOfCommit ((is.part ++ counts) ++ l)) (sym ends.0)
-          (all_append IsOfCommit (is.part ++ counts) [] (all_append IsOfCommit is.part counts (whole_moves c size s.core is.part row) (of_within counts sets)) tt));
+      of_commit = subst (λ l. AllByRecursion IsOfCommit (l ++ is.ending)) (sym is.counted)
+          (subst (λ l. AllByRecursion IsOfCommit ((is.part ++ counts) ++ l)) (sym ends.0)
+          (all_append IsOfCommit (is.part ++ counts) [] (all_append IsOfCommit is.part counts (whole_moves c size s.core is.part row) (of_within counts sets))
+          tt));
       burns = λ on. absurd (let never : true ≡ false = sym on ∙ ap is_suspended ends.1 in cc);
       within = λ off. absurd (let never : false ≡ true = sym off ∙ ap Ends ends.1 in cc);
     }
@@ -126,7 +128,8 @@ round_part_moves c size s vs reply is = subst (λ l. AreTurnMoves l reply) (sym 
         (subst (AllByRecursion IsWithin) (sym is.counted) (all_append IsWithin is.part counts (round_within c size s.core is.part row) sets)) refl ends
 
 -- A turn.
-starts_moves : (c : Codec) (size : ℕ → ℕ) (top : Option ℕ) (s : PoolState) (vs : List Move) (reply : TurnReply) → StartsBy top c size s vs reply → AreTurnMoves vs reply
+starts_moves : (c : Codec) (size : ℕ → ℕ) (top : Option ℕ) (s : PoolState) (vs : List Move) (reply : TurnReply) → StartsBy top c size s vs reply
+    → AreTurnMoves vs reply
 starts_moves c size (Some top) s vs reply row = subst (λ l. AreTurnMoves l reply) (sym row.0) (burnt [] reply tt (ap Ends row.1))
 starts_moves c size None s vs reply (inl is) = part_moves s is.part (board_under is.row.cell.top s.core.leaves) is.row.results Write vs reply
     (subst (AllByRecursion IsWithin) (sym is.row.moves) (turn_within s.core is.row.made (board_under is.row.cell.top s.core.leaves) is.row.results is.row.leaving (Wrote_key is.row.key) is.row.leaves tt)) refl is.turn
@@ -134,7 +137,8 @@ starts_moves c size None s vs reply (inr (inl is)) = part_moves s is.part (board
     (subst (AllByRecursion IsWithin) (sym is.row.moves) (turn_within s.core is.row.made (board_of s.core.leaves) is.row.results is.row.leaving Flushed_all is.row.leaves tt)) refl is.turn
 starts_moves c size None s vs reply (inr (inr is)) = round_part_moves c size s vs reply is
 
-turn_moves_are : (c : Codec) (size : ℕ → ℕ) (frozen : Bool) (s : PoolState) (vs : List Move) (reply : TurnReply) → TurnBy frozen c size s vs reply → AreTurnMoves vs reply
+turn_moves_are : (c : Codec) (size : ℕ → ℕ) (frozen : Bool) (s : PoolState) (vs : List Move) (reply : TurnReply) → TurnBy frozen c size s vs reply
+    → AreTurnMoves vs reply
 turn_moves_are c size false s vs reply row = subst (λ l. AreTurnMoves l reply) (sym row.0) (subst (AreTurnMoves []) (sym row.1) (going_on [] Idle tt refl))
 turn_moves_are c size true s vs reply row = starts_moves c size (emptied s.core.leaves) s vs reply row
 
@@ -143,13 +147,17 @@ record AreGroupMoves (vs : List Move) (reply : TurnReply) : Type 0 where
   pub of_commit : AllByRecursion IsOfCommit vs
   pub burns : is_suspended reply ≡ true → BurnsLast vs
 
-turns_moves : (c : Codec) (size : ℕ → ℕ) (s : PoolState) (turns : List (List Move × TurnReply)) (reply : TurnReply) → AreTurns c size s turns reply → AreGroupMoves (moves_in turns) reply
+turns_moves : (c : Codec) (size : ℕ → ℕ) (s : PoolState) (turns : List (List Move × TurnReply)) (reply : TurnReply) → AreTurns c size s turns reply
+    → AreGroupMoves (moves_in turns) reply
 turns_moves c size s [] reply are = absurd are
 turns_moves c size s (turn ∷ []) reply are = last (turn_moves_are c size s.core.group.frozen s turn.0 turn.1 are.0)
   where
     last : AreTurnMoves turn.0 turn.1 → AreGroupMoves (turn.0 ++ []) reply
-    last is = subst (λ l. AreGroupMoves l reply) (sym (append-nil turn.0)) (record { of_commit = is.of_commit; burns = λ on. is.burns (ap is_suspended (sym are.2) ∙ on) })
-turns_moves c size s (turn ∷ (next ∷ turns)) reply are = first (turn_moves_are c size s.core.group.frozen s turn.0 turn.1 are.0) (turns_moves c size (steps turn.0 s) (next ∷ turns) reply are.2)
+    last is =
+        subst (λ l. AreGroupMoves l reply) (sym (append-nil turn.0)) (record
+        { of_commit = is.of_commit; burns = λ on. is.burns (ap is_suspended (sym are.2) ∙ on) })
+turns_moves c size s (turn ∷ (next ∷ turns)) reply are =
+    first (turn_moves_are c size s.core.group.frozen s turn.0 turn.1 are.0) (turns_moves c size (steps turn.0 s) (next ∷ turns) reply are.2)
   where
     first : AreTurnMoves turn.0 turn.1 → AreGroupMoves (moves_in (next ∷ turns)) reply → AreGroupMoves (turn.0 ++ moves_in (next ∷ turns)) reply
     first is more = record {

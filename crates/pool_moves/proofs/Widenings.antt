@@ -15,15 +15,15 @@ use Rattle.txg_history.specs.Pages.{Codec}
 use Rattle.txg_history.specs.Pools.{Pool, after, pool_after}
 use Rattle.txg_history.specs.Turns.{leavers}
 use Rattle.txg_history.proofs.Folding.{mays_first, mays_second}
-use Rattle.pool_moves.specs.Keeping.{IsOfFound, IsOwnNumber, Admits, Kept, Walks}
+use Rattle.pool_moves.specs.Keeping.{IsOfFound, IsOwnNumber, HasNumbered, Admits, Kept, Walks}
 use Rattle.pool_moves.specs.Leaves.{LeafSeen, Seat, At, Adrift, leaf_seen, told}
-use Rattle.pool_moves.specs.Moves.{Move, Makes, Leave, Widen, of_number, step, steps, state_step, events_of, after_move, after_moves}
-use Rattle.pool_moves.specs.States.{PoolSeen, PoolState, Side}
+use Rattle.pool_moves.specs.Moves.{Move, Makes, Leave, Widen, of_number, step, steps, state_step, seat_step, events_of, after_move, after_moves}
+use Rattle.pool_moves.specs.States.{PoolSeen, PoolState, Side, seen}
 use Rattle.pool_moves.specs.TurnRows.{turn_moves}
 use Rattle.pool_moves.specs.Walking.{events_along, IsFree, as_moves}
 use Rattle.pool_moves.specs.Widening.{ranges_in, ranges_together, widest_of, widest, IsSpanned, IsWidening, AreWidens, IsWidened, AreLeaves, seen_along}
-use Rattle.pool_moves.proofs.FreeWalks.{walk_of, walks_more, free_walk, frozen_along, free_along, calls_free}
-use Rattle.pool_moves.proofs.Keeping.{all_same, move_keeps, walk_keeps}
+use Rattle.pool_moves.proofs.FreeWalks.{found_stays, walk_of, walks_more, free_walk, frozen_along, free_along, calls_free}
+use Rattle.pool_moves.proofs.Keeping.{all_same, all_map, seat_cases, move_keeps, walk_keeps}
 
 -- A member of a leaf's number is where the leaf is, so the leaf's log is the member's.
 abbrev IsLogOf : Pool → LeafSeen → Type 0
@@ -84,12 +84,21 @@ grows p m low high leaf is number spans = record { more = λ d g old. more (of_n
         let below : g ≤ high = grind (arith, nat_tests) in
         (low, high, sym (is d low who.0 same) ∙ spans.low_in, sym (is d high who.0 same) ∙ spans.high_in, above, below)
 
+-- Each leaf of the list has its number there.
+numbered_at : (f r : Bool) (p : Pool) (all seats : List Seat) → ((m : Guid) → HasNumbered p.guid m seats → HasNumbered p.guid m all)
+    → AllByRecursion (λ leaf. HasNumbered p.guid leaf.guid all) (map (leaf_seen f r (told p)) seats)
+numbered_at f r p all [] up = tt
+numbered_at f r p all (At d found own ∷ seats) up = (up (p.guid d) (inl (let same : ((p.guid d).0 == (p.guid d).0) ≡ true = grind (arith, nat_tests) in same)), numbered_at f r p all seats (λ m has. up m (inr has)))
+numbered_at f r p all (Adrift leaf ∷ seats) up = (up leaf.guid (inl (let same : (leaf.guid.0 == leaf.guid.0) ≡ true = grind (arith, nat_tests) in same)), numbered_at f r p all seats (λ m has. up m (inr has)))
+
 -- One widening, and all.
 widen_walk : (c : Codec) (s : PoolState) (t : Side) (m : Guid) (low high : ℕ) → Kept c s t → IsWidening s.core m low high → Walks c t (Widen m low high ∷ [])
-widen_walk c s t m low high kept is = (((grows t.pool m low high is.leaf
-    (widest_has (IsLogOf t.pool) s.core.number s.core.leaves is.leaf is.most
-    (subst (λ core. AllByRecursion (IsLogOf t.pool) core.leaves) (sym kept.core) (logs_at t.pool.group.frozen t.pool.scan.running t.pool t.seats kept.numbered)))
-    is.number_is is.spans, tt), tt), tt)
+widen_walk c s t m low high kept is = (((grows t.pool m low high is.leaf (has (IsLogOf t.pool) (logs_at t.pool.group.frozen t.pool.scan.running t.pool t.seats kept.numbered)) is.number_is is.spans, tt),
+    subst (λ n. HasNumbered t.pool.guid n t.seats) is.number_is
+    (has (λ leaf. HasNumbered t.pool.guid leaf.guid t.seats) (numbered_at t.pool.group.frozen t.pool.scan.running t.pool t.seats t.seats (λ n found. found)))), tt)
+  where
+    has : (P : LeafSeen → Type 0) → AllByRecursion P (seen t).leaves → P is.leaf
+    has P all = widest_has P s.core.number s.core.leaves is.leaf is.most (subst (λ core. AllByRecursion P core.leaves) (sym kept.core) all)
 
 pub widens_walk : (c : Codec) (vs : List Move) (s : PoolState) (t : Side) → Kept c s t → AreWidens s.core vs → Walks c t vs
 widens_walk c [] s t kept are = tt
@@ -120,11 +129,19 @@ leave_like : (d : ℕ) (p b : Pool) → IsLike b p → IsLike (after (Leaves d) 
 leave_like d p b like = (grown (λ e. d == e) p.group.first p.highest p.owes,
     ap {A = Pool} (λ q. record q { owes = grown (λ e. d == e) p.group.first p.highest p.owes; group = record (q.group) { board = at_device d false q.group.board } }) like.1)
 
--- they find no device of a leaf that wasn't found
-widens_free : (seats : List Seat) (s : PoolSeen) (vs : List Move) → AreWidens s vs → AllByRecursion (IsFree seats) vs
-widens_free seats s [] are = tt
-widens_free seats s (Widen m low high ∷ vs) are = (tt, widens_free seats (step (Widen m low high) s) vs are.2)
-widens_free seats s (v ∷ vs) are = absurd are
+-- The group stays frozen behind them, and the same leaves are found.
+widens_frozen : (vs : List Move) (s : PoolSeen) (t : Side) → AreWidens s vs → (after_moves vs t).pool.group.frozen ≡ t.pool.group.frozen
+widens_frozen [] s t are = refl
+widens_frozen (Widen m low high ∷ vs) s t are = widens_frozen vs (step (Widen m low high) s) (after_move (Widen m low high) t) are.2
+widens_frozen (v ∷ vs) s t are = absurd are
+
+widens_found : (which : ℕ → Bool) (vs : List Move) (s : PoolSeen) (t : Side) → AreWidens s vs → AllByRecursion (IsOfFound which) t.seats
+    → AllByRecursion (IsOfFound which) (after_moves vs t).seats
+widens_found which [] s t are all = all
+widens_found which (Widen m low high ∷ vs) s t are all = widens_found which vs (step (Widen m low high) s) (after_move (Widen m low high) t) are.2
+    (all_map (IsOfFound which) (IsOfFound which) (seat_step (Widen m low high) t.pool)
+    (seat_cases (λ seat. IsOfFound which seat → IsOfFound which (seat_step (Widen m low high) t.pool seat)) (λ d found own is. is) (λ leaf is. tt)) t.seats all)
+widens_found which (v ∷ vs) s t are all = absurd are
 
 -- what the history gets of calls alone
 pub only_calls : (made : List Noted) (t : Side) → events_along (as_moves made) t ≡ as_events made
@@ -145,14 +162,15 @@ leaves_walk c (m ∷ ms) (false ∷ results) vs tail s t b kept like f found are
     (leaves_walk c ms results are.1 tail (steps are.0 s) (after_moves are.0 t) (after (Leaves m.dev) b) (walk_keeps c are.0 s t walk kept)
     (subst (λ l. IsLike (after (Leaves m.dev) b) (after_moves l t).pool) (sym are.3.moves)
     (widens_like are.3.widens (step (Leave m.dev) s.core) (after_move (Leave m.dev) t) (after (Leaves m.dev) b) are.3.are (leave_like m.dev t.pool b like)))
-    (frozen_along are.0 t free ∙ f) (all_same (λ n. AllByRecursion (IsOfFound (λ e. n.dev == e)) t.seats) (λ n. AllByRecursion (IsOfFound (λ e. n.dev == e)) (after_moves are.0 t).seats)
-    (λ n there. free_along are.0 (Leave n.dev) t free there) ms found.1) (subst (λ core. AreLeaves core ms results are.1) (sym (seen_of are.0 s)) are.4) more)))
+    (subst (λ l. (after_moves l t).pool.group.frozen ≡ true) (sym are.3.moves) (widens_frozen are.3.widens (step (Leave m.dev) s.core) (after_move (Leave m.dev) t) are.3.are ∙ f))
+    (all_same (λ n. AllByRecursion (IsOfFound (λ e. n.dev == e)) t.seats) (λ n. AllByRecursion (IsOfFound (λ e. n.dev == e)) (after_moves are.0 t).seats) stays ms found.1) (subst (λ core. AreLeaves core ms results are.1) (sym (seen_of are.0 s)) are.4) more)))
   where
     walk : Walks c t are.0
     walk = widened_walk c (Leave m.dev) are.0 s t kept (((f, tt), (f, found.0)), tt) are.3
 
-    free : AllByRecursion (IsFree t.seats) are.0
-    free = subst (AllByRecursion (IsFree t.seats)) (sym are.3.moves) (found.0, widens_free t.seats (step (Leave m.dev) s.core) are.3.widens are.3.are)
+    stays : (n : Member) → AllByRecursion (IsOfFound (λ e. n.dev == e)) t.seats → AllByRecursion (IsOfFound (λ e. n.dev == e)) (after_moves are.0 t).seats
+    stays n there = subst (λ l. AllByRecursion (IsOfFound (λ e. n.dev == e)) (after_moves l t).seats) (sym are.3.moves)
+        (widens_found (λ e. n.dev == e) are.3.widens (step (Leave m.dev) s.core) (after_move (Leave m.dev) t) are.3.are (found_stays (λ e. n.dev == e) (Leave m.dev) t found.0 there))
 
 -- the mark of a turn, where logs don't count
 abbrev pub IsMark : Codec → Move → Event → Type 0
@@ -187,3 +205,8 @@ turn_walk c s t made ms results leaving mark v kept f is found may are = walks_m
     walk : Walks c t (as_moves made)
     walk = walk_of c (as_moves made) t (subst (Mays c t.pool) (sym (only_calls made t)) (mays_first c (as_events made) (leavers ms results ++ (v ∷ [])) t.pool may))
         (free_walk (as_moves made) t f (calls_free t.seats made))
+
+-- a walk without its last move
+pub nothing_more : (c : Codec) (vs : List Move) (last : Move) (t : Side) → Walks c t (vs ++ (last ∷ [])) → Walks c t vs
+nothing_more c [] last t walks = tt
+nothing_more c (v ∷ vs) last t walks = (walks.0, nothing_more c vs last (after_move v t) walks.1)

@@ -1,8 +1,7 @@
 -- `write` and `offline` as rows.
-use Rattle.std.specs.Prelude.{◌≡◌, ◌⊎◌, ℕ, ◌<◌, ◌≤◌, ◌==◌, ◌&&◌, ◌||◌, nat_lt, Bool, true, false, not, cond, Option, Some, None, List, [], ◌∷◌, ◌++◌, length}
+use Rattle.std.specs.Prelude.{◌≡◌, ◌⊎◌, ℕ, ◌<◌, ◌≤◌, ◌==◌, ◌&&◌, ◌||◌, nat_lt, Bool, true, false, not, Option, Some, None, List, [], ◌∷◌, ◌++◌}
 use Rattle.std.specs.List.{find, filter, list_all, list_any}
 use Rattle.std.specs.Str.{bytes_eq}
-use Rattle.mp_base.specs.declared.number.Guid.{Guid}
 use Rattle.mp_base.specs.declared.refusal.PlaceRule.{PlaceRule}
 use Rattle.mp_base.specs.declared.refusal.PlaceRule.TheVariants.{Spare}
 use Rattle.vdev_tree.specs.Leaf.{is_up}

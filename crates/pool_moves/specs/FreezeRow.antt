@@ -4,7 +4,7 @@ use Rattle.std.specs.Option.{option_map}
 use Rattle.std.specs.List.{AllByRecursion}
 use Rattle.mp_base.specs.declared.place.Key.{Key}
 use Rattle.vdev_tree.specs.Leaf.{is_up}
-use Rattle.txg_history.specs.Pages.{Codec, Sum, sum_of}
+use Rattle.txg_history.specs.Pages.{Codec, Sum}
 use Rattle.txg_history.specs.Records.{Cell, Cells, AreAtOne, key}
 use Rattle.pool_moves.specs.Leaves.{LeafSeen}
 use Rattle.pool_moves.specs.Moves.{Move, Freeze, sums_over}

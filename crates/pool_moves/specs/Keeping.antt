@@ -1,5 +1,5 @@
 -- What a state keeps of a pool's history, and which moves it admits.
-use Rattle.std.specs.Prelude.{◌≡◌, ◌⊎◌, ℕ, ◌<◌, ◌≤◌, ◌==◌, Bool, true, false, cond, Option, Some, None, List, [], ◌∷◌, take}
+use Rattle.std.specs.Prelude.{◌≡◌, ◌⊎◌, ℕ, ◌<◌, ◌≤◌, ◌==◌, Bool, true, false, cond, Option, Some, None, List, [], ◌∷◌}
 use Rattle.std.specs.List.{AllByRecursion, remove}
 use Rattle.mp_base.specs.declared.number.Guid.{Guid}
 use Rattle.txg_history.specs.Groups.{Logs}
@@ -9,7 +9,7 @@ use Rattle.txg_history.specs.Pools.{Pool}
 use Rattle.txg_history.specs.Records.{Rec, IsIn, IsNoLeaf, block_in}
 use Rattle.txg_history.specs.Survival.{Survives}
 use Rattle.pool_moves.specs.Leaves.{LeafSeen, Seat, At, Adrift, told, leaf_seen}
-use Rattle.pool_moves.specs.Moves.{Draft, Move, Freeze, Wrote_key, Flushed_all, Draw, Leave, Widen, Burn, Starts, Commits, Sets, Finds, Lose, Comes, Goes, Returns, Scan_from, Pass, Drop, Clear, state_step, after_move, after_moves, steps, events_of}
+use Rattle.pool_moves.specs.Moves.{Draft, Move, Freeze, Wrote_key, Flushed_all, Draw, Leave, Widen, Burn, Starts, Commits, Finds, Lose, Comes, Goes, Returns, Scan_from, Pass, Drop, Clear, after_move, events_of}
 use Rattle.pool_moves.specs.States.{Side, seen, PoolState}
 
 -- the seat is at no device that is this one
@@ -115,6 +115,15 @@ abbrev pub IsNotFoundAt : (d : ℕ) → Seat → Type 0
 IsNotFoundAt d (At e found own) = (d == e) ≡ true → found ≡ false
 IsNotFoundAt d (Adrift leaf) = Unit {0}
 
+-- the leaf has this number, and one of these has
+abbrev pub IsNumbered : (guid : ℕ → Guid) → Guid → Seat → Type 0
+IsNumbered guid m (At d found own) = ((guid d).0 == m.0) ≡ true
+IsNumbered guid m (Adrift leaf) = (leaf.guid.0 == m.0) ≡ true
+
+abbrev pub HasNumbered : (guid : ℕ → Guid) → Guid → List Seat → Type 0
+HasNumbered guid m [] = ⊥
+HasNumbered guid m (seat ∷ seats) = IsNumbered guid m seat ⊎ HasNumbered guid m seats
+
 -- the leaf has another number
 abbrev pub HasOtherNumber : (guid : ℕ → Guid) → Guid → Seat → Type 0
 HasOtherNumber guid m (At d found own) = ((guid d).0 == m.0) ≡ false
@@ -145,9 +154,10 @@ pub record MayGo (t : Side) (i : ℕ) : Type 0 where
   pub idle : t.pool.group.frozen ≡ false
   pub topped : (d : ℕ) → t.pool.member d ≡ true → 1 ≤ t.pool.in_top d → HasUnder t.pool.in_top (t.pool.in_top d) (remove t.seats i)
 
--- The moves of a frozen group come while one is frozen, and those of a scan while one runs. A record knows the leaves of the list
--- alone. Moves name no device of a leaf that the run has not found, and a scan's end clears the logs of eligible leaves. A leaf is found where the history has it; a device that is lost is no found leaf's; one that
--- comes in is no leaf's, under a number of its own; and a leaf comes back as the history has it.
+-- The moves of a frozen group come while one is frozen, and those of a scan while one runs. A record knows the leaves of the
+-- list alone. Moves name no device of a leaf that the run has not found, and a scan's end clears the logs of eligible leaves. A
+-- leaf is found where the history has it; a device that is lost is no found leaf's; one that comes in is no leaf's, under a
+-- number of its own; and a leaf comes back as the history has it.
 abbrev pub Admits : Side → Move → Type 0
 Admits t (Freeze cells board) = AllByRecursion (IsOfFound board) t.seats
     × ((d : ℕ) → t.pool.member d ≡ true → board d ≡ true → HasFound d t.seats)
@@ -155,6 +165,7 @@ Admits t (Wrote_key k) = t.pool.group.frozen ≡ true
 Admits t Flushed_all = t.pool.group.frozen ≡ true
 Admits t Draw = t.pool.group.frozen ≡ true
 Admits t (Leave d) = (t.pool.group.frozen ≡ true) × AllByRecursion (IsOfFound (λ e. d == e)) t.seats
+Admits t (Widen m low high) = HasNumbered t.pool.guid m t.seats
 Admits t Burn = t.pool.group.frozen ≡ true
 Admits t (Starts draft) = (t.pool.group.frozen ≡ true) × KnowsJust t.pool.guid t.seats draft
 Admits t (Commits draft) = (t.pool.group.frozen ≡ true) × AllByRecursion (IsDrafted t.pool draft) t.seats

@@ -9,6 +9,7 @@ pub mod LineRows
 pub mod Making
 pub mod Missing
 pub mod Moves
+pub mod OnlineRow
 pub mod Opened
 pub mod OpeningRow
 pub mod PageReads

@@ -1,5 +1,5 @@
 -- The state of a pool behind an opening, and where the history has its leaves.
-use Rattle.std.specs.Prelude.{◌≡◌, ◌⊎◌, ℕ, ◌≤◌, ◌==◌, ◌&&◌, ◌||◌, Bool, true, false, Option, Some, None, List, [], ◌∷◌}
+use Rattle.std.specs.Prelude.{◌≡◌, ◌⊎◌, ℕ, ◌<◌, ◌≤◌, ◌==◌, ◌&&◌, ◌||◌, Bool, true, false, Option, Some, None, List, [], ◌∷◌}
 use Rattle.std.specs.List.{AllByRecursion}
 use Rattle.mp_base.specs.declared.number.Guid.{Guid}
 use Rattle.vdev_tree.specs.declared.vdev.Counts.{Counts}
@@ -24,10 +24,11 @@ abbrev pub AreNumbersApart : List LeafKept → Type 0
 AreNumbersApart [] = Unit {0}
 AreNumbersApart (leaf ∷ leaves) = AllByRecursion (λ other. (leaf.guid.0 == other.guid.0) ≡ false) leaves × AreNumbersApart leaves
 
--- Leaves that a valid configuration may have: each under a top and with a number of its own.
-pub record AreValidLeaves (leaves : List LeafKept) : Type 0 where
+-- Leaves that a valid configuration may have: each under a top and with a number of its own, below the next one.
+pub record AreValidLeaves (next : ℕ) (leaves : List LeafKept) : Type 0 where
   pub apart : AreNumbersApart leaves
   pub under : AllByRecursion (λ leaf. 1 ≤ leaf.top) leaves
+  pub below : AllByRecursion (λ leaf. leaf.guid.0 < next) leaves
 
 abbrev pub no_counts : Counts
 no_counts = record { reads = 0; writes = 0; mismatches = 0 }

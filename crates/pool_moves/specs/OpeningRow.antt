@@ -1,17 +1,22 @@
 -- An opening as rows: what it finds on the labels, what it opens, and its commit.
 use Rattle.std.specs.Prelude.{◌≡◌, ◌≢◌, ◌⊎◌, ℕ, suc, ◌+◌, ◌-◌, ◌*◌, ◌≤◌, ◌^◌, ◌==◌, ◌&&◌, nat_le, Bool, true, false, cond, Option, Some, None, List, [], ◌∷◌, ◌++◌, length, Result, Ok, Err}
-use Rattle.std.specs.List.{list_any}
+use Rattle.std.specs.List.{list_any, AllByRecursion}
 use Rattle.mp_base.specs.declared.number.Guid.{Guid}
 use Rattle.bank_core.specs.declared.bank.Fault.{Fault}
-use Rattle.bank_core.specs.Disk.{Noted}
+use Rattle.bank_core.specs.Disk.{Call, Read, Write as WriteCall, Flush as FlushCall, Admit, Eject, Noted, covers, sectors_in, sector_of}
 use Rattle.label_store.specs.declared.found.Found.{Found}
 use Rattle.label_store.specs.Identities.{IsSearch}
 use Rattle.label_store.specs.Newest.{Parts, IsLook, IsBest}
 use Rattle.mp_base.specs.declared.place.Key.{Key}
 use Rattle.vdev_tree.specs.Leaf.{is_up}
+use Rattle.label_store.specs.Rounds.{config_of}
+use Rattle.txg_history.specs.Events.{Known, Looks, Opens, as_events}
 use Rattle.txg_history.specs.Looks.{AreDistinct, HaveRoom}
+use Rattle.txg_history.specs.Moves.{Mays}
 use Rattle.txg_history.specs.Pages.{LeafKept, Codec}
-use Rattle.txg_history.specs.Records.{key}
+use Rattle.txg_history.specs.Pools.{Pool, pool_after}
+use Rattle.txg_history.specs.Premises.{AreNotTorn}
+use Rattle.txg_history.specs.Records.{Rec, IsIn, key, number_of}
 use Rattle.pool_moves.specs.CommitRows.{RowReopen}
 use Rattle.pool_moves.specs.Leaves.{LeafSeen}
 use Rattle.pool_moves.specs.LineRows.{TurnReply, Idle, Write, Flush, Round, Committed, Suspended}
@@ -49,6 +54,41 @@ pub record RowSeek (c : Codec) (size : ℕ → ℕ) (devs : List ℕ) (name : Li
   pub best : Option Found
   pub is_best : IsBest c.head_of looks name (128 * length devs) best
   pub replies : reply ≡ seek_reply best
+
+-- The pool has each device of this run with its sectors.
+abbrev pub HasSizes : (size : ℕ → ℕ) → Pool → Type 0
+HasSizes size p = (d : ℕ) → 1 ≤ size d → p.size d ≡ size d
+
+-- The record that was found is a live one of the pool.
+pub record IsLiveOne (p : Pool) (found : Found) (r : Rec) : Type 0 where
+  pub is_live : IsIn r p.live
+  pub config_is : found.blob.items ≡ config_of r.commit
+  pub number_is : found.number ≡ r.commit.number
+  pub pool_is : found.pool ≡ p.pool
+  pub some : 1 ≤ number_of r
+
+-- What the looks of an opening come to, of a pool of the name: a live record is found, not below the acknowledged one; and these calls, what
+-- they showed and the reading of that record are events that the pool may have.
+pub record SeeksLive (c : Codec) (p : Pool) (made : List Noted) (known : Known) (reply : SeekReply) : Type 0 where
+  pub found : Found
+  pub says : reply ≡ seek_reply (Some found)
+  pub r : Rec
+  pub is : IsLiveOne (pool_after (as_events made) p) found r
+  pub not_below : number_of p.acked ≤ number_of r
+  pub mays : Mays c p (as_events made ++ (Looks known ∷ (Opens r ∷ [])))
+
+-- what a call shows of single sectors: a read that answered Ok gives them
+abbrev pub read_of : Call → Known
+read_of (Read dev at bytes None) d s = cond ((dev == d) && covers at (sectors_in bytes) s) (Some (sector_of (s - at) bytes)) None
+read_of (Read dev at bytes (Some fault)) d s = None
+read_of (WriteCall dev at bytes fault) d s = None
+read_of (FlushCall dev fault) d s = None
+read_of (Admit dev holds) d s = None
+read_of (Eject dev) d s = None
+
+-- none of these reads found a ring sector torn into a correct uberblock
+abbrev pub AreWholeReads : Pool → List Noted → Type 0
+AreWholeReads p made = AllByRecursion (λ noted. AreNotTorn p (read_of noted.call)) made
 
 -- by whether the device has the room of the leaf's top: its rings are read up to one that gives the leaf's identity
 abbrev pub IsSoughtOn : (roomy : Bool) → (pool : Guid) → (size : ℕ) → Guid → (d : ℕ) → List Noted → Option ℕ → Type 0
@@ -93,7 +133,7 @@ reading_of c found devs bytes got = record {
 -- the map are read back.
 pub record RowOpen (c : Codec) (size : ℕ → ℕ) (handed : List ℕ → Option ℕ) (name : List ℕ) (found : Found) (made : List Noted) (reply : OpenReply) : Type 0 where
   pub volume : c.blocks found.blob.items ≤ 262144
-  pub valid : AreValidLeaves (c.leaves found.blob.items)
+  pub valid : AreValidLeaves (c.next_member found.blob.items) (c.leaves found.blob.items)
   pub devs : List (Option ℕ)
   pub ids : List Noted
   pub sought : AreSought found.pool size (c.room found.blob.items) handed (c.leaves found.blob.items) ids devs

@@ -11,6 +11,7 @@ use Rattle.mirror_io.specs.Mirror.{IsHealed}
 use Rattle.mirror_io.specs.Reads.{Gives, Fails}
 use Rattle.txg_history.specs.Pages.{Codec, Sum, IsOfVolume}
 use Rattle.txg_history.specs.Records.{key, data_start}
+use Rattle.pool_moves.specs.FreezeRow.{up_devs}
 use Rattle.pool_moves.specs.Leaves.{LeafSeen}
 use Rattle.pool_moves.specs.ReadRow.{copy_at, stands_under, copies_of}
 use Rattle.pool_moves.specs.States.{Sums}
@@ -148,6 +149,10 @@ shown_by true made d = cond (failed_on made d) ReadFailed Mismatched
 
 abbrev pub leaf_shown : List Noted → CopyOf → LeafShown
 leaf_shown made copy = shown_by copy.readable made copy.dev
+
+-- a leaf of these that is readable is on the device, and none of these calls failed there
+abbrev pub answers_in : List LeafSeen → List Noted → ℕ → Bool
+answers_in leaves made d = up_devs leaves d && not (failed_on made d)
 
 -- The map is read up to a page of which no copy is good.
 pub record StopsAt (x : Reading) (level index : ℕ) (shown : List LeafShown) (made : List Noted) : Type 0 where

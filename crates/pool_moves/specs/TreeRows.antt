@@ -1,5 +1,5 @@
 -- `attach`, `replace` and `detach` as rows.
-use Rattle.std.specs.Prelude.{◌≡◌, ◌⊎◌, ℕ, suc, ◌+◌, ◌≤◌, ◌^◌, ◌==◌, nat_le, nat_lt, Bool, true, false, not, cond, Option, Some, None, List, [], ◌∷◌, ◌++◌, length}
+use Rattle.std.specs.Prelude.{◌≡◌, ◌⊎◌, ℕ, suc, ◌+◌, ◌≤◌, ◌^◌, ◌==◌, nat_le, nat_lt, Bool, true, false, cond, Option, Some, None, List, [], ◌∷◌, ◌++◌, length, slice_get}
 use Rattle.std.specs.List.{AllByRecursion, list_any}
 use Rattle.std.specs.Str.{bytes_eq}
 use Rattle.mp_base.specs.declared.number.Guid.{Guid}
@@ -19,7 +19,7 @@ use Rattle.pool_moves.specs.LineRows.{TurnReply, Committed, Suspended, CommitsOp
 use Rattle.pool_moves.specs.Moves.{Move, Lose, Comes, Goes, Returns, Rest, Shapes, steps}
 use Rattle.pool_moves.specs.Refusing.{FreezeRefusal, IsRefused}
 use Rattle.pool_moves.specs.ScanRows.{starts_scan}
-use Rattle.pool_moves.specs.States.{PoolState}
+use Rattle.pool_moves.specs.States.{PoolState, Side}
 use Rattle.pool_moves.specs.Trees.{Child, has_child, has_replaceable, attached, replaced, pruned}
 use Rattle.pool_moves.specs.Walking.{as_moves}
 
@@ -139,7 +139,8 @@ GraftEnds None graft s name leaf new d made vs reply =
     (vs ≡ graft_first graft s name leaf new d made ++ (starts_scan (steps (graft_first graft s name leaf new d made) s) ∷ [])) × (reply ≡ Grafted)
 
 -- The new leaf's device, on which no leaf is, is stamped. Where no call fails the leaf comes in.
-pub record IsStamped (size : ℕ → ℕ) (graft : Graft) (s : PoolState) (name : List ℕ) (leaf : LeafSeen) (new : List ℕ) (d : ℕ) (vs : List Move) (reply : GraftReply) : Type 0 where
+pub record IsStamped (size : ℕ → ℕ) (graft : Graft) (s : PoolState) (name : List ℕ) (leaf : LeafSeen) (new : List ℕ) (d : ℕ) (vs : List Move)
+    (reply : GraftReply) : Type 0 where
   pub opened : s.core.opened ≡ true
   pub elsewhere : AllByRecursion (λ leaf. is_dev d leaf.dev ≡ false) s.core.leaves
   pub big : 320 ≤ size d
@@ -149,7 +150,8 @@ pub record IsStamped (size : ℕ → ℕ) (graft : Graft) (s : PoolState) (name 
   pub ends : GraftEnds outcome graft s name leaf new d made vs reply
 
 -- by whether the device is too small for the top
-abbrev pub GraftOn : (small : Bool) → (size : ℕ → ℕ) → Graft → PoolState → (name : List ℕ) → LeafSeen → (new : List ℕ) → (d : ℕ) → List Move → GraftReply → Type 0
+abbrev pub GraftOn : (small : Bool) → (size : ℕ → ℕ) → Graft → PoolState → (name : List ℕ) → LeafSeen → (new : List ℕ) → (d : ℕ) → List Move → GraftReply
+    → Type 0
 GraftOn true size graft s name leaf new d vs reply = (vs ≡ []) × (reply ≡ TooSmall (s.core.room leaf.top + 256) (size d))
 GraftOn false size graft s name leaf new d vs reply = IsStamped size graft s name leaf new d vs reply
 
@@ -193,18 +195,21 @@ clean_plan true d size = mark_plan d size
 clean_plan false d size = wipe_plan d size
 
 abbrev pub IsCleaned : (there : Bool) → Option ℕ → (spare : Bool) → (size : ℕ → ℕ) → List Move → Type 0
-IsCleaned true (Some d) spare size vs = (made : List Noted) × (outcome : Option Fault) × IsPart (clean_plan spare d (size d)) made outcome × (vs ≡ Lose d ∷ as_moves made)
+IsCleaned true (Some d) spare size vs =
+    (made : List Noted) × (outcome : Option Fault) × IsPart (clean_plan spare d (size d)) made outcome × (vs ≡ Lose d ∷ as_moves made)
 IsCleaned true None spare size vs = vs ≡ []
 IsCleaned false dev spare size vs = vs ≡ []
 
 -- behind the commit: it was acknowledged, and the device is cleaned; or its group was suspended, and the leaf is back as it was
 abbrev pub DetachBehind : TurnReply → (size : ℕ → ℕ) → PoolState → (name : List ℕ) → LeafSeen → Seat → List Move → DetachReply → Type 0
-DetachBehind (Committed number) size s name leaf seat vs reply = IsCleaned (is_there leaf.own.mode) leaf.dev (is_spare s leaf) size vs × (reply ≡ Detached number)
+DetachBehind (Committed number) size s name leaf seat vs reply =
+    IsCleaned (is_there leaf.own.mode) leaf.dev (is_spare s leaf) size vs × (reply ≡ Detached number)
 DetachBehind (Suspended group top faults) size s name leaf seat vs reply = (vs ≡ comes_back s name leaf seat) × (reply ≡ Undone group top faults)
 DetachBehind turn size s name leaf seat vs reply = ⊥
 
 -- the leaf goes, and the pool commits without it
-pub record CommitsWithout (c : Codec) (size : ℕ → ℕ) (s : PoolState) (name : List ℕ) (leaf : LeafSeen) (seat : Seat) (vs : List Move) (reply : DetachReply) : Type 0 where
+pub record CommitsWithout (c : Codec) (size : ℕ → ℕ) (s : PoolState) (name : List ℕ) (leaf : LeafSeen) (seat : Seat) (vs : List Move)
+    (reply : DetachReply) : Type 0 where
   pub part : List Move
   pub turn : TurnReply
   pub commit : CommitsOpen c size (steps (goes_out s name leaf) s) part turn
@@ -231,3 +236,7 @@ DetachBy (Some leaf) c size s name seat vs reply = DetachLeaf s.core.group.froze
 -- `detach`, where the history has the leaf at this seat, which no code knows: the row is one for each seat
 abbrev pub RowDetach : Codec → (size : ℕ → ℕ) → PoolState → (name : List ℕ) → Seat → List Move → DetachReply → Type 0
 RowDetach c size s name seat vs reply = DetachBy (leaf_named name s.core.leaves) c size s name seat vs reply
+
+-- where the list has a leaf of this name, the history has it at this seat
+abbrev pub IsSeatOf : PoolState → Side → (name : List ℕ) → Seat → Type 0
+IsSeatOf s t name seat = (leaf : LeafSeen) → leaf_named name s.core.leaves ≡ Some leaf → slice_get t.seats (place_named name s.core.leaves) ≡ Some seat

@@ -74,7 +74,8 @@ replaced m vdev new (child ∷ children) = replaced_child m vdev new child ∷ r
 -- without the leaf of this number. Of a replacing vdev the other leaf stays.
 abbrev pub pruned_branch : Guid → Branch → Option Branch
 pruned_branch m (Single n) = cond (same_number m n) None (Some (Single n))
-pruned_branch m (Replacing vdev old new) = cond (same_number m old) (Some (Single new)) (cond (same_number m new) (Some (Single old)) (Some (Replacing vdev old new)))
+pruned_branch m (Replacing vdev old new) =
+    cond (same_number m old) (Some (Single new)) (cond (same_number m new) (Some (Single old)) (Some (Replacing vdev old new)))
 
 -- a spare vdev that has these spare leaves left: without one it is its first child
 abbrev pub unspared : (vdev : Guid) → Branch → Option Guid → Child
@@ -85,7 +86,8 @@ unspared vdev first (Some spare) = Spared vdev first spare None
 abbrev pub pruned_spares : Guid → (vdev : Guid) → Branch → (spare : Guid) → Option Guid → Child
 pruned_spares m vdev first spare None = cond (same_number m spare) (Plain first) (Spared vdev first spare None)
 pruned_spares m vdev first spare (Some second) =
-    cond (same_number m spare) (Spared vdev first second None) (cond (same_number m second) (Spared vdev first spare None) (Spared vdev first spare (Some second)))
+    cond (same_number m spare) (Spared vdev first second None) (cond (same_number m second) (Spared vdev first spare None)
+    (Spared vdev first spare (Some second)))
 
 -- One that lost the leaf that was its first child has its first spare leaf there.
 abbrev pub pruned_first : Option Branch → Guid → (vdev : Guid) → (spare : Guid) → Option Guid → Child

@@ -1,7 +1,5 @@
 -- Turns of a frozen group, each as a row: which moves it is made of, by the state before it.
-use Rattle.std.specs.Prelude.{◌≡◌, ◌⊎◌, ℕ, ◌+◌, ◌<◌, ◌^◌, Bool, true, false, not, List, [], ◌∷◌, ◌++◌, map, length, Option, Some, None}
-use Rattle.std.specs.List.{list_all}
-use Rattle.mp_base.specs.declared.number.Guid.{Guid}
+use Rattle.std.specs.Prelude.{◌≡◌, ℕ, ◌<◌, ◌^◌, Bool, true, false, List, [], ◌∷◌, ◌++◌, map, Some, None}
 use Rattle.mp_base.specs.declared.place.Key.{Key}
 use Rattle.bank_core.specs.Asks.{Ask}
 use Rattle.bank_core.specs.Disk.{Noted}

@@ -1,12 +1,12 @@
 -- Walks of moves that every state admits while a group is frozen.
-use Rattle.std.specs.Prelude.{◌==◌, List, [], ◌∷◌, ◌++◌, ℕ, Bool, true, false}
+use Rattle.std.specs.Prelude.{◌==◌, List, [], ◌∷◌, ◌++◌, Bool, true, false}
 use Rattle.std.specs.List.{AllByRecursion}
 use Rattle.bank_core.specs.Disk.{Noted}
 use Rattle.label_store.specs.declared.member.Member.{Member}
 use Rattle.txg_history.specs.Events.{Event}
 use Rattle.pool_moves.specs.Keeping.{Admits, IsOfFound}
 use Rattle.pool_moves.specs.Leaves.{Seat}
-use Rattle.pool_moves.specs.Moves.{Move, Makes, Puts, Wrote_key, Flushed_all, Draw, Leave, Widen, Copies, Copied, Sets, events_of, after_move}
+use Rattle.pool_moves.specs.Moves.{Move, Makes, Puts, Wrote_key, Flushed_all, Draw, Leave, Copies, Copied, Sets, events_of, after_move}
 use Rattle.pool_moves.specs.States.{Side}
 
 -- what the history gets of these moves
@@ -26,7 +26,6 @@ IsFree seats (Puts a block) = Unit {0}
 IsFree seats (Wrote_key k) = Unit {0}
 IsFree seats Flushed_all = Unit {0}
 IsFree seats Draw = Unit {0}
-IsFree seats (Widen m low high) = Unit {0}
 IsFree seats (Leave d) = AllByRecursion (IsOfFound (λ e. d == e)) seats
 IsFree seats (Copies draft d) = Unit {0}
 IsFree seats (Copied draft d) = Unit {0}

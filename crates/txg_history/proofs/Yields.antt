@@ -13,7 +13,7 @@ use Rattle.txg_history.specs.Moves.{ReadsTrue}
 use Rattle.txg_history.specs.Openings.{IsVerifiedOn, IsYield, IsDrawnRecord, FindsLive}
 use Rattle.txg_history.specs.Pages.{Codec}
 use Rattle.txg_history.specs.Pools.{Pool, drawn, seat}
-use Rattle.txg_history.specs.Premises.{HasNoClash, HasNoStray, HasTwin, Premises}
+use Rattle.txg_history.specs.Premises.{AreNotTorn, HasNoClash, HasNoStray, HasTwin, Premises}
 use Rattle.txg_history.specs.Records.{Rec, IsIn, number_of}
 use Rattle.txg_history.specs.Survival.{IsAmong, IsKnownUber, IsKnownRing, Survives}
 use Rattle.txg_history.proofs.Listing.{in_append}
@@ -26,16 +26,21 @@ ring_known records pool m x since bytes ring (inl e) = subst (IsKnownUber record
 ring_known records pool m x since bytes ring (inr among) = ring.written bytes among
 
 -- A correct uberblock that was found on a member gives the member's identity.
-pub identity_is : (c : Codec) (p : Pool) (known : Known) (d place : ℕ) (u : Uberblock) (bytes : List ℕ) → Survives c p
-    → HasNoClash c.head_of p known → p.member d ≡ true → place < 128
+pub identity_whole : (c : Codec) (p : Pool) (known : Known) (d place : ℕ) (u : Uberblock) (bytes : List ℕ) → Survives c p
+    → AreNotTorn p known → p.member d ≡ true → place < 128
     → known d (place_at (p.size d) place) ≡ Some bytes → IsUberblock u bytes → (u.pool ≡ p.pool) × (u.member ≡ p.guid d)
-identity_is c p known d place u bytes sv clash is inside read correct =
-    of (ring_known (drawn p) p.pool (seat p d) _ _ bytes (sv.rings d place is inside) (clash.rings d place bytes u is inside read correct) u correct)
+identity_whole c p known d place u bytes sv whole is inside read correct =
+    of (ring_known (drawn p) p.pool (seat p d) _ _ bytes (sv.rings d place is inside) (whole d place bytes u is inside read correct) u correct)
   where
     of : ((r : Rec) × IsIn r (drawn p) × (u ≡ uberblock_of r.commit (seat p d)))
         ⊎ (u ≡ blank_uberblock p.pool (p.guid d)) → (u.pool ≡ p.pool) × (u.member ≡ p.guid d)
     of (inl one) = (ap (λ u. u.pool) one.2 ∙ sv.pools one.0 one.1, ap (λ u. u.member) one.2)
     of (inr e) = (ap (λ u. u.pool) e, ap (λ u. u.member) e)
+
+pub identity_is : (c : Codec) (p : Pool) (known : Known) (d place : ℕ) (u : Uberblock) (bytes : List ℕ) → Survives c p
+    → HasNoClash c.head_of p known → p.member d ≡ true → place < 128
+    → known d (place_at (p.size d) place) ≡ Some bytes → IsUberblock u bytes → (u.pool ≡ p.pool) × (u.member ≡ p.guid d)
+identity_is c p known d place u bytes sv clash is inside read correct = identity_whole c p known d place u bytes sv clash.rings is inside read correct
 
 -- What is verified on a member is a drawn record.
 pub verified_drawn : (c : Codec) (p : Pool) (known : Known) (d : ℕ) (u : Uberblock) (config : List ℕ) → Survives c p

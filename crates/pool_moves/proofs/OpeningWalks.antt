@@ -1,0 +1,372 @@
+-- An opening reads a live record: its calls may be made, and the state that it comes to is what the history has; or a page's bytes
+-- clash.
+use Rattle.std.proofs.Common.{◌≡◌, ◌≢◌, ◌⊎◌, inl, inr, ⊎_elim, ℕ, zero, suc, ◌+◌, ◌*◌, ◌/◌, ◌%◌, ◌≤◌, ◌<◌, ◌==◌, ◌&&◌, ◌||◌, not, is_none, Bool, true, false, cond, Option, Some, None, List, [], ◌∷◌, ◌++◌, map, refl, sym, ap, ◌∙◌, subst, arith}
+use mathlib.Core.Path.{fun_ext}
+use Rattle.std.specs.List.{AllByRecursion}
+use Rattle.std.proofs.lemmas.Bool.{and_parts}
+use Rattle.std.proofs.lemmas.Bool.Decides.{nat_tests}
+use Rattle.mp_base.specs.declared.number.Guid.{Guid}
+use Rattle.mp_base.specs.declared.place.Key.{Key}
+use Rattle.bank_core.specs.Calls.{device_of, fault_of}
+use Rattle.bank_core.specs.Disk.{Noted, AllAnswer, run}
+use Rattle.label_store.specs.declared.found.Found.{Found}
+use Rattle.label_store.specs.Rounds.{config_of}
+use Rattle.txg_history.specs.Events.{Opens, as_events}
+use Rattle.txg_history.specs.Moves.{Mays}
+use Rattle.txg_history.specs.Pages.{LeafKept, Codec, Sum, sum_of, IsOfVolume, IsConfigOf, kept_top, kept_log, ClashesAt}
+use Rattle.txg_history.specs.Pools.{Pool, after, pool_after}
+use Rattle.txg_history.specs.Premises.{HasNoTwin, HasGoodLeaf, HasGoodPages}
+use Rattle.txg_history.specs.Records.{Rec, Cell, Cells, IsIn, key, number_of}
+use Rattle.txg_history.specs.Survival.{Fits, Survives}
+use Rattle.txg_history.proofs.Folding.{with_calls, calls_after, events_more, mays_calls, pool_more}
+use Rattle.txg_history.proofs.Logging.{by_bool, same_device, true_not_false}
+use Rattle.txg_history.proofs.Moving.{event_survives}
+use Rattle.txg_history.proofs.ReadingBack.{numbered_fits}
+use Rattle.txg_history.proofs.Surviving.{history_survives}
+use Rattle.pool_moves.specs.CommitRows.{IsOpened}
+use Rattle.pool_moves.specs.FreezeRow.{is_dev, up_devs}
+use Rattle.pool_moves.specs.Keeping.{HasNumberBelow, Walks}
+use Rattle.pool_moves.specs.Leaves.{LeafSeen, Seat}
+use Rattle.pool_moves.specs.Opened.{AreValidLeaves, opened_leaf, opened_leaves, opened_state, opened_seats, claims_of}
+use Rattle.pool_moves.specs.OpeningRow.{HasSizes, IsLiveOne, OpenReply, Opens_state, NoPage, reading_of, RowOpen}
+use Rattle.pool_moves.specs.PageReads.{Reading, is_read_before, IsBelow, IsKnown, PageTurn, page_of, calls_of_turns, IsPageTurn, IsReadTo, ReadsMap, LeafShown, StopsAt, failed_on, answers_in}
+use Rattle.pool_moves.specs.Rosters.{IsRoster}
+use Rattle.pool_moves.specs.States.{Sums, sums, no_group_seen, no_scan_seen, PoolSeen, PoolState, Side, seen}
+use Rattle.pool_moves.proofs.OpenedSeats.{IsIn as IsKeptIn, kept_in_record, ArePaired, AreSeatsOf, seats_are, opened_seated, opened_away, opened_apart, opened_below, opened_numbered, opened_topped, seats_seen}
+use Rattle.pool_moves.proofs.PagesBack.{of_volume_or, volume_width, IsClosed, below_known, known_right, before_more, above_before, closed_before, IsReadOf}
+use Rattle.pool_moves.proofs.PageTurns.{IsTrueLeaf, IsOn, on_behind, IsRightTurn, answers_behind, turns_may, stop_may, stop_never}
+use Rattle.pool_moves.specs.Walking.{as_moves}
+use Rattle.pool_moves.proofs.ReadWalks.{answers_front, calls_walk}
+use Rattle.pool_moves.proofs.Seeking.{reads_may, sought_reads, sought_paired}
+
+-- What the configuration says of the record.
+config_tells : (c : Codec) (p : Pool) (r : Rec) (found : Found) → Survives c p → IsLiveOne p found r → Fits c p.name p.pool p.room r
+config_tells c p r found sv is = numbered_fits c p r sv is.is_live is.some
+
+-- Leaves that were found are as the history has them.
+true_leaves : (p : Pool) (r : Rec) (leaves : List LeafKept) (devs : List (Option ℕ)) → AllByRecursion (IsKeptIn r.tops r.owes) leaves → HasNoTwin p r (claims_of leaves devs)
+    → AllByRecursion (IsTrueLeaf p.member (λ d. r.tops (p.guid d)) (λ d. r.owes (p.guid d))) (opened_leaves leaves devs)
+true_leaves p r [] devs all home = tt
+true_leaves p r (leaf ∷ leaves) [] all home = tt
+true_leaves p r (leaf ∷ leaves) (dev ∷ devs) all home = (
+  record {
+    is_member = λ d at. (mine d at).0;
+    top_is = λ d at. ap r.tops (mine d at).1 ∙ all.0.top_is;
+    log_is = λ d g at. ap (λ m. r.owes m g) (mine d at).1 ∙ ap (λ f. f g) all.0.log_is;
+  },
+  true_leaves p r leaves devs all.1 (λ d m claim top. home d m (or_second (is_dev d dev && (leaf.guid.0 == m.0)) (claims_of leaves devs d m) claim) top),
+)
+  where
+    or_second : (t u : Bool) → u ≡ true → (t || u) ≡ true
+    or_second true u is = refl
+    or_second false u is = is
+
+    claimed : (d : ℕ) → dev ≡ Some d → claims_of (leaf ∷ leaves) (dev ∷ devs) d leaf.guid ≡ true
+    claimed d is = subst (λ x. ((is_dev d x && (leaf.guid.0 == leaf.guid.0)) || claims_of leaves devs d leaf.guid) ≡ true) (sym is)
+        (let one : (d == d) ≡ true = grind (arith, nat_tests) in let two : (leaf.guid.0 == leaf.guid.0) ≡ true = grind (arith, nat_tests) in rw (one, two) refl)
+
+    mine : (d : ℕ) → dev ≡ Some d → (p.member d ≡ true) × (p.guid d ≡ leaf.guid)
+    mine d at = home d leaf.guid (claimed d at) (subst (λ n. 1 ≤ n) (sym all.0.top_is) all.0.under)
+
+-- What a row of an opening begins from.
+record Opening (c : Codec) (size : ℕ → ℕ) (handed : List ℕ → Option ℕ) (name : List ℕ) (p : Pool) (r : Rec) (found : Found) (made : List Noted) (reply : OpenReply) : Type 0 where
+  survives : Survives c p
+  named : p.name ≡ name
+  is : IsLiveOne p found r
+  row : RowOpen c size handed name found made reply
+  answers : AllAnswer p.sectors made
+  home : HasNoTwin p r (claims_of (c.leaves found.blob.items) row.devs)
+
+module _ (c : Codec) (size : ℕ → ℕ) (handed : List ℕ → Option ℕ) (name : List ℕ) (p : Pool) (r : Rec) (found : Found) (made : List Noted) (reply : OpenReply) (o : Opening c size handed name p r found made reply) where
+  abbrev config : List ℕ
+  config = found.blob.items
+
+  abbrev leaves : List LeafKept
+  leaves = c.leaves config
+
+  abbrev x : Reading
+  x = reading_of c found o.row.devs o.row.bytes o.row.got
+
+  -- the pool reads the record, and then the identities were read
+  abbrev q : Pool
+  q = after (Opens r) p
+
+  q_survives : Survives c q
+  q_survives = event_survives c p (Opens r) o.survives o.is.is_live
+
+  fits : Fits c p.name p.pool p.room r
+  fits = config_tells c p r found o.survives o.is
+
+  room_is : c.room config ≡ p.room
+  room_is = ap c.room o.is.config_is ∙ fits.config.room_is
+
+  inside : (k : Key) (cell : Cell) → r.cells k ≡ Some cell → IsOfVolume (c.blocks config) k
+  inside k cell at = subst (λ b. IsOfVolume (c.blocks b) k) (sym o.is.config_is) (fits.config.inside k cell at)
+
+  root : c.root config ≡ sum_of (r.cells (key 3 0))
+  root = ap c.root o.is.config_is ∙ fits.config.root
+
+  tops : kept_top leaves ≡ r.tops
+  tops = ap (λ b. kept_top (c.leaves b)) o.is.config_is ∙ fits.config.tops
+
+  logs : kept_log leaves ≡ r.owes
+  logs = ap (λ b. kept_log (c.leaves b)) o.is.config_is ∙ fits.config.owes
+
+  kept : AllByRecursion (IsKeptIn r.tops r.owes) leaves
+  kept = kept_in_record r (c.next_member config) leaves o.row.valid tops logs
+
+  ids_may : Mays c q (as_events o.row.ids)
+  ids_may = reads_may c q o.row.ids (sought_reads found.pool size (c.room config) handed leaves o.row.ids o.row.devs o.row.sought)
+
+  abbrev behind : Pool
+  behind = with_calls o.row.ids q
+
+  on : IsOn x r behind
+  on = record {
+    of = record {
+      survives = subst (Survives c) (calls_after o.row.ids q) (history_survives c (as_events o.row.ids) q q_survives ids_may);
+      live = o.is.is_live;
+      number_is = ap (λ n. n.0) o.is.number_is;
+      room_is = room_is;
+      inside = inside;
+    };
+    reads_is = λ k. refl;
+    tops = λ d. refl;
+    logs = λ d g. refl;
+    leaves = true_leaves p r leaves o.row.devs kept o.home;
+  }
+
+  pages_answer : AllAnswer behind.sectors o.row.pages
+  pages_answer = answers_behind o.row.ids o.row.pages p.sectors (subst (AllAnswer p.sectors) o.row.calls o.answers)
+
+  -- where the pages' calls may be made, all may
+  all_may : Mays c behind (as_events o.row.pages) → Mays c q (as_events made)
+  all_may may = subst (λ l. Mays c q (as_events l)) (sym o.row.calls)
+      (subst (Mays c q) (sym (events_more o.row.ids o.row.pages)) (mays_calls c o.row.ids (as_events o.row.pages) q ids_may may))
+
+  -- The whole map.
+  known_all : (reached : Key → Bool) → ((k : Key) → reached k ≡ true) → IsReadTo x reached → ((k : Key) → IsKnown reached k → x.got k ≡ sum_of (r.cells k)) → (k : Key) → x.got k ≡ sum_of (r.cells k)
+  known_all reached all back right k = ⊎_elim (λ v. right k (known k v)) (λ off. back.beyond k off ∙ sym (none_of (r.cells k) (λ cell at. off (inside k cell at))))
+      (of_volume_or (c.blocks config) k)
+    where
+      none_of : (cell : Option Cell) → ((cell' : Cell) → cell ≡ Some cell' → ⊥) → sum_of cell ≡ None
+      none_of None off = refl
+      none_of (Some cell) off = absurd (off cell refl)
+
+      whole : (n : ℕ) → 64 * (n / 64) + n % 64 ≡ n
+      whole n = omega arith
+
+      rest : (n : ℕ) → n % 64 < 64
+      rest n = omega arith
+
+      below : (k : Key) → k.level < 3 → IsKnown reached k
+      below k low = inr (record { level = k.level; index = k.index / 64; j = k.index % 64; low = low; few = rest k.index; is = ap (key k.level) (sym (whole k.index)); reaches = all (key (suc k.level) (k.index / 64)) })
+
+      by_level : (level index : ℕ) → IsOfVolume (c.blocks config) (key level index) → IsKnown reached (key level index)
+      by_level zero index v = below (key 0 index) (omega arith)
+      by_level (suc zero) index v = below (key 1 index) (omega arith)
+      by_level (suc (suc zero)) index v = below (key 2 index) (omega arith)
+      by_level (suc (suc (suc zero))) index v = inl (ap (key 3) (let lt : index < 1 = volume_width (c.blocks config) 3 index o.row.volume v in let e : index ≡ 0 = omega (arith, lt) in e))
+      by_level (suc (suc (suc (suc n)))) index v = absurd (let low = v.low in omega (arith, low))
+
+      known : (k : Key) → IsOfVolume (c.blocks config) k → IsKnown reached k
+      known k v = by_level k.level k.index v
+
+  map_right : IsReadTo x (λ k. true) → ((k : Key) → x.got k ≡ sum_of (r.cells k)) ⊎ ClashesAt r.cells x.found
+  map_right back = ⊎_elim (λ right. inl (known_all (λ k. true) (λ k. refl) back right)) (λ clash. inr clash)
+      (known_right x r p.room (λ k. true) (o.survives.fit r o.is.is_live).1 back (λ level index low is. refl) o.row.volume root inside)
+
+  map_may : ReadsMap x o.row.pages → ((k : Key) → x.got k ≡ sum_of (r.cells k)) → Mays c q (as_events made) ⊎ ClashesAt r.cells x.found
+  map_may reads right = ⊎_elim (λ may. inl (all_may (subst (λ l. Mays c behind (as_events l)) (sym reads.calls) may))) (λ clash. inr clash)
+      (turns_may x r behind reads.turns on reads.each (all_right reads.turns) (subst (AllAnswer behind.sectors) reads.calls pages_answer))
+    where
+      all_right : (turns : List PageTurn) → AllByRecursion (λ turn. IsRightTurn x r turn.level turn.index) turns
+      all_right [] = tt
+      all_right (turn ∷ turns) = (record { pointer = right (page_of turn); known = λ k is. right k }, all_right turns)
+
+  -- The state that it comes to.
+  abbrev core_of : (name : List ℕ) → (pool : Guid) → (number : ℕ) → (got : Sums) → (room : ℕ → ℕ) → List LeafSeen → PoolSeen
+  core_of name pool number got room seen_leaves = record {
+    name = name;
+    pool = pool;
+    number = number;
+    read_number = number;
+    opened = false;
+    committed = got;
+    room = room;
+    leaves = seen_leaves;
+    group = no_group_seen;
+    scan = no_scan_seen;
+    pinned = [];
+  }
+
+  abbrev seats : (roster : List ℕ) → List Seat
+  seats roster = opened_seats p roster leaves o.row.devs
+
+  abbrev side : (roster : List ℕ) → Side
+  side roster = record { pool = q; seats = seats roster }
+
+  seated : (roster : List ℕ) → IsRoster p roster → AreSeatsOf p leaves (seats roster)
+  seated roster ros = seats_are p r roster leaves o.row.devs ros kept (sought_paired found.pool size (c.room config) handed leaves o.row.ids o.row.devs o.row.sought) o.home
+
+  core_seen : (roster : List ℕ) → IsRoster p roster → ((k : Key) → x.got k ≡ sum_of (r.cells k)) → (opened_state c name found o.row.devs o.row.got).core ≡ seen (side roster)
+  core_seen roster ros right =
+      ap (λ n. core_of n found.pool found.number.0 o.row.got (c.room config) (opened_leaves leaves o.row.devs)) (sym o.named)
+      ∙ (ap (λ g. core_of p.name g found.number.0 o.row.got (c.room config) (opened_leaves leaves o.row.devs)) o.is.pool_is
+      ∙ (ap (λ n. core_of p.name p.pool n o.row.got (c.room config) (opened_leaves leaves o.row.devs)) (ap (λ n. n.0) o.is.number_is)
+      ∙ (ap (λ g. core_of p.name p.pool (number_of r) g (c.room config) (opened_leaves leaves o.row.devs)) (fun_ext right)
+      ∙ (ap (λ f. core_of p.name p.pool (number_of r) (sums r.cells) f (opened_leaves leaves o.row.devs)) room_is
+      ∙ ap (core_of p.name p.pool (number_of r) (sums r.cells) p.room) (sym (seats_seen p r roster p.group.board p.scan.eligible p.scan.scrub leaves o.row.devs kept (seated roster ros)))))))
+
+  opened_at : (roster : List ℕ) (s : PoolState) → IsRoster p roster → s ≡ opened_state c name found o.row.devs o.row.got → ((k : Key) → x.got k ≡ sum_of (r.cells k)) → IsOpened c s (side roster)
+  opened_at roster s ros is right = record {
+    before = p;
+    r = r;
+    survives = o.survives;
+    live = o.is.is_live;
+    is = refl;
+    apart = opened_apart p leaves (seats roster) o.row.valid.apart (seated roster ros);
+    seated = opened_seated p leaves (seats roster) (seated roster ros);
+    away = opened_away p leaves (seats roster) (seated roster ros);
+    numbered = λ d mine. opened_numbered p roster leaves (seats roster) d ros (seated roster ros) mine;
+    topped = λ d mine one. opened_topped p r leaves (seats roster) d kept tops (seated roster ros) one;
+    below = subst (λ n. AllByRecursion (HasNumberBelow q.guid n) (seats roster)) (sym (ap (λ u. u.own.next_member) is))
+        (opened_below p (c.next_member config) leaves (seats roster) (seated roster ros) o.row.valid.below);
+    core = ap (λ u. u.core) is ∙ core_seen roster ros right;
+    unwritten = λ a. ap (λ u. u.own.writes a) is;
+  }
+
+  -- A page of which no copy is good.
+  module _ (level index : ℕ) (shown : List LeafShown) (st : StopsAt x level index shown o.row.pages) where
+    abbrev stop : Key
+    stop = key (suc level) index
+
+    abbrev up_to : Key → Bool
+    up_to k = is_read_before k stop
+
+    root_index : (i : ℕ) (sum : Sum) → x.got (key 3 i) ≡ Some sum → i ≡ 0
+    root_index i sum is = ⊎_elim (λ v. let lt : i < 1 = volume_width (c.blocks config) 3 i o.row.volume v in let e : i ≡ 0 = omega (arith, lt) in e)
+        (λ off. absurd (let no : None ≡ Some sum = sym (st.back.beyond (key 3 i) off) ∙ is in cc)) (of_volume_or (c.blocks config) (key 3 i))
+
+    stop_right : ((k : Key) → IsKnown up_to k → x.got k ≡ sum_of (r.cells k)) ⊎ ClashesAt r.cells x.found
+    stop_right = known_right x r p.room up_to (o.survives.fit r o.is.is_live).1 st.back (closed_before stop) o.row.volume root inside
+
+    -- a page with a pointer is known, where the page above it is read
+    page_is_known : (l i : ℕ) (sum : Sum) → l < 3 → x.got (key (suc l) i) ≡ Some sum → (l < 2 → up_to (key (suc (suc l)) (i / 64)) ≡ true) → IsKnown up_to (key (suc l) i)
+    page_is_known zero i sum low is above = below_known up_to 0 i (omega arith) (above (omega arith))
+    page_is_known (suc zero) i sum low is above = below_known up_to 1 i (omega arith) (above (omega arith))
+    page_is_known (suc (suc zero)) i sum low is above = inl (ap (key 3) (root_index i sum is))
+    page_is_known (suc (suc (suc l))) i sum low is above = absurd (omega (arith, low))
+
+    turn_right : ((k : Key) → IsKnown up_to k → x.got k ≡ sum_of (r.cells k)) → (turn : PageTurn) → IsPageTurn x turn → up_to (page_of turn) ≡ true → IsRightTurn x r turn.level turn.index
+    turn_right right turn is before = record {
+      pointer = right (page_of turn) (page_is_known turn.level turn.index is.sum is.low is.sum_is (λ low. closed_before stop turn.level turn.index low before));
+      known = λ k known. right k (⊎_elim (λ e. inl e) (λ b. inr (record {
+        level = b.level;
+        index = b.index;
+        j = b.j;
+        low = b.low;
+        few = b.few;
+        is = b.is;
+        reaches = before_more (key (suc b.level) b.index) (page_of turn) stop b.reaches before;
+      })) known);
+    }
+
+    turns_right : ((k : Key) → IsKnown up_to k → x.got k ≡ sum_of (r.cells k)) → (turns : List PageTurn) → AllByRecursion (IsPageTurn x) turns → AllByRecursion (λ turn. up_to (page_of turn) ≡ true) turns
+        → AllByRecursion (λ turn. IsRightTurn x r turn.level turn.index) turns
+    turns_right right [] each before = tt
+    turns_right right (turn ∷ turns) each before = (turn_right right turn each.0 before.0, turns_right right turns each.1 before.1)
+
+    stop_turn : ((k : Key) → IsKnown up_to k → x.got k ≡ sum_of (r.cells k)) → IsRightTurn x r level index
+    stop_turn right = record {
+      pointer = right stop (page_is_known level index st.sum st.low st.sum_is (λ low. above_before level index (index / 64)));
+      known = right;
+    }
+
+    answered : AllAnswer behind.sectors (calls_of_turns st.turns ++ st.reads)
+    answered = subst (AllAnswer behind.sectors) st.calls pages_answer
+
+    first_may : ((k : Key) → IsKnown up_to k → x.got k ≡ sum_of (r.cells k)) → Mays c behind (as_events (calls_of_turns st.turns)) ⊎ ClashesAt r.cells x.found
+    first_may right = turns_may x r behind st.turns on st.each (turns_right right st.turns st.each st.before) (answers_front (calls_of_turns st.turns) st.reads behind.sectors answered)
+
+    abbrev stopped : Pool
+    stopped = with_calls (calls_of_turns st.turns) behind
+
+    reads_answer : AllAnswer stopped.sectors st.reads
+    reads_answer = answers_behind (calls_of_turns st.turns) st.reads behind.sectors answered
+
+    stopped_may : Mays c q (as_events made) ⊎ ClashesAt r.cells x.found
+    stopped_may = ⊎_elim (λ right. ⊎_elim (λ may. inl (all_may (subst (λ l. Mays c behind (as_events l)) (sym st.calls)
+        (subst (Mays c behind) (sym (events_more (calls_of_turns st.turns) st.reads)) (mays_calls c (calls_of_turns st.turns) (as_events st.reads) behind may
+        (stop_may x r stopped level index st.sum st.reads st.wrong None (on_behind x r behind (calls_of_turns st.turns) on may) st.low st.sum_is (stop_turn right) reads_answer st.tried))))))
+        (λ clash. inr clash) (first_may right)) (λ clash. inr clash) stop_right
+
+    -- the pool behind all calls
+    end_is : pool_after (as_events made) q ≡ with_calls st.reads stopped
+    end_is = ap (λ l. pool_after (as_events l) q) (o.row.calls ∙ ap (λ l. o.row.ids ++ l) st.calls)
+        ∙ (ap (λ vs. pool_after vs q) (events_more o.row.ids (calls_of_turns st.turns ++ st.reads) ∙ ap (λ vs. as_events o.row.ids ++ vs) (events_more (calls_of_turns st.turns) st.reads))
+        ∙ (pool_more (as_events o.row.ids) (as_events (calls_of_turns st.turns) ++ as_events st.reads) q
+        ∙ (ap (λ u. pool_after (as_events (calls_of_turns st.turns) ++ as_events st.reads) u) (calls_after o.row.ids q)
+        ∙ (pool_more (as_events (calls_of_turns st.turns)) (as_events st.reads) behind
+        ∙ (ap (λ u. pool_after (as_events st.reads) u) (calls_after (calls_of_turns st.turns) behind) ∙ calls_after st.reads stopped)))))
+
+    none_failed : (d : ℕ) → answers_in x.leaves o.row.pages d ≡ true → (up_devs x.leaves d ≡ true) × (failed_on st.reads d ≡ false)
+    none_failed d is = let parts = and_parts (up_devs x.leaves d) (not (failed_on o.row.pages d)) is in
+        (parts.0, failed_second (calls_of_turns st.turns) st.reads d (subst (λ l. failed_on l d ≡ false) st.calls (not_of (failed_on o.row.pages d) parts.1)))
+      where
+        not_of : (t : Bool) → not t ≡ true → t ≡ false
+        not_of true is = absurd (cc)
+        not_of false is = refl
+
+        or_last : (t u : Bool) → (t || u) ≡ false → u ≡ false
+        or_last true u is = absurd (cc)
+        or_last false u is = is
+
+        failed_second : (first second : List Noted) (d : ℕ) → failed_on (first ++ second) d ≡ false → failed_on second d ≡ false
+        failed_second [] second d is = is
+        failed_second (noted ∷ first) second d is = failed_second first second d
+            (or_last ((device_of noted.call == d) && not (is_none (fault_of noted.call))) (failed_on (first ++ second) d) is)
+
+    stopped_never : HasGoodPages (pool_after (as_events made) q) r (answers_in x.leaves o.row.pages) → ClashesAt r.cells x.found
+    stopped_never good = ⊎_elim (λ right. ⊎_elim (λ may. absurd (stop_never x r stopped level index st.sum st.reads st.wrong (answers_in x.leaves o.row.pages)
+        (on_behind x r behind (calls_of_turns st.turns) on may) st.low st.sum_is (stop_turn right) reads_answer st.tried none_failed
+        (λ cell at. subst (λ u. HasGoodLeaf u r cell (answers_in x.leaves o.row.pages)) end_is (good (suc level) index cell (omega arith) (let low = st.low in omega (arith, low)) at))))
+        (λ clash. clash) (first_may right)) (λ clash. clash) stop_right
+
+-- An opening that comes to a state.
+pub opening_opens : (c : Codec) (size : ℕ → ℕ) (handed : List ℕ → Option ℕ) (name : List ℕ) (p : Pool) (r : Rec) (roster : List ℕ) (found : Found) (made : List Noted) (s : PoolState) → Survives c p → p.name ≡ name
+    → IsLiveOne p found r → IsRoster p roster → (row : RowOpen c size handed name found made (Opens_state s)) → AllAnswer p.sectors made → HasNoTwin p r (claims_of (c.leaves found.blob.items) row.devs)
+    → (IsOpened c s (record { pool = after (Opens r) p; seats = opened_seats p roster (c.leaves found.blob.items) row.devs })
+    × Walks c (record { pool = after (Opens r) p; seats = opened_seats p roster (c.leaves found.blob.items) row.devs }) (as_moves made)) ⊎ ClashesAt r.cells row.bytes
+opening_opens c size handed name p r roster found made s sv named is ros row answers home = ⊎_elim
+    (λ right. ⊎_elim (λ may. inl (opened_at c size handed name p r found made (Opens_state s) o roster s ros row.ends.1 right, calls_walk c made (side c size handed name p r found made (Opens_state s) o roster) may))
+    (λ clash. inr clash) (map_may c size handed name p r found made (Opens_state s) o row.ends.0 right))
+    (λ clash. inr clash) (map_right c size handed name p r found made (Opens_state s) o row.ends.0.back)
+  where
+    o : Opening c size handed name p r found made (Opens_state s)
+    o = record { survives = sv; named = named; is = is; row = row; answers = answers; home = home }
+
+-- Its calls may be made, however it ends.
+pub opening_may : (c : Codec) (size : ℕ → ℕ) (handed : List ℕ → Option ℕ) (name : List ℕ) (p : Pool) (r : Rec) (found : Found) (made : List Noted) (reply : OpenReply) → Survives c p → p.name ≡ name
+    → IsLiveOne p found r → (row : RowOpen c size handed name found made reply) → AllAnswer p.sectors made → HasNoTwin p r (claims_of (c.leaves found.blob.items) row.devs)
+    → Mays c (after (Opens r) p) (as_events made) ⊎ ClashesAt r.cells row.bytes
+opening_may c size handed name p r found made (Opens_state s) sv named is row answers home =
+    ⊎_elim (λ right. map_may c size handed name p r found made (Opens_state s) o row.ends.0 right) (λ clash. inr clash) (map_right c size handed name p r found made (Opens_state s) o row.ends.0.back)
+  where
+    o : Opening c size handed name p r found made (Opens_state s)
+    o = record { survives = sv; named = named; is = is; row = row; answers = answers; home = home }
+opening_may c size handed name p r found made (NoPage page shown) sv named is row answers home =
+    stopped_may c size handed name p r found made (NoPage page shown) o row.ends.0 page.index shown row.ends.2
+  where
+    o : Opening c size handed name p r found made (NoPage page shown)
+    o = record { survives = sv; named = named; is = is; row = row; answers = answers; home = home }
+
+-- Where each page has a good leaf, each is found.
+pub opening_finds : (c : Codec) (size : ℕ → ℕ) (handed : List ℕ → Option ℕ) (name : List ℕ) (p : Pool) (r : Rec) (found : Found) (made : List Noted) (page : Key) (shown : List LeafShown) → Survives c p → p.name ≡ name
+    → IsLiveOne p found r → (row : RowOpen c size handed name found made (NoPage page shown)) → AllAnswer p.sectors made → HasNoTwin p r (claims_of (c.leaves found.blob.items) row.devs)
+    → HasGoodPages (pool_after (as_events made) (after (Opens r) p)) r (answers_in (opened_leaves (c.leaves found.blob.items) row.devs) row.pages) → ClashesAt r.cells row.bytes
+opening_finds c size handed name p r found made page shown sv named is row answers home good =
+    stopped_never c size handed name p r found made (NoPage page shown) o row.ends.0 page.index shown row.ends.2 good
+  where
+    o : Opening c size handed name p r found made (NoPage page shown)
+    o = record { survives = sv; named = named; is = is; row = row; answers = answers; home = home }

@@ -1,0 +1,22 @@
+//! Lines that change a tree, as rows (docs/MODEL.md, "Moves").
+ghost use Rattle.std.specs.Prelude.{ℕ, List};
+ghost use Rattle.txg_history.specs.Pages.{Codec};
+ghost use Rattle.pool_moves.specs.Keeping.{Kept, Walks};
+ghost use Rattle.pool_moves.specs.Leaves.{Seat};
+ghost use Rattle.pool_moves.specs.LineRows.{IsSized};
+ghost use Rattle.pool_moves.specs.Moves.{Move};
+ghost use Rattle.pool_moves.specs.States.{PoolState, Side};
+ghost use Rattle.pool_moves.specs.TreeRows.{Graft, GraftReply, RowGraft, DetachReply, RowDetach, IsSeatOf};
+
+/// Leaves may be brought in and taken out. It computes nothing: its clauses are the law.
+///
+/// `graft`: `attach` and `replace`, also while a group is frozen and a scan runs: the pool loses the device, stamps it, whichever
+/// call fails, and the leaf comes in under the next member number, which no live record knows. `detach`: the leaf goes, the pool
+/// commits without it, and its device is cleaned; or the group is suspended, and the leaf is back as it was. No code knows where the
+/// history has the leaf, so the row is one for each seat, and its law is for the right one (`IsSeatOf`).
+pub fn trees_may_be_changed()
+    ensures graft { (c : Codec) (size : ℕ → ℕ) (graft : Graft) (s : PoolState) (t : Side) (name new : List ℕ) (d : ℕ) (vs : List Move) (reply : GraftReply)
+        → Kept c s t → IsSized size t → RowGraft size graft s name new d vs reply → Walks c t vs }
+    ensures detach { (c : Codec) (size : ℕ → ℕ) (s : PoolState) (t : Side) (name : List ℕ) (seat : Seat) (vs : List Move) (reply : DetachReply)
+        → Kept c s t → IsSized size t → IsSeatOf s t name seat → RowDetach c size s name seat vs reply → Walks c t vs }
+{}

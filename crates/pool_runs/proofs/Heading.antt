@@ -1,0 +1,259 @@
+-- The headline, from what a host knows of a pool and from the rows of a run.
+use Rattle.std.proofs.Common.{◌≡◌, ◌≢◌, ◌⊎◌, inl, inr, ⊎_elim, ℕ, ◌≤◌, ◌<◌, ◌==◌, Bool, true, false, cond, List, [], ◌∷◌, ◌++◌, take, Option, Some, None, refl, sym, ap, ◌∙◌, subst, arith}
+use Rattle.std.specs.List.{AllByRecursion}
+use Rattle.std.specs.Str.{bytes_eq}
+use Rattle.bank_core.specs.Calls.{AllCaused}
+use Rattle.bank_core.specs.Disk.{Noted, run}
+use Rattle.txg_history.specs.Copies.{IsCopiedGroup, MayTakeGroup}
+use Rattle.txg_history.specs.Events.{
+  Event,
+  Calls,
+  Accepts,
+  Freezes,
+  Wrote,
+  Flushed,
+  Draws,
+  Leaves,
+  Grows,
+  Burns,
+  Begins,
+  Third,
+  Ends,
+  Acks,
+  Looks,
+  Opens,
+  Joins,
+  Loses,
+  Scans,
+  Passes,
+  Drops,
+  Clears,
+  Rests,
+  Stops,
+}
+use Rattle.txg_history.specs.Moves.{May, Mays}
+use Rattle.txg_history.specs.Pages.{Codec, IsClash}
+use Rattle.txg_history.specs.Pools.{Pool, pool_after}
+use Rattle.txg_history.specs.Records.{Rec, IsIn, key}
+use Rattle.txg_history.specs.Survival.{Survives}
+use Rattle.txg_history.proofs.Folding.{mays_first, mays_second, pool_more}
+use Rattle.txg_history.proofs.ScansBring.{cleared_copied, groups_leave}
+use Rattle.txg_history.proofs.Surviving.{survives_sound}
+use Rattle.pool_moves.specs.AwayRows.{OfflineReply, Gone, Required, LeastOut, IsRequired, is_offline, is_spare, leaf_named, siblings, OfflineLeaf, OfflineHere, OfflineBy}
+use Rattle.pool_moves.specs.Leaves.{LeafSeen}
+use Rattle.pool_moves.specs.Missing.{AllMissed}
+use Rattle.pool_moves.specs.Moves.{Move}
+use Rattle.pool_moves.specs.ReadRow.{ReadReply, Gives, Exhausted, RowRead, made_in}
+use Rattle.pool_moves.specs.States.{PoolState, Side}
+use Rattle.pool_moves.proofs.Missing.{exhausted_missed}
+use Rattle.pool_moves.proofs.ReadWalks.{read_right}
+use Rattle.pool_runs.specs.Acts.{Act, Hears, calls_along, pool_along, history}
+use Rattle.pool_runs.specs.Counting.{SomeRose, HasLostBoard, Suspends}
+use Rattle.pool_runs.specs.Devices.{number_in, size_in}
+use Rattle.pool_runs.specs.Fairness.{AreFair}
+use Rattle.pool_runs.specs.Headline.{TakesFor, IsRequiredFor, Headline}
+use Rattle.pool_runs.specs.HostRows.{AreMade, ReadLine, TurnLine, SyncLine, OfflineLine, OnPool, RowOf, HostRow, acts_in, IsRun}
+use Rattle.pool_runs.specs.Hosts.{Host, IsOpen, named, host_by, host_along}
+use Rattle.pool_runs.specs.Knowing.{HasSeats, Knows, MayActs}
+use Rattle.pool_runs.specs.Lines.{Asked, Asks_read, Asks_turn, Asks_sync, Asks_offline, Reply, To_read, To_offline, No_memory, Entry}
+use Rattle.pool_runs.specs.Moments.{Moment, events_at, pool_at, past_at, host_at, LineOf, pool_before, host_before, calls_in_line, IsOpenAs}
+use Rattle.pool_runs.specs.Pasts.{Past, pool_of, then_all, Left, BeginsRun, HasFrozen}
+use Rattle.pool_runs.proofs.Acting.{acts_more, history_pool}
+use Rattle.pool_runs.proofs.Answering.{all_answer, does_calls, read_calls}
+use Rattle.pool_runs.proofs.Counting.{NoFault, fault_or, turn_suspends, sync_suspends, line_answered}
+use Rattle.pool_runs.proofs.Knowing.{may_more, acts_keep, acts_number}
+use Rattle.pool_runs.proofs.Members.{entry_keeps}
+use Rattle.pool_runs.proofs.Moments.{has_moment, acts_mays, keeps_all, may_take, acts_table, host_more, run_at, run_front}
+use Rattle.pool_runs.proofs.Pasting.{begins_known, then_pool, then_called, then_allowed, live_frozen}
+use Rattle.pool_runs.proofs.Running.{named_open, heard, run_may}
+
+-- What a run stands on: the devices are as the past leaves them, the host knows the pool, the acts that are left may be made, and then come the entries.
+pub record Follows (c : Codec) (past : Past) (h : Host) (acts : List Act) (entries : List Entry) : Type 0 where
+  pub left : Left c past h
+  pub knows : Knows c h (pool_of past)
+  pub may : MayActs c h (pool_of past) acts
+  pub run : IsRun c (host_along acts h) entries
+  pub at_rest : (pool_of past).scan.running ≡ false
+
+all_may : (c : Codec) (past : Past) (h : Host) (acts : List Act) (entries : List Entry) → Follows c past h acts entries → MayActs c h (pool_of past) (acts ++ acts_in entries)
+all_may c past h acts entries f = may_more c h (pool_of past) acts (acts_in entries) f.may (λ fair known. run_may c (host_along acts h) (pool_along acts (pool_of past)) entries known f.run) f.knows
+
+-- Moments.
+at_known : (c : Codec) (past : Past) (h : Host) (acts : List Act) (entries : List Entry) → Follows c past h acts entries → (m : Moment c past acts entries) → Knows c (host_at h m) (pool_at m)
+at_known c past h acts entries f m = acts_keep c h (pool_of past) (acts ++ acts_in entries) f.knows (all_may c past h acts entries f) m.count m.fair
+
+at_mays : (c : Codec) (past : Past) (h : Host) (acts : List Act) (entries : List Entry) → Follows c past h acts entries → (m : Moment c past acts entries) → Mays c (pool_of past) (events_at m)
+at_mays c past h acts entries f m = acts_mays c h (pool_of past) (take m.count (acts ++ acts_in entries))
+    (may_take c h (pool_of past) (acts ++ acts_in entries) m.count (all_may c past h acts entries f)) m.fair
+
+at_pool : (c : Codec) (past : Past) (acts : List Act) (entries : List Entry) (m : Moment c past acts entries) → pool_of (past_at m) ≡ pool_at m
+at_pool c past acts entries m = then_pool past (events_at m) ∙ sym (history_pool (take m.count (acts ++ acts_in entries)) (pool_of past))
+
+at_left : (c : Codec) (past : Past) (h : Host) (acts : List Act) (entries : List Entry) → Follows c past h acts entries → (m : Moment c past acts entries) → Left c (past_at m) (host_at h m)
+at_left c past h acts entries f m = let known = at_known c past h acts entries f m in
+    let table_is = acts_table (take m.count (acts ++ acts_in entries)) h in
+    let same = at_pool c past acts entries m in record {
+  allowed = then_allowed c past (events_at m) f.left.allowed (at_mays c past h acts entries f m);
+  names = λ name d is. ap (λ called. called d) (then_called past (events_at m)) ∙ f.left.names name d (sym (ap (λ table. number_in name table) table_is) ∙ is);
+  sizes = λ d one. ap (λ q. q.size d) same ∙ known.sizes d one;
+  disk = λ d s one. ap (λ q. q.sectors d s) same ∙ known.disk d s one;
+}
+
+at_contents : (c : Codec) (past : Past) (h : Host) (acts : List Act) (entries : List Entry) → Follows c past h acts entries → (m : Moment c past acts entries) (r : Rec) → IsIn r (pool_at m).live
+    → HasFrozen (past_at m) r
+at_contents c past h acts entries f m r live = live_frozen c (past_at m) (at_left c past h acts entries f m).allowed r (subst (λ q. IsIn r q.live) (sym (at_pool c past acts entries m)) live)
+
+at_number : (c : Codec) (past : Past) (acts : List Act) (entries : List Entry) (m : Moment c past acts entries) → (pool_at m).pool.0 ≡ (pool_of past).pool.0
+at_number c past acts entries m = ap (λ n. n.0) (acts_number (take m.count (acts ++ acts_in entries)) (pool_of past))
+
+-- Scans.
+takes_for : (c : Codec) (p : Pool) (before : List Event) (v : Event) (d g : ℕ) → Survives c p → p.scan.running ≡ false → Mays c p (before ++ (v ∷ [])) → (pool_after before p).member d ≡ true
+    → (pool_after before p).owes d g ≡ true → (pool_after (before ++ (v ∷ [])) p).owes d g ≡ false → TakesFor p before v d g
+takes_for c p before (Clears e) d g sv rest may member was now =
+    let mine : e ≡ d = groups_leave c (pool_after before p) (Clears e) d g (mays_second c before (Clears e ∷ []) p may).0 was (sym (ap (λ q. q.owes d g) (pool_more before (Clears e ∷ []) p)) ∙ now) in
+    (mine, cleared_copied c p before d g sv rest (subst (λ x. Mays c p (before ++ (Clears x ∷ []))) mine may) member was
+    (subst (λ x. (pool_after (before ++ (Clears x ∷ [])) p).owes d g ≡ false) mine now))
+takes_for c p before v d g sv rest may member was now =
+    groups_leave c (pool_after before p) v d g (mays_second c before (v ∷ []) p may).0 was (sym (ap (λ q. q.owes d g) (pool_more before (v ∷ []) p)) ∙ now)
+
+at_scans : (c : Codec) (past : Past) (h : Host) (acts : List Act) (entries : List Entry) → Follows c past h acts entries → (m : Moment c past acts entries) (before : List Event) (v : Event) (d g : ℕ)
+    → events_at m ≡ before ++ (v ∷ []) → (pool_after before (pool_of past)).member d ≡ true → (pool_after before (pool_of past)).owes d g ≡ true → (pool_at m).owes d g ≡ false → TakesFor (pool_of past) before v d g
+at_scans c past h acts entries f m before v d g is member was now = takes_for c (pool_of past) before v d g f.knows.survives f.at_rest
+    (subst (Mays c (pool_of past)) is (at_mays c past h acts entries f m)) member was
+    (sym (ap (λ q. q.owes d g) (history_pool (take m.count (acts ++ acts_in entries)) (pool_of past) ∙ ap (λ vs. pool_after vs (pool_of past)) is)) ∙ now)
+
+-- Lines.
+record Meets (c : Codec) (h : Host) (p : Pool) (e : Entry) : Type 0 where
+  knows : Knows c h p
+  row : HostRow c h e
+
+meets : (c : Codec) (past : Past) (h : Host) (acts : List Act) (entries : List Entry) → Follows c past h acts entries → (l : LineOf c past acts entries) → Meets c (host_before h l) (pool_before l) l.entry
+meets c past h acts entries f l =
+    let whole : IsRun c (host_along acts h) (l.before ++ (l.entry ∷ l.later)) = subst (IsRun c (host_along acts h)) l.all f.run in
+    let front : Follows c past h acts l.before = record { left = f.left; knows = f.knows; may = f.may; run = run_front c (host_along acts h) l.before (l.entry ∷ l.later) whole; at_rest = f.at_rest } in record {
+  knows = heard c (host_along (acts ++ acts_in l.before) h) (pool_before l) l.entry.second
+      (keeps_all c h (pool_of past) (acts ++ acts_in l.before) f.knows (all_may c past h acts l.before front) l.fair);
+  row = subst (λ x. HostRow c (host_by (Hears l.entry.second) x) l.entry) (sym (host_more acts (acts_in l.before) h)) (run_at c (host_along acts h) l.before l.entry l.later whole);
+}
+
+-- a row of an open pool
+on_open : (h : Host) (name : List ℕ) (s : PoolState) (Line : PoolState → List Act → Reply → Type 0) (acts : List Act) (reply : Reply) → named name h.pools ≡ Some s
+    → OnPool (named name h.pools) Line acts reply → Line s acts reply
+on_open h name s Line acts reply is row = subst (λ found. OnPool found Line acts reply) is row
+
+-- replies differ
+read_reply : (a b : ReadReply) → To_read a ≡ To_read b → a ≡ b
+read_reply a b e = cc
+
+offline_reply : (a b : OfflineReply) → To_offline a ≡ To_offline b → a ≡ b
+offline_reply a b e = cc
+
+read_not_memory : {A : Type 0} (a : ReadReply) → To_read a ≡ No_memory → A
+read_not_memory a e = absurd (cc)
+
+offline_not_memory : {A : Type 0} (a : OfflineReply) → To_offline a ≡ No_memory → A
+offline_not_memory a e = absurd (cc)
+
+line_reads : (c : Codec) (h : Host) (p : Pool) (e : Entry) (name : List ℕ) (a : ℕ) (s : PoolState) (bytes : List ℕ) → Meets c h p e → e.asked ≡ Asks_read name a → IsOpenAs p h name s
+    → e.reply ≡ To_read (Gives bytes) → (bytes ≡ p.written a) ⊎ IsClash (p.written a) bytes
+line_reads c h p e name a s bytes met asked at is = of met.row
+  where
+    of : HostRow c h e → (bytes ≡ p.written a) ⊎ IsClash (p.written a) bytes
+    of (inl row) = let line = on_open h name s (ReadLine h a) e.acts e.reply at.named (subst (λ x. RowOf c h x e.acts e.reply) asked row.0) in
+        let has = met.knows.stands s (named_open name s h.pools at.named) at.ours in
+        read_right c s (record { pool = p; seats = has.0 }) a line.2.moves bytes has.1
+        (subst (RowRead s a line.2.moves) (read_reply line.0 (Gives bytes) (sym line.1 ∙ is)) line.2.row)
+    of (inr out) = read_not_memory (Gives bytes) (sym is ∙ out.says)
+
+line_loses : (c : Codec) (h : Host) (p : Pool) (e : Entry) (name : List ℕ) (a : ℕ) (s : PoolState) → Meets c h p e → e.asked ≡ Asks_read name a → IsOpenAs p h name s
+    → e.reply ≡ To_read Exhausted → AllMissed (s.core.committed (key 0 a)) (calls_along e.acts) (run (calls_along e.acts) p.sectors) s.core.leaves
+line_loses c h p e name a s met asked at is = of met.row
+  where
+    of : HostRow c h e → AllMissed (s.core.committed (key 0 a)) (calls_along e.acts) (run (calls_along e.acts) p.sectors) s.core.leaves
+    of (inl row) = let line = on_open h name s (ReadLine h a) e.acts e.reply at.named (subst (λ x. RowOf c h x e.acts e.reply) asked row.0) in
+        let has = met.knows.stands s (named_open name s h.pools at.named) at.ours in
+        let calls : calls_along e.acts ≡ made_in line.2.moves = ap calls_along line.2.are ∙ read_calls s.core.pool.0 a line.0 line.2.moves in
+        let made : AreMade h (made_in line.2.moves) = subst (AreMade h) calls row.1 in
+        subst (λ made. AllMissed (s.core.committed (key 0 a)) made (run made p.sectors) s.core.leaves) (sym calls)
+        (exhausted_missed c s (record { pool = p; seats = has.0 }) a line.2.moves has.1
+        (all_answer h.table (made_in line.2.moves) h.disk p.sectors made.here (λ d x one. sym (met.knows.disk d x one)) made.answer)
+        (subst (RowRead s a line.2.moves) (read_reply line.0 Exhausted (sym line.1 ∙ is)) line.2.row))
+    of (inr out) = read_not_memory Exhausted (sym is ∙ out.says)
+
+-- The outage rule.
+least_one : (leaves : List LeafSeen) (g k : ℕ) → LeastOut leaves g → LeastOut leaves k → g ≡ k
+least_one leaves g k a b = meet (low g k)
+  where
+    low : (g k : ℕ) → (g < k) ⊎ ((g ≡ k) ⊎ (k < g))
+    low g k = grind (arith)
+
+    meet : (g < k) ⊎ ((g ≡ k) ⊎ (k < g)) → g ≡ k
+    meet (inl below) = absurd (let no : true ≡ false = sym a.out ∙ b.least g a.first below in cc)
+    meet (inr (inl same)) = same
+    meet (inr (inr below)) = absurd (let no : true ≡ false = sym b.out ∙ a.least k b.first below in cc)
+
+required_same : (a b : ℕ) → Required a ≡ Required b → a ≡ b
+required_same a b e = cc
+
+gone_not_required : {A : Type 0} (g : ℕ) → Gone ≡ Required g → A
+gone_not_required g e = absurd (cc)
+
+required_leaf : (s : PoolState) (leaf : LeafSeen) (temporary : Bool) (vs : List Move) (r : OfflineReply) (reply : Reply) (group : ℕ) → reply ≡ To_offline r
+    → OfflineLeaf false s leaf temporary vs r → IsRequiredFor leaf s.core.leaves group reply
+required_leaf s leaf temporary vs r reply group says (inl row) = record {
+  only = λ is. subst (LeastOut (siblings leaf s.core.leaves)) (required_same row.0 group (sym row.3 ∙ offline_reply r (Required group) (sym says ∙ is))) row.1;
+  always = λ least. inl (says ∙ ap To_offline (row.3 ∙ ap Required (least_one (siblings leaf s.core.leaves) row.0 group row.1 least)));
+}
+required_leaf s leaf temporary vs r reply group says (inr row) = record {
+  only = λ is. gone_not_required group (sym row.2 ∙ offline_reply r (Required group) (sym says ∙ is));
+  always = λ least. absurd (row.0 (group, least.first, least.out));
+}
+
+line_required : (c : Codec) (h : Host) (p : Pool) (e : Entry) (name device : List ℕ) (temporary : Bool) (s : PoolState) (leaf : LeafSeen) (group : ℕ) → Meets c h p e
+    → e.asked ≡ Asks_offline name device temporary → IsOpenAs p h name s → leaf_named device s.core.leaves ≡ Some leaf → is_spare s leaf ≡ false → is_offline leaf.own.mode ≡ false → IsRequiredFor leaf s.core.leaves group e.reply
+line_required c h p e name device temporary s leaf group met asked at is plain up = of met.row
+  where
+    of : HostRow c h e → IsRequiredFor leaf s.core.leaves group e.reply
+    of (inl row) = let line = on_open h name s (OfflineLine h device temporary) e.acts e.reply at.named (subst (λ x. RowOf c h x e.acts e.reply) asked row.0) in
+        let found : OfflineBy (Some leaf) s device temporary line.2.moves line.0 = subst (λ x. OfflineBy x s device temporary line.2.moves line.0) is line.2.row in
+        let here : OfflineLeaf (is_offline leaf.own.mode) s leaf temporary line.2.moves line.0 = subst (λ t. OfflineHere t s leaf temporary line.2.moves line.0) plain found in
+        required_leaf s leaf temporary line.2.moves line.0 e.reply group line.1 (subst (λ t. OfflineLeaf t s leaf temporary line.2.moves line.0) up here)
+    of (inr out) = record { only = λ is. offline_not_memory (Required group) (sym is ∙ out.says); always = λ least. inr out.says }
+
+-- Counts.
+line_counts : (c : Codec) (h : Host) (p : Pool) (e : Entry) (name : List ℕ) (s : PoolState) (from to : ℕ → ℕ) → Meets c h p e → (e.asked ≡ Asks_turn name) ⊎ (e.asked ≡ Asks_sync name)
+    → IsOpenAs p h name s → AllCaused (calls_along e.acts) from to → Suspends e.reply → SomeRose from to ⊎ HasLostBoard s
+line_counts c h p e name s from to met asked at caused bad = ⊎_elim (λ none. inr (of none met.row asked)) (λ rose. inl rose) (fault_or (calls_along e.acts) from to caused)
+  where
+    of : AllByRecursion NoFault (calls_along e.acts) → HostRow c h e → (e.asked ≡ Asks_turn name) ⊎ (e.asked ≡ Asks_sync name) → HasLostBoard s
+    of none (inl row) (inl asked) = let line = on_open h name s (TurnLine c h) e.acts e.reply at.named (subst (λ x. RowOf c h x e.acts e.reply) asked row.0) in
+        turn_suspends c (size_in h.table) s line.2.moves line.0 (line_answered line.2.moves (calls_along e.acts) (ap calls_along line.2.are ∙ does_calls s.core.pool.0 line.2.moves) none)
+        line.2.row (subst Suspends line.1 bad)
+    of none (inl row) (inr asked) = let line = on_open h name s (SyncLine c h) e.acts e.reply at.named (subst (λ x. RowOf c h x e.acts e.reply) asked row.0) in
+        sync_suspends c (size_in h.table) s line.2.moves line.0 (line_answered line.2.moves (calls_along e.acts) (ap calls_along line.2.are ∙ does_calls s.core.pool.0 line.2.moves) none)
+        line.2.row (subst Suspends line.1 bad)
+    of none (inr out) asked = absurd (subst Suspends out.says bad)
+
+pub headline_from : (c : Codec) (past : Past) (h : Host) (acts : List Act) (entries : List Entry) → Follows c past h acts entries → Headline c past h acts entries
+headline_from c past h acts entries f = record {
+  moments = has_moment past acts entries;
+  left = at_left c past h acts entries f;
+  stands = λ m s is number. (at_known c past h acts entries f m).stands s is (number ∙ sym (at_number c past acts entries m));
+  sound = λ m. survives_sound c (pool_at m) (at_known c past h acts entries f m).survives;
+  contents = at_contents c past h acts entries f;
+  reads = λ l name a s bytes asked at is. line_reads c (host_before h l) (pool_before l) l.entry name a s bytes (meets c past h acts entries f l) asked at is;
+  loses = λ l name a s asked at is. line_loses c (host_before h l) (pool_before l) l.entry name a s (meets c past h acts entries f l) asked at is;
+  required = λ l name device temporary s leaf group asked at is plain up. line_required c (host_before h l) (pool_before l) l.entry name device temporary s leaf group (meets c past h acts entries f l) asked at is plain up;
+  scans = at_scans c past h acts entries f;
+  keeps = λ l d is. entry_keeps c (host_before h l) l.entry d (pool_before l) (meets c past h acts entries f l).row is;
+  counts = λ l name s from to asked at caused bad. line_counts c (host_before h l) (pool_before l) l.entry name s from to (meets c past h acts entries f l) asked at caused bad;
+}
+
+pub first_headline : (c : Codec) (past : Past) (h : Host) (entries : List Entry) → BeginsRun c past h → IsRun c h entries → Headline c past h [] entries
+first_headline c past h entries begins run = headline_from c past h [] entries (record {
+  left = begins.left;
+  knows = begins_known c past h begins;
+  may = tt;
+  run = run;
+  at_rest = begins.at_rest;
+})

@@ -1,0 +1,12 @@
+pub mod Acting
+pub mod Answering
+pub mod Bearing
+pub mod Counting
+pub mod Creating
+pub mod Heading
+pub mod Knowing
+pub mod Members
+pub mod Moments
+pub mod Pasting
+pub mod Running
+pub mod Sparing

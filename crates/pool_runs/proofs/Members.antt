@@ -1,0 +1,482 @@
+-- Which lines leave a pool's members.
+use Rattle.std.proofs.Common.{◌≡◌, ◌≢◌, ◌⊎◌, inl, inr, ⊎_elim, ℕ, ◌+◌, ◌==◌, ◌||◌, Bool, true, false, cond, List, [], ◌∷◌, ◌++◌, map, length, Option, Some, None, refl, sym, ap, ◌∙◌, subst, arith}
+use Rattle.std.specs.List.{AllByRecursion, find, filter}
+use Rattle.std.specs.Str.{bytes_eq}
+use Rattle.std.proofs.lemmas.Bool.Decides.{nat_tests}
+use Rattle.mp_base.specs.declared.number.Guid.{Guid}
+use Rattle.bank_core.specs.Asks.{Ask, IsPart}
+use Rattle.bank_core.specs.declared.bank.Fault.{Fault}
+use Rattle.bank_core.specs.Disk.{Noted}
+use Rattle.label_store.specs.declared.member.Member.{Member}
+use Rattle.label_store.specs.Plans.{stamp_plan}
+use Rattle.label_store.specs.Rounds.{third_plan}
+use Rattle.txg_history.specs.Events.{Event, Calls, Looks, Opens, Loses, as_events}
+use Rattle.txg_history.specs.Pages.{Codec, Sum}
+use Rattle.txg_history.specs.Pools.{Pool, after, pool_after}
+use Rattle.txg_history.specs.Records.{Cell}
+use Rattle.txg_history.specs.Survival.{IsAmong}
+use Rattle.txg_history.proofs.Logging.{by_bool}
+use Rattle.pool_moves.specs.AwayRows.{WriteReply, WriteFits, WriteBy, RowWrite, OfflineReply, is_offline, is_spare, leave_if, drop_if, gone, OfflineLeaf, OfflineHere, OfflineBy, leaf_named, RowOffline}
+use Rattle.pool_moves.specs.Boards.{board_of, board_under, emptied}
+use Rattle.pool_moves.specs.CommitRows.{NamedLog, RowLogs, RowFound}
+use Rattle.pool_moves.specs.FreezeRow.{joins, RowFreeze, RowEmptyFreeze}
+use Rattle.pool_moves.specs.Leaves.{LeafSeen}
+use Rattle.pool_moves.specs.LineRows.{TurnReply, sets_failed, has_number, count_moves, EndsBy, EndsTurn, IsTurnOf, IsWritePart, IsFlushPart, IsRoundPart, StartsBy, TurnBy, RowTurn, Committed, Suspended, Idle, Write, Flush, Round, AreTurns, moves_in, EndsGroup, CommitsOpen, FreezeReply, FreezeFor, FreezeBy, RowFreezeLine, SyncReply, CommitsFor, SyncOpen, SyncBehind, EndsFirst, SyncBy, RowSync}
+use Rattle.pool_moves.specs.Moves.{Draft, Move, Makes, Puts, Freeze, Wrote_key, Flushed_all, Draw, Leave, Burn, Starts, Copies, Copied, Commits, Sets, Lose, Comes, Drop, events_of, steps}
+use Rattle.pool_moves.specs.ReadRow.{ReadReply, count_reads, RowCopies, stands_under, ReadRecord, ReadGroup, ReadOpen, RowRead, made_in}
+use Rattle.pool_moves.specs.Refusing.{FreezeRefusal, IsRefused}
+use Rattle.pool_moves.specs.States.{PoolSeen, PoolState}
+use Rattle.pool_moves.specs.TurnRows.{turn_moves, ended, IsThirdMoves, round_end, RowWriteTurn, RowFlushTurn, RowRound}
+use Rattle.pool_moves.specs.Walking.{as_moves, leave_moves}
+use Rattle.pool_runs.specs.Acts.{Act, Bare, Does, Gave, Looked, Shows, Opens_as, Names, Takes, Bears, Closes, does, bare, record_of, events_for, pool_by, pool_along}
+use Rattle.pool_runs.specs.Creating.{NewLeaf, leaves_of, new_leaves, new_state, new_birth, all_names, or_else, unknown_by, unknown, create_refusal, is_at, dev_or_none, AreStamps, failed_in, FoundBy, RowCreate}
+use Rattle.pool_runs.specs.Devices.{Device, number_in, size_in}
+use Rattle.pool_runs.specs.HostRows.{ByMoves, is_reading, marked_behind, read_acts, ByRead, WriteLine, ReadLine, FreezeLine, TurnLine, SyncLine, OfflineLine, LogsLine, OnPool, RowOf, ChangesNone, IsReadLine, RunsOut, HostRow}
+use Rattle.pool_runs.specs.Hosts.{Host, named}
+use Rattle.pool_runs.specs.Lines.{Asked, Asks_nothing, Asks_write, Asks_read, Asks_freeze, Asks_turn, Asks_sync, Asks_offline, Asks_logs, Asks_create, Reply, To_create, Created, DeviceFault, Entry}
+use Rattle.pool_runs.specs.Taking.{IsTakenBy}
+use Rattle.pool_runs.proofs.Creating.{or_first, or_second, none_refused}
+
+-- Moves that leave the members.
+abbrev KeepsMembers : Move → Type 0
+KeepsMembers (Lose d) = ⊥
+KeepsMembers (Comes i d m top own) = ⊥
+KeepsMembers v = Unit {0}
+
+move_members : (v : Move) (p : Pool) → KeepsMembers v → (pool_after (events_of v p) p).member ≡ p.member
+move_members (Makes noted) p keeps = refl
+move_members (Lose d) p keeps = absurd keeps
+move_members (Comes i d m top own) p keeps = absurd keeps
+move_members v p keeps = refl
+
+calls_members : (made : List Noted) (p : Pool) → (pool_after (as_events made) p).member ≡ p.member
+calls_members [] p = refl
+calls_members (noted ∷ made) p = calls_members made (after (Calls noted) p)
+
+-- acts that take this device from no pool
+abbrev KeepsAt : (d : ℕ) → Act → Type 0
+KeepsAt d (Does g v) = KeepsMembers v
+KeepsAt d (Takes g e) = (e == d) ≡ false
+KeepsAt d act = Unit {0}
+
+act_members : (d : ℕ) (act : Act) (p : Pool) → KeepsAt d act → p.member d ≡ true → (pool_by act p).member d ≡ true
+act_members d (Bare noted) p keeps is = is
+act_members d (Does g v) p keeps is = by (p.pool.0 == g)
+  where
+    by : (t : Bool) → (pool_after (cond t (events_of v p) (as_events (made_in (v ∷ [])))) p).member d ≡ true
+    by true = ap (λ f. f d) (move_members v p keeps) ∙ is
+    by false = ap (λ f. f d) (calls_members (made_in (v ∷ [])) p) ∙ is
+act_members d (Looked name known) p keeps is = by (bytes_eq p.name name)
+  where
+    by : (t : Bool) → (pool_after (cond t (Looks known ∷ []) []) p).member d ≡ true
+    by true = is
+    by false = is
+act_members d (Opens_as opening) p keeps is = by (p.pool.0 == opening.pool)
+  where
+    by : (t : Bool) → (pool_after (cond t (Opens (record_of opening.config p.live p.reads) ∷ []) []) p).member d ≡ true
+    by true = is
+    by false = is
+act_members d (Takes g e) p keeps is = by (p.pool.0 == g)
+  where
+    by : (t : Bool) → (pool_after (cond t [] (Loses e ∷ [])) p).member d ≡ true
+    by true = is
+    by false = ap (λ t. cond t false (p.member d)) keeps ∙ is
+act_members d act p keeps is = is
+
+pub acts_members : (d : ℕ) (acts : List Act) (p : Pool) → AllByRecursion (KeepsAt d) acts → p.member d ≡ true → (pool_along acts p).member d ≡ true
+acts_members d [] p keeps is = is
+acts_members d (act ∷ acts) p keeps is = acts_members d acts (pool_by act p) keeps.1 (act_members d act p keeps.0 is)
+
+-- Lists of moves.
+abbrev AllKeep : List Move → Type 0
+AllKeep vs = AllByRecursion KeepsMembers vs
+
+keep_more : (vs ws : List Move) → AllKeep vs → AllKeep ws → AllKeep (vs ++ ws)
+keep_more [] ws a b = b
+keep_more (v ∷ vs) ws a b = (a.0, keep_more vs ws a.1 b)
+
+keep_calls : (made : List Noted) → AllKeep (as_moves made)
+keep_calls [] = tt
+keep_calls (noted ∷ made) = (tt, keep_calls made)
+
+keep_leave : (ms : List Member) (results : List Bool) → AllKeep (leave_moves ms results)
+keep_leave [] results = tt
+keep_leave (m ∷ ms) [] = tt
+keep_leave (m ∷ ms) (true ∷ results) = keep_leave ms results
+keep_leave (m ∷ ms) (false ∷ results) = (tt, keep_leave ms results)
+
+keep_failed : (found : Option LeafSeen) → AllKeep (sets_failed found)
+keep_failed None = tt
+keep_failed (Some leaf) = (tt, tt)
+
+keep_counts : (leaves : List LeafSeen) (ms : List Member) (results : List Bool) → AllKeep (count_moves leaves ms results)
+keep_counts leaves [] results = tt
+keep_counts leaves (m ∷ ms) [] = tt
+keep_counts leaves (m ∷ ms) (true ∷ results) = keep_counts leaves ms results
+keep_counts leaves (m ∷ ms) (false ∷ results) = keep_more (sets_failed (find (has_number m.guid) leaves)) (count_moves leaves ms results)
+    (keep_failed (find (has_number m.guid) leaves)) (keep_counts leaves ms results)
+
+keep_joins : (leaves : List LeafSeen) → AllKeep (joins leaves)
+keep_joins [] = tt
+keep_joins (leaf ∷ leaves) = (tt, keep_joins leaves)
+
+keep_reads : (sum : List ℕ) (made : List Noted) (leaves : List LeafSeen) → AllKeep (count_reads sum made leaves)
+keep_reads sum made [] = tt
+keep_reads sum made (leaf ∷ leaves) = (tt, keep_reads sum made leaves)
+
+keep_ended : (c : Bool) (draft : Draft) (d : ℕ) → AllKeep (ended c draft d)
+keep_ended true draft d = (tt, tt)
+keep_ended false draft d = tt
+
+keep_third : (plan : Member → List Ask) (draft : Draft) (ms : List Member) (was is : List Bool) (vs : List Move) → IsThirdMoves plan draft ms was is vs → AllKeep vs
+keep_third plan draft [] [] [] vs third = subst AllKeep (sym third) tt
+keep_third plan draft [] [] (c ∷ is) vs third = absurd third
+keep_third plan draft [] (b ∷ was) is vs third = absurd third
+keep_third plan draft (m ∷ ms) [] is vs third = absurd third
+keep_third plan draft (m ∷ ms) (b ∷ was) [] vs third = absurd third
+keep_third plan draft (m ∷ ms) (true ∷ was) (c ∷ is) vs third = subst AllKeep (sym third.2)
+    (tt, keep_more (as_moves third.0) (ended c draft m.dev ++ third.1) (keep_calls third.0)
+    (keep_more (ended c draft m.dev) third.1 (keep_ended c draft m.dev) (keep_third plan draft ms was is third.1 third.4)))
+keep_third plan draft (m ∷ ms) (false ∷ was) (c ∷ is) vs third = keep_third plan draft ms was is vs third.1
+
+keep_end : (whole : Bool) (draft : Draft) (ms : List Member) (results : List Bool) → AllKeep (round_end whole draft ms results)
+keep_end true draft ms results = (tt, tt)
+keep_end false draft ms results = keep_leave ms results
+
+keep_round : (c : Codec) (size : ℕ → ℕ) (s : PoolSeen) (vs : List Move) (whole : Bool) → RowRound c size s vs whole → AllKeep vs
+keep_round c size s vs whole row = let ms = board_of s.leaves in subst AllKeep (sym row.moves)
+    (tt, keep_more (as_moves row.first) (as_moves row.second ++ (row.thirds ++ round_end whole row.draft ms row.results)) (keep_calls row.first)
+    (keep_more (as_moves row.second) (row.thirds ++ round_end whole row.draft ms row.results) (keep_calls row.second)
+    (keep_more row.thirds (round_end whole row.draft ms row.results) (keep_third (third_plan size row.draft.commit) row.draft ms row.in_second row.results row.thirds row.copies)
+    (keep_end whole row.draft ms row.results))))
+
+keep_ends : (top : Option ℕ) (s : PoolState) (more : List Move) (going : TurnReply) (vs : List Move) (reply : TurnReply) → AllKeep more → EndsBy top s more going vs reply → AllKeep vs
+keep_ends (Some top) s more going vs reply keeps ends = subst AllKeep (sym ends.0) (tt, tt)
+keep_ends None s more going vs reply keeps ends = subst AllKeep (sym ends.0) keeps
+
+keep_turn_moves : (made : List Noted) (ms : List Member) (results : List Bool) (mark : Move) → KeepsMembers mark → AllKeep (turn_moves made ms results mark)
+keep_turn_moves made ms results mark keeps = keep_more (as_moves made) (leave_moves ms results ++ (mark ∷ [])) (keep_calls made) (keep_more (leave_moves ms results) (mark ∷ []) (keep_leave ms results) (keeps, tt))
+
+keep_part : (s : PoolState) (part : List Move) (ms : List Member) (results : List Bool) (going : TurnReply) (vs : List Move) (reply : TurnReply) → AllKeep part → IsTurnOf s part ms results [] going vs reply → AllKeep vs
+keep_part s part ms results going vs reply keeps turn = subst AllKeep (sym turn.moves)
+    (keep_more (part ++ count_moves s.core.leaves ms results) turn.ending (keep_more part (count_moves s.core.leaves ms results) keeps (keep_counts s.core.leaves ms results))
+    (keep_ends (emptied (steps (part ++ count_moves s.core.leaves ms results) s).core.leaves) (steps (part ++ count_moves s.core.leaves ms results) s) [] going turn.ending reply tt turn.ends))
+
+keep_round_part : (c : Codec) (size : ℕ → ℕ) (s : PoolState) (vs : List Move) (reply : TurnReply) → IsRoundPart c size s vs reply → AllKeep vs
+keep_round_part c size s vs reply w = let ms = board_of s.core.leaves in subst AllKeep (sym w.moves) (keep_more w.behind w.ending
+    (subst AllKeep (sym w.counted) (keep_more w.part (count_moves s.core.leaves ms w.row.results) (keep_round c size s.core w.part w.whole w.row) (keep_counts s.core.leaves ms w.row.results)))
+    (of w.whole w.ends))
+  where
+    of : (whole : Bool) → cond whole ((w.ending ≡ []) × (reply ≡ Committed s.core.number)) (EndsTurn (steps w.behind s) (Draw ∷ []) (Round s.core.number) w.ending reply) → AllKeep w.ending
+    of true ends = subst AllKeep (sym ends.0) tt
+    of false ends = keep_ends (emptied (steps w.behind s).core.leaves) (steps w.behind s) (Draw ∷ []) (Round s.core.number) w.ending reply (tt, tt) ends
+
+keep_starts : (top : Option ℕ) (c : Codec) (size : ℕ → ℕ) (s : PoolState) (vs : List Move) (reply : TurnReply) → StartsBy top c size s vs reply → AllKeep vs
+keep_starts (Some top) c size s vs reply row = subst AllKeep (sym row.0) (tt, tt)
+keep_starts None c size s vs reply (inl w) = keep_part s w.part (board_under w.row.cell.top s.core.leaves) w.row.results Write vs reply
+    (subst AllKeep (sym w.row.moves) (keep_turn_moves w.row.made (board_under w.row.cell.top s.core.leaves) w.row.results (Wrote_key w.row.key) tt)) w.turn
+keep_starts None c size s vs reply (inr (inl w)) = keep_part s w.part (board_of s.core.leaves) w.row.results Flush vs reply
+    (subst AllKeep (sym w.row.moves) (keep_turn_moves w.row.made (board_of s.core.leaves) w.row.results Flushed_all tt)) w.turn
+keep_starts None c size s vs reply (inr (inr w)) = keep_round_part c size s vs reply w
+
+keep_turn_by : (frozen : Bool) (c : Codec) (size : ℕ → ℕ) (s : PoolState) (vs : List Move) (reply : TurnReply) → TurnBy frozen c size s vs reply → AllKeep vs
+keep_turn_by false c size s vs reply row = subst AllKeep (sym row.0) tt
+keep_turn_by true c size s vs reply row = keep_starts (emptied s.core.leaves) c size s vs reply row
+
+keep_turn : (c : Codec) (size : ℕ → ℕ) (s : PoolState) (vs : List Move) (reply : TurnReply) → RowTurn c size s vs reply → AllKeep vs
+keep_turn c size s vs reply row = keep_turn_by s.core.group.frozen c size s vs reply row
+
+keep_turns : (c : Codec) (size : ℕ → ℕ) (s : PoolState) (turns : List (List Move × TurnReply)) (reply : TurnReply) → AreTurns c size s turns reply → AllKeep (moves_in turns)
+keep_turns c size s [] reply are = absurd are
+keep_turns c size s (turn ∷ []) reply are = keep_more turn.0 [] (keep_turn c size s turn.0 turn.1 are.0) tt
+keep_turns c size s (turn ∷ (next ∷ turns)) reply are = keep_more turn.0 (moves_in (next ∷ turns)) (keep_turn c size s turn.0 turn.1 are.0) (keep_turns c size (steps turn.0 s) (next ∷ turns) reply are.2)
+
+pub keep_group : (c : Codec) (size : ℕ → ℕ) (s : PoolState) (vs : List Move) (reply : TurnReply) → EndsGroup c size s vs reply → AllKeep vs
+keep_group c size s vs reply g = subst AllKeep (sym g.moves) (keep_turns c size s g.turns reply g.are)
+
+keep_freeze : (c : Codec) (s : PoolState) (vs : List Move) → RowFreeze c s vs → AllKeep vs
+keep_freeze c s vs row = subst AllKeep (sym row.moves) (tt, keep_joins s.core.leaves)
+
+pub keep_empty : (s : PoolState) (vs : List Move) → RowEmptyFreeze s vs → AllKeep vs
+keep_empty s vs row = subst AllKeep (sym row.moves) (tt, keep_joins s.core.leaves)
+
+keep_commits : (c : Codec) (size : ℕ → ℕ) (s : PoolState) (vs : List Move) (reply : TurnReply) → CommitsOpen c size s vs reply → AllKeep vs
+keep_commits c size s vs reply w = subst AllKeep (sym w.moves) (keep_more w.first w.rest (keep_freeze c s w.first w.freeze) (keep_group c size (steps w.first s) w.rest reply w.ends))
+
+keep_for : (refusal : Option FreezeRefusal) (c : Codec) (size : ℕ → ℕ) (s : PoolState) (vs : List Move) (reply : SyncReply) → CommitsFor refusal c size s vs reply → AllKeep vs
+keep_for (Some refusal) c size s vs reply row = subst AllKeep (sym row.0) tt
+keep_for None c size s vs reply row = keep_commits c size s vs row.0 row.1
+
+keep_open : (c : Codec) (size : ℕ → ℕ) (s : PoolState) (vs : List Move) (reply : SyncReply) → SyncOpen c size s vs reply → AllKeep vs
+keep_open c size s vs reply row = keep_for row.0 c size s vs reply row.2
+
+keep_behind : (turn : TurnReply) (c : Codec) (size : ℕ → ℕ) (s : PoolState) (vs : List Move) (reply : SyncReply) → SyncBehind turn c size s vs reply → AllKeep vs
+keep_behind (Committed number) c size s vs reply (inl row) = subst AllKeep (sym row.0) tt
+keep_behind (Committed number) c size s vs reply (inr row) = keep_open c size s vs reply row
+keep_behind Idle c size s vs reply row = subst AllKeep (sym row.0) tt
+keep_behind Write c size s vs reply row = subst AllKeep (sym row.0) tt
+keep_behind Flush c size s vs reply row = subst AllKeep (sym row.0) tt
+keep_behind (Round number) c size s vs reply row = subst AllKeep (sym row.0) tt
+keep_behind (Suspended group top faults) c size s vs reply row = subst AllKeep (sym row.0) tt
+
+keep_sync : (frozen : Bool) (c : Codec) (size : ℕ → ℕ) (s : PoolState) (vs : List Move) (reply : SyncReply) → SyncBy frozen c size s vs reply → AllKeep vs
+keep_sync false c size s vs reply row = keep_open c size s vs reply row
+keep_sync true c size s vs reply row = subst AllKeep (sym row.moves) (keep_more row.first row.rest (keep_group c size s row.first row.turn row.ends) (keep_behind row.turn c size (steps row.first s) row.rest reply row.behind))
+
+keep_freeze_for : (refusal : Option FreezeRefusal) (c : Codec) (s : PoolState) (vs : List Move) (reply : FreezeReply) → FreezeFor refusal c s vs reply → AllKeep vs
+keep_freeze_for (Some refusal) c s vs reply row = subst AllKeep (sym row.0) tt
+keep_freeze_for None c s vs reply row = keep_freeze c s vs row.0
+
+keep_freeze_by : (frozen : Bool) (c : Codec) (s : PoolState) (vs : List Move) (reply : FreezeReply) → FreezeBy frozen c s vs reply → AllKeep vs
+keep_freeze_by true c s vs reply row = subst AllKeep (sym row.0) tt
+keep_freeze_by false c s vs reply row = keep_freeze_for row.0 c s vs reply row.2
+
+keep_fits : (short : Bool) (need free a : ℕ) (block : List ℕ) (vs : List Move) (reply : WriteReply) → WriteFits short need free a block vs reply → AllKeep vs
+keep_fits true need free a block vs reply row = subst AllKeep (sym row.0) tt
+keep_fits false need free a block vs reply row = subst AllKeep (sym row.0) (tt, tt)
+
+keep_write_by : (full : Bool) (s : PoolState) (a : ℕ) (block : List ℕ) (vs : List Move) (reply : WriteReply) → WriteBy full s a block vs reply → AllKeep vs
+keep_write_by true s a block vs reply row = subst AllKeep (sym row.0) tt
+keep_write_by false s a block vs reply row = keep_fits _ _ row.0 a block vs reply row.2
+
+keep_write : (s : PoolState) (a : ℕ) (block : List ℕ) (vs : List Move) (reply : WriteReply) → RowWrite s a block vs reply → AllKeep vs
+keep_write s a block vs reply (inl row) = subst AllKeep (sym row.1) tt
+keep_write s a block vs reply (inr row) = keep_write_by _ s a block vs reply row.1
+
+keep_record : (sum : Option Sum) (s : PoolSeen) (vs : List Move) (reply : ReadReply) → ReadRecord sum s vs reply → AllKeep vs
+keep_record None s vs reply row = subst AllKeep (sym row.0) tt
+keep_record (Some sum) s vs reply row = subst AllKeep (sym row.1.moves) (keep_more (as_moves (row.1.reads ++ row.1.rewrites)) (count_reads sum.sum (row.1.reads ++ row.1.rewrites) (filter (stands_under sum.top) s.leaves))
+    (keep_calls (row.1.reads ++ row.1.rewrites)) (keep_reads sum.sum (row.1.reads ++ row.1.rewrites) (filter (stands_under sum.top) s.leaves)))
+
+keep_read : (s : PoolState) (a : ℕ) (vs : List Move) (reply : ReadReply) → RowRead s a vs reply → AllKeep vs
+keep_read s a vs reply (inl row) = subst AllKeep (sym row.1) tt
+keep_read s a vs reply (inr row) = open_by (s.own.writes a) _ _ row.1
+  where
+    group_by : (cell : Option Cell) (sum : Option Sum) → ReadGroup cell sum s.core vs reply → AllKeep vs
+    group_by (Some cell) sum row = subst AllKeep (sym row.0) tt
+    group_by None sum row = keep_record sum s.core vs reply row
+
+    open_by : (write : Option (List ℕ)) (cell : Option Cell) (sum : Option Sum) → ReadOpen write cell sum s.core vs reply → AllKeep vs
+    open_by (Some block) cell sum row = subst AllKeep (sym row.0) tt
+    open_by None cell sum row = group_by cell sum row
+
+keep_leave_if : (on : Bool) (dev : Option ℕ) → AllKeep (leave_if on dev)
+keep_leave_if true (Some d) = (tt, tt)
+keep_leave_if true None = tt
+keep_leave_if false dev = tt
+
+keep_drop_if : (on : Bool) (dev : Option ℕ) → AllKeep (drop_if on dev)
+keep_drop_if true (Some d) = (tt, tt)
+keep_drop_if true None = tt
+keep_drop_if false dev = tt
+
+keep_offline_leaf : (already : Bool) (s : PoolState) (leaf : LeafSeen) (temporary : Bool) (vs : List Move) (reply : OfflineReply) → OfflineLeaf already s leaf temporary vs reply → AllKeep vs
+keep_offline_leaf true s leaf temporary vs reply row = subst AllKeep (sym row.0) (tt, tt)
+keep_offline_leaf false s leaf temporary vs reply (inl row) = subst AllKeep (sym row.2) tt
+keep_offline_leaf false s leaf temporary vs reply (inr row) = subst AllKeep (sym row.1) (keep_more (leave_if leaf.on leaf.dev) (drop_if leaf.eligible leaf.dev ++ (Sets leaf.guid (gone temporary leaf.own) ∷ []))
+    (keep_leave_if leaf.on leaf.dev) (keep_more (drop_if leaf.eligible leaf.dev) (Sets leaf.guid (gone temporary leaf.own) ∷ []) (keep_drop_if leaf.eligible leaf.dev) (tt, tt)))
+
+keep_offline_here : (spare : Bool) (s : PoolState) (leaf : LeafSeen) (temporary : Bool) (vs : List Move) (reply : OfflineReply) → OfflineHere spare s leaf temporary vs reply → AllKeep vs
+keep_offline_here true s leaf temporary vs reply row = subst AllKeep (sym row.0) tt
+keep_offline_here false s leaf temporary vs reply row = keep_offline_leaf (is_offline leaf.own.mode) s leaf temporary vs reply row
+
+keep_offline : (found : Option LeafSeen) (s : PoolState) (name : List ℕ) (temporary : Bool) (vs : List Move) (reply : OfflineReply) → OfflineBy found s name temporary vs reply → AllKeep vs
+keep_offline None s name temporary vs reply row = subst AllKeep (sym row.0) tt
+keep_offline (Some leaf) s name temporary vs reply row = keep_offline_here (is_spare s leaf) s leaf temporary vs reply row
+
+pub keep_found : (c : Codec) (size : ℕ → ℕ) (s : PoolState) (vs : List Move) (whole : Bool) → RowFound c size s vs whole → AllKeep vs
+keep_found c size s vs whole row = subst AllKeep (sym row.moves) (keep_more (row.first ++ (Flushed_all ∷ [])) row.round
+    (keep_more row.first (Flushed_all ∷ []) (keep_empty s row.first row.freeze) (tt, tt)) (keep_round c size (steps (row.first ++ (Flushed_all ∷ [])) s).core row.round whole row.ends))
+
+-- Lines.
+keep_does : (d g : ℕ) (vs : List Move) → AllKeep vs → AllByRecursion (KeepsAt d) (does g vs)
+keep_does d g [] all = tt
+keep_does d g (v ∷ vs) all = (all.0, keep_does d g vs all.1)
+
+keep_marked : (reading : Bool) (d g a : ℕ) (reply : ReadReply) (v : Move) (vs : List Move) (rest : List Act) → AllKeep (v ∷ vs) → AllByRecursion (KeepsAt d) rest
+    → AllByRecursion (KeepsAt d) (marked_behind reading g a reply v vs rest)
+keep_marked true d g a reply v vs rest all more = (all.0, more)
+keep_marked false d g a reply v vs rest all more = (tt, keep_does d g (v ∷ vs) all)
+
+keep_read_acts : (d g a : ℕ) (reply : ReadReply) (vs : List Move) → AllKeep vs → AllByRecursion (KeepsAt d) (read_acts g a reply vs)
+keep_read_acts d g a reply [] all = (tt, tt)
+keep_read_acts d g a reply (v ∷ vs) all = keep_marked (is_reading v) d g a reply v vs (read_acts g a reply vs) all (keep_read_acts d g a reply vs all.1)
+
+abbrev Keep : (d : ℕ) → List Act → Type 0
+Keep d acts = AllByRecursion (KeepsAt d) acts
+
+on_keeps : (d : ℕ) (found : Option PoolState) (Line : PoolState → List Act → Reply → Type 0) (acts : List Act) (reply : Reply) → ((s : PoolState) → Line s acts reply → Keep d acts) → OnPool found Line acts reply → Keep d acts
+on_keeps d None Line acts reply line row = subst (Keep d) (sym row.0) tt
+on_keeps d (Some s) Line acts reply line row = line s row
+
+by_moves : (d : ℕ) (h : Host) (s : PoolState) (Row : List Move → Type 0) (acts : List Act) → ((vs : List Move) → Row vs → AllKeep vs) → ByMoves h s Row acts → Keep d acts
+by_moves d h s Row acts keeps line = subst (Keep d) (sym line.are) (keep_does d s.core.pool.0 line.moves (keeps line.moves line.row))
+
+read_keeps : (d : ℕ) (h : Host) (s : PoolState) (a : ℕ) (reply : ReadReply) (acts : List Act) → ByRead h s a reply acts → Keep d acts
+read_keeps d h s a reply acts line = subst (Keep d) (sym line.are) (keep_read_acts d s.core.pool.0 a reply line.moves (keep_read s a line.moves reply line.row))
+
+-- Creates.
+keep_acts : (d : ℕ) (first second : List Act) → Keep d first → Keep d second → Keep d (first ++ second)
+keep_acts d [] second a b = b
+keep_acts d (act ∷ first) second a b = (a.0, keep_acts d first second a.1 b)
+
+keep_front : (d : ℕ) (first second : List Act) → Keep d (first ++ second) → Keep d first
+keep_front d [] second all = tt
+keep_front d (act ∷ first) second all = (all.0, keep_front d first second all.1)
+
+keep_bare : (d : ℕ) (made : List Noted) (rest : List Act) → Keep d rest → Keep d (bare made ++ rest)
+keep_bare d [] rest all = all
+keep_bare d (noted ∷ made) rest all = (tt, keep_bare d made rest all)
+
+not_at : (leaves : List NewLeaf) (d : ℕ) → is_at leaves d ≡ false → AllByRecursion (λ l. (l.dev == d) ≡ false) leaves
+not_at [] d off = tt
+not_at (l ∷ leaves) d off = by (l.dev == d) refl (λ rest. not_at leaves d rest)
+  where
+    by : (t : Bool) → (l.dev == d) ≡ t → (is_at leaves d ≡ false → AllByRecursion (λ l. (l.dev == d) ≡ false) leaves) → ((l.dev == d) ≡ false) × AllByRecursion (λ l. (l.dev == d) ≡ false) leaves
+    by true is rest = absurd (let no : true ≡ false = sym (ap (λ t. t || is_at leaves d) is) ∙ off in cc)
+    by false is rest = (is, rest (sym (ap (λ t. t || is_at leaves d) is) ∙ off))
+
+keep_stamps : (d : ℕ) (pool : Guid) (size : ℕ → ℕ) (leaves : List NewLeaf) (acts : List Act) (failed : Option NewLeaf) → AreStamps pool size leaves acts failed → AllByRecursion (λ l. (l.dev == d) ≡ false) leaves → Keep d acts
+keep_stamps d pool size [] acts failed are off = subst (Keep d) (sym are.0) tt
+keep_stamps d pool size (leaf ∷ leaves) acts failed are off = subst (Keep d) (sym are.2) (off.0, keep_bare d are.0 are.1 (of are.3 (λ rest. keep_stamps d pool size leaves are.1 failed rest off.1)))
+  where
+    of : (IsPart (stamp_plan leaf.dev (size leaf.dev) pool leaf.guid) are.0 None × AreStamps pool size leaves are.1 failed)
+        ⊎ ((fault : Fault) × IsPart (stamp_plan leaf.dev (size leaf.dev) pool leaf.guid) are.0 (Some fault) × (are.1 ≡ []) × (failed ≡ Some leaf))
+        → (AreStamps pool size leaves are.1 failed → Keep d are.1) → Keep d are.1
+    of (inl whole) rest = rest whole.1
+    of (inr stop) rest = subst (Keep d) (sym stop.2) tt
+
+keep_founding : (whole : Bool) (d g : ℕ) (vs : List Move) (failed : Option NewLeaf) (rest : List Act) (reply : Reply) → AllKeep vs → FoundBy whole g vs failed rest reply → Keep d rest
+keep_founding true d g vs failed rest reply all row = subst (Keep d) (sym row.0) (keep_does d g vs all)
+keep_founding false d g vs failed rest reply all row = subst (Keep d) (sym row.0) (keep_acts d (does g vs) (Closes g ∷ []) (keep_does d g vs all) (tt, tt))
+
+-- a leaf's device has one of the names
+abbrev IsNamedAt : List Device → (names : List (List ℕ)) → (d : ℕ) → Type 0
+IsNamedAt table names d = (name : List ℕ) × IsAmong name names × (number_in name table ≡ Some d)
+
+among_left : (name : List ℕ) (xs ys : List (List ℕ)) → IsAmong name xs → IsAmong name (xs ++ ys)
+among_left name [] ys is = absurd is
+among_left name (x ∷ xs) ys (inl e) = inl e
+among_left name (x ∷ xs) ys (inr more) = inr (among_left name xs ys more)
+
+among_right : (name : List ℕ) (xs ys : List (List ℕ)) → IsAmong name ys → IsAmong name (xs ++ ys)
+among_right name [] ys is = is
+among_right name (x ∷ xs) ys is = inr (among_right name xs ys is)
+
+known_number : (number : Option ℕ) (name : List ℕ) (d : ℕ) → unknown_by number name ≡ None → (dev_or_none number == d) ≡ true → number ≡ Some d
+known_number None name d is here = absurd (cc)
+known_number (Some x) name d is here = ap Some (let same : x ≡ d = grind (arith, nat_tests) in same)
+
+or_true : (a b : Bool) → (a || b) ≡ true → (a ≡ true) ⊎ (b ≡ true)
+or_true true b is = inl refl
+or_true false b is = inr is
+
+is_at_more : (xs ys : List NewLeaf) (d : ℕ) → is_at (xs ++ ys) d ≡ true → (is_at xs d ≡ true) ⊎ (is_at ys d ≡ true)
+is_at_more [] ys d is = inr is
+is_at_more (x ∷ xs) ys d is = of (or_true (x.dev == d) (is_at (xs ++ ys) d) is) (λ more. is_at_more xs ys d more)
+  where
+    of : ((x.dev == d) ≡ true) ⊎ (is_at (xs ++ ys) d ≡ true) → (is_at (xs ++ ys) d ≡ true → (is_at xs d ≡ true) ⊎ (is_at ys d ≡ true)) → (is_at (x ∷ xs) d ≡ true) ⊎ (is_at ys d ≡ true)
+    of (inl here) rest = inl (ap (λ t. t || is_at xs d) here)
+    of (inr more) rest = ⊎_elim (λ first. inl (either (x.dev == d) (is_at xs d) first)) (λ second. inr second) (rest more)
+      where
+        either : (a b : Bool) → b ≡ true → (a || b) ≡ true
+        either true b is = refl
+        either false b is = is
+
+leaves_named : (table : List Device) (names : List (List ℕ)) (number top d : ℕ) → unknown table names ≡ None → is_at (leaves_of table names number top) d ≡ true → IsNamedAt table names d
+leaves_named table [] number top d known is = absurd (cc)
+leaves_named table (name ∷ names) number top d known is = of (or_true (dev_or_none (number_in name table) == d) (is_at (leaves_of table names (number + 1) top) d) is)
+    (λ more. leaves_named table names (number + 1) top d (or_second (unknown_by (number_in name table) name) (unknown table names) known) more)
+  where
+    of : ((dev_or_none (number_in name table) == d) ≡ true) ⊎ (is_at (leaves_of table names (number + 1) top) d ≡ true)
+        → (is_at (leaves_of table names (number + 1) top) d ≡ true → IsNamedAt table names d) → IsNamedAt table (name ∷ names) d
+    of (inl here) rest = (name, inl refl, known_number (number_in name table) name d (or_first (unknown_by (number_in name table) name) (unknown table names) known) here)
+    of (inr more) rest = let found = rest more in (found.0, inr found.1, found.2)
+
+unknown_left : (table : List Device) (xs ys : List (List ℕ)) → unknown table (xs ++ ys) ≡ None → unknown table xs ≡ None
+unknown_left table [] ys is = refl
+unknown_left table (x ∷ xs) ys is = ap (λ o. or_else o (unknown table xs)) (or_first (unknown_by (number_in x table) x) (unknown table (xs ++ ys)) is)
+    ∙ unknown_left table xs ys (or_second (unknown_by (number_in x table) x) (unknown table (xs ++ ys)) is)
+
+unknown_right : (table : List Device) (xs ys : List (List ℕ)) → unknown table (xs ++ ys) ≡ None → unknown table ys ≡ None
+unknown_right table [] ys is = is
+unknown_right table (x ∷ xs) ys is = unknown_right table xs ys (or_second (unknown_by (number_in x table) x) (unknown table (xs ++ ys)) is)
+
+tops_named : (table : List Device) (tops : List (List (List ℕ))) (number top d : ℕ) → unknown table (all_names tops) ≡ None → is_at (new_leaves table tops number top) d ≡ true → IsNamedAt table (all_names tops) d
+tops_named table [] number top d known is = absurd (cc)
+tops_named table (names ∷ tops) number top d known is = of (is_at_more (leaves_of table names (number + 1) top) (new_leaves table tops (number + 1 + length names) (top + 1)) d is)
+    (λ more. tops_named table tops (number + 1 + length names) (top + 1) d (unknown_right table names (all_names tops) known) more)
+  where
+    of : (is_at (leaves_of table names (number + 1) top) d ≡ true) ⊎ (is_at (new_leaves table tops (number + 1 + length names) (top + 1)) d ≡ true)
+        → (is_at (new_leaves table tops (number + 1 + length names) (top + 1)) d ≡ true → IsNamedAt table (all_names tops) d) → IsNamedAt table (names ++ all_names tops) d
+    of (inl here) rest = let found = leaves_named table names (number + 1) top d (unknown_left table names (all_names tops) known) here in
+        (found.0, among_left found.0 names (all_names tops) found.1, found.2)
+    of (inr more) rest = let found = rest more in (found.0, among_right found.0 names (all_names tops) found.1, found.2)
+
+taken_by : (h : Host) (e : Entry) (d : ℕ) (name : List ℕ) (blocks : ℕ) (tops : List (List (List ℕ))) → e.asked ≡ Asks_create name blocks tops → create_refusal h name blocks tops ≡ None
+    → is_at (new_leaves h.table tops 1 1) d ≡ true → (e.reply ≡ To_create (Created 1)) ⊎ ((failed : List ℕ) × (e.reply ≡ To_create (DeviceFault failed))) → IsTakenBy h e d
+taken_by h e d name blocks tops asked none is reply =
+    let found = tops_named h.table tops 1 1 d (none_refused h name blocks tops none).1.1.1.1.1.1.1.0 is in
+    record { name = name; blocks = blocks; tops = tops; asked = asked; device = found.0; is_named = found.1; number = found.2; reply = reply }
+
+create_keeps : (c : Codec) (h : Host) (e : Entry) (d : ℕ) (name : List ℕ) (blocks : ℕ) (tops : List (List (List ℕ))) → e.asked ≡ Asks_create name blocks tops → RowCreate c h name blocks tops e.acts e.reply
+    → Keep d e.acts ⊎ IsTakenBy h e d
+create_keeps c h e d name blocks tops asked (inl row) = inl (subst (Keep d) (sym row.2) tt)
+create_keeps c h e d name blocks tops asked (inr (inl row)) = by_bool (is_at (new_leaves h.table tops 1 1) d)
+    (λ is. inr (taken_by h e d name blocks tops asked row.may.none is (inr (row.leaf.name, row.says))))
+    (λ off. inl (subst (Keep d) (sym row.all) (tt, keep_stamps d row.pool (size_in h.table) (new_leaves h.table tops 1 1) row.stamps (Some row.leaf) row.are (not_at (new_leaves h.table tops 1 1) d off))))
+create_keeps c h e d name blocks tops asked (inr (inr row)) = by_bool (is_at (new_leaves h.table tops 1 1) d)
+    (λ is. inr (taken_by h e d name blocks tops asked row.may.none is (says row.whole row.ends)))
+    (λ off. inl (subst (Keep d) (sym row.all) (tt, keep_acts d row.stamps (Bears (new_birth name row.pool blocks h.table tops) ∷ row.rest)
+    (keep_stamps d row.pool (size_in h.table) (new_leaves h.table tops 1 1) row.stamps None row.are (not_at (new_leaves h.table tops 1 1) d off))
+    (tt, keep_founding row.whole d row.pool.0 row.moves (failed_in (new_leaves h.table tops 1 1) row.row.ends.results) row.rest e.reply
+    (keep_found c (size_in h.table) (new_state name row.pool blocks h.table tops) row.moves row.whole row.row) row.ends))))
+  where
+    says : (whole : Bool) → FoundBy whole row.pool.0 row.moves (failed_in (new_leaves h.table tops 1 1) row.row.ends.results) row.rest e.reply
+        → (e.reply ≡ To_create (Created 1)) ⊎ ((failed : List ℕ) × (e.reply ≡ To_create (DeviceFault failed)))
+    says true ends = inl ends.1
+    says false ends = inr (ends.1.name, ends.3)
+
+-- a row's acts keep the device, but those of a create that takes it
+row_keeps : (c : Codec) (h : Host) (asked : Asked) (acts : List Act) (reply : Reply) (d : ℕ) → ((name : List ℕ) (blocks : ℕ) (tops : List (List (List ℕ))) → asked ≡ Asks_create name blocks tops → ⊥)
+    → RowOf c h asked acts reply → Keep d acts
+row_keeps c h Asks_nothing acts reply d other row = subst (Keep d) (sym row.0) tt
+row_keeps c h (Asks_write name a block) acts reply d other row = on_keeps d (named name h.pools) (WriteLine h a block) acts reply
+    (λ s line. by_moves d h s (λ vs. RowWrite s a block vs line.0) acts (λ vs is. keep_write s a block vs line.0 is) line.2) row
+row_keeps c h (Asks_read name a) acts reply d other row = on_keeps d (named name h.pools) (ReadLine h a) acts reply (λ s line. read_keeps d h s a line.0 acts line.2) row
+row_keeps c h (Asks_freeze name) acts reply d other row = on_keeps d (named name h.pools) (FreezeLine c h) acts reply
+    (λ s line. by_moves d h s (λ vs. RowFreezeLine c s vs line.0) acts (λ vs is. keep_freeze_by s.core.group.frozen c s vs line.0 is) line.2) row
+row_keeps c h (Asks_turn name) acts reply d other row = on_keeps d (named name h.pools) (TurnLine c h) acts reply
+    (λ s line. by_moves d h s (λ vs. RowTurn c (size_in h.table) s vs line.0) acts (λ vs is. keep_turn c (size_in h.table) s vs line.0 is) line.2) row
+row_keeps c h (Asks_sync name) acts reply d other row = on_keeps d (named name h.pools) (SyncLine c h) acts reply
+    (λ s line. by_moves d h s (λ vs. RowSync c (size_in h.table) s vs line.0) acts (λ vs is. keep_sync s.core.group.frozen c (size_in h.table) s vs line.0 is) line.2) row
+row_keeps c h (Asks_offline name device temporary) acts reply d other row = on_keeps d (named name h.pools) (OfflineLine h device temporary) acts reply
+    (λ s line. by_moves d h s (λ vs. RowOffline s device temporary vs line.0) acts (λ vs is. keep_offline (leaf_named device s.core.leaves) s device temporary vs line.0 is) line.2) row
+row_keeps c h (Asks_logs name) acts reply d other row = on_keeps d (named name h.pools) (LogsLine h) acts reply
+    (λ s line. by_moves d h s (λ vs. RowLogs s vs line.0) acts (λ vs is. subst AllKeep (sym is.0) tt) line.2) row
+row_keeps c h (Asks_create name blocks tops) acts reply d other row = absurd (other name blocks tops refl)
+
+none_keeps : (d : ℕ) (acts : List Act) → AllByRecursion ChangesNone acts → Keep d acts
+none_keeps d [] all = tt
+none_keeps d (act ∷ acts) all = (one act all.0, none_keeps d acts all.1)
+  where
+    moves : (g : ℕ) (v : Move) → ChangesNone (Does g v) → KeepsMembers v
+    moves g (Makes noted) is = tt
+    moves g v is = absurd is
+
+    one : (act : Act) → ChangesNone act → KeepsAt d act
+    one (Does g v) is = moves g v is
+    one (Takes g e) is = absurd is
+    one act is = tt
+
+read_front : (c : Codec) (h : Host) (asked : Asked) (acts rest : List Act) (reply : Reply) (d : ℕ) → IsReadLine asked → RowOf c h asked (acts ++ rest) reply → Keep d acts
+read_front c h (Asks_read name a) acts rest reply d is row = keep_front d acts rest (row_keeps c h (Asks_read name a) (acts ++ rest) reply d (λ name blocks tops e. absurd (cc)) row)
+read_front c h asked acts rest reply d is row = absurd is
+
+entry_row : (c : Codec) (h : Host) (e : Entry) (d : ℕ) (asked : Asked) → e.asked ≡ asked → RowOf c h asked e.acts e.reply → Keep d e.acts ⊎ IsTakenBy h e d
+entry_row c h e d (Asks_create name blocks tops) is row = create_keeps c h e d name blocks tops is row
+entry_row c h e d asked is row = inl (row_keeps c h asked e.acts e.reply d (λ name blocks tops e. absurd (cc)) row)
+
+pub entry_keeps : (c : Codec) (h : Host) (e : Entry) (d : ℕ) (p : Pool) → HostRow c h e → p.member d ≡ true → ((pool_along e.acts p).member d ≡ true) ⊎ IsTakenBy h e d
+entry_keeps c h e d p (inl row) is = ⊎_elim (λ keeps. inl (acts_members d e.acts p keeps is)) (λ taken. inr taken) (entry_row c h e d e.asked refl row.0)
+entry_keeps c h e d p (inr out) is = inl (acts_members d e.acts p (⊎_elim (λ early. none_keeps d e.acts early.0) (λ reads. read_front c h e.asked e.acts out.rest out.reply d reads out.goes_on) out.early) is)

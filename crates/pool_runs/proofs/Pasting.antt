@@ -1,0 +1,162 @@
+-- Pasts: the invariant, the next run, and what live records contain.
+use Rattle.std.proofs.Common.{◌≡◌, ◌≢◌, ◌⊎◌, inl, inr, ⊎_elim, ℕ, ◌≤◌, ◌==◌, nat_le, Bool, true, false, cond, List, [], ◌∷◌, ◌++◌, Option, Some, None, refl, sym, ap, ◌∙◌, subst, arith}
+use mathlib.Core.Path.{fun_ext}
+use Rattle.std.proofs.lemmas.Bool.Decides.{nat_tests}
+use Rattle.mp_base.specs.Block.{zero_block}
+use Rattle.bank_core.specs.Disk.{Sector, Sectors, Nothing, IsClean, IsImage, after_crash}
+use Rattle.txg_history.specs.Events.{
+  Event,
+  Calls,
+  Accepts,
+  Freezes,
+  Wrote,
+  Flushed,
+  Draws,
+  Leaves,
+  Grows,
+  Burns,
+  Begins,
+  Third,
+  Ends,
+  Acks,
+  Looks,
+  Opens,
+  Joins,
+  Loses,
+  Scans,
+  Passes,
+  Drops,
+  Clears,
+  Rests,
+  Stops,
+}
+use Rattle.txg_history.specs.Moves.{May, Mays, MayStop, AreUnforged}
+use Rattle.txg_history.specs.Numbering.{renumbered}
+use Rattle.txg_history.specs.Pages.{Codec}
+use Rattle.txg_history.specs.Pools.{Pool, after, pool_after}
+use Rattle.txg_history.specs.Records.{Rec, IsIn, block_at}
+use Rattle.txg_history.specs.Survival.{Survives, IsAmong}
+use Rattle.label_store.specs.Records.{place_at}
+use Rattle.label_store.specs.Uberblock.{IsUberblock}
+use Rattle.txg_history.proofs.Containing.{drawn_contents}
+use Rattle.txg_history.proofs.Logging.{by_bool, true_not_false}
+use Rattle.txg_history.proofs.Moving.{event_survives}
+use Rattle.txg_history.proofs.Numbering.{renumbered_survives}
+use Rattle.txg_history.proofs.Stamping.{stamped_survives}
+use Rattle.pool_runs.specs.Devices.{size_in}
+use Rattle.pool_runs.specs.Hosts.{Host, IsOpen}
+use Rattle.pool_runs.specs.Knowing.{Knows}
+use Rattle.pool_runs.specs.Pasts.{Past, Born, Then, Numbered, pool_of, called_in, IsAllowed, then_all, Left, BeginsRun, IsFoundAs, IsNext, AreNamed, met, next_past, IsFront, frozen_by, WasFrozen, HasFrozen}
+
+-- A pool has its invariant behind its past.
+pub past_survives : (c : Codec) (past : Past) → IsAllowed c past → Survives c (pool_of past)
+past_survives c (Born birth sectors) ok = stamped_survives c birth.name birth.pool birth.member birth.guid birth.size birth.room birth.home sectors ok
+past_survives c (Then past v) ok = event_survives c (pool_of past) v (past_survives c past ok.0) ok.1
+past_survives c (Numbered past was called) ok = renumbered_survives c (pool_of past) was (past_survives c past ok.0)
+
+-- More events.
+pub then_pool : (past : Past) (vs : List Event) → pool_of (then_all past vs) ≡ pool_after vs (pool_of past)
+then_pool past [] = refl
+then_pool past (v ∷ vs) = then_pool (Then past v) vs
+
+pub then_called : (past : Past) (vs : List Event) → called_in (then_all past vs) ≡ called_in past
+then_called past [] = refl
+then_called past (v ∷ vs) = then_called (Then past v) vs
+
+pub then_allowed : (c : Codec) (past : Past) (vs : List Event) → IsAllowed c past → Mays c (pool_of past) vs → IsAllowed c (then_all past vs)
+then_allowed c past [] ok may = ok
+then_allowed c past (v ∷ vs) ok may = then_allowed c (Then past v) vs (ok, may.0) may.1
+
+-- A run begins knowing the pool.
+pub begins_known : (c : Codec) (past : Past) (h : Host) → BeginsRun c past h → Knows c h (pool_of past)
+begins_known c past h begins = record {
+  survives = past_survives c past begins.left.allowed;
+  stands = λ s is number. absurd (subst (IsOpen s) begins.closed is);
+  once = λ s u is at one other. absurd (subst (IsOpen s) begins.closed is);
+  apart = λ d g is off. absurd (let no : None ≡ Some g = sym (begins.unknown d) ∙ is in cc);
+  sizes = begins.left.sizes;
+  disk = begins.left.disk;
+}
+
+-- The next run.
+met_here : (p : Pool) (images : ℕ → ℕ → List ℕ) (h : Host) (d s : ℕ) → 1 ≤ size_in h.table d → met p images h d s ≡ h.disk d s
+met_here p images h d s one = let yes : nat_le 1 (size_in h.table d) ≡ true = grind (arith, nat_tests) in ap (λ t. cond t (h.disk d s) (after_crash p.sectors images d s)) yes
+
+low_of : (n : ℕ) → nat_le 1 n ≡ true → 1 ≤ n
+low_of n is = grind (arith, nat_tests)
+
+-- a member's sector behind the stop shows its image
+met_as : (p : Pool) (images : ℕ → ℕ → List ℕ) (h : Host) → IsNext p images h → (d s : ℕ) → p.member d ≡ true → IsFoundAs (met p images h d s) (images d s) (p.sectors d s).damaged
+met_as p images h next d s member = by_bool (nat_le 1 (size_in h.table d))
+    (λ yes. let one = low_of (size_in h.table d) yes in
+    let found = next.disk d s member one in
+    subst (λ x. IsFoundAs x (images d s) (p.sectors d s).damaged) (sym (met_here p images h d s one)) found)
+    (λ no. subst (λ x. IsFoundAs x (images d s) (p.sectors d s).damaged) (sym (ap (λ t. cond t (h.disk d s) (after_crash p.sectors images d s)) no))
+    (record { stable = refl; still = refl; damage = λ is. is }))
+
+unforged_met : (p : Pool) (images : ℕ → ℕ → List ℕ) (h : Host) → IsNext p images h → AreUnforged p (λ d s. (met p images h d s).stable)
+unforged_met p images h next d place u member inside uber =
+    let same : (met p images h d (place_at (p.size d) place)).stable ≡ images d (place_at (p.size d) place) = (met_as p images h next d (place_at (p.size d) place) member).stable in
+    subst (λ bytes. (bytes ≡ (p.sectors d (place_at (p.size d) place)).stable) ⊎ IsAmong bytes (p.since d (place_at (p.size d) place))) (sym same)
+    (next.unforged d place u member inside (subst (λ bytes. IsUberblock u bytes) same uber))
+
+may_stop : (p : Pool) (images : ℕ → ℕ → List ℕ) (h : Host) → IsNext p images h → MayStop p (met p images h)
+may_stop p images h next = record {
+  still = λ d s member. (met_as p images h next d s member).still;
+  shows = λ d s member clean. (met_as p images h next d s member).stable ∙ next.crash d member s clean;
+  damage = λ d s member is. (met_as p images h next d s member).damage is;
+  unforged = unforged_met p images h next;
+}
+
+size_next : (p : Pool) (images : ℕ → ℕ → List ℕ) (h : Host) → IsNext p images h → (d : ℕ) → 1 ≤ size_in h.table d → cond (p.member d) (p.size d) (size_in h.table d) ≡ size_in h.table d
+size_next p images h next d one = by_bool (p.member d) (λ is. ap (λ t. cond t (p.size d) (size_in h.table d)) is ∙ next.sizes d is one)
+    (λ no. ap (λ t. cond t (p.size d) (size_in h.table d)) no)
+
+pub next_begins : (c : Codec) (past : Past) (was : ℕ → ℕ) (called : ℕ → List ℕ) (images : ℕ → ℕ → List ℕ) (h : Host) → IsAllowed c past
+    → AreNamed past was called h
+    → IsNext (renumbered was (pool_of past)) images h → BeginsRun c (next_past past was called images h) h
+next_begins c past was called images h ok names next = record {
+  left = record {
+    allowed = ((ok, names.kept), may_stop (renumbered was (pool_of past)) images h next);
+    names = names.here;
+    sizes = λ d one. size_next (renumbered was (pool_of past)) images h next d one;
+    disk = λ d s one. met_here (renumbered was (pool_of past)) images h d s one;
+  };
+  closed = next.closed;
+  unknown = next.unknown;
+  at_rest = refl;
+}
+
+-- What live records contain.
+same_frozen : (f g : ℕ → List ℕ) (past : Past) → ((a : ℕ) → f a ≡ g a) → WasFrozen f past → WasFrozen g past
+same_frozen f g past same was = subst (λ k. WasFrozen k past) (fun_ext same) was
+
+group_frozen : (c : Codec) (past : Past) → IsAllowed c past → (pool_of past).group.frozen ≡ true → WasFrozen (pool_of past).group.content past
+group_frozen c (Born birth sectors) ok f = absurd (cc)
+group_frozen c (Then past (Freezes cells board)) ok f = λ a. refl
+group_frozen c (Then past Burns) ok f = absurd (cc)
+group_frozen c (Then past (Acks q)) ok f = absurd (cc)
+group_frozen c (Then past (Opens r)) ok f = absurd (cc)
+group_frozen c (Then past (Stops sectors size)) ok f = absurd (cc)
+group_frozen c (Then past v) ok f = group_frozen c past ok.0 f
+group_frozen c (Numbered past was called) ok f = group_frozen c past ok.0 f
+
+frozen_more : (past : Past) (v : Event) (r : Rec) → HasFrozen past r → HasFrozen (Then past v) r
+frozen_more past v r (inl none) = inl none
+frozen_more past v r (inr has) = inr (has.0, inr has.1, has.2)
+
+pub live_frozen : (c : Codec) (past : Past) → IsAllowed c past → (r : Rec) → IsIn r (pool_of past).live → HasFrozen past r
+live_frozen c (Born birth sectors) ok r (inl is) = inl (λ a. ap (λ q. block_at q a) is)
+live_frozen c (Born birth sectors) ok r (inr none) = absurd none
+live_frozen c (Then past (Begins q)) ok r (inl is) = inr (past, inl (ap (λ x. Then past (Begins x)) is),
+    same_frozen (pool_of past).group.content (block_at r) past (λ a. sym (ap (λ x. block_at x a) is ∙ drawn_contents c (pool_of past) q (past_survives c past ok.0) ok.1 a))
+    (group_frozen c past ok.0 ok.1.frozen))
+live_frozen c (Then past (Begins q)) ok r (inr more) = frozen_more past (Begins q) r (live_frozen c past ok.0 r more)
+live_frozen c (Then past (Acks q)) ok r (inl is) = frozen_more past (Acks q) r (live_frozen c past ok.0 r (subst (λ x. IsIn x (pool_of past).live) (sym is) (subst (IsIn q) (sym ok.1.newest) (inl refl))))
+live_frozen c (Then past (Acks q)) ok r (inr none) = absurd none
+live_frozen c (Then past v) ok r is = frozen_more past v r (live_frozen c past ok.0 r is)
+live_frozen c (Numbered past was called) ok r is = more (live_frozen c past ok.0 r is)
+  where
+    more : HasFrozen past r → HasFrozen (Numbered past was called) r
+    more (inl none) = inl none
+    more (inr has) = inr (has.0, inr has.1, has.2)

@@ -1,0 +1,165 @@
+-- The lines of a run may be made.
+use Rattle.std.proofs.Common.{◌≡◌, ◌≢◌, ◌⊎◌, inl, inr, ⊎_elim, ℕ, ◌≤◌, ◌==◌, Bool, true, false, cond, List, [], ◌∷◌, ◌++◌, map, Option, Some, None, refl, sym, ap, ◌∙◌, subst, arith}
+use Rattle.std.specs.List.{AllByRecursion, find}
+use Rattle.std.specs.Str.{bytes_eq}
+use Rattle.std.proofs.lemmas.Bool.Decides.{nat_tests}
+use Rattle.bank_core.specs.Disk.{Call, Read, Write, Flush, Admit, Eject, Noted, AllAnswer}
+use Rattle.txg_history.specs.Events.{Calls, as_events}
+use Rattle.bank_core.specs.Standing.{touches}
+use Rattle.txg_history.specs.Moves.{IsPlain, Mays}
+use Rattle.txg_history.specs.Pages.{Codec}
+use Rattle.txg_history.specs.Pools.{Pool, pool_after}
+use Rattle.txg_history.proofs.Logging.{by_bool}
+use Rattle.pool_moves.specs.AwayRows.{RowWrite, RowOffline}
+use Rattle.pool_moves.specs.CommitRows.{RowLogs}
+use Rattle.pool_moves.specs.Keeping.{Kept, Walks}
+use Rattle.pool_moves.specs.LineRows.{IsSized, RowTurn, RowFreezeLine, RowSync}
+use Rattle.pool_moves.specs.Moves.{Move, Makes, events_of, state_step, after_move}
+use Rattle.pool_moves.specs.ReadRow.{ReadReply, RowRead, ClashesWith, made_in}
+use Rattle.pool_moves.specs.States.{PoolState, Side}
+use Rattle.pool_moves.proofs.AwayWalks.{write_walks, offline_walks}
+use Rattle.pool_moves.proofs.CommitWalks.{logs_walks}
+use Rattle.pool_moves.proofs.Keeping.{move_keeps}
+use Rattle.pool_moves.proofs.LineWalks.{turn_walks, freeze_line_walks, sync_walks}
+use Rattle.pool_moves.proofs.ReadWalks.{read_walks}
+use Rattle.pool_runs.specs.Acts.{Act, Does, Gave, Hears, does, calls_along, events_for, pool_by, pool_along}
+use Rattle.pool_runs.specs.Devices.{size_in}
+use Rattle.pool_runs.specs.Fairness.{AreFair}
+use Rattle.pool_runs.specs.HostRows.{AreMade, ByMoves, is_read, is_reading, marked_behind, read_acts, ByRead, WriteLine, ReadLine, FreezeLine, TurnLine, SyncLine, OfflineLine, LogsLine, OnPool, RowOf, RunsOut, HostRow, acts_of, acts_in, IsRun}
+use Rattle.pool_runs.specs.Hosts.{Host, IsOpen, named, moved, host_by, host_along}
+use Rattle.pool_runs.specs.Knowing.{HasSeats, Knows, MayActs, IsOwnMove, AreOwnActs}
+use Rattle.pool_runs.specs.Lines.{Asked, Asks_nothing, Asks_write, Asks_read, Asks_freeze, Asks_turn, Asks_sync, Asks_offline, Asks_logs, Asks_create, Reply, Entry}
+use Rattle.pool_runs.proofs.Acting.{same_number, number_of_test, own_events, move_number}
+use Rattle.pool_runs.proofs.Answering.{all_answer, does_calls, read_calls}
+use Rattle.pool_runs.proofs.Creating.{create_may}
+use Rattle.pool_runs.proofs.Knowing.{may_more, moved_own, open_moved, other_may, own_does, walk_may}
+use Rattle.pool_runs.proofs.Sparing.{untouched_sparing}
+
+-- the open pool of a name is open
+named_by : (t : Bool) (u s : PoolState) (rest : Option PoolState) (pools : List PoolState) → (rest ≡ Some s → IsOpen s pools) → cond t (Some u) rest ≡ Some s → (s ≡ u) ⊎ IsOpen s pools
+named_by true u s rest pools more is = inl (same u s is)
+  where
+    same : (a b : PoolState) → Some a ≡ Some b → b ≡ a
+    same a b e = cc
+named_by false u s rest pools more is = inr (more is)
+
+pub named_open : (name : List ℕ) (s : PoolState) (pools : List PoolState) → named name pools ≡ Some s → IsOpen s pools
+named_open name s [] is = absurd (cc)
+named_open name s (u ∷ pools) is = named_by (bytes_eq u.core.name name) u s (named name pools) pools (λ more. named_open name s pools more) is
+
+not_same : (m n : ℕ) → (m == n) ≡ false → m ≢ n
+not_same m n off is = let yes : (m == n) ≡ true = same_number m n is in absurd (let no : true ≡ false = sym yes ∙ off in cc)
+
+-- fronts of what may be done
+pub may_front : (c : Codec) (h : Host) (p : Pool) (first second : List Act) → MayActs c h p (first ++ second) → MayActs c h p first
+may_front c h p [] second may = tt
+may_front c h p (act ∷ first) second may = λ fair. let now = may fair in (now.0, now.1, may_front c (host_by act h) (pool_by act p) first second now.2)
+
+-- A line of the open pool: its own, or another's.
+line_may : (c : Codec) (h : Host) (p : Pool) (s : PoolState) (Row : List Move → Type 0) (acts : List Act) → Knows c h p → IsOpen s h.pools
+    → ((t : Side) (vs : List Move) → Kept c s t → t.pool ≡ p → Row vs → Walks c t vs) → ByMoves h s Row acts → MayActs c h p acts
+line_may c h p s Row acts knows is walks line = by_bool (s.core.pool.0 == p.pool.0)
+    (λ mine. let number = number_of_test s.core.pool.0 p.pool.0 mine in
+    let has = knows.stands s is number in
+    let t : Side = record { pool = p; seats = has.0 } in
+    subst (MayActs c h p) (sym line.are)
+    (walk_may c h s t s.core.pool.0 line.moves knows is (sym number) has.1 (walks t line.moves has.1 refl line.row) (subst (AreOwnActs s.core.pool.0 h) line.are line.own)))
+    (λ off. other_may c h p s.core.pool.0 acts knows (not_same s.core.pool.0 p.pool.0 off) line.own)
+
+-- A read, with its mark: the copies are read whatever their bytes are; behind the mark there is no clash.
+read_plain : (call : Call) → is_read call ≡ true → IsPlain call
+read_plain (Read dev at bytes fault) is = tt
+read_plain call is = absurd (cc)
+
+read_untouched : (call : Call) (d s : ℕ) → is_read call ≡ true → touches call d s ≡ false
+read_untouched (Read dev at bytes fault) d s is = refl
+read_untouched call d s is = absurd (cc)
+
+abbrev MarkedMay : Codec → Host → PoolState → Side → (g a : ℕ) → ReadReply → (vs : List Move) → (acts : List Act) → Type 0
+MarkedMay c h s t g a reply vs acts = Knows c h t.pool → IsOpen s h.pools → t.pool.pool.0 ≡ g → Kept c s t → (¬ (ClashesWith (t.pool.written a) reply) → Walks c t vs)
+    → AreOwnActs g h acts → MayActs c h t.pool acts
+
+marked_may : (reading : Bool) (c : Codec) (h : Host) (s : PoolState) (t : Side) (g a : ℕ) (reply : ReadReply) (v : Move) (vs : List Move) → is_reading v ≡ reading
+    → MarkedMay c (host_by (Does g v) h) (state_step v s) (after_move v t) g a reply vs (read_acts g a reply vs)
+    → MarkedMay c h s t g a reply (v ∷ vs) (marked_behind reading g a reply v vs (read_acts g a reply vs))
+marked_may true c h s t g a reply (Makes noted) vs reads rest knows is number kept walks own = λ fair.
+    let may : Mays c t.pool (Calls noted ∷ []) = (untouched_sparing t.pool noted.call (read_plain noted.call reads) (λ d x member. read_untouched noted.call d x reads), tt) in
+    let events : events_for (Does g (Makes noted)) t.pool ≡ Calls noted ∷ [] = own_events g (Makes noted) t.pool number in
+    let pool_is : pool_by (Does g (Makes noted)) t.pool ≡ (after_move (Makes noted) t).pool = ap (λ vs. pool_after vs t.pool) events in
+    let behind : Knows c (host_by (Does g (Makes noted)) h) (after_move (Makes noted) t).pool = own_does c h s t g (Makes noted) knows is number kept may tt own.0.1 in
+    let mine : s.core.pool.0 ≡ g = ap (λ core. core.pool.0) kept.core ∙ number in
+    (subst (Mays c t.pool) (sym events) may, subst (Knows c (host_by (Does g (Makes noted)) h)) (sym pool_is) behind,
+    subst (λ q. MayActs c (host_by (Does g (Makes noted)) h) q (read_acts g a reply vs)) (sym pool_is)
+    (rest behind (subst (λ x. IsOpen x (map (moved g (Makes noted)) h.pools)) (moved_own g (Makes noted) s mine) (open_moved g (Makes noted) s h.pools is)) number
+    (move_keeps c (Makes noted) s t may tt kept) (λ none. (walks none).1) own.1))
+marked_may true c h s t g a reply v vs reads rest knows is number kept walks own = absurd (cc)
+marked_may false c h s t g a reply v vs reads rest knows is number kept walks own = λ fair.
+    (tt, knows, walk_may c h s t g (v ∷ vs) knows is number kept (walks (fair number)) own.1)
+
+read_may : (c : Codec) (h : Host) (s : PoolState) (t : Side) (g a : ℕ) (reply : ReadReply) (vs : List Move) → MarkedMay c h s t g a reply vs (read_acts g a reply vs)
+read_may c h s t g a reply [] = λ knows is number kept walks own fair. (tt, knows, tt)
+read_may c h s t g a reply (v ∷ vs) = marked_may (is_reading v) c h s t g a reply v vs refl (read_may c (host_by (Does g v) h) (state_step v s) (after_move v t) g a reply vs)
+
+read_line_may : (c : Codec) (h : Host) (p : Pool) (s : PoolState) (a : ℕ) (reply : ReadReply) (acts : List Act) → Knows c h p → IsOpen s h.pools → AreMade h (calls_along acts) → ByRead h s a reply acts
+    → MayActs c h p acts
+read_line_may c h p s a reply acts knows is made line = by_bool (s.core.pool.0 == p.pool.0)
+    (λ mine. let number = number_of_test s.core.pool.0 p.pool.0 mine in
+    let has = knows.stands s is number in
+    let t : Side = record { pool = p; seats = has.0 } in
+    let calls : AreMade h (made_in line.moves) = subst (AreMade h) (ap calls_along line.are ∙ read_calls s.core.pool.0 a reply line.moves) made in
+    subst (MayActs c h p) (sym line.are)
+    (read_may c h s t s.core.pool.0 a reply line.moves knows is (sym number) has.1
+    (λ none. ⊎_elim (λ w. w) (λ clash. absurd (none clash)) (read_walks c s t a line.moves reply has.1
+    (all_answer h.table (made_in line.moves) h.disk p.sectors calls.here (λ d x one. sym (knows.disk d x one)) calls.answer) line.row))
+    (subst (AreOwnActs s.core.pool.0 h) line.are line.own)))
+    (λ off. other_may c h p s.core.pool.0 acts knows (not_same s.core.pool.0 p.pool.0 off) line.own)
+
+-- Each line.
+on_pool : (c : Codec) (h : Host) (p : Pool) (name : List ℕ) (found : Option PoolState) (Line : PoolState → List Act → Reply → Type 0) (acts : List Act) (reply : Reply)
+    → named name h.pools ≡ found → ((s : PoolState) → IsOpen s h.pools → Line s acts reply → MayActs c h p acts) → OnPool found Line acts reply → MayActs c h p acts
+on_pool c h p name None Line acts reply is line row = subst (MayActs c h p) (sym row.0) tt
+on_pool c h p name (Some s) Line acts reply is line row = line s (named_open name s h.pools is) row
+
+sized : (c : Codec) (h : Host) (p : Pool) (t : Side) → Knows c h p → t.pool ≡ p → IsSized (size_in h.table) t
+sized c h p t knows is d one = ap (λ q. q.size d) is ∙ knows.sizes d one
+
+pub row_may : (c : Codec) (h : Host) (p : Pool) (asked : Asked) (acts : List Act) (reply : Reply) → Knows c h p → AreMade h (calls_along acts) → RowOf c h asked acts reply → MayActs c h p acts
+row_may c h p Asks_nothing acts reply knows made row = subst (MayActs c h p) (sym row.0) tt
+row_may c h p (Asks_write name a block) acts reply knows made row = on_pool c h p name (named name h.pools) (WriteLine h a block) acts reply refl
+    (λ s is line. line_may c h p s (λ vs. RowWrite s a block vs line.0) acts knows is (λ t vs kept at row. write_walks c s t a block vs line.0 row) line.2) row
+row_may c h p (Asks_read name a) acts reply knows made row = on_pool c h p name (named name h.pools) (ReadLine h a) acts reply refl
+    (λ s is line. read_line_may c h p s a line.0 acts knows is made line.2) row
+row_may c h p (Asks_freeze name) acts reply knows made row = on_pool c h p name (named name h.pools) (FreezeLine c h) acts reply refl
+    (λ s is line. line_may c h p s (λ vs. RowFreezeLine c s vs line.0) acts knows is (λ t vs kept at row. freeze_line_walks c s t vs line.0 kept row) line.2) row
+row_may c h p (Asks_turn name) acts reply knows made row = on_pool c h p name (named name h.pools) (TurnLine c h) acts reply refl
+    (λ s is line. line_may c h p s (λ vs. RowTurn c (size_in h.table) s vs line.0) acts knows is
+    (λ t vs kept at row. turn_walks c (size_in h.table) s t vs line.0 kept (sized c h p t knows at) row) line.2) row
+row_may c h p (Asks_sync name) acts reply knows made row = on_pool c h p name (named name h.pools) (SyncLine c h) acts reply refl
+    (λ s is line. line_may c h p s (λ vs. RowSync c (size_in h.table) s vs line.0) acts knows is
+    (λ t vs kept at row. sync_walks c (size_in h.table) s t vs line.0 kept (sized c h p t knows at) row) line.2) row
+row_may c h p (Asks_offline name device temporary) acts reply knows made row = on_pool c h p name (named name h.pools) (OfflineLine h device temporary) acts reply refl
+    (λ s is line. line_may c h p s (λ vs. RowOffline s device temporary vs line.0) acts knows is (λ t vs kept at row. offline_walks c s t device temporary vs line.0 kept row) line.2) row
+row_may c h p (Asks_logs name) acts reply knows made row = on_pool c h p name (named name h.pools) (LogsLine h) acts reply refl
+    (λ s is line. line_may c h p s (λ vs. RowLogs s vs line.0) acts knows is (λ t vs kept at row. logs_walks c s t vs line.0 row) line.2) row
+row_may c h p (Asks_create name blocks tops) acts reply knows made row = create_may c h p name blocks tops acts reply knows row
+
+pub entry_may : (c : Codec) (h : Host) (p : Pool) (e : Entry) → Knows c h p → HostRow c h e → MayActs c h p e.acts
+entry_may c h p e knows (inl row) = row_may c h p e.asked e.acts e.reply knows row.1 row.0
+entry_may c h p e knows (inr out) = may_front c h p e.acts out.rest (row_may c h p e.asked (e.acts ++ out.rest) out.reply knows out.made out.goes_on)
+
+-- the clock
+pub heard : (c : Codec) (h : Host) (p : Pool) (second : ℕ) → Knows c h p → Knows c (host_by (Hears second) h) p
+heard c h p second knows = record {
+  survives = knows.survives;
+  stands = knows.stands;
+  once = knows.once;
+  apart = knows.apart;
+  sizes = knows.sizes;
+  disk = knows.disk;
+}
+
+pub run_may : (c : Codec) (h : Host) (p : Pool) (entries : List Entry) → Knows c h p → IsRun c h entries → MayActs c h p (acts_in entries)
+run_may c h p [] knows run = tt
+run_may c h p (e ∷ entries) knows run = let first = heard c h p e.second knows in
+    (λ fair. (tt, first, may_more c (host_by (Hears e.second) h) p e.acts (acts_in entries) (entry_may c (host_by (Hears e.second) h) p e first run.0)
+    (λ fair known. run_may c (host_along (acts_of e) h) (pool_along e.acts p) entries known run.1) first))

@@ -1,0 +1,108 @@
+-- Acts: what a host does, one small step after another. A line is a list of acts, and all else is a function of that list: the
+-- host behind it, and the history of each pool.
+use Rattle.std.specs.Prelude.{ℕ, ◌==◌, Bool, cond, List, [], ◌∷◌, ◌++◌, map}
+use Rattle.std.specs.Str.{bytes_eq}
+use Rattle.mp_base.specs.declared.number.Guid.{Guid}
+use Rattle.bank_core.specs.Disk.{Noted, Sectors}
+use Rattle.label_store.specs.Rounds.{config_of}
+use Rattle.txg_history.specs.Events.{Event, Known, Calls, Looks, Opens, Loses, as_events}
+use Rattle.txg_history.specs.Pools.{Pool, pool_after, stamped}
+use Rattle.txg_history.specs.Records.{Rec}
+use Rattle.pool_moves.specs.Moves.{Move, events_of}
+use Rattle.pool_moves.specs.ReadRow.{ReadReply, made_in}
+use Rattle.pool_moves.specs.States.{PoolState}
+
+-- What an opening found and opens: the name that was asked, the pool number, the configuration's bytes, and the pool's state before
+-- its commit.
+pub record Opening : Type 0 where
+  pub name : List ℕ
+  pub pool : ℕ
+  pub config : List ℕ
+  pub state : PoolState
+
+-- A pool that begins behind its stamps: its members with their numbers, the names of the devices, their sectors, its tops' rooms,
+-- under which top each member stands, and its state.
+pub record Birth : Type 0 where
+  pub name : List ℕ
+  pub pool : Guid
+  pub member : ℕ → Bool
+  pub guid : ℕ → Guid
+  pub called : ℕ → List ℕ
+  pub size : ℕ → ℕ
+  pub room : ℕ → ℕ
+  pub home : ℕ → ℕ
+  pub state : PoolState
+
+pub data Act : Type 0 where
+  -- the clock gave this second
+  Hears : (second : ℕ) → Act
+  -- a device call before it is known whose it is
+  Bare : (noted : Noted) → Act
+  -- the open pool of this number makes a move
+  Does : (g : ℕ) (v : Move) → Act
+  -- of a read of block a the copies were read, and this is its reply; copies may be rewritten from here on
+  Gave : (g a : ℕ) (reply : ReadReply) → Act
+  -- an opening by this name has read the labels
+  Looked : (name : List ℕ) (known : Known) → Act
+  -- by what was read of its rings, this device has an identity of the pool of this number
+  Shows : (g d : ℕ) (known : Known) → Act
+  -- an opening opens what it found
+  Opens_as : (opening : Opening) → Act
+  -- a create begins under this pool number
+  Names : (g : ℕ) → Act
+  -- a stamp of the pool of this number begins on this device
+  Takes : (g d : ℕ) → Act
+  -- a pool begins behind its stamps
+  Bears : (birth : Birth) → Act
+  -- the pool of this number is open no more
+  Closes : (g : ℕ) → Act
+
+-- the pool's open state makes these moves
+abbrev pub does : (g : ℕ) → List Move → List Act
+does g vs = map (Does g) vs
+
+-- bare calls
+abbrev pub bare : List Noted → List Act
+bare made = map Bare made
+
+-- the device calls of an act, and of acts
+abbrev pub calls_of_act : Act → List Noted
+calls_of_act (Bare noted) = noted ∷ []
+calls_of_act (Does g v) = made_in (v ∷ [])
+calls_of_act act = []
+
+abbrev pub calls_along : List Act → List Noted
+calls_along [] = []
+calls_along (act ∷ acts) = calls_of_act act ++ calls_along acts
+
+-- the live record of this configuration
+abbrev pub record_of : (config : List ℕ) → (live : List Rec) → (otherwise : Rec) → Rec
+record_of config [] otherwise = otherwise
+record_of config (r ∷ live) otherwise = cond (bytes_eq config (config_of r.commit)) r (record_of config live otherwise)
+
+-- What the history of a pool gets of an act: each device call; the moves of its own open state; what openings by its name looked at;
+-- what an opening of it reads; and each device that another pool stamps.
+abbrev pub events_for : Act → Pool → List Event
+events_for (Bare noted) p = Calls noted ∷ []
+events_for (Does g v) p = cond (p.pool.0 == g) (events_of v p) (as_events (made_in (v ∷ [])))
+events_for (Looked name known) p = cond (bytes_eq p.name name) (Looks known ∷ []) []
+events_for (Opens_as opening) p = cond (p.pool.0 == opening.pool) (Opens (record_of opening.config p.live p.reads) ∷ []) []
+events_for (Takes g d) p = cond (p.pool.0 == g) [] (Loses d ∷ [])
+events_for act p = []
+
+-- the pool behind an act, and behind acts
+abbrev pub pool_by : Act → Pool → Pool
+pool_by act p = pool_after (events_for act p) p
+
+abbrev pub pool_along : List Act → Pool → Pool
+pool_along [] p = p
+pool_along (act ∷ acts) p = pool_along acts (pool_by act p)
+
+-- the history that acts make of a pool
+abbrev pub history : List Act → Pool → List Event
+history [] p = []
+history (act ∷ acts) p = events_for act p ++ history acts (pool_by act p)
+
+-- a pool as it begins on these sectors
+abbrev pub born : Birth → Sectors → Pool
+born b sectors = stamped b.name b.pool b.member b.guid b.size b.room b.home sectors

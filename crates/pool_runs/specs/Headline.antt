@@ -1,0 +1,74 @@
+-- The headline: what a run is to a pool that the devices had when it began, or that it made.
+use Rattle.std.specs.Prelude.{◌≡◌, ◌≢◌, ◌⊎◌, ℕ, Bool, true, false, List, [], ◌∷◌, ◌++◌, Some, take}
+use Rattle.bank_core.specs.Calls.{AllCaused}
+use Rattle.bank_core.specs.Disk.{run}
+use Rattle.txg_history.specs.Copies.{IsCopiedGroup, MayTakeGroup}
+use Rattle.txg_history.specs.Events.{Event, Clears, calls_of}
+use Rattle.txg_history.specs.Pages.{Codec, IsClash}
+use Rattle.txg_history.specs.Pools.{Pool, pool_after}
+use Rattle.txg_history.specs.Records.{Rec, IsIn, key}
+use Rattle.txg_history.specs.Sound.{IsSound}
+use Rattle.pool_moves.specs.AwayRows.{Required, LeastOut, is_offline, is_spare, leaf_named, siblings}
+use Rattle.pool_moves.specs.Leaves.{LeafSeen}
+use Rattle.pool_moves.specs.Missing.{AllMissed}
+use Rattle.pool_moves.specs.ReadRow.{Gives, Exhausted}
+use Rattle.pool_moves.specs.States.{PoolState}
+use Rattle.pool_runs.specs.Acts.{Act, calls_along, pool_along, history}
+use Rattle.pool_runs.specs.Counting.{SomeRose, HasLostBoard, Suspends}
+use Rattle.pool_runs.specs.HostRows.{acts_in}
+use Rattle.pool_runs.specs.Hosts.{Host, IsOpen}
+use Rattle.pool_runs.specs.Knowing.{HasSeats}
+use Rattle.pool_runs.specs.Lines.{Asks_read, Asks_turn, Asks_sync, Asks_offline, Reply, To_read, To_offline, No_memory, Entry}
+use Rattle.pool_runs.specs.Moments.{Moment, events_at, pool_at, past_at, host_at, LineOf, pool_before, pool_behind, host_before, calls_in_line, IsOpenAs}
+use Rattle.pool_runs.specs.Pasts.{Past, pool_of, Left, HasFrozen}
+use Rattle.pool_runs.specs.Taking.{IsTakenBy}
+
+-- Behind so many of the run's device calls there is a moment, and the pool's history has just these calls then.
+pub record HasMoment (past : Past) (acts : List Act) (entries : List Entry) (k : ℕ) : Type 0 where
+  pub count : ℕ
+  pub so_far : calls_along (take count (acts ++ acts_in entries)) ≡ take k (calls_along (acts ++ acts_in entries))
+  pub in_history : calls_of (history (take count (acts ++ acts_in entries)) (pool_of past)) ≡ take k (calls_along (acts ++ acts_in entries))
+
+-- The last of these events takes a group from the log of the leaf on this device: a scan's end, which copied it, the end of a suspended group that had
+-- the number, an opening, which takes the log of the record that it found, or another leaf in the leaf's place.
+abbrev pub TakesFor : Pool → (before : List Event) → Event → (d g : ℕ) → Type 0
+TakesFor p before (Clears e) d g = (e ≡ d) × IsCopiedGroup p before d g
+TakesFor p before v d g = MayTakeGroup (pool_after before p) v d g
+
+-- The reply is that the leaf is required for this group, just where it is the least that could be read from no other leaf of its top; or there was
+-- no memory.
+pub record IsRequiredFor (leaf : LeafSeen) (leaves : List LeafSeen) (group : ℕ) (reply : Reply) : Type 0 where
+  pub only : reply ≡ To_offline (Required group) → LeastOut (siblings leaf leaves) group
+  pub always : LeastOut (siblings leaf leaves) group → (reply ≡ To_offline (Required group)) ⊎ (reply ≡ No_memory)
+
+pub record Headline (c : Codec) (past : Past) (h : Host) (acts : List Act) (entries : List Entry) : Type 0 where
+  -- behind each device call of the run there is a moment, and the pool's history has just the calls so far
+  pub moments : (k : ℕ) → HasMoment past acts entries k
+  -- at each moment the devices are as the pool's past leaves them: a further run may begin from there
+  pub left : (m : Moment c past acts entries) → Left c (past_at m) (host_at h m)
+  -- and where the pool is open, what its code has in memory is what its history says
+  pub stands : (m : Moment c past acts entries) (s : PoolState) → IsOpen s (host_at h m).pools → s.core.pool.0 ≡ (pool_of past).pool.0 → HasSeats c s (pool_at m)
+  -- at each moment the pool is sound
+  pub sound : (m : Moment c past acts entries) → IsSound (pool_at m)
+  -- and each record that an opening may find has the writes that were accepted before a freeze, the last before its round
+  pub contents : (m : Moment c past acts entries) (r : Rec) → IsIn r (pool_at m).live → HasFrozen (past_at m) r
+  -- a read gives the block that was written last, or that block and the bytes that it gave are two byte strings with one SHA-256 sum
+  pub reads : (l : LineOf c past acts entries) (name : List ℕ) (a : ℕ) (s : PoolState) (bytes : List ℕ) → l.entry.asked ≡ Asks_read name a
+      → IsOpenAs (pool_before l) (host_before h l) name s → l.entry.reply ≡ To_read (Gives bytes)
+      → (bytes ≡ (pool_before l).written a) ⊎ IsClash ((pool_before l).written a) bytes
+  -- it gives none only where each readable leaf of the block's top missed it in this line
+  pub loses : (l : LineOf c past acts entries) (name : List ℕ) (a : ℕ) (s : PoolState) → l.entry.asked ≡ Asks_read name a
+      → IsOpenAs (pool_before l) (host_before h l) name s → l.entry.reply ≡ To_read Exhausted
+      → AllMissed (s.core.committed (key 0 a)) (calls_in_line l) (run (calls_in_line l) (pool_before l).sectors) s.core.leaves
+  -- a leaf that isn't OFFLINE, nor a spare that stands in, is required just where the outage rule says so
+  pub required : (l : LineOf c past acts entries) (name device : List ℕ) (temporary : Bool) (s : PoolState) (leaf : LeafSeen) (group : ℕ)
+      → l.entry.asked ≡ Asks_offline name device temporary → IsOpenAs (pool_before l) (host_before h l) name s
+      → leaf_named device s.core.leaves ≡ Some leaf → is_spare s leaf ≡ false → is_offline leaf.own.mode ≡ false → IsRequiredFor leaf s.core.leaves group l.entry.reply
+  -- scans clear only copied groups, and else a group leaves a log only where its number is burned, at an opening, or with its leaf
+  pub scans : (m : Moment c past acts entries) (before : List Event) (v : Event) (d g : ℕ) → events_at m ≡ before ++ (v ∷ []) → (pool_after before (pool_of past)).member d ≡ true
+      → (pool_after before (pool_of past)).owes d g ≡ true → (pool_at m).owes d g ≡ false → TakesFor (pool_of past) before v d g
+  -- a member stays one, unless this very line is a create that names its device and wasn't refused
+  pub keeps : (l : LineOf c past acts entries) (d : ℕ) → (pool_before l).member d ≡ true → ((pool_behind l).member d ≡ true) ⊎ IsTakenBy (host_before h l) l.entry d
+  -- a turn or a sync is refused as suspended only where a device's count rose in that very line, or some top had nobody left on its board before
+  pub counts : (l : LineOf c past acts entries) (name : List ℕ) (s : PoolState) (from to : ℕ → ℕ) → (l.entry.asked ≡ Asks_turn name) ⊎ (l.entry.asked ≡ Asks_sync name)
+      → IsOpenAs (pool_before l) (host_before h l) name s → AllCaused (calls_in_line l) from to → Suspends l.entry.reply → SomeRose from to ⊎ HasLostBoard s

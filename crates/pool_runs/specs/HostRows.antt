@@ -1,0 +1,136 @@
+-- Each line of a host as a row: which acts it is made of, by the host before it, and what it answers.
+use Rattle.std.specs.Prelude.{◌≡◌, ◌⊎◌, ℕ, ◌≤◌, Bool, true, false, cond, List, [], ◌∷◌, ◌++◌, Option, Some, None}
+use Rattle.std.specs.List.{AllByRecursion}
+use Rattle.bank_core.specs.Calls.{device_of, fault_of}
+use Rattle.bank_core.specs.Disk.{Call, Read, Write, Flush, Admit, Eject, Noted, AllAnswer}
+use Rattle.label_store.specs.Newest.{AreReads}
+use Rattle.txg_history.specs.Pages.{Codec}
+use Rattle.pool_moves.specs.AwayRows.{WriteReply, RowWrite, OfflineReply, RowOffline}
+use Rattle.pool_moves.specs.CommitRows.{NamedLog, RowLogs}
+use Rattle.pool_moves.specs.LineRows.{TurnReply, FreezeReply, SyncReply, RowTurn, RowFreezeLine, RowSync}
+use Rattle.pool_moves.specs.Moves.{Move, Makes}
+use Rattle.pool_moves.specs.ReadRow.{ReadReply, RowRead}
+use Rattle.pool_moves.specs.States.{PoolState}
+use Rattle.pool_runs.specs.Acts.{Act, Hears, Bare, Does, Gave, Looked, Shows, Opens_as, Names, Takes, Bears, Closes, does, calls_along}
+use Rattle.pool_runs.specs.Creating.{RowCreate}
+use Rattle.pool_runs.specs.Devices.{size_in}
+use Rattle.pool_runs.specs.Hosts.{Host, named, host_by, host_along}
+use Rattle.pool_runs.specs.Knowing.{AreOwnActs}
+use Rattle.pool_runs.specs.Lines.{Asked, Asks_nothing, Asks_write, Asks_read, Asks_freeze, Asks_turn, Asks_sync, Asks_offline, Asks_logs, Asks_create, Reply, To_nothing, To_write, To_read, To_freeze, To_turn, To_sync, To_offline, To_logs, No_pool, No_memory, Entry}
+
+-- Device calls that a line made: each on a device that the run has, with an answer by the disk model.
+pub record AreMade (h : Host) (calls : List Noted) : Type 0 where
+  pub here : AllByRecursion (λ noted. 1 ≤ size_in h.table (device_of noted.call)) calls
+  pub answer : AllAnswer h.disk calls
+
+-- The open pool makes these moves, each on devices of its own.
+pub record ByMoves (h : Host) (s : PoolState) (Row : List Move → Type 0) (acts : List Act) : Type 0 where
+  pub moves : List Move
+  pub row : Row moves
+  pub are : acts ≡ does s.core.pool.0 moves
+  pub own : AreOwnActs s.core.pool.0 h acts
+
+-- the move is a read of a device
+abbrev pub is_read : Call → Bool
+is_read (Read dev at bytes fault) = true
+is_read call = false
+
+abbrev pub is_reading : Move → Bool
+is_reading (Makes noted) = is_read noted.call
+is_reading v = false
+
+-- the mark of a reply behind the reads of a read, before the copies are rewritten
+abbrev pub marked_behind : (reading : Bool) → (g a : ℕ) → ReadReply → Move → (vs : List Move) → (rest : List Act) → List Act
+marked_behind true g a reply v vs rest = Does g v ∷ rest
+marked_behind false g a reply v vs rest = Gave g a reply ∷ does g (v ∷ vs)
+
+abbrev pub read_acts : (g a : ℕ) → ReadReply → List Move → List Act
+read_acts g a reply [] = Gave g a reply ∷ []
+read_acts g a reply (v ∷ vs) = marked_behind (is_reading v) g a reply v vs (read_acts g a reply vs)
+
+pub record ByRead (h : Host) (s : PoolState) (a : ℕ) (reply : ReadReply) (acts : List Act) : Type 0 where
+  pub moves : List Move
+  pub row : RowRead s a moves reply
+  pub are : acts ≡ read_acts s.core.pool.0 a reply moves
+  pub own : AreOwnActs s.core.pool.0 h acts
+
+-- Lines of an open pool.
+abbrev pub WriteLine : Host → (a : ℕ) → (block : List ℕ) → PoolState → List Act → Reply → Type 0
+WriteLine h a block s acts reply = (r : WriteReply) × (reply ≡ To_write r) × ByMoves h s (λ vs. RowWrite s a block vs r) acts
+
+abbrev pub ReadLine : Host → (a : ℕ) → PoolState → List Act → Reply → Type 0
+ReadLine h a s acts reply = (r : ReadReply) × (reply ≡ To_read r) × ByRead h s a r acts
+
+abbrev pub FreezeLine : Codec → Host → PoolState → List Act → Reply → Type 0
+FreezeLine c h s acts reply = (r : FreezeReply) × (reply ≡ To_freeze r) × ByMoves h s (λ vs. RowFreezeLine c s vs r) acts
+
+abbrev pub TurnLine : Codec → Host → PoolState → List Act → Reply → Type 0
+TurnLine c h s acts reply = (r : TurnReply) × (reply ≡ To_turn r) × ByMoves h s (λ vs. RowTurn c (size_in h.table) s vs r) acts
+
+abbrev pub SyncLine : Codec → Host → PoolState → List Act → Reply → Type 0
+SyncLine c h s acts reply = (r : SyncReply) × (reply ≡ To_sync r) × ByMoves h s (λ vs. RowSync c (size_in h.table) s vs r) acts
+
+abbrev pub OfflineLine : Host → (device : List ℕ) → (temporary : Bool) → PoolState → List Act → Reply → Type 0
+OfflineLine h device temporary s acts reply = (r : OfflineReply) × (reply ≡ To_offline r) × ByMoves h s (λ vs. RowOffline s device temporary vs r) acts
+
+abbrev pub LogsLine : Host → PoolState → List Act → Reply → Type 0
+LogsLine h s acts reply = (logs : List NamedLog) × (reply ≡ To_logs logs) × ByMoves h s (λ vs. RowLogs s vs logs) acts
+
+-- a line of the open pool of a name; where there is none, it is refused and does nothing
+abbrev pub OnPool : Option PoolState → (Line : PoolState → List Act → Reply → Type 0) → List Act → Reply → Type 0
+OnPool None Line acts reply = (acts ≡ []) × (reply ≡ No_pool)
+OnPool (Some s) Line acts reply = Line s acts reply
+
+-- A line.
+abbrev pub RowOf : Codec → Host → Asked → List Act → Reply → Type 0
+RowOf c h Asks_nothing acts reply = (acts ≡ []) × (reply ≡ To_nothing)
+RowOf c h (Asks_write name a block) acts reply = OnPool (named name h.pools) (WriteLine h a block) acts reply
+RowOf c h (Asks_read name a) acts reply = OnPool (named name h.pools) (ReadLine h a) acts reply
+RowOf c h (Asks_freeze name) acts reply = OnPool (named name h.pools) (FreezeLine c h) acts reply
+RowOf c h (Asks_turn name) acts reply = OnPool (named name h.pools) (TurnLine c h) acts reply
+RowOf c h (Asks_sync name) acts reply = OnPool (named name h.pools) (SyncLine c h) acts reply
+RowOf c h (Asks_offline name device temporary) acts reply = OnPool (named name h.pools) (OfflineLine h device temporary) acts reply
+RowOf c h (Asks_logs name) acts reply = OnPool (named name h.pools) (LogsLine h) acts reply
+RowOf c h (Asks_create name blocks tops) acts reply = RowCreate c h name blocks tops acts reply
+
+-- the act changes no pool: it is a call, or it marks something
+abbrev pub ChangesNone : Act → Type 0
+ChangesNone (Does g (Makes noted)) = Unit {0}
+ChangesNone (Does g v) = ⊥
+ChangesNone (Opens_as opening) = ⊥
+ChangesNone (Takes g d) = ⊥
+ChangesNone (Bears birth) = ⊥
+ChangesNone (Closes g) = ⊥
+ChangesNone act = Unit {0}
+
+abbrev pub IsReadLine : Asked → Type 0
+IsReadLine (Asks_read name a) = Unit {0}
+IsReadLine asked = ⊥
+
+-- A line for which there was no memory: it did what some row of this line begins with. Each call so far answered Ok; none of them wrote or
+-- flushed, and no pool changed, but where a read rewrote copies and counted. (A sync that ended a group before is a row of its own.)
+pub record RunsOut (c : Codec) (h : Host) (e : Entry) : Type 0 where
+  pub rest : List Act
+  pub reply : Reply
+  pub goes_on : RowOf c h e.asked (e.acts ++ rest) reply
+  pub made : AreMade h (calls_along (e.acts ++ rest))
+  pub answered : AllByRecursion (λ noted. fault_of noted.call ≡ None) (calls_along e.acts)
+  pub early : (AllByRecursion ChangesNone e.acts × AreReads (calls_along e.acts)) ⊎ IsReadLine e.asked
+  pub says : e.reply ≡ No_memory
+
+-- An entry of a run.
+abbrev pub HostRow : Codec → Host → Entry → Type 0
+HostRow c h e = (RowOf c h e.asked e.acts e.reply × AreMade h (calls_along e.acts)) ⊎ RunsOut c h e
+
+-- the acts of an entry, and of entries: each begins with the second that the clock gave
+abbrev pub acts_of : Entry → List Act
+acts_of e = Hears e.second ∷ e.acts
+
+abbrev pub acts_in : List Entry → List Act
+acts_in [] = []
+acts_in (e ∷ entries) = acts_of e ++ acts_in entries
+
+-- A run of a host: line by line.
+abbrev pub IsRun : Codec → Host → List Entry → Type 0
+IsRun c h [] = Unit {0}
+IsRun c h (e ∷ entries) = HostRow c (host_by (Hears e.second) h) e × IsRun c (host_along (acts_of e) h) entries

@@ -1,0 +1,95 @@
+-- What a host knows of a pool, open or closed, and which acts keep it.
+use Rattle.std.specs.Prelude.{◌≡◌, ◌≢◌, ℕ, ◌≤◌, ◌<◌, Bool, false, List, [], ◌∷◌, Option, Some}
+use Rattle.std.specs.List.{AllByRecursion}
+use Rattle.bank_core.specs.Disk.{Call, Read, Write, Flush, Admit, Eject, Noted, Sectors}
+use Rattle.label_store.specs.Records.{place_at}
+use Rattle.label_store.specs.Uberblock.{IsUberblock}
+use Rattle.label_store.specs.declared.uberblock.Uberblock.{Uberblock}
+use Rattle.txg_history.specs.Events.{Known}
+use Rattle.txg_history.specs.Moves.{Mays, ReadsTrue}
+use Rattle.txg_history.specs.Pages.{Codec}
+use Rattle.txg_history.specs.Pools.{Pool}
+use Rattle.txg_history.specs.Survival.{Survives}
+use Rattle.pool_moves.specs.FreezeRow.{is_dev}
+use Rattle.pool_moves.specs.Keeping.{Kept}
+use Rattle.pool_moves.specs.Leaves.{Seat, LeafSeen}
+use Rattle.pool_moves.specs.Moves.{Move, Makes, Comes}
+use Rattle.pool_moves.specs.States.{PoolState}
+use Rattle.pool_runs.specs.Acts.{Act, Hears, Bare, Does, Gave, Looked, Shows, Opens_as, Names, Takes, Bears, Closes, events_for, pool_by}
+use Rattle.pool_runs.specs.Devices.{Device, size_in}
+use Rattle.pool_runs.specs.Fairness.{IsFair}
+use Rattle.pool_runs.specs.Hosts.{Host, host_by, IsOpen}
+
+-- the state is what the pool's history says, at some seats of its leaves
+abbrev pub HasSeats : Codec → PoolState → Pool → Type 0
+HasSeats c s p = (seats : List Seat) × Kept c s (record { pool = p; seats = seats })
+
+-- A pool in a host. Its history has its invariant; where it is open its state is what its history says, and it is open once; no device that
+-- another pool owns is its member; and each device that this run has is as the history has it, in its size and its sectors.
+pub record Knows (c : Codec) (h : Host) (p : Pool) : Type 0 where
+  pub survives : Survives c p
+  pub stands : (s : PoolState) → IsOpen s h.pools → s.core.pool.0 ≡ p.pool.0 → HasSeats c s p
+  pub once : (s u : PoolState) → IsOpen s h.pools → IsOpen u h.pools → s.core.pool.0 ≡ p.pool.0 → u.core.pool.0 ≡ p.pool.0 → s ≡ u
+  pub apart : (d g : ℕ) → h.owner d ≡ Some g → g ≢ p.pool.0 → p.member d ≡ false
+  pub sizes : (d : ℕ) → 1 ≤ size_in h.table d → p.size d ≡ size_in h.table d
+  pub disk : (d s : ℕ) → 1 ≤ size_in h.table d → p.sectors d s ≡ h.disk d s
+
+-- Each of these acts, as far as it is fair and those before it were, is a list of events that the pool's history may have, and the host goes on
+-- knowing the pool.
+abbrev pub MayActs : Codec → Host → Pool → List Act → Type 0
+MayActs c h p [] = Unit {0}
+MayActs c h p (act ∷ acts) = IsFair c p act
+    → Mays c p (events_for act p) × Knows c (host_by act h) (pool_by act p) × MayActs c (host_by act h) (pool_by act p) acts
+
+-- a call writes to a device of the pool of this number alone
+abbrev pub IsOwnCall : (g : ℕ) → (owner : ℕ → Option ℕ) → Call → Type 0
+IsOwnCall g owner (Read dev at bytes fault) = Unit {0}
+IsOwnCall g owner (Write dev at bytes fault) = owner dev ≡ Some g
+IsOwnCall g owner (Flush dev fault) = Unit {0}
+IsOwnCall g owner (Admit dev holds) = ⊥
+IsOwnCall g owner (Eject dev) = ⊥
+
+-- so does a move, and a leaf comes in on such a device
+abbrev pub IsOwnMove : (g : ℕ) → (owner : ℕ → Option ℕ) → Move → Type 0
+IsOwnMove g owner (Makes noted) = IsOwnCall g owner noted.call
+IsOwnMove g owner (Comes i d m top own) = owner d ≡ Some g
+IsOwnMove g owner v = Unit {0}
+
+-- By what was read of its rings, the device has an identity of the pool of this number.
+pub record IsShown (table : List Device) (g d : ℕ) (known : Known) : Type 0 where
+  pub here : 1 ≤ size_in table d
+  pub place : ℕ
+  pub inside : place < 128
+  pub bytes : List ℕ
+  pub is_read : known d (place_at (size_in table d) place) ≡ Some bytes
+  pub u : Uberblock
+  pub correct : IsUberblock u bytes
+  pub pool_is : u.pool.0 ≡ g
+
+-- What was read is of devices that the run has, and is true to them.
+pub record IsTrueLook (h : Host) (known : Known) : Type 0 where
+  pub here : (d s : ℕ) (bytes : List ℕ) → known d s ≡ Some bytes → 1 ≤ size_in h.table d
+  pub reads : ReadsTrue h.disk known
+
+-- no leaf of the open pool has this device
+abbrev pub HasNoLeafAt : (d : ℕ) → PoolState → Type 0
+HasNoLeafAt d s = AllByRecursion (λ leaf. is_dev d leaf.dev ≡ false) s.core.leaves
+
+-- An act of the pool of this number, as far as other pools have to know it: it writes to devices of its own alone, it stamps none of another
+-- open pool's leaves, and a device is its own where it has the pool's identity or was stamped.
+abbrev pub IsOwnAct : (g : ℕ) → Host → Act → Type 0
+IsOwnAct g h (Hears second) = Unit {0}
+IsOwnAct g h (Bare noted) = IsOwnCall g h.owner noted.call
+IsOwnAct g h (Does k v) = (k ≡ g) × IsOwnMove g h.owner v
+IsOwnAct g h (Gave k a reply) = k ≡ g
+IsOwnAct g h (Looked name known) = IsTrueLook h known
+IsOwnAct g h (Shows k d known) = (k ≡ g) × IsShown h.table g d known
+IsOwnAct g h (Opens_as opening) = (opening.pool ≡ g) × (opening.state.core.pool.0 ≡ g)
+IsOwnAct g h (Names k) = k ≡ g
+IsOwnAct g h (Takes k d) = (k ≡ g) × ((s : PoolState) → IsOpen s h.pools → s.core.pool.0 ≢ g → HasNoLeafAt d s)
+IsOwnAct g h (Bears birth) = birth.state.core.pool.0 ≡ g
+IsOwnAct g h (Closes k) = k ≡ g
+
+abbrev pub AreOwnActs : (g : ℕ) → Host → List Act → Type 0
+AreOwnActs g h [] = Unit {0}
+AreOwnActs g h (act ∷ acts) = IsOwnAct g h act × AreOwnActs g (host_by act h) acts

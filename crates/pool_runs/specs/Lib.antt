@@ -1,0 +1,13 @@
+pub mod Acts
+pub mod Counting
+pub mod Creating
+pub mod Devices
+pub mod Fairness
+pub mod Headline
+pub mod HostRows
+pub mod Hosts
+pub mod Knowing
+pub mod Lines
+pub mod Moments
+pub mod Pasts
+pub mod Taking

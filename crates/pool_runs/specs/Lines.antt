@@ -1,0 +1,59 @@
+-- Lines: what is asked of a host, and what it answers.
+use Rattle.std.specs.Prelude.{ℕ, Bool, List}
+use Rattle.pool_moves.specs.AwayRows.{WriteReply, OfflineReply}
+use Rattle.pool_moves.specs.CommitRows.{NamedLog}
+use Rattle.pool_moves.specs.LineRows.{TurnReply, FreezeReply, SyncReply}
+use Rattle.pool_moves.specs.ReadRow.{ReadReply}
+use Rattle.pool_runs.specs.Acts.{Act}
+
+-- what a line asks. One that asks nothing is outside of the grammar, or empty
+pub data Asked : Type 0 where
+  Asks_nothing : Asked
+  Asks_write : (name : List ℕ) (a : ℕ) (block : List ℕ) → Asked
+  Asks_read : (name : List ℕ) (a : ℕ) → Asked
+  Asks_freeze : (name : List ℕ) → Asked
+  Asks_turn : (name : List ℕ) → Asked
+  Asks_sync : (name : List ℕ) → Asked
+  Asks_offline : (name device : List ℕ) (temporary : Bool) → Asked
+  Asks_logs : (name : List ℕ) → Asked
+  -- a pool of so many blocks over these mirrors, each of devices by name
+  Asks_create : (name : List ℕ) (blocks : ℕ) (tops : List (List (List ℕ))) → Asked
+
+-- Why a create is refused: its name is taken; a limit would be passed; its blocks are too few or too many; a device is named twice, or isn't
+-- there, or is an open pool's, which is named; or it is too small.
+pub data CreateRefusal : Type 0 where
+  NameTaken : CreateRefusal
+  TooMany : (limit count : ℕ) → CreateRefusal
+  BadBlocks : (limit : ℕ) → CreateRefusal
+  NameTwice : CreateRefusal
+  UnknownDevice : (name : List ℕ) → CreateRefusal
+  InUse : (by : List ℕ) → CreateRefusal
+  TooSmall : (need has : ℕ) → CreateRefusal
+
+-- What a create answers: the number that it committed, the device that failed in it, or why it did nothing.
+pub data CreateReply : Type 0 where
+  Created : (number : ℕ) → CreateReply
+  DeviceFault : (device : List ℕ) → CreateReply
+  Uncreated : (refusal : CreateRefusal) → CreateReply
+
+pub data Reply : Type 0 where
+  To_nothing : Reply
+  To_write : (reply : WriteReply) → Reply
+  To_read : (reply : ReadReply) → Reply
+  To_freeze : (reply : FreezeReply) → Reply
+  To_turn : (reply : TurnReply) → Reply
+  To_sync : (reply : SyncReply) → Reply
+  To_offline : (reply : OfflineReply) → Reply
+  To_logs : (logs : List NamedLog) → Reply
+  To_create : (reply : CreateReply) → Reply
+  -- no open pool has the name
+  No_pool : Reply
+  -- there was no memory
+  No_memory : Reply
+
+-- A line of a run: what it asked, the second that the clock gave, what the host did, and what it answered.
+pub record Entry : Type 0 where
+  pub asked : Asked
+  pub second : ℕ
+  pub acts : List Act
+  pub reply : Reply

@@ -1,0 +1,37 @@
+//! The laws of a host's acts and runs (docs/MODEL.md, "The host and its runs").
+ghost use Rattle.std.specs.Prelude.{ℕ, List, [], take};
+ghost use Rattle.txg_history.specs.Numbering.{renumbered};
+ghost use Rattle.txg_history.specs.Pages.{Codec};
+ghost use Rattle.txg_history.specs.Pools.{Pool};
+ghost use Rattle.pool_runs.specs.Acts.{Act, Bears, pool_along};
+ghost use Rattle.pool_runs.specs.Creating.{Creates, IsNew, new_birth};
+ghost use Rattle.pool_runs.specs.Fairness.{AreFair};
+ghost use Rattle.pool_runs.specs.Headline.{Headline};
+ghost use Rattle.pool_runs.specs.HostRows.{IsRun};
+ghost use Rattle.pool_runs.specs.Hosts.{Host, host_by, host_along};
+ghost use Rattle.pool_runs.specs.Knowing.{Knows, MayActs};
+ghost use Rattle.pool_runs.specs.Lines.{Reply, Entry};
+ghost use Rattle.pool_runs.specs.Pasts.{Past, Born, pool_of, IsAllowed, BeginsRun, IsNext, AreNamed, next_past};
+
+/// Behind each front of its acts a host knows a pool, as far as they are fair up to there. It computes nothing: its clause
+/// is the law.
+pub fn acts_keep_what_is_known()
+    ensures { (c : Codec) (h : Host) (p : Pool) (acts : List Act) → Knows c h p → MayActs c h p acts → (i : ℕ) → AreFair c p (take i acts)
+        → Knows c (host_along (take i acts) h) (pool_along (take i acts) p) }
+{}
+
+/// A run keeps each pool that its devices had, and a stop at any moment of it leaves what a further run may begin with. It
+/// computes nothing: its clauses are the law.
+///
+/// `first`: all that is said of a run, of a pool whose past the devices are left by when it begins, whatever lines it has, for this pool
+/// and for others. `born`: the same of a pool that a create makes, from its stamps' end on, where its number is no open pool's. `next`: behind a stop that left any images of the devices, the next run begins so, with its devices under any
+/// numbers, further ones, or without some.
+pub fn runs_keep_each_pool()
+    ensures first { (c : Codec) (past : Past) (h : Host) (entries : List Entry) → BeginsRun c past h → IsRun c h entries → Headline c past h [] entries }
+    ensures born { (c : Codec) (h : Host) (name : List ℕ) (blocks : ℕ) (tops : List (List (List ℕ))) (acts : List Act) (reply : Reply) (entries : List Entry)
+        → (k : Creates c h name blocks tops acts reply) → IsNew h k.pool.0 → IsRun c (host_along acts h) entries
+        → Headline c (Born (new_birth name k.pool blocks h.table tops) (host_along k.stamps h).disk)
+        (host_by (Bears (new_birth name k.pool blocks h.table tops)) (host_along k.stamps h)) k.rest entries }
+    ensures next { (c : Codec) (past : Past) (was : ℕ → ℕ) (called : ℕ → List ℕ) (images : ℕ → ℕ → List ℕ) (h : Host) → IsAllowed c past
+        → AreNamed past was called h → IsNext (renumbered was (pool_of past)) images h → BeginsRun c (next_past past was called images h) h }
+{}

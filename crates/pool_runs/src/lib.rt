@@ -1,0 +1,6 @@
+//! Runs of a host over any number of pools (docs/MODEL.md, "The host and its runs").
+#![tactic(auto)]
+
+mod laws;
+
+pub use laws::{acts_keep_what_is_known, runs_keep_each_pool};
