@@ -4,6 +4,7 @@ pub mod Contents
 pub mod Copies
 pub mod Events
 pub mod Groups
+pub mod Imports
 pub mod Labels
 pub mod Looks
 pub mod Losses
