@@ -71,8 +71,8 @@ past_leave_none c p vs known sv mays live missed drawn ours = no_stray c behind 
     acked s above (inr below) = absurd (omega (arith, above, below))
 
     begun : (s : Rec) (w : WasMissed p vs s) → BegunAt p.written p.group.content w.before s → IsPast behind s
-    begun s w b = all_at (DrawsPast behind) b.before (Begins s) b.later
-        (subst (AllByRecursion (DrawsPast behind)) b.all (all_front (DrawsPast behind) w.before (Opens w.opened ∷ w.later) (subst (AllByRecursion (DrawsPast behind)) w.all drawn)))
+    begun s w b = all_at (DrawsPast behind) b.before (Begins s) b.later (subst (AllByRecursion (DrawsPast behind)) b.all
+        (all_front (DrawsPast behind) w.before (Opens w.opened ∷ w.later) (subst (AllByRecursion (DrawsPast behind)) w.all drawn)))
 
     past : (s : Rec) → IsIn s behind.missed → IsPast behind s
     past s i = ⊎_elim (λ old. missed s old) (λ w. ⊎_elim (λ was. live s was.0 was.1) (λ b. begun s w b) (missed_from c p vs s sv mays w)) (missed_by vs p s i)

@@ -21,7 +21,7 @@ ghost use Rattle.txg_history.specs.Openings.{IsVerifiedOn, IsYield, IsReadWhole,
 ghost use Rattle.txg_history.specs.Pages.{Codec};
 ghost use Rattle.txg_history.specs.Pools.{Pool, drawn, after, pool_after};
 ghost use Rattle.txg_history.specs.Premises.{AreOurs, AreClaims, AreGood, AreNamesKept, AreTwins, HasNoClash, AreNotTorn, AreOwnConfigs};
-ghost use Rattle.txg_history.specs.Premises.{AreThere, HasNoTwin, HasNoStray, HasTwin, HoldsLabels, Premises, WasAcked, WasMissed};
+ghost use Rattle.txg_history.specs.Premises.{AreThere, HasNoTwin, HasSoundLabels, HasNoStray, HasTwin, HoldsLabels, Premises, WasAcked, WasMissed};
 ghost use Rattle.txg_history.specs.Records.{Rec, IsIn, number_of};
 ghost use Rattle.txg_history.specs.Survival.{IsAmong, Survives};
 
@@ -77,14 +77,18 @@ pub fn looks_show_the_labels()
 ///
 /// `calm`: they hold where each read of a member gives what stands there, some member's labels hold a record
 /// and none of their sectors is damaged, no opening ever missed a record, and no configuration that is
-/// verified has the sum of another drawn one. `true_to`: so read, each clean sector shows what stands there. `no_clash`: there is none
+/// verified has the sum of another drawn one. `sound`: labels that hold a record are sound where none of their sectors is damaged
+/// and each was read, though the premise asks this only of the sectors of one uberblock and of one configuration. `true_to`: so
+/// read, each clean sector shows what stands there. `no_clash`: there is none
 /// where no two different byte strings of those that are there have one sum, and no ring sector is torn into a correct
 /// uberblock.
 pub fn premises_can_be_met()
-    ensures calm { (head_of : List ℕ → Option Head) (p : Pool) (d : ℕ) (r : Rec) → HoldsLabels p d r → p.member d ≡ true
+    ensures calm { (c : Codec) (p : Pool) (d : ℕ) (r : Rec) → Survives c p → HoldsLabels p d r → p.member d ≡ true
         → AreUnhurt (p.size d) (p.sectors d) → p.missed ≡ []
-        → AreOwnConfigs head_of p (stable_of p)
-        → Premises head_of p (stable_of p) }
+        → AreOwnConfigs c.head_of p (stable_of p)
+        → Premises c.head_of p (stable_of p) }
+    ensures sound { (c : Codec) (p : Pool) (known : Known) (d : ℕ) (r : Rec) → Survives c p → p.member d ≡ true → HoldsLabels p d r
+        → AreUnhurt (p.size d) (p.sectors d) → IsReadWhole (p.size d) (known d) → HasSoundLabels p known d }
     ensures true_to { (p : Pool) → ReadsTrue p.sectors (stable_of p) }
     ensures no_clash { (head_of : List ℕ → Option Head) (p : Pool) (known : Known) (strings : List (List ℕ))
         → ((a b : List ℕ) → IsAmong a strings → IsAmong b strings → sha256 a ≡ sha256 b → a ≡ b) → AreThere head_of p known strings → AreNotTorn p known
