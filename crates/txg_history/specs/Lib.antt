@@ -20,6 +20,7 @@ pub mod Reads
 pub mod Records
 pub mod Rounds
 pub mod Scans
+pub mod Settled
 pub mod Sound
 pub mod Sparing
 pub mod Stamps
