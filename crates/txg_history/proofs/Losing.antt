@@ -44,7 +44,8 @@ use Rattle.label_store.proofs.Writing.{ring_sectors}
 use Rattle.txg_history.specs.Events.{Event, Calls, Joins, Loses, as_events}
 use Rattle.txg_history.specs.Groups.{at_device}
 use Rattle.txg_history.specs.Labels.{Status, Odd, Even}
-use Rattle.txg_history.specs.Losses.{IsStampCall, BeginsStamp, LoseJust, IsStampPlan, IsStamp, IsWipe, IsMark, IsLostBy, IsLostAmong, IsStampedAmong, IsReplacedAmong}
+use Rattle.txg_history.specs.Losses.{IsStampCall, BeginsStamp, LoseJust, IsStampPlan, IsStamp, IsWipe, IsMark}
+use Rattle.txg_history.specs.Losses.{IsLostBy, IsLostAmong, IsStampedAmong, IsReplacedAmong}
 use Rattle.txg_history.specs.Moves.{Mays}
 use Rattle.txg_history.specs.Needs.{NeedsLabel}
 use Rattle.txg_history.specs.Pages.{Codec}

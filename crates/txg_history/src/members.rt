@@ -18,10 +18,9 @@ ghost use Rattle.txg_history.specs.Tracking.{HasPromise};
 /// A history may say anywhere that a device is lost; from there on nothing is promised of what stands on it. `only`: a device that
 /// was a member and is none was lost by one of the events. `does`: such an event takes it. `just`: in a history that says it only
 /// where a stamp, a wipe or a spare's mark begins with the next event, one of these began on the device, or another device was
-/// brought in under its number. `joins`: a
-/// device that is brought in is a member, and of the others those with another number alone. `stamps`: the calls of a stamp, a wipe or a mark
-/// are allowed, whichever of them fails, where the device is lost before the first of them; and that is such a
-/// history. `needed`: without that, none begins on a member whose labels promise a record.
+/// brought in under its number. `joins`: a device that is brought in is a member, and of the others those with another number
+/// alone. `stamps`: the calls of a stamp, a wipe or a mark are allowed, whichever of them fails, where the device is lost before the
+/// first of them; and that is such a history. `needed`: without that, none begins on a member whose labels promise a record.
 pub fn devices_are_lost_by_stamps()
     ensures only { (vs : List Event) (p : Pool) (d : ℕ) → p.member d ≡ true → (pool_after vs p).member d ≡ false → IsLostAmong p vs d }
     ensures does { (v : Event) (p : Pool) (d : ℕ) → IsLostBy p v d → (after v p).member d ≡ false }
