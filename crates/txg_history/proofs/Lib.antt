@@ -34,6 +34,7 @@ pub mod RoundShapes
 pub mod RoundsSurvive
 pub mod ScansBring
 pub mod ScansSurvive
+pub mod Settling
 pub mod Showing
 pub mod Sparing
 pub mod Stamping

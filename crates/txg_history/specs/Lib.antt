@@ -4,6 +4,7 @@ pub mod Contents
 pub mod Copies
 pub mod Events
 pub mod Groups
+pub mod Imports
 pub mod Labels
 pub mod Looks
 pub mod Losses
@@ -19,6 +20,7 @@ pub mod Reads
 pub mod Records
 pub mod Rounds
 pub mod Scans
+pub mod Settled
 pub mod Sound
 pub mod Sparing
 pub mod Stamps
