@@ -18,4 +18,5 @@ pub mod Rosters
 pub mod RoundWalks
 pub mod Seeing
 pub mod Seeking
+pub mod StampWalks
 pub mod TurnWalks

@@ -15,6 +15,7 @@ pub mod PageReads
 pub mod ReadRow
 pub mod Resilvers
 pub mod Rosters
+pub mod StampRow
 pub mod States
 pub mod TurnRows
 pub mod Walking
