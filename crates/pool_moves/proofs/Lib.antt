@@ -27,5 +27,6 @@ pub mod ScanSteps
 pub mod Seeing
 pub mod Seeking
 pub mod Shaping
+pub mod StampWalks
 pub mod TurnWalks
 pub mod Widenings

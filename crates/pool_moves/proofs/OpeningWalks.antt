@@ -327,7 +327,7 @@ module _ (c : Codec) (size : ℕ → ℕ) (handed : List ℕ → Option ℕ) (na
         failed_second (noted ∷ first) second d is = failed_second first second d
             (or_last ((device_of noted.call == d) && not (is_none (fault_of noted.call))) (failed_on (first ++ second) d) is)
 
-    stopped_never : HasGoodPages (pool_after (as_events made) q) r (answers_in x.leaves o.row.pages) → ClashesAt r.cells x.found
+    stopped_never : HasGoodPages (pool_after (as_events made) q) r (λ k. answers_in x.leaves o.row.pages) → ClashesAt r.cells x.found
     stopped_never good = ⊎_elim (λ right. ⊎_elim (λ may. absurd (stop_never x r stopped level index st.sum st.reads st.wrong (answers_in x.leaves o.row.pages)
         (on_behind x r behind (calls_of_turns st.turns) on may) st.low st.sum_is (stop_turn right) reads_answer st.tried none_failed
         (λ cell at. subst (λ u. HasGoodLeaf u r cell (answers_in x.leaves o.row.pages)) end_is (good (suc level) index cell (omega arith) (let low = st.low in omega (arith, low)) at))))
@@ -364,7 +364,7 @@ opening_may c size handed name p r found made (NoPage page shown) sv named is ro
 -- Where each page has a good leaf, each is found.
 pub opening_finds : (c : Codec) (size : ℕ → ℕ) (handed : List ℕ → Option ℕ) (name : List ℕ) (p : Pool) (r : Rec) (found : Found) (made : List Noted) (page : Key) (shown : List LeafShown) → Survives c p → p.name ≡ name
     → IsLiveOne p found r → (row : RowOpen c size handed name found made (NoPage page shown)) → AllAnswer p.sectors made → HasNoTwin p r (claims_of (c.leaves found.blob.items) row.devs)
-    → HasGoodPages (pool_after (as_events made) (after (Opens r) p)) r (answers_in (opened_leaves (c.leaves found.blob.items) row.devs) row.pages) → ClashesAt r.cells row.bytes
+    → HasGoodPages (pool_after (as_events made) (after (Opens r) p)) r (λ k. answers_in (opened_leaves (c.leaves found.blob.items) row.devs) row.pages) → ClashesAt r.cells row.bytes
 opening_finds c size handed name p r found made page shown sv named is row answers home good =
     stopped_never c size handed name p r found made (NoPage page shown) o row.ends.0 page.index shown row.ends.2 good
   where

@@ -1,11 +1,12 @@
 //! What openings find, read and commit, and leaves that come back (docs/MODEL.md, "Moves").
-ghost use Rattle.std.specs.Prelude.{◌≡◌, ◌⊎◌, ℕ, Bool, true, List, map, Option};
-ghost use Rattle.bank_core.specs.Disk.{Noted, AllAnswer};
+ghost use Rattle.std.specs.Prelude.{◌≡◌, ◌⊎◌, ℕ, Bool, true, false, List, map, Option, None};
+ghost use Rattle.bank_core.specs.Disk.{Sectors, Noted, AllAnswer, run};
 ghost use Rattle.label_store.specs.declared.found.Found.{Found};
 ghost use Rattle.mp_base.specs.declared.number.Guid.{Guid};
 ghost use Rattle.mp_base.specs.declared.place.Key.{Key};
 ghost use Rattle.txg_history.specs.Events.{Event, Opens, as_events};
 ghost use Rattle.txg_history.specs.Looks.{known_by};
+ghost use Rattle.txg_history.specs.Losses.{LoseJust};
 ghost use Rattle.txg_history.specs.Moves.{Mays};
 ghost use Rattle.txg_history.specs.Numbering.{renumbered};
 ghost use Rattle.txg_history.specs.Pages.{LeafKept, Codec, ClashesAt};
@@ -24,7 +25,8 @@ ghost use Rattle.pool_moves.specs.OpeningRow.{SeekReply, RowSeek, HasSizes, IsLi
 ghost use Rattle.pool_moves.specs.PageReads.{LeafShown, answers_in};
 ghost use Rattle.pool_moves.specs.ReadRow.{made_in};
 ghost use Rattle.pool_moves.specs.Resilvers.{Resilvers};
-ghost use Rattle.pool_moves.specs.Rosters.{IsRoster, roster_after, devices_of};
+ghost use Rattle.pool_moves.specs.Rosters.{IsListed, IsRoster, roster_after, devices_of};
+ghost use Rattle.pool_moves.specs.StampRow.{NewMember, NewLeaf, new_leaves, Stamp, calls_of_stamps, AreStamps, stamp_events, stamped_devices, new_pool, new_seat, new_state, CreateReply, RowCreate};
 ghost use Rattle.pool_moves.specs.States.{PoolState, Side};
 ghost use Rattle.pool_moves.specs.Walking.{as_moves};
 
@@ -70,7 +72,7 @@ pub fn openings_read_the_record()
     ensures pages { (c : Codec) (size : ℕ → ℕ) (handed : List ℕ → Option ℕ) (name : List ℕ) (p : Pool) (r : Rec) (found : Found) (made : List Noted) (page : Key) (shown : List LeafShown) → Survives c p
         → p.name ≡ name → IsLiveOne p found r → (row : RowOpen c size handed name found made (NoPage page shown)) → AllAnswer p.sectors made
         → HasNoTwin p r (claims_of (c.leaves found.blob.items) row.devs)
-        → HasGoodPages (pool_after (as_events made) (after (Opens r) p)) r (answers_in (opened_leaves (c.leaves found.blob.items) row.devs) row.pages) → ClashesAt r.cells row.bytes }
+        → HasGoodPages (pool_after (as_events made) (after (Opens r) p)) r (λ k. answers_in (opened_leaves (c.leaves found.blob.items) row.devs) row.pages) → ClashesAt r.cells row.bytes }
     ensures no_twin { (c : Codec) (p : Pool) (r : Rec) (size room : ℕ → ℕ) (handed : List ℕ → Option ℕ) (leaves : List LeafKept) (made : List Noted) (devs : List (Option ℕ)) → Survives c p → HasSizes size p
         → AreSought p.pool size room handed leaves made devs → AreWholeReads p made → ((d : ℕ) (m : Guid) → claims_of leaves devs d m ≡ true → p.member d ≡ true)
         → HasNoTwin p r (claims_of leaves devs) }
@@ -93,4 +95,21 @@ pub fn openings_may_be_committed()
 pub fn leaves_may_come_online()
     ensures { (c : Codec) (size : ℕ → ℕ) (s : PoolState) (t : Side) (name : List ℕ) (listed : Bool) (device : HostDevice) (vs : List Move) (reply : OnlineReply) → Kept c s t → IsSized size t
         → RowOnline size s name listed device vs reply → AreWholeReads t.pool (made_in vs) → FindMembers t.pool vs → Walks c t vs }
+{}
+
+/// A create whose stamps all answered makes a pool, and its first commit may be made; and what its stamps cost other pools. It
+/// computes nothing: its clauses are the law.
+///
+/// `made`: each device of the tree was wiped and has its leaf's identity, whatever stood there before. `allowed`: the stamps, whichever
+/// of their calls fail, are events that any other pool's history may have, where it loses each device as a stamp begins there; and
+/// these are places where a history may say so. `lost`: it loses just these, those of a create that failed too. `spared`: and no others.
+pub fn creates_make_a_pool()
+    ensures made { (c : Codec) (size : ℕ → ℕ) (name : List ℕ) (pool : Guid) (blocks : ℕ) (tops : List (List NewMember)) (stamps : List Stamp) (vs : List Move) (reply : CreateReply) (sectors : Sectors)
+        → (row : RowCreate c size name pool blocks tops stamps vs reply) → row.failed ≡ None
+        → IsMade (new_state size name pool blocks tops) (record { pool = new_pool size name pool (new_leaves tops) (run (calls_of_stamps stamps) sectors); seats = map new_seat (new_leaves tops) })
+        × Walks c (record { pool = new_pool size name pool (new_leaves tops) (run (calls_of_stamps stamps) sectors); seats = map new_seat (new_leaves tops) }) vs }
+    ensures allowed { (c : Codec) (p : Pool) (size : ℕ → ℕ) (pool : Guid) (leaves : List NewLeaf) (stamps : List Stamp) (failed : Option NewLeaf) → AreStamps size pool leaves stamps failed
+        → Mays c p (stamp_events stamps) × LoseJust (stamp_events stamps) }
+    ensures lost { (stamps : List Stamp) (p : Pool) (d : ℕ) → IsListed d (stamped_devices stamps) → (pool_after (stamp_events stamps) p).member d ≡ false }
+    ensures spared { (stamps : List Stamp) (p : Pool) (d : ℕ) → (IsListed d (stamped_devices stamps) → ⊥) → (pool_after (stamp_events stamps) p).member d ≡ p.member d }
 {}
