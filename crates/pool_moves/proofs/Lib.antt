@@ -19,4 +19,6 @@ pub mod ScanEnds
 pub mod ScanSteps
 pub mod Seeing
 pub mod Shaping
+pub mod TreeEdits
+pub mod TreeLeaves
 pub mod TurnWalks

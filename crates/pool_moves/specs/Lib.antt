@@ -13,6 +13,7 @@ pub mod ReadRow
 pub mod Refusing
 pub mod ScanRows
 pub mod States
+pub mod TreeLeaves
 pub mod TreeRows
 pub mod Trees
 pub mod TurnRows
