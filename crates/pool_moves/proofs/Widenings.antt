@@ -130,12 +130,12 @@ leave_like d p b like = (grown (λ e. d == e) p.group.first p.highest p.owes,
     ap {A = Pool} (λ q. record q { owes = grown (λ e. d == e) p.group.first p.highest p.owes; group = record (q.group) { board = at_device d false q.group.board } }) like.1)
 
 -- The group stays frozen behind them, and the same leaves are found.
-widens_frozen : (vs : List Move) (s : PoolSeen) (t : Side) → AreWidens s vs → (after_moves vs t).pool.group.frozen ≡ t.pool.group.frozen
+pub widens_frozen : (vs : List Move) (s : PoolSeen) (t : Side) → AreWidens s vs → (after_moves vs t).pool.group.frozen ≡ t.pool.group.frozen
 widens_frozen [] s t are = refl
 widens_frozen (Widen m low high ∷ vs) s t are = widens_frozen vs (step (Widen m low high) s) (after_move (Widen m low high) t) are.2
 widens_frozen (v ∷ vs) s t are = absurd are
 
-widens_found : (which : ℕ → Bool) (vs : List Move) (s : PoolSeen) (t : Side) → AreWidens s vs → AllByRecursion (IsOfFound which) t.seats
+pub widens_found : (which : ℕ → Bool) (vs : List Move) (s : PoolSeen) (t : Side) → AreWidens s vs → AllByRecursion (IsOfFound which) t.seats
     → AllByRecursion (IsOfFound which) (after_moves vs t).seats
 widens_found which [] s t are all = all
 widens_found which (Widen m low high ∷ vs) s t are all = widens_found which vs (step (Widen m low high) s) (after_move (Widen m low high) t) are.2
