@@ -78,7 +78,7 @@ use Rattle.txg_history.proofs.Turning.{write_turn_may, flush_turn_may}
 use Rattle.txg_history.proofs.Yields.{yield_live}
 
 -- a key of the branch is that of some level, with index 0
-branch_is : (b : Branch) (k : Key) (cell : Cell) → branch_cells b k ≡ Some cell → (k.index ≡ 0) × (k.level < 4) × (cell_on b k.level ≡ cell)
+pub branch_is : (b : Branch) (k : Key) (cell : Cell) → branch_cells b k ≡ Some cell → (k.index ≡ 0) × (k.level < 4) × (cell_on b k.level ≡ cell)
 branch_is b k cell e = of ((k.index == 0) && nat_lt k.level 4) refl e
   where
     of : (t : Bool) → ((k.index == 0) && nat_lt k.level 4) ≡ t → cond t (Some (cell_on b k.level)) None ≡ Some cell

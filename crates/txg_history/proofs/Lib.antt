@@ -36,6 +36,8 @@ pub mod ScansBring
 pub mod ScansSurvive
 pub mod Settling
 pub mod Showing
+pub mod SmallHistory
+pub mod SmallRounds
 pub mod Sparing
 pub mod Stamping
 pub mod Straying

@@ -21,6 +21,7 @@ pub mod Records
 pub mod Rounds
 pub mod Scans
 pub mod Settled
+pub mod Small
 pub mod Sound
 pub mod Sparing
 pub mod Stamps
