@@ -15,6 +15,7 @@ use Rattle.txg_history.specs.Branches.{Branch, cell_on, branch_cells, day_until_
 use Rattle.txg_history.specs.Events.{Event, Freezes, Flushed, Begins, Third, Ends, Acks, as_events}
 use Rattle.txg_history.specs.Pages.{Codec, Sum, LeafKept, sum_of, kept_top, kept_log}
 use Rattle.txg_history.specs.Pools.{Pool, pool_after, stamped}
+use Rattle.txg_history.specs.Trees.{Single, Plain}
 use Rattle.txg_history.specs.Records.{Rec, Cells, number_of}
 use Rattle.txg_history.specs.Weeks.{flushes_well}
 
@@ -68,6 +69,8 @@ small_codec = record {
   blocks = λ bytes. 1;
   room = λ bytes. small_room;
   top_number = λ bytes top. record { 0 = 6 };
+  children = λ bytes top. cond (top == 1) (Plain (Single small_leaf.guid) ∷ []) [];
+  spares = λ bytes. [];
   next_member = λ bytes. 8;
   root = small_root;
   leaves = λ bytes. small_leaf ∷ [];
