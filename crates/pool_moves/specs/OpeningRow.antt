@@ -131,7 +131,8 @@ reading_of c found devs bytes got = record {
 
 -- Behind that the identities of the leaves are looked for, on the devices that are handed in under their names, and then the pages of
 -- the map are read back.
-pub record RowOpen (c : Codec) (size : ℕ → ℕ) (handed : List ℕ → Option ℕ) (name : List ℕ) (found : Found) (made : List Noted) (reply : OpenReply) : Type 0 where
+pub record RowOpen (c : Codec) (size : ℕ → ℕ) (handed : List ℕ → Option ℕ) (name : List ℕ) (found : Found) (made : List Noted) (reply : OpenReply) :
+    Type 0 where
   pub volume : c.blocks found.blob.items ≤ 262144
   pub valid : AreValidLeaves (c.next_member found.blob.items) (c.leaves found.blob.items)
   pub devs : List (Option ℕ)

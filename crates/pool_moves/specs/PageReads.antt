@@ -57,7 +57,8 @@ pub record IsPageHere (x : Reading) (level index : ℕ) (sum : Sum) (bytes : Lis
   pub born : (j : ℕ) (below : Sum) → j < 64 → x.codec.pointer bytes j ≡ Some below → below.birth ≤ x.number
   pub on_top : (j : ℕ) (below : Sum) → j < 64 → x.codec.pointer bytes j ≡ Some below → below.sector < x.codec.room x.config below.top
   pub apart : (i j : ℕ) (a b : Sum) → i < j → j < 64 → x.codec.pointer bytes i ≡ Some a → x.codec.pointer bytes j ≡ Some b → AreOnePlace a b → ⊥
-  pub fresh : (j : ℕ) (below other : Sum) (k : Key) → j < 64 → x.codec.pointer bytes j ≡ Some below → IsKnown (λ above. is_read_before above (key (suc level) index)) k → x.got k ≡ Some other
+  pub fresh : (j : ℕ) (below other : Sum) (k : Key) → j < 64 → x.codec.pointer bytes j ≡ Some below
+      → IsKnown (λ above. is_read_before above (key (suc level) index)) k → x.got k ≡ Some other
       → AreOnePlace below other → ⊥
 
 -- a read gave bytes of this kind
@@ -161,7 +162,8 @@ pub record StopsAt (x : Reading) (level index : ℕ) (shown : List LeafShown) (m
   pub each : AllByRecursion (IsPageTurn x) turns
   pub order : AreInOrder turns
   pub before : AllByRecursion (λ turn. is_read_before (page_of turn) (key (suc level) index) ≡ true) turns
-  pub all : (l i : ℕ) (sum : Sum) → l < 3 → is_read_before (key (suc l) i) (key (suc level) index) ≡ true → x.got (key (suc l) i) ≡ Some sum → IsTurned (key (suc l) i) turns
+  pub all : (l i : ℕ) (sum : Sum) → l < 3 → is_read_before (key (suc l) i) (key (suc level) index) ≡ true → x.got (key (suc l) i) ≡ Some sum
+      → IsTurned (key (suc l) i) turns
   pub only : (k : Key) (bytes : List ℕ) → x.found k ≡ Some bytes → IsTurned k turns
   pub back : IsReadTo x (λ k. is_read_before k (key (suc level) index))
   pub sum : Sum

@@ -19,7 +19,7 @@ use Rattle.pool_moves.specs.Leaves.{OwnLeaf, LeafSeen, Seat, At}
 use Rattle.pool_moves.specs.LineRows.{has_number}
 use Rattle.pool_moves.specs.Moves.{Move, Flushed_all, steps}
 use Rattle.pool_moves.specs.Opened.{no_counts}
-use Rattle.pool_moves.specs.States.{no_group_seen, no_scan_seen, PoolState}
+use Rattle.pool_moves.specs.States.{no_group_seen, no_scan_seen, PoolState, Side}
 
 -- A device that a create names for one of its tops.
 pub record NewMember : Type 0 where
@@ -136,7 +136,8 @@ stamped_devices stamps = map (λ stamp. stamp.dev) stamps
 -- The pool that begins behind them, on these sectors.
 abbrev pub new_pool : (size : ℕ → ℕ) → (name : List ℕ) → (pool : Guid) → List NewLeaf → Sectors → Pool
 new_pool size name pool leaves sectors =
-    stamped name pool (λ d. is_leaf_at (leaf_at d leaves)) (λ d. guid_of (leaf_at d leaves)) size (new_room size leaves) (λ d. top_of (leaf_at d leaves)) sectors
+    stamped name pool (λ d. is_leaf_at (leaf_at d leaves)) (λ d. guid_of (leaf_at d leaves)) size (new_room size leaves)
+    (λ d. top_of (leaf_at d leaves)) sectors
 
 abbrev pub new_own : NewLeaf → OwnLeaf
 new_own leaf = record {
@@ -196,6 +197,9 @@ new_state size name pool blocks tops = record {
   };
 }
 
+abbrev pub new_side : (size : ℕ → ℕ) → (name : List ℕ) → (pool : Guid) → List (List NewMember) → Sectors → Side
+new_side size name pool tops sectors = record { pool = new_pool size name pool (new_leaves tops) sectors; seats = map new_seat (new_leaves tops) }
+
 -- What a create answers: that record 1 is committed, or the first device that failed.
 pub data CreateReply : Type 0 where
   Created : CreateReply
@@ -228,7 +232,8 @@ CreateBy (Some leaf) c size s vs reply = (vs ≡ []) × (reply ≡ FaultOn leaf.
 CreateBy None c size s vs reply = CommitsFirst c size s vs reply
 
 -- `create`, behind its refusals: the stamps, and then the first commit of the pool that begins. Where a device failed, no pool is open.
-pub record RowCreate (c : Codec) (size : ℕ → ℕ) (name : List ℕ) (pool : Guid) (blocks : ℕ) (tops : List (List NewMember)) (stamps : List Stamp) (vs : List Move) (reply : CreateReply) : Type 0 where
+pub record RowCreate (c : Codec) (size : ℕ → ℕ) (name : List ℕ) (pool : Guid) (blocks : ℕ) (tops : List (List NewMember)) (stamps : List Stamp)
+    (vs : List Move) (reply : CreateReply) : Type 0 where
   pub is_new : IsNew size blocks tops
   pub in_range : pool.0 < 2 ^ 64
   pub failed : Option NewLeaf
