@@ -66,7 +66,7 @@ use Rattle.txg_history.proofs.Folding.{mays_more}
 use Rattle.txg_history.proofs.Freezing.{empty_freeze}
 use Rattle.txg_history.proofs.Listing.{only_one}
 use Rattle.txg_history.proofs.Logging.{by_bool, true_not_false, same_device}
-use Rattle.txg_history.proofs.Resilvering.{alone, one_apart}
+use Rattle.txg_history.proofs.Branching.{alone, one_apart}
 use Rattle.txg_history.proofs.RoundMoves.{round_may, round_ends}
 use Rattle.txg_history.proofs.SmallRounds.{round_is, IsGentle, gentle_events, round_gentle}
 use Rattle.txg_history.proofs.Stamping.{stamped_survives}

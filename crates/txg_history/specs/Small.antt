@@ -17,7 +17,7 @@ use Rattle.txg_history.specs.Pages.{Codec, Sum, LeafKept, sum_of, kept_top, kept
 use Rattle.txg_history.specs.Pools.{Pool, pool_after, stamped}
 use Rattle.txg_history.specs.Trees.{Single, Plain}
 use Rattle.txg_history.specs.Records.{Rec, Cells, number_of}
-use Rattle.txg_history.specs.Weeks.{flushes_well}
+use Rattle.txg_history.specs.Branches.{flushes_well}
 
 -- a block that begins with this number and goes on with zeros
 abbrev pub numbered : ℕ → List ℕ
