@@ -123,8 +123,8 @@ away_walk c s t leaf temporary vs kept at goes = subst (Walks c t) (sym goes.mov
     (walks_more c (drop_if leaf.eligible leaf.dev) (goes.leaving ++ (Sets leaf.guid (gone temporary leaf.own) ∷ [])) t dropped
     (walks_more c goes.leaving (Sets leaf.guid (gone temporary leaf.own) ∷ []) behind
     (leave_walk c (steps (drop_if leaf.eligible leaf.dev) s) behind leaf.on leaf.dev goes.leaving (walk_keeps c (drop_if leaf.eligible leaf.dev) s t dropped kept) (λ on d dev. (
-    drop_frozen leaf.eligible leaf.dev t ∙ (at.0 on).0,
-    drop_found (λ e. d == e) leaf.eligible leaf.dev t (only_found d t.seats kept.apart ((at.0 on).1 d dev)),
+      drop_frozen leaf.eligible leaf.dev t ∙ (at.0 on).0,
+      drop_found (λ e. d == e) leaf.eligible leaf.dev t (only_found d t.seats kept.apart ((at.0 on).1 d dev)),
     )) (subst (λ core. LeaveIf leaf.on leaf.dev core goes.leaving) (sym (seen_of (drop_if leaf.eligible leaf.dev) s)) goes.leaves)) ((tt, tt), tt)))
   where
     dropped : Walks c t (drop_if leaf.eligible leaf.dev)

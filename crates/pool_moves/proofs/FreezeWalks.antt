@@ -153,7 +153,8 @@ freeze_walks c s t vs kept row = freeze_at c s t vs kept (is_idle c s t kept row
     (subst (λ core. RowFreeze c (record { own = s.own; core = core }) vs) kept.core row)
 
 empty_at : (c : Codec) (s : PoolState) (t : Side) (vs : List Move) → Kept c s t → t.pool.group.frozen ≡ false → RowEmptyFreeze (record { own = s.own; core = seen t }) vs → Walks c t vs
-empty_at c s t vs kept idle row = widened_walk c (Freeze (λ k. None) (up_devs (seen t).leaves)) vs s t kept ((
+empty_at c s t vs kept idle row = widened_walk c (Freeze (λ k. None) (up_devs (seen t).leaves)) vs s t kept (
+  (
     (
       empty_freeze c t.pool (up_devs (seen t).leaves) idle
           (λ a. sym (open_written c s t kept idle a ∙ ap (λ w. over w (block_in t.pool.reads.cells a)) (row.unwritten a)))
@@ -161,7 +162,9 @@ empty_at c s t vs kept idle row = widened_walk c (Freeze (λ k. None) (up_devs (
       tt,
     ),
     freeze_admitted c s t (λ k. None) kept,
-  ), tt)
+  ),
+  tt,
+)
     (subst (λ core. IsWidened core (Freeze (λ k. None) (up_devs (seen t).leaves)) vs) (sym kept.core) row.moves)
 
 pub empty_freeze_walks : (c : Codec) (s : PoolState) (t : Side) (vs : List Move) → Kept c s t → RowEmptyFreeze s vs → Walks c t vs

@@ -137,10 +137,12 @@ turn_within s made ms results leaving mark are is = all_append IsWithin (as_move
 
 pub round_within : (c : Codec) (size : ℕ → ℕ) (s : PoolSeen) (vs : List Move) → RowRound c size s vs false → AllByRecursion IsWithin vs
 round_within c size s vs row = subst (AllByRecursion IsWithin) (sym row.moves)
-    (all_append IsWithin (round_moves row.draft row.first row.second row.thirds) row.ending
-    (tt, all_append IsWithin (as_moves row.first) (as_moves row.second ++ row.thirds) (calls_within row.first)
-    (all_append IsWithin (as_moves row.second) row.thirds (calls_within row.second)
-    (thirds_within (third_plan size row.draft.commit) row.draft (board_of s.leaves) row.in_second row.results row.thirds row.copies)))
+    (all_append IsWithin (round_moves row.draft row.first row.second row.thirds) row.ending (
+      tt,
+      all_append IsWithin (as_moves row.first) (as_moves row.second ++ row.thirds) (calls_within row.first)
+          (all_append IsWithin (as_moves row.second) row.thirds (calls_within row.second)
+          (thirds_within (third_plan size row.draft.commit) row.draft (board_of s.leaves) row.in_second row.results row.thirds row.copies)),
+    )
     (leaves_within (seen_along (round_moves row.draft row.first row.second row.thirds) s) (board_of s.leaves) row.results row.ending row.ends))
 
 pub counted_within : (part : List Move) (leaves : List LeafSeen) (ms : List Member) (results : List Bool) → AllByRecursion IsWithin part → AllByRecursion IsWithin (part ++ count_moves leaves ms results)

@@ -295,11 +295,16 @@ round_at c size s t vs whole kept f same row = subst (Walks c t) (sym row.moves)
 
     end : (w : Bool) → w ≡ all_true row.results → EndsRound w (seen_along (round_moves row.draft row.first row.second row.thirds) (frozen_core t)) row.draft (board_of (frozen_core t).leaves) row.results row.ending
         → Walks c (after_moves (round_moves row.draft row.first row.second row.thirds) t) row.ending
-    end true is e = subst (Walks c ended_side) (sym e) (((subst (λ r. Mays c ended_side.pool (Acks r ∷ [])) (sym ended_same)
-        (subst (λ x. Mays c x (Acks q ∷ [])) (sym (pool_along pre t ∙ ap (λ l. pool_after l p) pre_along))
-        (subst (λ w. Mays c (pool_after pre_events p) (acks_or w q ms row.results)) (sym is)
-        (mays_second c pre_events (acks_or (all_true row.results) q ms row.results) p may)))),
-        (ended_frozen, subst (Drafted draft) (sym end_face) (started_drafted p draft t.seats (draft_tops c s t draft kept row.leaves)))), tt)
+    end true is e = subst (Walks c ended_side) (sym e) (
+      (
+        (subst (λ r. Mays c ended_side.pool (Acks r ∷ [])) (sym ended_same)
+            (subst (λ x. Mays c x (Acks q ∷ [])) (sym (pool_along pre t ∙ ap (λ l. pool_after l p) pre_along))
+            (subst (λ w. Mays c (pool_after pre_events p) (acks_or w q ms row.results)) (sym is)
+            (mays_second c pre_events (acks_or (all_true row.results) q ms row.results) p may)))),
+        (ended_frozen, subst (Drafted draft) (sym end_face) (started_drafted p draft t.seats (draft_tops c s t draft kept row.leaves))),
+      ),
+      tt,
+    )
     end false is e = subst (Walks c ended_side) (append-nil row.ending)
         (leaves_walk c ms row.results row.ending [] (steps pre s) ended_side ended_side.pool (walk_keeps c pre s t pre_walk kept) (ended_side.pool.owes, refl) ended_frozen ended_found
         (subst (λ core. AreLeaves core ms row.results row.ending) (sym (seen_of pre s ∙ ap (λ core. seen_along pre core) (seen_frozen c s t kept f))) e) (λ u like g. tt))

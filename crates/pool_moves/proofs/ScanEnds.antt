@@ -125,18 +125,20 @@ Later c s ms ending rest = (u : PoolState) (t : Side) → u.core ≡ seen_along 
 -- a leaf whose flush answered Ok
 cleared_walk : (c : Codec) (s : PoolState) (t : Side) (m : Member) (ms : List Member) (noted : Noted) (ending rest : List Move) → AreLeft c s t (m ∷ ms)
     → noted.call ≡ Flush m.dev None → IsWidened s.core (Clear m.dev) ending → Later c s.core ms ending rest → Walks c t (Makes noted ∷ (ending ++ rest))
-cleared_walk c s t m ms noted ending rest left call is next =
-    (((may.0, tt), tt), walks_more c ending rest behind walk (next (steps ending s) (after_moves ending behind) (seen_of ending s) (record {
-      kept = walk_keeps c ending s behind walk kept;
-      running = ap (λ p. p.scan.running) like.1 ∙ left.running;
-      passed = subst IsPassed (sym like.1) left.passed;
-      eligible = subst (λ p. AllByRecursion (λ m. p.scan.eligible m.dev ≡ true) ms) (sym like.1) left.eligible.1;
-      apart = left.apart.1;
-      found = found_mapped (Clear m.dev) t ms (after_moves ending behind).seats
-          (λ which all. subst (λ l. AllByRecursion (IsOfFound which) (after_moves l behind).seats) (sym is.moves)
-          (widens_found which is.widens (step (Clear m.dev) s.core) (after_move (Clear m.dev) behind) is.are
-          (of_found_step which (Clear m.dev) behind.pool (λ d found own is. is) t.seats all))) left.found.1;
-    })))
+cleared_walk c s t m ms noted ending rest left call is next = (
+  ((may.0, tt), tt),
+  walks_more c ending rest behind walk (next (steps ending s) (after_moves ending behind) (seen_of ending s) (record {
+    kept = walk_keeps c ending s behind walk kept;
+    running = ap (λ p. p.scan.running) like.1 ∙ left.running;
+    passed = subst IsPassed (sym like.1) left.passed;
+    eligible = subst (λ p. AllByRecursion (λ m. p.scan.eligible m.dev ≡ true) ms) (sym like.1) left.eligible.1;
+    apart = left.apart.1;
+    found = found_mapped (Clear m.dev) t ms (after_moves ending behind).seats
+        (λ which all. subst (λ l. AllByRecursion (IsOfFound which) (after_moves l behind).seats) (sym is.moves)
+        (widens_found which is.widens (step (Clear m.dev) s.core) (after_move (Clear m.dev) behind) is.are
+        (of_found_step which (Clear m.dev) behind.pool (λ d found own is. is) t.seats all))) left.found.1;
+  })),
+)
   where
     may : Mays c t.pool (Calls noted ∷ (Clears m.dev ∷ []))
     may = clear_may c t.pool m.dev noted left.kept.survives left.running left.eligible.0 left.passed call

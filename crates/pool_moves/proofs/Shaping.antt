@@ -99,10 +99,12 @@ part_moves s part ms results going vs reply all off turn = subst (λ l. AreTurnM
 -- a round that was acknowledged
 whole_moves : (c : Codec) (size : ℕ → ℕ) (s : PoolSeen) (vs : List Move) → RowRound c size s vs true → AllByRecursion IsOfCommit vs
 whole_moves c size s vs row = subst (AllByRecursion IsOfCommit) (sym row.moves)
-    (all_append IsOfCommit (round_moves row.draft row.first row.second row.thirds) row.ending
-    (tt, all_append IsOfCommit (as_moves row.first) (as_moves row.second ++ row.thirds) (of_within (as_moves row.first) (calls_within row.first))
-    (all_append IsOfCommit (as_moves row.second) row.thirds (of_within (as_moves row.second) (calls_within row.second))
-    (of_within row.thirds (thirds_within (third_plan size row.draft.commit) row.draft (board_of s.leaves) row.in_second row.results row.thirds row.copies))))
+    (all_append IsOfCommit (round_moves row.draft row.first row.second row.thirds) row.ending (
+      tt,
+      all_append IsOfCommit (as_moves row.first) (as_moves row.second ++ row.thirds) (of_within (as_moves row.first) (calls_within row.first))
+          (all_append IsOfCommit (as_moves row.second) row.thirds (of_within (as_moves row.second) (calls_within row.second))
+          (of_within row.thirds (thirds_within (third_plan size row.draft.commit) row.draft (board_of s.leaves) row.in_second row.results row.thirds row.copies))),
+    )
     (subst (AllByRecursion IsOfCommit) (sym row.ends) (tt, tt)))
 
 round_part_moves : (c : Codec) (size : ℕ → ℕ) (s : PoolState) (vs : List Move) (reply : TurnReply) → IsRoundPart c size s vs reply → AreTurnMoves vs reply

@@ -93,9 +93,14 @@ numbered_at f r p all (Adrift leaf ∷ seats) up = (up leaf.guid (inl (let same 
 
 -- One widening, and all.
 widen_walk : (c : Codec) (s : PoolState) (t : Side) (m : Guid) (low high : ℕ) → Kept c s t → IsWidening s.core m low high → Walks c t (Widen m low high ∷ [])
-widen_walk c s t m low high kept is = (((grows t.pool m low high is.leaf (has (IsLogOf t.pool) (logs_at t.pool.group.frozen t.pool.scan.running t.pool t.seats kept.numbered)) is.number_is is.spans, tt),
+widen_walk c s t m low high kept is = (
+  (
+    (grows t.pool m low high is.leaf (has (IsLogOf t.pool) (logs_at t.pool.group.frozen t.pool.scan.running t.pool t.seats kept.numbered)) is.number_is is.spans, tt),
     subst (λ n. HasNumbered t.pool.guid n t.seats) is.number_is
-    (has (λ leaf. HasNumbered t.pool.guid leaf.guid t.seats) (numbered_at t.pool.group.frozen t.pool.scan.running t.pool t.seats t.seats (λ n found. found)))), tt)
+        (has (λ leaf. HasNumbered t.pool.guid leaf.guid t.seats) (numbered_at t.pool.group.frozen t.pool.scan.running t.pool t.seats t.seats (λ n found. found))),
+  ),
+  tt,
+)
   where
     has : (P : LeafSeen → Type 0) → AllByRecursion P (seen t).leaves → P is.leaf
     has P all = widest_has P s.core.number s.core.leaves is.leaf is.most (subst (λ core. AllByRecursion P core.leaves) (sym kept.core) all)
@@ -126,8 +131,10 @@ widens_like (Widen m low high ∷ vs) s t b are like = widens_like vs (step (Wid
 widens_like (v ∷ vs) s t b are like = absurd are
 
 leave_like : (d : ℕ) (p b : Pool) → IsLike b p → IsLike (after (Leaves d) b) (after (Leaves d) p)
-leave_like d p b like = (grown (λ e. d == e) p.group.first p.highest p.owes,
-    ap {A = Pool} (λ q. record q { owes = grown (λ e. d == e) p.group.first p.highest p.owes; group = record (q.group) { board = at_device d false q.group.board } }) like.1)
+leave_like d p b like = (
+  grown (λ e. d == e) p.group.first p.highest p.owes,
+  ap {A = Pool} (λ q. record q { owes = grown (λ e. d == e) p.group.first p.highest p.owes; group = record (q.group) { board = at_device d false q.group.board } }) like.1,
+)
 
 -- The group stays frozen behind them, and the same leaves are found.
 pub widens_frozen : (vs : List Move) (s : PoolSeen) (t : Side) → AreWidens s vs → (after_moves vs t).pool.group.frozen ≡ t.pool.group.frozen

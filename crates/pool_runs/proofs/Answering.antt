@@ -11,8 +11,11 @@ use Rattle.pool_runs.specs.Devices.{Device, size_in}
 use Rattle.pool_runs.specs.HostRows.{is_reading, marked_behind, read_acts}
 
 answers_same : (call : Call) (a b : Sectors) → ((s : ℕ) → a (device_of call) s ≡ b (device_of call) s) → Answers a call → Answers b call
-answers_same (Read dev at bytes None) a b same is = (is.0, λ i inside clean. let e = same (at + i) in
-    is.1 i inside (subst (λ x. IsClean x) (sym e) clean) ∙ ap (λ x. x.stable) e)
+answers_same (Read dev at bytes None) a b same is = (
+  is.0,
+  λ i inside clean. let e = same (at + i) in
+      is.1 i inside (subst (λ x. IsClean x) (sym e) clean) ∙ ap (λ x. x.stable) e,
+)
 answers_same (Read dev at bytes (Some fault)) a b same is = tt
 answers_same (Write dev at bytes fault) a b same is = tt
 answers_same (Flush dev fault) a b same is = tt

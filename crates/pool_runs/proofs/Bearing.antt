@@ -99,9 +99,12 @@ stamps_blank pool size (leaf ∷ leaves) acts disk are apart big = subst (λ a. 
         ⊎ ((fault : Fault) × IsPart (stamp_plan leaf.dev (size leaf.dev) pool leaf.guid) are.0 (Some fault) × (are.1 ≡ []) × (None ≡ Some leaf))
         → (AreStamps pool size leaves are.1 None → AllByRecursion (IsBlankOn pool size (run (calls_along are.1) (run are.0 disk))) leaves)
         → AllByRecursion (IsBlankOn pool size (run (calls_along are.1) (run are.0 disk))) (leaf ∷ leaves)
-    of (inl whole) rest = ((λ place inside. untouched_blank (calls_along are.1) leaf.dev (place_at (size leaf.dev) place) (run are.0 disk leaf.dev (place_at (size leaf.dev) place)) pool leaf.guid
-        (stamps_elsewhere pool size leaves are.1 None leaf.dev (place_at (size leaf.dev) place) whole.1 apart.0)
-        (stamp_blanks leaf.dev (size leaf.dev) pool leaf.guid are.0 disk big.0 whole.0 place inside)), rest whole.1)
+    of (inl whole) rest = (
+      (λ place inside. untouched_blank (calls_along are.1) leaf.dev (place_at (size leaf.dev) place) (run are.0 disk leaf.dev (place_at (size leaf.dev) place)) pool leaf.guid
+          (stamps_elsewhere pool size leaves are.1 None leaf.dev (place_at (size leaf.dev) place) whole.1 apart.0)
+          (stamp_blanks leaf.dev (size leaf.dev) pool leaf.guid are.0 disk big.0 whole.0 place inside)),
+      rest whole.1,
+    )
     of (inr stop) rest = absurd (let no : None ≡ Some leaf = stop.3 in cc)
 
 -- Whose the devices are behind them, and that no pool came or went.
@@ -169,8 +172,10 @@ big_of n rest is = by_bool (nat_lt n 320) (λ yes. absurd (let no : Some (TooSma
 
 all_big : (table : List Device) (leaves : List NewLeaf) → too_small table leaves ≡ None → AllByRecursion (λ l. 320 ≤ size_in table l.dev) leaves
 all_big table [] is = tt
-all_big table (l ∷ leaves) is = (big_of (size_in table l.dev) (too_small table leaves) is,
-    all_big table leaves (or_second (cond (nat_lt (size_in table l.dev) 320) (Some (TooSmall 320 (size_in table l.dev))) None) (too_small table leaves) is))
+all_big table (l ∷ leaves) is = (
+  big_of (size_in table l.dev) (too_small table leaves) is,
+  all_big table leaves (or_second (cond (nat_lt (size_in table l.dev) 320) (Some (TooSmall 320 (size_in table l.dev))) None) (too_small table leaves) is),
+)
 
 next_count : (tops : List (List (List ℕ))) (number : ℕ) → next_number tops number ≡ number + (length tops + length (all_names tops))
 next_count [] number = omega arith
@@ -300,13 +305,13 @@ new_pools g s pools none x (inr more) number = absurd (none x more number)
 bears_known : (c : Codec) (h : Host) (name : List ℕ) (blocks : ℕ) (tops : List (List (List ℕ))) (pool : Guid) (stamps : List Act) → MayCreate h name blocks tops pool
     → AreStamps pool (size_in h.table) (new_leaves h.table tops 1 1) stamps None → IsNew h pool.0
     → Knows c (host_by (Bears (new_birth name pool blocks h.table tops)) (host_along stamps h)) (born (new_birth name pool blocks h.table tops) (host_along stamps h).disk)
-        × Kept c (new_state name pool blocks h.table tops) (new_side name pool blocks h.table tops (host_along stamps h).disk)
+    × Kept c (new_state name pool blocks h.table tops) (new_side name pool blocks h.table tops (host_along stamps h).disk)
 bears_known c h name blocks tops pool stamps may are new =
     let leaves = new_leaves h.table tops 1 1 in
     let good = good_create h name blocks tops may.none in
     let disk = (host_along stamps h).disk in
     let blank : AllByRecursion (IsBlankOn pool (size_in h.table) disk) leaves = subst (λ d. AllByRecursion (IsBlankOn pool (size_in h.table) d) leaves) (sym (acts_disk stamps h))
-        (stamps_blank pool (size_in h.table) leaves stamps h.disk are may.apart good.big) in
+    (stamps_blank pool (size_in h.table) leaves stamps h.disk are may.apart good.big) in
     let made = is_made name pool blocks h.table tops disk may.in_range good may.apart blank in
     let kept : Kept c (new_state name pool blocks h.table tops) (new_side name pool blocks h.table tops disk) = made_kept c (new_state name pool blocks h.table tops) (new_side name pool blocks h.table tops disk) made in
     let pools_are = stamps_pools pool (size_in h.table) leaves stamps None h are in
@@ -319,7 +324,7 @@ bears_known c h name blocks tops pool stamps may are new =
         once = λ s u is at one other. only s is one ∙ sym (only u at other);
         apart = λ d k is off. not_true (is_at leaves d) (λ member. let at = leaf_at leaves d member in
             let owned : (host_along stamps h).owner d ≡ Some pool.0 = subst (λ x. (host_along stamps h).owner x ≡ Some pool.0) at.dev_is
-                (all_in (λ l. (host_along stamps h).owner l.dev ≡ Some pool.0) leaves at.leaf (all_owned pool (size_in h.table) leaves stamps h are) at.among) in
+            (all_in (λ l. (host_along stamps h).owner l.dev ≡ Some pool.0) leaves at.leaf (all_owned pool (size_in h.table) leaves stamps h are) at.among) in
             off (some_same k pool.0 (sym is ∙ owned)));
         sizes = λ d one. ap (λ table. size_in table d) (sym (acts_table stamps h));
         disk = λ d s one. refl;

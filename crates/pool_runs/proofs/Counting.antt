@@ -47,8 +47,11 @@ fault_or [] from to caused = inl tt
 fault_or (noted ∷ made) from to caused = of (fault_of noted.call) refl (fault_or made caused.0 to caused.2)
   where
     of : (fault : Option Fault) → fault_of noted.call ≡ fault → AllByRecursion NoFault made ⊎ SomeRose caused.0 to → (NoFault noted × AllByRecursion NoFault made) ⊎ SomeRose from to
-    of (Some fault) is rest = inr (device_of noted.call, rose_more (from (device_of noted.call)) (caused.0 (device_of noted.call)) (to (device_of noted.call))
-        (caused.1.cause fault is) (caused_up made caused.0 to caused.2 (device_of noted.call)))
+    of (Some fault) is rest = inr (
+      device_of noted.call,
+      rose_more (from (device_of noted.call)) (caused.0 (device_of noted.call)) (to (device_of noted.call))
+          (caused.1.cause fault is) (caused_up made caused.0 to caused.2 (device_of noted.call)),
+    )
     of None is (inl none) = inl (is, none)
     of None is (inr rose) = inr (rose.0, subst (λ n. Rose n (to rose.0)) (caused.1.still is rose.0) rose.1)
 
@@ -178,8 +181,11 @@ still_step Flushed_all is s = (refl, refl)
 still_step (Starts draft) is s = (refl, refl)
 still_step (Copies draft d) is s = (refl, refl)
 still_step (Copied draft d) is s = (refl, refl)
-still_step (Sets m own) is s = (empty_same (leaf_step (Sets m own) s.core.number s.core.group.first s.core.scan.hi)
-    (λ leaf. set_same (leaf.guid.0 == m.0) leaf (record leaf { own = own }) (refl, refl)) s.core.leaves s.core.leaves, refl)
+still_step (Sets m own) is s = (
+  empty_same (leaf_step (Sets m own) s.core.number s.core.group.first s.core.scan.hi)
+      (λ leaf. set_same (leaf.guid.0 == m.0) leaf (record leaf { own = own }) (refl, refl)) s.core.leaves s.core.leaves,
+  refl,
+)
 still_step v is s = absurd is
 
 pub record IsGoing (s : PoolState) : Type 0 where
@@ -217,17 +223,17 @@ goes_on : (s : PoolState) (part : List Move) (ms : List Member) (results : List 
 goes_on s part ms results going vs reply stays never is still turn =
     let behind : IsGoing (steps (part ++ count_moves s.core.leaves ms results) s) = still_going (part ++ count_moves s.core.leaves ms results) s still is in
     let end : EndsBy None (steps (part ++ count_moves s.core.leaves ms results) s) [] going turn.ending reply =
-        subst (λ found. EndsBy found (steps (part ++ count_moves s.core.leaves ms results) s) [] going turn.ending reply) behind.full turn.ends in
+    subst (λ found. EndsBy found (steps (part ++ count_moves s.core.leaves ms results) s) [] going turn.ending reply) behind.full turn.ends in
     let whole : vs ≡ part ++ count_moves s.core.leaves ms results = turn.moves ∙ (ap (λ l. (part ++ count_moves s.core.leaves ms results) ++ l) end.0 ∙ append-nil (part ++ count_moves s.core.leaves ms results)) in record {
-  ends = λ bad. never (subst IsSuspended end.1 bad);
-  goes = λ more. subst (λ l. IsGoing (steps l s)) (sym whole) behind;
-}
+      ends = λ bad. never (subst IsSuspended end.1 bad);
+      goes = λ more. subst (λ l. IsGoing (steps l s)) (sym whole) behind;
+    }
 
 write_fine : (s : PoolState) (vs : List Move) (reply : TurnReply) → IsGoing s → AllByRecursion Answered vs → IsWritePart s vs reply → IsFine s vs reply
 write_fine s vs reply is all w =
     let ms = board_under w.row.cell.top s.core.leaves in
     let part : AllByRecursion Answered w.part = answered_first w.part (count_moves s.core.leaves ms w.row.results)
-        (answered_first (w.part ++ count_moves s.core.leaves ms w.row.results) w.turn.ending (subst (AllByRecursion Answered) w.turn.moves all)) in
+    (answered_first (w.part ++ count_moves s.core.leaves ms w.row.results) w.turn.ending (subst (AllByRecursion Answered) w.turn.moves all)) in
     let made : AllByRecursion NoFault w.row.made = answered_calls w.row.made (answered_first (as_moves w.row.made) (leave_moves ms w.row.results ++ (Wrote_key w.row.key ∷ [])) (subst (AllByRecursion Answered) w.row.moves part)) in
     let on : all_true w.row.results ≡ true = phase_true (write_plan w.row.cell) ms (map (λ m. true) ms) w.row.results w.row.made w.row.calls (start_true ms) made in
     goes_on s w.part ms w.row.results Write vs reply refl (λ bad. bad) is
@@ -237,7 +243,7 @@ flush_fine : (s : PoolState) (vs : List Move) (reply : TurnReply) → IsGoing s 
 flush_fine s vs reply is all w =
     let ms = board_of s.core.leaves in
     let part : AllByRecursion Answered w.part = answered_first w.part (count_moves s.core.leaves ms w.row.results)
-        (answered_first (w.part ++ count_moves s.core.leaves ms w.row.results) w.turn.ending (subst (AllByRecursion Answered) w.turn.moves all)) in
+    (answered_first (w.part ++ count_moves s.core.leaves ms w.row.results) w.turn.ending (subst (AllByRecursion Answered) w.turn.moves all)) in
     let made : AllByRecursion NoFault w.row.made = answered_calls w.row.made (answered_first (as_moves w.row.made) (leave_moves ms w.row.results ++ (Flushed_all ∷ [])) (subst (AllByRecursion Answered) w.row.moves part)) in
     let on : all_true w.row.results ≡ true = phase_true flush_plan ms (map (λ m. true) ms) w.row.results w.row.made w.row.calls (start_true ms) made in
     goes_on s w.part ms w.row.results Flush vs reply refl (λ bad. bad) is
@@ -248,20 +254,20 @@ round_fine c size s vs reply all w =
     let ms = board_of s.core.leaves in
     let behind : AllByRecursion Answered (w.part ++ count_moves s.core.leaves ms w.row.results) = subst (AllByRecursion Answered) w.counted (answered_first w.behind w.ending (subst (AllByRecursion Answered) w.moves all)) in
     let part : AllByRecursion Answered (as_moves w.row.first ++ (as_moves w.row.second ++ (w.row.thirds ++ round_end w.whole w.row.draft ms w.row.results))) =
-        (subst (AllByRecursion Answered) w.row.moves (answered_first w.part (count_moves s.core.leaves ms w.row.results) behind)).1 in
+    (subst (AllByRecursion Answered) w.row.moves (answered_first w.part (count_moves s.core.leaves ms w.row.results) behind)).1 in
     let more = answered_second (as_moves w.row.first) (as_moves w.row.second ++ (w.row.thirds ++ round_end w.whole w.row.draft ms w.row.results)) part in
     let last = answered_second (as_moves w.row.second) (w.row.thirds ++ round_end w.whole w.row.draft ms w.row.results) more in
     let one : all_true w.row.in_first ≡ true = phase_true (first_plan size w.row.draft.commit) ms (map (λ m. true) ms) w.row.in_first w.row.first w.row.configs (start_true ms)
-        (answered_calls w.row.first (answered_first (as_moves w.row.first) (as_moves w.row.second ++ (w.row.thirds ++ round_end w.whole w.row.draft ms w.row.results)) part)) in
+    (answered_calls w.row.first (answered_first (as_moves w.row.first) (as_moves w.row.second ++ (w.row.thirds ++ round_end w.whole w.row.draft ms w.row.results)) part)) in
     let two : all_true w.row.in_second ≡ true = phase_true (second_plan size w.row.draft.commit) ms w.row.in_first w.row.in_second w.row.second w.row.uberblocks one
-        (answered_calls w.row.second (answered_first (as_moves w.row.second) (w.row.thirds ++ round_end w.whole w.row.draft ms w.row.results) more)) in
+    (answered_calls w.row.second (answered_first (as_moves w.row.second) (w.row.thirds ++ round_end w.whole w.row.draft ms w.row.results) more)) in
     let three : all_true w.row.results ≡ true = third_true (third_plan size w.row.draft.commit) w.row.draft ms w.row.in_second w.row.results w.row.thirds w.row.copies two
-        (answered_first w.row.thirds (round_end w.whole w.row.draft ms w.row.results) last) in
+    (answered_first w.row.thirds (round_end w.whole w.row.draft ms w.row.results) last) in
     let end : (w.ending ≡ []) × (reply ≡ Committed s.core.number) = subst (λ t. cond t ((w.ending ≡ []) × (reply ≡ Committed s.core.number)) (EndsTurn (steps w.behind s) (Draw ∷ []) (Round s.core.number) w.ending reply))
-        (w.row.whole_is ∙ three) w.ends in record {
-  ends = λ bad. subst IsSuspended end.1 bad;
-  goes = λ more. absurd (let no : true ≡ false = sym (ap Ends end.1) ∙ more in cc);
-}
+    (w.row.whole_is ∙ three) w.ends in record {
+      ends = λ bad. subst IsSuspended end.1 bad;
+      goes = λ more. absurd (let no : true ≡ false = sym (ap Ends end.1) ∙ more in cc);
+    }
 
 pub turn_fine : (c : Codec) (size : ℕ → ℕ) (s : PoolState) (vs : List Move) (reply : TurnReply) → IsGoing s → AllByRecursion Answered vs → RowTurn c size s vs reply → IsFine s vs reply
 turn_fine c size s vs reply is all row = of (subst (λ found. StartsBy found c size s vs reply) is.full (subst (λ t. TurnBy t c size s vs reply) is.frozen row))

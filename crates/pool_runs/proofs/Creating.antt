@@ -151,7 +151,7 @@ leaves_between table [] number top = tt
 leaves_between table (name ∷ names) number top = (
   (omega arith, omega arith),
   all_one (Between (number + 1) (number + 1 + length names)) (Between number (number + length (name ∷ names))) (λ l is. let low = is.0 in let high = is.1 in (omega (arith, low), omega (arith, high)))
-    (leaves_of table names (number + 1) top) (leaves_between table names (number + 1) top),
+      (leaves_of table names (number + 1) top) (leaves_between table names (number + 1) top),
 )
 
 next_up : (tops : List (List (List ℕ))) (number : ℕ) → number ≤ next_number tops number
@@ -175,7 +175,7 @@ leaves_apart : (table : List Device) (names : List (List ℕ)) (number top : ℕ
 leaves_apart table [] number top = tt
 leaves_apart table (name ∷ names) number top = (
   all_one (Between (number + 1) (number + 1 + length names)) (λ l. (number == l.guid.0) ≡ false) (λ l is. let low = is.0 in apart_numbers number l.guid.0 (omega (arith, low)))
-    (leaves_of table names (number + 1) top) (leaves_between table names (number + 1) top),
+      (leaves_of table names (number + 1) top) (leaves_between table names (number + 1) top),
   leaves_apart table names (number + 1) top,
 )
 

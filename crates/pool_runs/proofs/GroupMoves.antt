@@ -81,9 +81,11 @@ module _ (P : Move → Type 0) (k : IsKind P) where
   all_third plan draft [] (b ∷ was) is vs third = absurd third
   all_third plan draft (m ∷ ms) [] is vs third = absurd third
   all_third plan draft (m ∷ ms) (b ∷ was) [] vs third = absurd third
-  all_third plan draft (m ∷ ms) (true ∷ was) (c ∷ is) vs third = subst All (sym third.2)
-      (k.copies draft m.dev, more P (as_moves third.0) (ended c draft m.dev ++ third.1) (all_calls third.0)
-      (more P (ended c draft m.dev) third.1 (all_ended c draft m.dev) (all_third plan draft ms was is third.1 third.4)))
+  all_third plan draft (m ∷ ms) (true ∷ was) (c ∷ is) vs third = subst All (sym third.2) (
+    k.copies draft m.dev,
+    more P (as_moves third.0) (ended c draft m.dev ++ third.1) (all_calls third.0)
+        (more P (ended c draft m.dev) third.1 (all_ended c draft m.dev) (all_third plan draft ms was is third.1 third.4)),
+  )
   all_third plan draft (m ∷ ms) (false ∷ was) (c ∷ is) vs third = all_third plan draft ms was is vs third.1
 
   all_end : (whole : Bool) (draft : Draft) (ms : List Member) (results : List Bool) → All (round_end whole draft ms results)
@@ -91,11 +93,13 @@ module _ (P : Move → Type 0) (k : IsKind P) where
   all_end false draft ms results = all_leave ms results
 
   pub all_round : (c : Codec) (size : ℕ → ℕ) (s : PoolSeen) (vs : List Move) (whole : Bool) → RowRound c size s vs whole → All vs
-  all_round c size s vs whole row = let ms = board_of s.leaves in subst All (sym row.moves)
-      (k.starts row.draft, more P (as_moves row.first) (as_moves row.second ++ (row.thirds ++ round_end whole row.draft ms row.results)) (all_calls row.first)
-      (more P (as_moves row.second) (row.thirds ++ round_end whole row.draft ms row.results) (all_calls row.second)
-      (more P row.thirds (round_end whole row.draft ms row.results) (all_third (third_plan size row.draft.commit) row.draft ms row.in_second row.results row.thirds row.copies)
-      (all_end whole row.draft ms row.results))))
+  all_round c size s vs whole row = let ms = board_of s.leaves in subst All (sym row.moves) (
+    k.starts row.draft,
+    more P (as_moves row.first) (as_moves row.second ++ (row.thirds ++ round_end whole row.draft ms row.results)) (all_calls row.first)
+        (more P (as_moves row.second) (row.thirds ++ round_end whole row.draft ms row.results) (all_calls row.second)
+        (more P row.thirds (round_end whole row.draft ms row.results) (all_third (third_plan size row.draft.commit) row.draft ms row.in_second row.results row.thirds row.copies)
+        (all_end whole row.draft ms row.results))),
+  )
 
   all_ends : (top : Option ℕ) (s : PoolState) (extra : List Move) (going : TurnReply) (vs : List Move) (reply : TurnReply) → All extra → (IsSuspended reply → P Burn) → EndsBy top s extra going vs reply → All vs
   all_ends (Some top) s extra going vs reply all burn ends = subst All (sym ends.0) (burn (subst IsSuspended (sym ends.1) tt), tt)

@@ -93,11 +93,11 @@ at_left : (c : Codec) (past : Past) (h : Host) (acts : List Act) (entries : List
 at_left c past h acts entries f m = let known = at_known c past h acts entries f m in
     let table_is = acts_table (take m.count (acts ++ acts_in entries)) h in
     let same = at_pool c past acts entries m in record {
-  allowed = then_allowed c past (events_at m) f.left.allowed (at_mays c past h acts entries f m);
-  names = λ name d is. ap (λ called. called d) (then_called past (events_at m)) ∙ f.left.names name d (sym (ap (λ table. number_in name table) table_is) ∙ is);
-  sizes = λ d one. ap (λ q. q.size d) same ∙ known.sizes d one;
-  disk = λ d s one. ap (λ q. q.sectors d s) same ∙ known.disk d s one;
-}
+      allowed = then_allowed c past (events_at m) f.left.allowed (at_mays c past h acts entries f m);
+      names = λ name d is. ap (λ called. called d) (then_called past (events_at m)) ∙ f.left.names name d (sym (ap (λ table. number_in name table) table_is) ∙ is);
+      sizes = λ d one. ap (λ q. q.size d) same ∙ known.sizes d one;
+      disk = λ d s one. ap (λ q. q.sectors d s) same ∙ known.disk d s one;
+    }
 
 at_contents : (c : Codec) (past : Past) (h : Host) (acts : List Act) (entries : List Entry) → Follows c past h acts entries → (m : Moment c past acts entries) (r : Rec) → IsIn r (pool_at m).live
     → HasFrozen (past_at m) r
@@ -110,9 +110,11 @@ at_number c past acts entries m = ap (λ n. n.0) (acts_number (take m.count (act
 takes_for : (c : Codec) (p : Pool) (before : List Event) (v : Event) (d g : ℕ) → Survives c p → p.scan.running ≡ false → Mays c p (before ++ (v ∷ [])) → (pool_after before p).member d ≡ true
     → (pool_after before p).owes d g ≡ true → (pool_after (before ++ (v ∷ [])) p).owes d g ≡ false → TakesFor p before v d g
 takes_for c p before (Clears e) d g sv rest may member was now =
-    let mine : e ≡ d = groups_leave c (pool_after before p) (Clears e) d g (mays_second c before (Clears e ∷ []) p may).0 was (sym (ap (λ q. q.owes d g) (pool_more before (Clears e ∷ []) p)) ∙ now) in
-    (mine, cleared_copied c p before d g sv rest (subst (λ x. Mays c p (before ++ (Clears x ∷ []))) mine may) member was
-    (subst (λ x. (pool_after (before ++ (Clears x ∷ [])) p).owes d g ≡ false) mine now))
+    let mine : e ≡ d = groups_leave c (pool_after before p) (Clears e) d g (mays_second c before (Clears e ∷ []) p may).0 was (sym (ap (λ q. q.owes d g) (pool_more before (Clears e ∷ []) p)) ∙ now) in (
+      mine,
+      cleared_copied c p before d g sv rest (subst (λ x. Mays c p (before ++ (Clears x ∷ []))) mine may) member was
+          (subst (λ x. (pool_after (before ++ (Clears x ∷ [])) p).owes d g ≡ false) mine now),
+    )
 takes_for c p before v d g sv rest may member was now =
     groups_leave c (pool_after before p) v d g (mays_second c before (v ∷ []) p may).0 was (sym (ap (λ q. q.owes d g) (pool_more before (v ∷ []) p)) ∙ now)
 
@@ -131,10 +133,10 @@ meets : (c : Codec) (past : Past) (h : Host) (acts : List Act) (entries : List E
 meets c past h acts entries f l =
     let whole : IsRun c (host_along acts h) (l.before ++ (l.entry ∷ l.later)) = subst (IsRun c (host_along acts h)) l.all f.run in
     let front : Follows c past h acts l.before = record { left = f.left; knows = f.knows; may = f.may; run = run_front c (host_along acts h) l.before (l.entry ∷ l.later) whole; at_rest = f.at_rest } in record {
-  knows = heard c (host_along (acts ++ acts_in l.before) h) (pool_before l) l.entry.second
-      (keeps_all c h (pool_of past) (acts ++ acts_in l.before) f.knows (all_may c past h acts l.before front) l.fair);
-  row = subst (λ x. HostRow c (host_by (Hears l.entry.second) x) l.entry) (sym (host_more acts (acts_in l.before) h)) (run_at c (host_along acts h) l.before l.entry l.later whole);
-}
+      knows = heard c (host_along (acts ++ acts_in l.before) h) (pool_before l) l.entry.second
+          (keeps_all c h (pool_of past) (acts ++ acts_in l.before) f.knows (all_may c past h acts l.before front) l.fair);
+      row = subst (λ x. HostRow c (host_by (Hears l.entry.second) x) l.entry) (sym (host_more acts (acts_in l.before) h)) (run_at c (host_along acts h) l.before l.entry l.later whole);
+    }
 
 -- a row of an open pool
 on_open : (h : Host) (name : List ℕ) (s : PoolState) (Line : PoolState → List Act → Reply → Type 0) (acts : List Act) (reply : Reply) → named name h.pools ≡ Some s

@@ -159,12 +159,12 @@ record_live p found r is =
     let has = record_found found p.live p.reads r is.is_live same in
     let parts = and_parts (bytes_eq found.blob.items (config_of (record_of found p.live p.reads).commit)) (found.number.0 == number_of (record_of found p.live p.reads)) has.1 in
     let number_is : found.number.0 ≡ number_of (record_of found p.live p.reads) = number_of_test found.number.0 (number_of (record_of found p.live p.reads)) parts.1 in record {
-  is_live = has.0;
-  config_is = (bytes_eq-Decides found.blob.items (config_of (record_of found p.live p.reads).commit)).0 parts.0;
-  number_is = let at : ℕ → Group = λ n. record { 0 = n } in ap at number_is;
-  pool_is = is.pool_is;
-  some = subst (λ n. 1 ≤ n) (sym (ap (λ n. n.0) is.number_is) ∙ number_is) is.some;
-}
+      is_live = has.0;
+      config_is = (bytes_eq-Decides found.blob.items (config_of (record_of found p.live p.reads).commit)).0 parts.0;
+      number_is = let at : ℕ → Group = λ n. record { 0 = n } in ap at number_is;
+      pool_is = is.pool_is;
+      some = subst (λ n. 1 ≤ n) (sym (ap (λ n. n.0) is.number_is) ∙ number_is) is.some;
+    }
 
 -- No pool of the name is open.
 none_named : (name : List ℕ) (s : PoolState) (pools : List PoolState) → named name pools ≡ None → IsOpen s pools → s.core.name ≡ name → ⊥
@@ -217,16 +217,24 @@ commit_may : (turn : TurnReply) (c : Codec) (h : Host) (t : Side) (s : PoolState
 commit_may (Committed number) c h t s g vs acts reply knows is kept none row own by =
     let number_is : s.core.pool.0 ≡ t.pool.pool.0 = ap (λ core. core.pool.0) kept.core in
     let behind = enters_known c h t.pool s knows (t.seats, kept) number_is none in
-    subst (MayActs c h t.pool) (sym by.0) (λ fair. (tt, behind, walk_may c (record h { pools = s ∷ h.pools }) s t g vs behind (inl refl) is kept
-    (resume_walks c (size_in h.table) s t vs (Committed number) kept knows.sizes row) (subst (AreOwnActs g h) by.0 own).1))
+    subst (MayActs c h t.pool) (sym by.0) (λ fair. (
+      tt,
+      behind,
+      walk_may c (record h { pools = s ∷ h.pools }) s t g vs behind (inl refl) is kept
+          (resume_walks c (size_in h.table) s t vs (Committed number) kept knows.sizes row) (subst (AreOwnActs g h) by.0 own).1,
+    ))
 commit_may (Suspended group top faults) c h t s g vs acts reply knows is kept none row own by =
     let number_is : s.core.pool.0 ≡ t.pool.pool.0 = ap (λ core. core.pool.0) kept.core in
     let behind = enters_known c h t.pool s knows (t.seats, kept) number_is none in
     let rest = (subst (AreOwnActs g h) by.0 own).1 in
-    subst (MayActs c h t.pool) (sym by.0) (λ fair. (tt, behind, may_more c (record h { pools = s ∷ h.pools }) t.pool (does g vs) (Closes g ∷ [])
-    (walk_may c (record h { pools = s ∷ h.pools }) s t g vs behind (inl refl) is kept (resume_walks c (size_in h.table) s t vs (Suspended group top faults) kept knows.sizes row)
-    (own_first g (record h { pools = s ∷ h.pools }) (does g vs) (Closes g ∷ []) rest))
-    (λ fair known. closes_may c (host_along (does g vs) (record h { pools = s ∷ h.pools })) (pool_along (does g vs) t.pool) g known) behind))
+    subst (MayActs c h t.pool) (sym by.0) (λ fair. (
+      tt,
+      behind,
+      may_more c (record h { pools = s ∷ h.pools }) t.pool (does g vs) (Closes g ∷ [])
+          (walk_may c (record h { pools = s ∷ h.pools }) s t g vs behind (inl refl) is kept (resume_walks c (size_in h.table) s t vs (Suspended group top faults) kept knows.sizes row)
+          (own_first g (record h { pools = s ∷ h.pools }) (does g vs) (Closes g ∷ []) rest))
+          (λ fair known. closes_may c (host_along (does g vs) (record h { pools = s ∷ h.pools })) (pool_along (does g vs) t.pool) g known) behind,
+    ))
 commit_may Idle c h t s g vs acts reply knows is kept none row own by = absurd by
 commit_may Write c h t s g vs acts reply knows is kept none row own by = absurd by
 commit_may Flush c h t s g vs acts reply knows is kept none row own by = absurd by
@@ -272,8 +280,11 @@ opens_seats c h p name found r made (Opens_state x) row knows same is answers tw
     opened = opening_opens c (size_in h.table) (λ device. number_in device h.table) name p r knows.roster.0 found made x knows.survives same is knows.roster.1 row answers twin
 
     of : (IsOpened c x t × Walks c t (as_moves made)) ⊎ ClashesAt r.cells row.bytes → HasSeats c x (pool_after (as_events made) (after (Opens r) p))
-    of (inl both) = (t.seats, subst (Kept c x) (calls_side made t) (subst (λ y. Kept c y (after_moves (as_moves made) t)) (calls_state made x)
-        (walk_keeps c (as_moves made) x t both.1 (opened_kept c x t both.0))))
+    of (inl both) = (
+      t.seats,
+      subst (Kept c x) (calls_side made t) (subst (λ y. Kept c y (after_moves (as_moves made) t)) (calls_state made x)
+          (walk_keeps c (as_moves made) x t both.1 (opened_kept c x t both.0))),
+    )
     of (inr clash) = absurd (pages clash)
 opens_seats c h p name found r made (NoPage page shown) row knows same is answers twin pages s out = absurd (cc)
 
@@ -361,18 +372,21 @@ own_opens c h p name found acts reply o made opens = subst (MayActs c h p) (sym 
         let q = after (Opens r) p in
         let known = opens_known c h p r o.knows is.is_live none in
         let twin : HasNoTwin p r (claims_of (c.leaves found.blob.items) opens.row.devs) = sought_no_twin c p r (size_in h.table) (c.room found.blob.items) (λ device. number_in device h.table)
-            (c.leaves found.blob.items) opens.row.ids opens.row.devs o.knows.survives o.knows.sizes
-            (subst (λ g. AreSought g (size_in h.table) (c.room found.blob.items) (λ device. number_in device h.table) (c.leaves found.blob.items) opens.row.ids opens.row.devs) is.pool_is opens.row.sought)
-            fair.whole fair.members in
+        (c.leaves found.blob.items) opens.row.ids opens.row.devs o.knows.survives o.knows.sizes
+        (subst (λ g. AreSought g (size_in h.table) (c.room found.blob.items) (λ device. number_in device h.table) (c.leaves found.blob.items) opens.row.ids opens.row.devs) is.pool_is opens.row.sought)
+        fair.whole fair.members in
         let calls : calls_along acts ≡ opens.made ++ calls_along opens.rest = ap calls_along opens.are ∙ (bare_calls opens.row.ids (all_shown found.pool.0 (read_in opens.row.ids) opens.row.devs ++ (bare opens.row.pages ++ opens.rest))
-            ∙ (ap (λ l. opens.row.ids ++ l) (shown_calls found.pool.0 (read_in opens.row.ids) opens.row.devs (bare opens.row.pages ++ opens.rest) ∙ bare_calls opens.row.pages opens.rest)
-            ∙ (sym (append_assoc opens.row.ids opens.row.pages (calls_along opens.rest)) ∙ ap (λ l. l ++ calls_along opens.rest) (sym opens.row.calls)))) in
+        ∙ (ap (λ l. opens.row.ids ++ l) (shown_calls found.pool.0 (read_in opens.row.ids) opens.row.devs (bare opens.row.pages ++ opens.rest) ∙ bare_calls opens.row.pages opens.rest)
+        ∙ (sym (append_assoc opens.row.ids opens.row.pages (calls_along opens.rest)) ∙ ap (λ l. l ++ calls_along opens.rest) (sym opens.row.calls)))) in
         let answers : AllAnswer p.sectors opens.made = opening_answers h p opens.made (calls_along opens.rest) (subst (AreMade h) calls made) o.knows.disk in
         let mays : Mays c q (as_events opens.made) = ⊎_elim (λ m. m) (λ clash. absurd (fair.pages clash))
-            (opening_may c (size_in h.table) (λ device. number_in device h.table) name p r found opens.made opens.outcome o.knows.survives fair.named is opens.row answers twin) in
-        let seats = opens_seats c h p name found r opens.made opens.outcome opens.row o.knows fair.named is answers twin fair.pages in
-        (subst (Mays c p) (sym events) (is.is_live, tt), subst (λ vs. Knows c h (pool_after vs p)) (sym events) known, subst (λ vs. MayActs c h (pool_after vs p) more) (sym events)
-        (opens_more c h p name found acts reply r opens o.number known mays seats none (subst (AreOwnActs found.pool.0 h) opens.are opens.own).1))
+        (opening_may c (size_in h.table) (λ device. number_in device h.table) name p r found opens.made opens.outcome o.knows.survives fair.named is opens.row answers twin) in
+        let seats = opens_seats c h p name found r opens.made opens.outcome opens.row o.knows fair.named is answers twin fair.pages in (
+          subst (Mays c p) (sym events) (is.is_live, tt),
+          subst (λ vs. Knows c h (pool_after vs p)) (sym events) known,
+          subst (λ vs. MayActs c h (pool_after vs p) more) (sym events)
+              (opens_more c h p name found acts reply r opens o.number known mays seats none (subst (AreOwnActs found.pool.0 h) opens.are opens.own).1),
+        )
 
 -- The looks of an opening, whichever pool is asked for.
 true_look : (c : Codec) (h : Host) (name : List ℕ) (made : List Noted) (seek : SeekReply) → (row : RowSeek c (size_in h.table) (handed h.table) name made seek) → AllAnswer h.disk made
@@ -410,9 +424,12 @@ looks_along false known p = refl
 imports_may : (c : Codec) (h : Host) (p : Pool) (name : List ℕ) (acts : List Act) (reply : Reply) → Knows c h p → AreMade h (calls_along acts) → Imports c h name acts reply → MayActs c h p acts
 imports_may c h p name acts reply knows made row = subst (MayActs c h p) (sym row.are)
     (bare_then c row.made (Looked name known ∷ row.rest) h p (reads_may c p row.made (look_reads (size_in h.table) (handed h.table) row.row.looks row.made row.row.look)) knows
-    (λ before known1. λ fair. let looked = looked_acted c h1 p1 known (bytes_eq p1.name name) (true_look c h name row.made row.seek row.row answers) known1 in
-    (looked.0, looked.1, subst (λ x. MayActs c h1 x row.rest) (sym (looks_along (bytes_eq p1.name name) known p1))
-    (found_may row.seek c h1 p1 name row.rest reply known1 row.free (λ found is same. live found is same (fair same)) rest_made row.follows))))
+    (λ before known1. λ fair. let looked = looked_acted c h1 p1 known (bytes_eq p1.name name) (true_look c h name row.made row.seek row.row answers) known1 in (
+      looked.0,
+      looked.1,
+      subst (λ x. MayActs c h1 x row.rest) (sym (looks_along (bytes_eq p1.name name) known p1))
+          (found_may row.seek c h1 p1 name row.rest reply known1 row.free (λ found is same. live found is same (fair same)) rest_made row.follows),
+    )))
   where
     known : Known
     known = known_by (size_in h.table) (handed h.table) row.row.looks

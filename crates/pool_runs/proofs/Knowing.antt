@@ -226,9 +226,11 @@ not_found d frozen running p (At e found own ∷ seats) none = ((λ same. not_tr
 not_found d frozen running p (Adrift leaf ∷ seats) none = (tt, not_found d frozen running p seats none.1)
 
 lost_seats : (c : Codec) (s : PoolState) (p : Pool) (d : ℕ) → HasNoLeafAt d s → HasSeats c s p → HasSeats c s (after (Loses d) p)
-lost_seats c s p d none has = let t : Side = record { pool = p; seats = has.0 } in
-    ((after_move (Lose d) t).seats, subst (λ x. Kept c x (after_move (Lose d) t)) (lose_state d s)
-    (move_keeps c (Lose d) s t (tt, tt) (not_found d p.group.frozen p.scan.running p has.0 (subst (λ core. AllByRecursion (λ leaf. is_dev d leaf.dev ≡ false) core.leaves) has.1.core none)) has.1))
+lost_seats c s p d none has = let t : Side = record { pool = p; seats = has.0 } in (
+  (after_move (Lose d) t).seats,
+  subst (λ x. Kept c x (after_move (Lose d) t)) (lose_state d s)
+      (move_keeps c (Lose d) s t (tt, tt) (not_found d p.group.frozen p.scan.running p has.0 (subst (λ core. AllByRecursion (λ leaf. is_dev d leaf.dev ≡ false) core.leaves) has.1.core none)) has.1),
+)
 
 lost_known : (c : Codec) (h : Host) (p : Pool) (g d : ℕ) → g ≢ p.pool.0 → ((s : PoolState) → IsOpen s h.pools → s.core.pool.0 ≢ g → HasNoLeafAt d s) → Knows c h p
     → Knows c (record h { owner = at_device d (Some g) h.owner }) (after (Loses d) p)
@@ -251,33 +253,44 @@ abbrev Acted : Codec → Host → Pool → Act → Type 0
 Acted c h p act = Mays c p (events_for act p) × Knows c (host_by act h) (pool_by act p)
 
 pub looked_acted : (c : Codec) (h : Host) (p : Pool) (known : Known) (t : Bool) → IsTrueLook h known → Knows c h p → Mays c p (cond t (Looks known ∷ []) []) × Knows c h (pool_after (cond t (Looks known ∷ []) []) p)
-looked_acted c h p known true look knows = (((λ d s bytes is clean. let one = look.here d s bytes is in
-    look.reads d s bytes is (subst (λ x. IsClean x) (knows.disk d s one) clean) ∙ sym (ap (λ x. x.stable) (knows.disk d s one))), tt), knows)
+looked_acted c h p known true look knows = (
+  (
+    (λ d s bytes is clean. let one = look.here d s bytes is in
+        look.reads d s bytes is (subst (λ x. IsClean x) (knows.disk d s one) clean) ∙ sym (ap (λ x. x.stable) (knows.disk d s one))),
+    tt,
+  ),
+  knows,
+)
 looked_acted c h p known false look knows = (tt, knows)
 
 does_acted : (c : Codec) (h : Host) (p : Pool) (g : ℕ) (v : Move) → g ≢ p.pool.0 → IsOwnMove g h.owner v → Knows c h p → Acted c h p (Does g v)
 does_acted c h p g v off own knows =
     let may : Mays c p (as_events (made_in (v ∷ []))) = calls_may v own in
     let events : events_for (Does g v) p ≡ as_events (made_in (v ∷ [])) = other_events g v p (λ e. off (sym e)) in
-    let behind : Knows c (record h { disk = run (made_in (v ∷ [])) h.disk }) (pool_after (as_events (made_in (v ∷ []))) p) = calls_known c (made_in (v ∷ [])) h p may knows in
-    (subst (Mays c p) (sym events) may, subst (λ vs. Knows c (host_by (Does g v) h) (pool_after vs p)) (sym events)
-    (pools_known c (record h { disk = run (made_in (v ∷ [])) h.disk }) (pool_after (as_events (made_in (v ∷ []))) p) (map (moved g v) h.pools)
-    (λ s is number. still_open g v s h.pools is (λ e. off (sym e ∙ (number ∙ ap (λ n. n.0) (calls_number (made_in (v ∷ [])) p))))) behind))
+    let behind : Knows c (record h { disk = run (made_in (v ∷ [])) h.disk }) (pool_after (as_events (made_in (v ∷ []))) p) = calls_known c (made_in (v ∷ [])) h p may knows in (
+      subst (Mays c p) (sym events) may,
+      subst (λ vs. Knows c (host_by (Does g v) h) (pool_after vs p)) (sym events)
+          (pools_known c (record h { disk = run (made_in (v ∷ [])) h.disk }) (pool_after (as_events (made_in (v ∷ []))) p) (map (moved g v) h.pools)
+          (λ s is number. still_open g v s h.pools is (λ e. off (sym e ∙ (number ∙ ap (λ n. n.0) (calls_number (made_in (v ∷ [])) p))))) behind),
+    )
   where
     calls_may : (v : Move) → IsOwnMove g h.owner v → Mays c p (as_events (made_in (v ∷ [])))
     calls_may (Makes noted) own = other_call c g h.owner p noted knows.apart off own
     calls_may v own = tt
 
 other_act : (c : Codec) (h : Host) (p : Pool) (g : ℕ) (act : Act) → g ≢ p.pool.0 → IsOwnAct g h act → IsFair c p act → Knows c h p → Acted c h p act
-other_act c h p g (Hears second) off own fair knows = (tt, record {
-  survives = knows.survives;
-  roster = knows.roster;
-  stands = knows.stands;
-  once = knows.once;
-  apart = knows.apart;
-  sizes = knows.sizes;
-  disk = knows.disk;
-})
+other_act c h p g (Hears second) off own fair knows = (
+  tt,
+  record {
+    survives = knows.survives;
+    roster = knows.roster;
+    stands = knows.stands;
+    once = knows.once;
+    apart = knows.apart;
+    sizes = knows.sizes;
+    disk = knows.disk;
+  },
+)
 other_act c h p g (Bare noted) off own fair knows = let may = other_call c g h.owner p noted knows.apart off own in (may, call_known c h p noted may knows)
 other_act c h p g (Does k v) off own fair knows = does_acted c h p k v (λ e. off (sym own.0 ∙ e)) (subst (λ n. IsOwnMove n h.owner v) (sym own.0) own.1) knows
 other_act c h p g (Gave k a reply) off own fair knows = (tt, knows)
@@ -291,9 +304,11 @@ other_act c h p g (Enters s) off own fair knows = (tt, pools_known c h p (s ∷ 
 other_act c h p g (Names k) off own fair knows = (tt, knows)
 other_act c h p g (Takes k d) off own fair knows =
     let away : (p.pool.0 == k) ≡ false = other_number p.pool.0 k (λ e. off (sym own.0 ∙ sym e)) in
-    let events : events_for (Takes k d) p ≡ Loses d ∷ [] = ap (λ t. cond t [] (Loses d ∷ [])) away in
-    (subst (Mays c p) (sym events) (tt, tt), subst (λ vs. Knows c (host_by (Takes k d) h) (pool_after vs p)) (sym events)
-    (lost_known c h p k d (λ e. off (sym own.0 ∙ e)) (λ s is other. own.1 s is (λ e. other (e ∙ sym own.0))) knows))
+    let events : events_for (Takes k d) p ≡ Loses d ∷ [] = ap (λ t. cond t [] (Loses d ∷ [])) away in (
+      subst (Mays c p) (sym events) (tt, tt),
+      subst (λ vs. Knows c (host_by (Takes k d) h) (pool_after vs p)) (sym events)
+          (lost_known c h p k d (λ e. off (sym own.0 ∙ e)) (λ s is other. own.1 s is (λ e. other (e ∙ sym own.0))) knows),
+    )
 other_act c h p g (Bears birth) off own fair knows = (tt, pools_known c h p (birth.state ∷ h.pools) (other_first p.pool.0 g birth.state h.pools own off) knows)
 other_act c h p g (Closes k) off own fair knows = (tt, pools_known c h p (filter (λ s. not (is_of k s)) h.pools) (λ s is number. open_kept (λ s. not (is_of k s)) s h.pools is) knows)
 
@@ -339,17 +354,17 @@ own_does c h s t g v knows is number kept may ok own =
     let behind : Kept c (state_step v s) (after_move v t) = move_keeps c v s t may ok kept in
     let mine : s.core.pool.0 ≡ t.pool.pool.0 = ap (λ n. n.0) (kept_number c s t kept) in
     let only : (x : PoolState) → IsOpen x (map (moved g v) h.pools) → x.core.pool.0 ≡ (after_move v t).pool.pool.0 → x ≡ state_step v s =
-        λ x at same. let was = was_open g v x h.pools at in
-        let before : was.u.core.pool.0 ≡ t.pool.pool.0 = sym (ap (λ n. n.0) (moved_number g v was.u)) ∙ (sym (ap (λ y. y.core.pool.0) was.is) ∙ (same ∙ ap (λ n. n.0) (move_number v t.pool))) in
-        was.is ∙ (ap (moved g v) (knows.once was.u s was.open_before is before mine) ∙ moved_own g v s (mine ∙ number)) in record {
-  survives = behind.survives;
-  roster = roster_by_events (events_of v t.pool) t.pool knows.roster;
-  stands = λ x at same. ((after_move v t).seats, subst (λ y. Kept c y (after_move v t)) (sym (only x at same)) behind);
-  once = λ x y at there one other. only x at one ∙ sym (only y there other);
-  apart = λ d k owned off. move_apart v h t.pool (subst (λ n. IsOwnMove n h.owner v) (sym number) own) knows.apart d k owned (λ e. off (e ∙ sym (ap (λ n. n.0) (move_number v t.pool))));
-  sizes = λ d one. ap (λ f. f d) (move_size v t.pool) ∙ knows.sizes d one;
-  disk = λ d x one. ap (λ f. f d x) (move_sectors v t.pool) ∙ ap (λ y. replay (made_in (v ∷ [])) d x y) (knows.disk d x one);
-}
+    λ x at same. let was = was_open g v x h.pools at in
+    let before : was.u.core.pool.0 ≡ t.pool.pool.0 = sym (ap (λ n. n.0) (moved_number g v was.u)) ∙ (sym (ap (λ y. y.core.pool.0) was.is) ∙ (same ∙ ap (λ n. n.0) (move_number v t.pool))) in
+    was.is ∙ (ap (moved g v) (knows.once was.u s was.open_before is before mine) ∙ moved_own g v s (mine ∙ number)) in record {
+      survives = behind.survives;
+      roster = roster_by_events (events_of v t.pool) t.pool knows.roster;
+      stands = λ x at same. ((after_move v t).seats, subst (λ y. Kept c y (after_move v t)) (sym (only x at same)) behind);
+      once = λ x y at there one other. only x at one ∙ sym (only y there other);
+      apart = λ d k owned off. move_apart v h t.pool (subst (λ n. IsOwnMove n h.owner v) (sym number) own) knows.apart d k owned (λ e. off (e ∙ sym (ap (λ n. n.0) (move_number v t.pool))));
+      sizes = λ d one. ap (λ f. f d) (move_size v t.pool) ∙ knows.sizes d one;
+      disk = λ d x one. ap (λ f. f d x) (move_sectors v t.pool) ∙ ap (λ y. replay (made_in (v ∷ [])) d x y) (knows.disk d x one);
+    }
 
 -- A walk of it.
 pub walk_may : (c : Codec) (h : Host) (s : PoolState) (t : Side) (g : ℕ) (vs : List Move) → Knows c h t.pool → IsOpen s h.pools → t.pool.pool.0 ≡ g → Kept c s t → Walks c t vs → AreOwnActs g h (does g vs)
@@ -359,9 +374,11 @@ walk_may c h s t g (v ∷ vs) knows is number kept walks own = λ fair.
     let events : events_for (Does g v) t.pool ≡ events_of v t.pool = own_events g v t.pool number in
     let pool_is : pool_by (Does g v) t.pool ≡ (after_move v t).pool = ap (λ vs. pool_after vs t.pool) events in
     let behind : Knows c (host_by (Does g v) h) (after_move v t).pool = own_does c h s t g v knows is number kept walks.0.0 walks.0.1 own.0.1 in
-    let mine : s.core.pool.0 ≡ g = ap (λ n. n.0) (kept_number c s t kept) ∙ number in
-    (subst (Mays c t.pool) (sym events) walks.0.0, subst (Knows c (host_by (Does g v) h)) (sym pool_is) behind,
-    subst (λ q. MayActs c (host_by (Does g v) h) q (does g vs)) (sym pool_is)
-    (walk_may c (host_by (Does g v) h) (state_step v s) (after_move v t) g vs behind
-    (subst (λ x. IsOpen x (map (moved g v) h.pools)) (moved_own g v s mine) (open_moved g v s h.pools is))
-    (ap (λ n. n.0) (move_number v t.pool) ∙ number) (move_keeps c v s t walks.0.0 walks.0.1 kept) walks.1 own.1))
+    let mine : s.core.pool.0 ≡ g = ap (λ n. n.0) (kept_number c s t kept) ∙ number in (
+      subst (Mays c t.pool) (sym events) walks.0.0,
+      subst (Knows c (host_by (Does g v) h)) (sym pool_is) behind,
+      subst (λ q. MayActs c (host_by (Does g v) h) q (does g vs)) (sym pool_is)
+          (walk_may c (host_by (Does g v) h) (state_step v s) (after_move v t) g vs behind
+          (subst (λ x. IsOpen x (map (moved g v) h.pools)) (moved_own g v s mine) (open_moved g v s h.pools is))
+          (ap (λ n. n.0) (move_number v t.pool) ∙ number) (move_keeps c v s t walks.0.0 walks.0.1 kept) walks.1 own.1),
+    )

@@ -340,10 +340,15 @@ create_keeps c h e d name blocks tops asked (inr (inl row)) = by_bool (is_at (ne
     (λ off. inl (subst (Keep d) (sym row.all) (tt, keep_stamps d row.pool (size_in h.table) (new_leaves h.table tops 1 1) row.stamps (Some row.leaf) row.are (not_at (new_leaves h.table tops 1 1) d off))))
 create_keeps c h e d name blocks tops asked (inr (inr row)) = by_bool (is_at (new_leaves h.table tops 1 1) d)
     (λ is. inr (taken_by h e d name blocks tops asked row.may.none is (says row.whole row.ends)))
-    (λ off. inl (subst (Keep d) (sym row.all) (tt, keep_acts d row.stamps (Bears (new_birth name row.pool blocks h.table tops) ∷ row.rest)
-    (keep_stamps d row.pool (size_in h.table) (new_leaves h.table tops 1 1) row.stamps None row.are (not_at (new_leaves h.table tops 1 1) d off))
-    (tt, keep_founding row.whole d row.pool.0 row.moves (failed_in (new_leaves h.table tops 1 1) row.row.ends.results) row.rest e.reply
-    (all_found KeepsMembers kept_kind (λ cells board. tt) c (size_in h.table) (new_state name row.pool blocks h.table tops) row.moves row.whole row.row) row.ends))))
+    (λ off. inl (subst (Keep d) (sym row.all) (
+      tt,
+      keep_acts d row.stamps (Bears (new_birth name row.pool blocks h.table tops) ∷ row.rest)
+          (keep_stamps d row.pool (size_in h.table) (new_leaves h.table tops 1 1) row.stamps None row.are (not_at (new_leaves h.table tops 1 1) d off)) (
+            tt,
+            keep_founding row.whole d row.pool.0 row.moves (failed_in (new_leaves h.table tops 1 1) row.row.ends.results) row.rest e.reply
+                (all_found KeepsMembers kept_kind (λ cells board. tt) c (size_in h.table) (new_state name row.pool blocks h.table tops) row.moves row.whole row.row) row.ends,
+          ),
+    )))
   where
     says : (whole : Bool) → FoundBy whole row.pool.0 row.moves (failed_in (new_leaves h.table tops 1 1) row.row.ends.results) row.rest e.reply
         → (e.reply ≡ To_create (Created 1)) ⊎ ((failed : List ℕ) × (e.reply ≡ To_create (DeviceFault failed)))
@@ -371,10 +376,12 @@ keep_follows (Opens_state s) c size d g acts reply row = keep_opens row.1 d g s 
 keep_import_by : (seek : SeekReply) (c : Codec) (h : Host) (name : List ℕ) (acts : List Act) (reply : Reply) (d : ℕ) → ImportBy seek c h name acts reply → Keep d acts
 keep_import_by NoRecord c h name acts reply d row = subst (Keep d) (sym row.0) tt
 keep_import_by (NumbersEnd limit count) c h name acts reply d row = subst (Keep d) (sym row.0) tt
-keep_import_by (TakesRecord found) c h name acts reply d row = subst (Keep d) (sym row.are)
-    (tt, keep_bare d row.row.ids (all_shown found.pool.0 (read_in row.row.ids) row.row.devs ++ (bare row.row.pages ++ row.rest))
-    (keep_shown d found.pool.0 (read_in row.row.ids) row.row.devs (bare row.row.pages ++ row.rest)
-    (keep_bare d row.row.pages row.rest (keep_follows row.outcome c (size_in h.table) d found.pool.0 row.rest reply row.follows))))
+keep_import_by (TakesRecord found) c h name acts reply d row = subst (Keep d) (sym row.are) (
+  tt,
+  keep_bare d row.row.ids (all_shown found.pool.0 (read_in row.row.ids) row.row.devs ++ (bare row.row.pages ++ row.rest))
+      (keep_shown d found.pool.0 (read_in row.row.ids) row.row.devs (bare row.row.pages ++ row.rest)
+      (keep_bare d row.row.pages row.rest (keep_follows row.outcome c (size_in h.table) d found.pool.0 row.rest reply row.follows))),
+)
 
 keep_for : (full : Bool) (c : Codec) (h : Host) (name : List ℕ) (acts : List Act) (reply : Reply) (d : ℕ) → ImportFor full c h name acts reply → Keep d acts
 keep_for true c h name acts reply d row = subst (Keep d) (sym row.0) tt

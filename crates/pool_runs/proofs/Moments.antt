@@ -72,8 +72,11 @@ moment_of (act ∷ acts) (suc k) = one act (moment_of acts (suc k)) (moment_of a
         → (calls_of_act act ≡ []) ⊎ ((noted : Noted) × (calls_of_act act ≡ noted ∷ []))
         → (i : ℕ) × (calls_along (take i (act ∷ acts)) ≡ take (suc k) (calls_along (act ∷ acts)))
     one act all rest (inl none) = (suc all.0, ap (λ made. made ++ calls_along (take all.0 acts)) none ∙ (all.1 ∙ sym (ap (λ made. take (suc k) (made ++ calls_along acts)) none)))
-    one act all rest (inr some) = (suc rest.0, ap (λ made. made ++ calls_along (take rest.0 acts)) some.1
-        ∙ (ap (λ more. some.0 ∷ more) rest.1 ∙ sym (ap (λ made. take (suc k) (made ++ calls_along acts)) some.1)))
+    one act all rest (inr some) = (
+      suc rest.0,
+      ap (λ made. made ++ calls_along (take rest.0 acts)) some.1
+          ∙ (ap (λ more. some.0 ∷ more) rest.1 ∙ sym (ap (λ made. take (suc k) (made ++ calls_along acts)) some.1)),
+    )
 
 pub has_moment : (past : Past) (acts : List Act) (entries : List Entry) (k : ℕ) → HasMoment past acts entries k
 has_moment past acts entries k = let m = moment_of (acts ++ acts_in entries) k in record {

@@ -158,9 +158,12 @@ frozen_more past v r (inr has) = inr (has.0, inr has.1, has.2)
 pub live_frozen : (c : Codec) (past : Past) → IsAllowed c past → (r : Rec) → IsIn r (pool_of past).live → HasFrozen past r
 live_frozen c (Born birth sectors) ok r (inl is) = inl (λ a. ap (λ q. block_at q a) is)
 live_frozen c (Born birth sectors) ok r (inr none) = absurd none
-live_frozen c (Then past (Begins q)) ok r (inl is) = inr (past, inl (ap (λ x. Then past (Begins x)) is),
-    same_frozen (pool_of past).group.content (block_at r) past (λ a. sym (ap (λ x. block_at x a) is ∙ drawn_contents c (pool_of past) q (past_survives c past ok.0) ok.1 a))
-    (group_frozen c past ok.0 ok.1.frozen))
+live_frozen c (Then past (Begins q)) ok r (inl is) = inr (
+  past,
+  inl (ap (λ x. Then past (Begins x)) is),
+  same_frozen (pool_of past).group.content (block_at r) past (λ a. sym (ap (λ x. block_at x a) is ∙ drawn_contents c (pool_of past) q (past_survives c past ok.0) ok.1 a))
+      (group_frozen c past ok.0 ok.1.frozen),
+)
 live_frozen c (Then past (Begins q)) ok r (inr more) = frozen_more past (Begins q) r (live_frozen c past ok.0 r more)
 live_frozen c (Then past (Acks q)) ok r (inl is) = frozen_more past (Acks q) r (live_frozen c past ok.0 r (subst (λ x. IsIn x (pool_of past).live) (sym is) (subst (IsIn q) (sym ok.1.newest) (inl refl))))
 live_frozen c (Then past (Acks q)) ok r (inr none) = absurd none

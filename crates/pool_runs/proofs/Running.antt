@@ -88,11 +88,13 @@ marked_may true c h s t g a reply (Makes noted) vs reads rest knows is number ke
     let events : events_for (Does g (Makes noted)) t.pool ≡ Calls noted ∷ [] = own_events g (Makes noted) t.pool number in
     let pool_is : pool_by (Does g (Makes noted)) t.pool ≡ (after_move (Makes noted) t).pool = ap (λ vs. pool_after vs t.pool) events in
     let behind : Knows c (host_by (Does g (Makes noted)) h) (after_move (Makes noted) t).pool = own_does c h s t g (Makes noted) knows is number kept may tt own.0.1 in
-    let mine : s.core.pool.0 ≡ g = ap (λ core. core.pool.0) kept.core ∙ number in
-    (subst (Mays c t.pool) (sym events) may, subst (Knows c (host_by (Does g (Makes noted)) h)) (sym pool_is) behind,
-    subst (λ q. MayActs c (host_by (Does g (Makes noted)) h) q (read_acts g a reply vs)) (sym pool_is)
-    (rest behind (subst (λ x. IsOpen x (map (moved g (Makes noted)) h.pools)) (moved_own g (Makes noted) s mine) (open_moved g (Makes noted) s h.pools is)) number
-    (move_keeps c (Makes noted) s t may tt kept) (λ none. (walks none).1) own.1))
+    let mine : s.core.pool.0 ≡ g = ap (λ core. core.pool.0) kept.core ∙ number in (
+      subst (Mays c t.pool) (sym events) may,
+      subst (Knows c (host_by (Does g (Makes noted)) h)) (sym pool_is) behind,
+      subst (λ q. MayActs c (host_by (Does g (Makes noted)) h) q (read_acts g a reply vs)) (sym pool_is)
+          (rest behind (subst (λ x. IsOpen x (map (moved g (Makes noted)) h.pools)) (moved_own g (Makes noted) s mine) (open_moved g (Makes noted) s h.pools is)) number
+          (move_keeps c (Makes noted) s t may tt kept) (λ none. (walks none).1) own.1),
+    )
 marked_may true c h s t g a reply v vs reads rest knows is number kept walks own = absurd (cc)
 marked_may false c h s t g a reply v vs reads rest knows is number kept walks own = λ fair.
     (tt, knows, walk_may c h s t g (v ∷ vs) knows is number kept (walks (fair number)) own.1)
@@ -164,5 +166,9 @@ heard c h p second knows = record {
 pub run_may : (c : Codec) (h : Host) (p : Pool) (entries : List Entry) → Knows c h p → IsRun c h entries → MayActs c h p (acts_in entries)
 run_may c h p [] knows run = tt
 run_may c h p (e ∷ entries) knows run = let first = heard c h p e.second knows in
-    (λ fair. (tt, first, may_more c (host_by (Hears e.second) h) p e.acts (acts_in entries) (entry_may c (host_by (Hears e.second) h) p e first run.0)
-    (λ fair known. run_may c (host_along (acts_of e) h) (pool_along e.acts p) entries known run.1) first))
+    (λ fair. (
+      tt,
+      first,
+      may_more c (host_by (Hears e.second) h) p e.acts (acts_in entries) (entry_may c (host_by (Hears e.second) h) p e first run.0)
+          (λ fair known. run_may c (host_along (acts_of e) h) (pool_along e.acts p) entries known run.1) first,
+    ))

@@ -94,20 +94,23 @@ on_level branch p k cell cells at = let is = branch_is branch k cell (sym (cells
 -- The key on its level is brought.
 bring_may : (c : Codec) (p : Pool) (b hi : ℕ) (branch : Branch) (level : ℕ) → InResilver c p b hi branch level → level < 4
     → Mays c p (brings_on b branch level) × InResilver c (pool_after (brings_on b branch level) p) b hi branch (suc level)
-bring_may c p b hi branch level w low = ((copy, (pass, tt)), record {
-  survives = event_survives c p1 (Passes (key level 0) no_log) sv1 pass;
-  is_b = w.is_b;
-  cells = w.cells;
-  top = w.top;
-  settled = w.settled;
-  long = w.long;
-  running = w.running;
-  hi_is = w.hi_is;
-  low = w.low;
-  eligible = w.eligible;
-  scrub = refl;
-  passed = behind;
-})
+bring_may c p b hi branch level w low = (
+  (copy, (pass, tt)),
+  record {
+    survives = event_survives c p1 (Passes (key level 0) no_log) sv1 pass;
+    is_b = w.is_b;
+    cells = w.cells;
+    top = w.top;
+    settled = w.settled;
+    long = w.long;
+    running = w.running;
+    hi_is = w.hi_is;
+    low = w.low;
+    eligible = w.eligible;
+    scrub = refl;
+    passed = behind;
+  },
+)
   where
     at_level : p.reads.cells (key level 0) ≡ Some (cell_on branch level)
     at_level = w.cells (key level 0) ∙ branch_has branch level 0 refl low
