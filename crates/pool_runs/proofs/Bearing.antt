@@ -22,9 +22,11 @@ use Rattle.pool_moves.specs.Keeping.{IsElsewhere, IsSeated, AreSeatsApart, HasNu
 use Rattle.pool_moves.specs.Leaves.{LeafSeen, Seat, At, Adrift, Told, told, leaf_seen}
 use Rattle.pool_moves.specs.Making.{HasSeat, IsHere, IsMade}
 use Rattle.pool_moves.specs.Moves.{Move, after_moves}
+use Rattle.pool_moves.specs.Rosters.{devices_of}
 use Rattle.pool_moves.specs.States.{PoolSeen, PoolState, Side, seen}
 use Rattle.pool_moves.proofs.CommitWalks.{found_walks}
 use Rattle.pool_moves.proofs.Making.{made_kept}
+use Rattle.pool_moves.proofs.Rosters.{made_roster}
 use Rattle.pool_runs.specs.Acts.{Act, Birth, Bare, Names, Takes, Bears, Closes, does, bare, born, calls_of_act, calls_along, pool_by, pool_along}
 use Rattle.pool_runs.specs.Creating.{NewLeaf, new_leaves, next_number, all_names, is_at, guid_at, top_at, least_under, room_or_none, room_under, new_own, new_leaf_seen, new_state, new_birth, or_else, refused_if, too_many, too_wide, has_twice, unknown, used, too_small, first_some, create_refusal, AreStamps, AreDevsApart, MayCreate, failed_in, FoundBy, Creates, IsNew}
 use Rattle.pool_runs.specs.Devices.{Device, number_in, name_in, size_in}
@@ -312,6 +314,7 @@ bears_known c h name blocks tops pool stamps may are new =
     let only = new_pools pool.0 (new_state name pool blocks h.table tops) (host_along stamps h).pools none in (
       record {
         survives = kept.survives;
+        roster = (devices_of (map new_seat leaves), made_roster (new_state name pool blocks h.table tops) (new_side name pool blocks h.table tops disk) made);
         stands = λ s is number. (map new_seat leaves, subst (λ x. Kept c x (new_side name pool blocks h.table tops disk)) (sym (only s is number)) kept);
         once = λ s u is at one other. only s is one ∙ sym (only u at other);
         apart = λ d k is off. not_true (is_at leaves d) (λ member. let at = leaf_at leaves d member in
@@ -362,7 +365,7 @@ born_headline c h name blocks tops acts reply entries k new run =
     let table_is = acts_table k.stamps h in
     headline_from c (Born (new_birth name k.pool blocks h.table tops) (host_along k.stamps h).disk) (host_by (Bears (new_birth name k.pool blocks h.table tops)) (host_along k.stamps h)) k.rest entries (record {
       left = record {
-        allowed = (is_stamped k);
+        allowed = (is_stamped k, known.0.roster);
         names = λ n d is. new.names n d (sym (ap (λ table. number_in n table) table_is) ∙ is);
         sizes = λ d one. ap (λ table. size_in table d) (sym table_is);
         disk = λ d s one. refl;

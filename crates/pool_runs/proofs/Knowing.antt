@@ -26,13 +26,15 @@ use Rattle.pool_moves.specs.Keeping.{Kept, Admits, Walks, IsNotFoundAt}
 use Rattle.pool_moves.specs.Leaves.{LeafSeen, Seat, At, Adrift, told, leaf_seen}
 use Rattle.pool_moves.specs.Moves.{Move, Makes, Lose, Comes, events_of, leaf_step, leaves_step, step, state_step, after_move}
 use Rattle.pool_moves.specs.ReadRow.{made_in}
+use Rattle.pool_moves.specs.Rosters.{IsRoster, roster_after}
 use Rattle.pool_moves.specs.States.{PoolSeen, PoolState, Side, seen}
 use Rattle.pool_moves.proofs.Keeping.{move_keeps}
-use Rattle.pool_runs.specs.Acts.{Act, Opening, Birth, Hears, Bare, Does, Gave, Looked, Shows, Opens_as, Names, Takes, Bears, Closes, does, record_of, events_for, pool_by, pool_along}
+use Rattle.pool_moves.proofs.Rosters.{roster_goes_on}
+use Rattle.pool_runs.specs.Acts.{Act, Opening, Birth, Hears, Bare, Does, Gave, Looked, Shows, Reads_as, Enters, Names, Takes, Bears, Closes, does, read_by, events_for, pool_by, pool_along}
 use Rattle.pool_runs.specs.Devices.{Device, size_in}
 use Rattle.pool_runs.specs.Fairness.{IsFair, AreFair}
 use Rattle.pool_runs.specs.Hosts.{Host, IsOpen, is_of, moved, host_by, host_along}
-use Rattle.pool_runs.specs.Knowing.{HasSeats, Knows, MayActs, IsOwnCall, IsOwnMove, IsShown, IsTrueLook, HasNoLeafAt, IsOwnAct, AreOwnActs}
+use Rattle.pool_runs.specs.Knowing.{HasSeats, HasRoster, Knows, MayActs, IsOwnCall, IsOwnMove, IsShown, IsTrueLook, HasNoLeafAt, IsOwnAct, AreOwnActs}
 use Rattle.pool_runs.proofs.Acting.{same_number, other_number, number_of_test, own_events, other_events, move_sectors, move_size, move_number, calls_number}
 use Rattle.pool_runs.proofs.Sparing.{other_call}
 
@@ -124,9 +126,9 @@ act_number (Looked name known) p = by (bytes_eq p.name name)
     by : (t : Bool) → (pool_after (cond t (Looks known ∷ []) []) p).pool ≡ p.pool
     by true = refl
     by false = refl
-act_number (Opens_as opening) p = by (p.pool.0 == opening.pool)
+act_number (Reads_as opening) p = by (p.pool.0 == opening.found.pool.0)
   where
-    by : (t : Bool) → (pool_after (cond t (Opens (record_of opening.config p.live p.reads) ∷ []) []) p).pool ≡ p.pool
+    by : (t : Bool) → (pool_after (cond t (Opens (read_by opening p) ∷ []) []) p).pool ≡ p.pool
     by true = refl
     by false = refl
 act_number (Takes g d) p = by (p.pool.0 == g)
@@ -140,6 +142,10 @@ pub acts_number : (acts : List Act) (p : Pool) → (pool_along acts p).pool ≡ 
 acts_number [] p = refl
 acts_number (act ∷ acts) p = acts_number acts (pool_by act p) ∙ act_number act p
 
+-- Behind events the members still stand on a list.
+pub roster_by_events : (vs : List Event) (p : Pool) → HasRoster p → HasRoster (pool_after vs p)
+roster_by_events vs p has = (roster_after vs has.0, roster_goes_on vs p has.0 has.1)
+
 -- One call.
 call_seats : (c : Codec) (s : PoolState) (p : Pool) (noted : Noted) → Mays c p (Calls noted ∷ []) → HasSeats c s p → HasSeats c s (after (Calls noted) p)
 call_seats c s p noted may has = (has.0, move_keeps c (Makes noted) s (record { pool = p; seats = has.0 }) may tt has.1)
@@ -147,6 +153,7 @@ call_seats c s p noted may has = (has.0, move_keeps c (Makes noted) s (record { 
 call_known : (c : Codec) (h : Host) (p : Pool) (noted : Noted) → Mays c p (Calls noted ∷ []) → Knows c h p → Knows c (record h { disk = run (noted ∷ []) h.disk }) (after (Calls noted) p)
 call_known c h p noted may knows = record {
   survives = event_survives c p (Calls noted) knows.survives may.0;
+  roster = roster_by_events (Calls noted ∷ []) p knows.roster;
   stands = λ s is number. call_seats c s p noted may (knows.stands s is number);
   once = knows.once;
   apart = knows.apart;
@@ -163,6 +170,7 @@ pub pools_known : (c : Codec) (h : Host) (p : Pool) (pools : List PoolState) →
     → Knows c (record h { pools = pools }) p
 pools_known c h p pools were knows = record {
   survives = knows.survives;
+  roster = knows.roster;
   stands = λ s is number. knows.stands s (were s is number) number;
   once = λ s u is at one other. knows.once s u (were s is one) (were u at other) one other;
   apart = knows.apart;
@@ -179,6 +187,7 @@ other_first n g new pools is off s (inr more) number = more
 owned_known : (c : Codec) (h : Host) (p : Pool) (g d : ℕ) → p.member d ≡ false → Knows c h p → Knows c (record h { owner = at_device d (Some g) h.owner }) p
 owned_known c h p g d none knows = record {
   survives = knows.survives;
+  roster = knows.roster;
   stands = knows.stands;
   once = knows.once;
   apart = λ e k is off. by_bool (d == e) (λ same. subst (λ x. p.member x ≡ false) (same_device d e same) none)
@@ -225,6 +234,7 @@ lost_known : (c : Codec) (h : Host) (p : Pool) (g d : ℕ) → g ≢ p.pool.0 �
     → Knows c (record h { owner = at_device d (Some g) h.owner }) (after (Loses d) p)
 lost_known c h p g d off none knows = record {
   survives = event_survives c p (Loses d) knows.survives tt;
+  roster = roster_by_events (Loses d ∷ []) p knows.roster;
   stands = λ s is number. lost_seats c s p d (none s is (λ e. off (sym e ∙ number))) (knows.stands s is number);
   once = knows.once;
   apart = λ e k is other. by_bool (d == e) (λ same. ap (λ t. cond t false (p.member e)) same)
@@ -261,6 +271,7 @@ does_acted c h p g v off own knows =
 other_act : (c : Codec) (h : Host) (p : Pool) (g : ℕ) (act : Act) → g ≢ p.pool.0 → IsOwnAct g h act → IsFair c p act → Knows c h p → Acted c h p act
 other_act c h p g (Hears second) off own fair knows = (tt, record {
   survives = knows.survives;
+  roster = knows.roster;
   stands = knows.stands;
   once = knows.once;
   apart = knows.apart;
@@ -272,11 +283,11 @@ other_act c h p g (Does k v) off own fair knows = does_acted c h p k v (λ e. of
 other_act c h p g (Gave k a reply) off own fair knows = (tt, knows)
 other_act c h p g (Looked name known) off own fair knows = looked_acted c h p known (bytes_eq p.name name) own knows
 other_act c h p g (Shows k d known) off own fair knows = (tt, owned_known c h p k d (shown_other c h p g d known knows fair own.1 off) knows)
-other_act c h p g (Opens_as opening) off own fair knows =
-    let away : (p.pool.0 == opening.pool) ≡ false = other_number p.pool.0 opening.pool (λ e. off (sym own.0 ∙ sym e)) in
-    let events : events_for (Opens_as opening) p ≡ [] = ap (λ t. cond t (Opens (record_of opening.config p.live p.reads) ∷ []) []) away in
-    (subst (Mays c p) (sym events) tt, subst (λ vs. Knows c (host_by (Opens_as opening) h) (pool_after vs p)) (sym events)
-    (pools_known c h p (opening.state ∷ h.pools) (other_first p.pool.0 g opening.state h.pools own.1 off) knows))
+other_act c h p g (Reads_as opening) off own fair knows =
+    let away : (p.pool.0 == opening.found.pool.0) ≡ false = other_number p.pool.0 opening.found.pool.0 (λ e. off (sym own ∙ sym e)) in
+    let events : events_for (Reads_as opening) p ≡ [] = ap (λ t. cond t (Opens (read_by opening p) ∷ []) []) away in
+    (subst (Mays c p) (sym events) tt, subst (λ vs. Knows c h (pool_after vs p)) (sym events) knows)
+other_act c h p g (Enters s) off own fair knows = (tt, pools_known c h p (s ∷ h.pools) (other_first p.pool.0 g s h.pools own off) knows)
 other_act c h p g (Names k) off own fair knows = (tt, knows)
 other_act c h p g (Takes k d) off own fair knows =
     let away : (p.pool.0 == k) ≡ false = other_number p.pool.0 k (λ e. off (sym own.0 ∙ sym e)) in
@@ -332,6 +343,7 @@ own_does c h s t g v knows is number kept may ok own =
         let before : was.u.core.pool.0 ≡ t.pool.pool.0 = sym (ap (λ n. n.0) (moved_number g v was.u)) ∙ (sym (ap (λ y. y.core.pool.0) was.is) ∙ (same ∙ ap (λ n. n.0) (move_number v t.pool))) in
         was.is ∙ (ap (moved g v) (knows.once was.u s was.open_before is before mine) ∙ moved_own g v s (mine ∙ number)) in record {
   survives = behind.survives;
+  roster = roster_by_events (events_of v t.pool) t.pool knows.roster;
   stands = λ x at same. ((after_move v t).seats, subst (λ y. Kept c y (after_move v t)) (sym (only x at same)) behind);
   once = λ x y at there one other. only x at one ∙ sym (only y there other);
   apart = λ d k owned off. move_apart v h t.pool (subst (λ n. IsOwnMove n h.owner v) (sym number) own) knows.apart d k owned (λ e. off (e ∙ sym (ap (λ n. n.0) (move_number v t.pool))));

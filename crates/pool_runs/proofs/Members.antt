@@ -28,7 +28,7 @@ use Rattle.pool_moves.specs.Refusing.{FreezeRefusal, IsRefused}
 use Rattle.pool_moves.specs.States.{PoolSeen, PoolState}
 use Rattle.pool_moves.specs.TurnRows.{turn_moves, ended, IsThirdMoves, round_end, RowWriteTurn, RowFlushTurn, RowRound}
 use Rattle.pool_moves.specs.Walking.{as_moves, leave_moves}
-use Rattle.pool_runs.specs.Acts.{Act, Bare, Does, Gave, Looked, Shows, Opens_as, Names, Takes, Bears, Closes, does, bare, record_of, events_for, pool_by, pool_along}
+use Rattle.pool_runs.specs.Acts.{Act, Bare, Does, Gave, Looked, Shows, Reads_as, Enters, Names, Takes, Bears, Closes, does, bare, read_by, events_for, pool_by, pool_along}
 use Rattle.pool_runs.specs.Creating.{NewLeaf, leaves_of, new_leaves, new_state, new_birth, all_names, or_else, unknown_by, unknown, create_refusal, is_at, dev_or_none, AreStamps, failed_in, FoundBy, RowCreate}
 use Rattle.pool_runs.specs.Devices.{Device, number_in, size_in}
 use Rattle.pool_runs.specs.HostRows.{ByMoves, is_reading, marked_behind, read_acts, ByRead, WriteLine, ReadLine, FreezeLine, TurnLine, SyncLine, OfflineLine, LogsLine, OnPool, RowOf, ChangesNone, IsReadLine, RunsOut, HostRow}
@@ -71,9 +71,9 @@ act_members d (Looked name known) p keeps is = by (bytes_eq p.name name)
     by : (t : Bool) → (pool_after (cond t (Looks known ∷ []) []) p).member d ≡ true
     by true = is
     by false = is
-act_members d (Opens_as opening) p keeps is = by (p.pool.0 == opening.pool)
+act_members d (Reads_as opening) p keeps is = by (p.pool.0 == opening.found.pool.0)
   where
-    by : (t : Bool) → (pool_after (cond t (Opens (record_of opening.config p.live p.reads) ∷ []) []) p).member d ≡ true
+    by : (t : Bool) → (pool_after (cond t (Opens (read_by opening p) ∷ []) []) p).member d ≡ true
     by true = is
     by false = is
 act_members d (Takes g e) p keeps is = by (p.pool.0 == g)

@@ -9,7 +9,7 @@ use Rattle.txg_history.specs.Pools.{Pool, pool_after}
 use Rattle.txg_history.proofs.Folding.{mays_more, calls_more, calls_are}
 use Rattle.pool_moves.specs.Moves.{Move, Makes, events_of}
 use Rattle.pool_moves.specs.ReadRow.{made_in}
-use Rattle.pool_runs.specs.Acts.{Act, Opening, Hears, Bare, Does, Gave, Looked, Shows, Opens_as, Names, Takes, Bears, Closes, calls_of_act, calls_along, record_of, events_for, pool_by, pool_along, history}
+use Rattle.pool_runs.specs.Acts.{Act, Opening, Hears, Bare, Does, Gave, Looked, Shows, Reads_as, Enters, Names, Takes, Bears, Closes, calls_of_act, calls_along, read_by, events_for, pool_by, pool_along, history}
 use Rattle.pool_runs.specs.Devices.{Device}
 use Rattle.pool_runs.specs.Fairness.{IsFair, AreFair}
 use Rattle.pool_runs.specs.Headline.{HasMoment}
@@ -36,9 +36,9 @@ act_calls (Looked name known) p = by (bytes_eq p.name name)
     by : (t : Bool) → calls_of (cond t (Looks known ∷ []) []) ≡ []
     by true = refl
     by false = refl
-act_calls (Opens_as opening) p = by (p.pool.0 == opening.pool)
+act_calls (Reads_as opening) p = by (p.pool.0 == opening.found.pool.0)
   where
-    by : (t : Bool) → calls_of (cond t (Opens (record_of opening.config p.live p.reads) ∷ []) []) ≡ []
+    by : (t : Bool) → calls_of (cond t (Opens (read_by opening p) ∷ []) []) ≡ []
     by true = refl
     by false = refl
 act_calls (Takes g d) p = by (p.pool.0 == g)

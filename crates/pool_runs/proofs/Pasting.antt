@@ -1,5 +1,5 @@
 -- Pasts: the invariant, the next run, and what live records contain.
-use Rattle.std.proofs.Common.{◌≡◌, ◌≢◌, ◌⊎◌, inl, inr, ⊎_elim, ℕ, ◌≤◌, ◌==◌, nat_le, Bool, true, false, cond, List, [], ◌∷◌, ◌++◌, Option, Some, None, refl, sym, ap, ◌∙◌, subst, arith}
+use Rattle.std.proofs.Common.{◌≡◌, ◌≢◌, ◌⊎◌, inl, inr, ⊎_elim, ℕ, ◌≤◌, ◌==◌, nat_le, Bool, true, false, cond, List, [], ◌∷◌, ◌++◌, map, Option, Some, None, refl, sym, ap, ◌∙◌, subst, arith}
 use mathlib.Core.Path.{fun_ext}
 use Rattle.std.proofs.lemmas.Bool.Decides.{nat_tests}
 use Rattle.mp_base.specs.Block.{zero_block}
@@ -43,16 +43,25 @@ use Rattle.txg_history.proofs.Logging.{by_bool, true_not_false}
 use Rattle.txg_history.proofs.Moving.{event_survives}
 use Rattle.txg_history.proofs.Numbering.{renumbered_survives}
 use Rattle.txg_history.proofs.Stamping.{stamped_survives}
+use Rattle.pool_moves.proofs.Rosters.{roster_anew}
 use Rattle.pool_runs.specs.Devices.{size_in}
 use Rattle.pool_runs.specs.Hosts.{Host, IsOpen}
-use Rattle.pool_runs.specs.Knowing.{Knows}
+use Rattle.pool_runs.specs.Knowing.{HasRoster, Knows}
+use Rattle.pool_runs.proofs.Knowing.{roster_by_events}
 use Rattle.pool_runs.specs.Pasts.{Past, Born, Then, Numbered, pool_of, called_in, IsAllowed, then_all, Left, BeginsRun, IsFoundAs, IsNext, AreNamed, met, next_past, IsFront, frozen_by, WasFrozen, HasFrozen}
 
 -- A pool has its invariant behind its past.
 pub past_survives : (c : Codec) (past : Past) → IsAllowed c past → Survives c (pool_of past)
-past_survives c (Born birth sectors) ok = stamped_survives c birth.name birth.pool birth.member birth.guid birth.size birth.room birth.home sectors ok
+past_survives c (Born birth sectors) ok = stamped_survives c birth.name birth.pool birth.member birth.guid birth.size birth.room birth.home sectors ok.0
 past_survives c (Then past v) ok = event_survives c (pool_of past) v (past_survives c past ok.0) ok.1
 past_survives c (Numbered past was called) ok = renumbered_survives c (pool_of past) was (past_survives c past ok.0)
+
+-- Its members stand on a list.
+pub past_roster : (c : Codec) (past : Past) → IsAllowed c past → HasRoster (pool_of past)
+past_roster c (Born birth sectors) ok = ok.1
+past_roster c (Then past v) ok = roster_by_events (v ∷ []) (pool_of past) (past_roster c past ok.0)
+past_roster c (Numbered past was called) ok = let has = past_roster c past ok.0 in
+    (map ok.1.0 has.0, roster_anew (pool_of past) was ok.1.0 has.0 has.1 ok.1.1)
 
 -- More events.
 pub then_pool : (past : Past) (vs : List Event) → pool_of (then_all past vs) ≡ pool_after vs (pool_of past)
@@ -71,6 +80,7 @@ then_allowed c past (v ∷ vs) ok may = then_allowed c (Then past v) vs (ok, may
 pub begins_known : (c : Codec) (past : Past) (h : Host) → BeginsRun c past h → Knows c h (pool_of past)
 begins_known c past h begins = record {
   survives = past_survives c past begins.left.allowed;
+  roster = past_roster c past begins.left.allowed;
   stands = λ s is number. absurd (subst (IsOpen s) begins.closed is);
   once = λ s u is at one other. absurd (subst (IsOpen s) begins.closed is);
   apart = λ d g is off. absurd (let no : None ≡ Some g = sym (begins.unknown d) ∙ is in cc);
@@ -117,7 +127,7 @@ pub next_begins : (c : Codec) (past : Past) (was : ℕ → ℕ) (called : ℕ �
     → IsNext (renumbered was (pool_of past)) images h → BeginsRun c (next_past past was called images h) h
 next_begins c past was called images h ok names next = record {
   left = record {
-    allowed = ((ok, names.kept), may_stop (renumbered was (pool_of past)) images h next);
+    allowed = ((ok, names.numbers, names.kept), may_stop (renumbered was (pool_of past)) images h next);
     names = names.here;
     sizes = λ d one. size_next (renumbered was (pool_of past)) images h next d one;
     disk = λ d s one. met_here (renumbered was (pool_of past)) images h d s one;

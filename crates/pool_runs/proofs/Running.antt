@@ -151,6 +151,7 @@ entry_may c h p e knows (inr out) = may_front c h p e.acts out.rest (row_may c h
 pub heard : (c : Codec) (h : Host) (p : Pool) (second : ℕ) → Knows c h p → Knows c (host_by (Hears second) h) p
 heard c h p second knows = record {
   survives = knows.survives;
+  roster = knows.roster;
   stands = knows.stands;
   once = knows.once;
   apart = knows.apart;

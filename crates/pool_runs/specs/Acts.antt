@@ -1,24 +1,27 @@
 -- Acts: what a host does, one small step after another. A line is a list of acts, and all else is a function of that list: the
 -- host behind it, and the history of each pool.
-use Rattle.std.specs.Prelude.{ℕ, ◌==◌, Bool, cond, List, [], ◌∷◌, ◌++◌, map}
+use Rattle.std.specs.Prelude.{ℕ, ◌==◌, ◌&&◌, Bool, cond, Option, List, [], ◌∷◌, ◌++◌, map}
 use Rattle.std.specs.Str.{bytes_eq}
 use Rattle.mp_base.specs.declared.number.Guid.{Guid}
+use Rattle.mp_base.specs.declared.place.Key.{Key}
 use Rattle.bank_core.specs.Disk.{Noted, Sectors}
+use Rattle.label_store.specs.declared.found.Found.{Found}
 use Rattle.label_store.specs.Rounds.{config_of}
 use Rattle.txg_history.specs.Events.{Event, Known, Calls, Looks, Opens, Loses, as_events}
 use Rattle.txg_history.specs.Pools.{Pool, pool_after, stamped}
-use Rattle.txg_history.specs.Records.{Rec}
+use Rattle.txg_history.specs.Records.{Rec, number_of}
 use Rattle.pool_moves.specs.Moves.{Move, events_of}
 use Rattle.pool_moves.specs.ReadRow.{ReadReply, made_in}
 use Rattle.pool_moves.specs.States.{PoolState}
 
--- What an opening found and opens: the name that was asked, the pool number, the configuration's bytes, and the pool's state before
--- its commit.
+-- What an opening reads: the name that was asked, the record that it found, the devices on which it finds the record's leaves with the calls
+-- that looked for their identities, and the bytes that it finds of the map's pages.
 pub record Opening : Type 0 where
   pub name : List ℕ
-  pub pool : ℕ
-  pub config : List ℕ
-  pub state : PoolState
+  pub found : Found
+  pub devs : List (Option ℕ)
+  pub ids : List Noted
+  pub bytes : Key → Option (List ℕ)
 
 -- A pool that begins behind its stamps: its members with their numbers, the names of the devices, their sectors, its tops' rooms,
 -- under which top each member stands, and its state.
@@ -46,8 +49,10 @@ pub data Act : Type 0 where
   Looked : (name : List ℕ) (known : Known) → Act
   -- by what was read of its rings, this device has an identity of the pool of this number
   Shows : (g d : ℕ) (known : Known) → Act
-  -- an opening opens what it found
-  Opens_as : (opening : Opening) → Act
+  -- an opening reads the record that it found
+  Reads_as : (opening : Opening) → Act
+  -- a pool is open, as this state
+  Enters : (s : PoolState) → Act
   -- a create begins under this pool number
   Names : (g : ℕ) → Act
   -- a stamp of the pool of this number begins on this device
@@ -75,10 +80,17 @@ abbrev pub calls_along : List Act → List Noted
 calls_along [] = []
 calls_along (act ∷ acts) = calls_of_act act ++ calls_along acts
 
--- the live record of this configuration
-abbrev pub record_of : (config : List ℕ) → (live : List Rec) → (otherwise : Rec) → Rec
-record_of config [] otherwise = otherwise
-record_of config (r ∷ live) otherwise = cond (bytes_eq config (config_of r.commit)) r (record_of config live otherwise)
+-- the live record of this configuration and number
+abbrev pub is_record_of : Found → Rec → Bool
+is_record_of found r = bytes_eq found.blob.items (config_of r.commit) && (found.number.0 == number_of r)
+
+abbrev pub record_of : Found → (live : List Rec) → (otherwise : Rec) → Rec
+record_of found [] otherwise = otherwise
+record_of found (r ∷ live) otherwise = cond (is_record_of found r) r (record_of found live otherwise)
+
+-- what an opening reads of a pool
+abbrev pub read_by : Opening → Pool → Rec
+read_by opening p = record_of opening.found p.live p.reads
 
 -- What the history of a pool gets of an act: each device call; the moves of its own open state; what openings by its name looked at;
 -- what an opening of it reads; and each device that another pool stamps.
@@ -86,7 +98,7 @@ abbrev pub events_for : Act → Pool → List Event
 events_for (Bare noted) p = Calls noted ∷ []
 events_for (Does g v) p = cond (p.pool.0 == g) (events_of v p) (as_events (made_in (v ∷ [])))
 events_for (Looked name known) p = cond (bytes_eq p.name name) (Looks known ∷ []) []
-events_for (Opens_as opening) p = cond (p.pool.0 == opening.pool) (Opens (record_of opening.config p.live p.reads) ∷ []) []
+events_for (Reads_as opening) p = cond (p.pool.0 == opening.found.pool.0) (Opens (read_by opening p) ∷ []) []
 events_for (Takes g d) p = cond (p.pool.0 == g) [] (Loses d ∷ [])
 events_for act p = []
 

@@ -1,19 +1,31 @@
 -- What is assumed of acts, of each at its own place: no clash, and at openings their premises. Of nothing else anything is assumed.
-use Rattle.std.specs.Prelude.{◌≡◌, ◌≢◌, ℕ, List, [], ◌∷◌}
-use Rattle.txg_history.specs.Pages.{Codec}
+use Rattle.std.specs.Prelude.{◌≡◌, ◌≢◌, ℕ, true, List, [], ◌∷◌}
+use Rattle.mp_base.specs.declared.number.Guid.{Guid}
+use Rattle.txg_history.specs.Pages.{Codec, ClashesAt}
 use Rattle.txg_history.specs.Pools.{Pool}
 use Rattle.txg_history.specs.Premises.{AreNotTorn, Premises}
+use Rattle.pool_moves.specs.Opened.{claims_of}
+use Rattle.pool_moves.specs.OpeningRow.{AreWholeReads}
 use Rattle.pool_moves.specs.ReadRow.{ClashesWith}
-use Rattle.pool_runs.specs.Acts.{Act, Gave, Looked, Shows, Opens_as, Names, pool_by}
+use Rattle.pool_runs.specs.Acts.{Act, Gave, Looked, Opening, Shows, Reads_as, Names, read_by, pool_by}
+
+-- What is assumed where an opening reads a record of the pool's number. It is one of the pool's name; no ring sector that was read was torn into a
+-- correct uberblock; each device that was taken for one of the record's leaves, by its name and identity, is a member; and no bytes that were
+-- found of a page are others than the record's with the same sum.
+pub record IsFairOpening (c : Codec) (p : Pool) (opening : Opening) : Type 0 where
+  pub named : p.name ≡ opening.name
+  pub whole : AreWholeReads p opening.ids
+  pub members : (d : ℕ) (m : Guid) → claims_of (c.leaves opening.found.blob.items) opening.devs d m ≡ true → p.member d ≡ true
+  pub pages : ClashesAt (read_by opening p).cells opening.bytes → ⊥
 
 -- What is assumed of an act, for a pool. A read of its block gave no other bytes of the block's sum. An opening by its name has the premises of
--- openings. Where identities were read, no ring sector was torn into a correct uberblock. An opening under its number is one of its name,
--- and no other pool is made under its number.
+-- openings, and so has one that reads a record of its number. Where identities were read, no ring sector was torn into a correct uberblock. And no
+-- other pool is made under its number.
 abbrev pub IsFair : Codec → Pool → Act → Type 0
 IsFair c p (Gave g a reply) = p.pool.0 ≡ g → ¬ (ClashesWith (p.written a) reply)
 IsFair c p (Looked name known) = p.name ≡ name → Premises c.head_of p known
 IsFair c p (Shows g d known) = AreNotTorn p known
-IsFair c p (Opens_as opening) = p.pool.0 ≡ opening.pool → p.name ≡ opening.name
+IsFair c p (Reads_as opening) = p.pool.0 ≡ opening.found.pool.0 → IsFairOpening c p opening
 IsFair c p (Names g) = g ≢ p.pool.0
 IsFair c p act = Unit {0}
 

@@ -11,7 +11,7 @@ use Rattle.pool_moves.specs.LineRows.{TurnReply, FreezeReply, SyncReply, RowTurn
 use Rattle.pool_moves.specs.Moves.{Move, Makes}
 use Rattle.pool_moves.specs.ReadRow.{ReadReply, RowRead}
 use Rattle.pool_moves.specs.States.{PoolState}
-use Rattle.pool_runs.specs.Acts.{Act, Hears, Bare, Does, Gave, Looked, Shows, Opens_as, Names, Takes, Bears, Closes, does, calls_along}
+use Rattle.pool_runs.specs.Acts.{Act, Hears, Bare, Does, Gave, Looked, Shows, Reads_as, Enters, Names, Takes, Bears, Closes, does, calls_along}
 use Rattle.pool_runs.specs.Creating.{RowCreate}
 use Rattle.pool_runs.specs.Devices.{size_in}
 use Rattle.pool_runs.specs.Hosts.{Host, named, host_by, host_along}
@@ -97,7 +97,7 @@ RowOf c h (Asks_create name blocks tops) acts reply = RowCreate c h name blocks 
 abbrev pub ChangesNone : Act → Type 0
 ChangesNone (Does g (Makes noted)) = Unit {0}
 ChangesNone (Does g v) = ⊥
-ChangesNone (Opens_as opening) = ⊥
+ChangesNone (Enters s) = ⊥
 ChangesNone (Takes g d) = ⊥
 ChangesNone (Bears birth) = ⊥
 ChangesNone (Closes g) = ⊥

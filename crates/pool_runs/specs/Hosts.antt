@@ -7,7 +7,7 @@ use Rattle.txg_history.specs.Groups.{at_device}
 use Rattle.pool_moves.specs.Moves.{Move, state_step}
 use Rattle.pool_moves.specs.ReadRow.{made_in}
 use Rattle.pool_moves.specs.States.{PoolState}
-use Rattle.pool_runs.specs.Acts.{Act, Hears, Bare, Does, Shows, Opens_as, Takes, Bears, Closes}
+use Rattle.pool_runs.specs.Acts.{Act, Hears, Bare, Does, Shows, Enters, Takes, Bears, Closes}
 use Rattle.pool_runs.specs.Devices.{Device}
 
 -- A host: its devices by name, the open pools, of each device the number of the pool whose identity was last read or stamped there
@@ -41,7 +41,7 @@ host_by (Hears second) h = record h { second = second }
 host_by (Bare noted) h = record h { disk = run (noted ∷ []) h.disk }
 host_by (Does g v) h = record h { disk = run (made_in (v ∷ [])) h.disk; pools = map (moved g v) h.pools }
 host_by (Shows g d known) h = record h { owner = at_device d (Some g) h.owner }
-host_by (Opens_as opening) h = record h { pools = opening.state ∷ h.pools }
+host_by (Enters s) h = record h { pools = s ∷ h.pools }
 host_by (Takes g d) h = record h { owner = at_device d (Some g) h.owner }
 host_by (Bears birth) h = record h { pools = birth.state ∷ h.pools }
 host_by (Closes g) h = record h { pools = filter (λ s. not (is_of g s)) h.pools }

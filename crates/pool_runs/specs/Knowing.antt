@@ -14,8 +14,9 @@ use Rattle.pool_moves.specs.FreezeRow.{is_dev}
 use Rattle.pool_moves.specs.Keeping.{Kept}
 use Rattle.pool_moves.specs.Leaves.{Seat, LeafSeen}
 use Rattle.pool_moves.specs.Moves.{Move, Makes, Comes}
+use Rattle.pool_moves.specs.Rosters.{IsRoster}
 use Rattle.pool_moves.specs.States.{PoolState}
-use Rattle.pool_runs.specs.Acts.{Act, Hears, Bare, Does, Gave, Looked, Shows, Opens_as, Names, Takes, Bears, Closes, events_for, pool_by}
+use Rattle.pool_runs.specs.Acts.{Act, Hears, Bare, Does, Gave, Looked, Shows, Reads_as, Enters, Names, Takes, Bears, Closes, events_for, pool_by}
 use Rattle.pool_runs.specs.Devices.{Device, size_in}
 use Rattle.pool_runs.specs.Fairness.{IsFair}
 use Rattle.pool_runs.specs.Hosts.{Host, host_by, IsOpen}
@@ -24,10 +25,15 @@ use Rattle.pool_runs.specs.Hosts.{Host, host_by, IsOpen}
 abbrev pub HasSeats : Codec → PoolState → Pool → Type 0
 HasSeats c s p = (seats : List Seat) × Kept c s (record { pool = p; seats = seats })
 
--- A pool in a host. Its history has its invariant; where it is open its state is what its history says, and it is open once; no device that
+-- the members stand on a list, no two under one number
+abbrev pub HasRoster : Pool → Type 0
+HasRoster p = (devs : List ℕ) × IsRoster p devs
+
+-- A pool in a host. Its history has its invariant, and its members stand on a list; where it is open its state is what its history says, and it is open once; no device that
 -- another pool owns is its member; and each device that this run has is as the history has it, in its size and its sectors.
 pub record Knows (c : Codec) (h : Host) (p : Pool) : Type 0 where
   pub survives : Survives c p
+  pub roster : HasRoster p
   pub stands : (s : PoolState) → IsOpen s h.pools → s.core.pool.0 ≡ p.pool.0 → HasSeats c s p
   pub once : (s u : PoolState) → IsOpen s h.pools → IsOpen u h.pools → s.core.pool.0 ≡ p.pool.0 → u.core.pool.0 ≡ p.pool.0 → s ≡ u
   pub apart : (d g : ℕ) → h.owner d ≡ Some g → g ≢ p.pool.0 → p.member d ≡ false
@@ -84,7 +90,8 @@ IsOwnAct g h (Does k v) = (k ≡ g) × IsOwnMove g h.owner v
 IsOwnAct g h (Gave k a reply) = k ≡ g
 IsOwnAct g h (Looked name known) = IsTrueLook h known
 IsOwnAct g h (Shows k d known) = (k ≡ g) × IsShown h.table g d known
-IsOwnAct g h (Opens_as opening) = (opening.pool ≡ g) × (opening.state.core.pool.0 ≡ g)
+IsOwnAct g h (Reads_as opening) = opening.found.pool.0 ≡ g
+IsOwnAct g h (Enters s) = s.core.pool.0 ≡ g
 IsOwnAct g h (Names k) = k ≡ g
 IsOwnAct g h (Takes k d) = (k ≡ g) × ((s : PoolState) → IsOpen s h.pools → s.core.pool.0 ≢ g → HasNoLeafAt d s)
 IsOwnAct g h (Bears birth) = birth.state.core.pool.0 ≡ g

@@ -12,6 +12,7 @@ use Rattle.txg_history.specs.Stamps.{AreStamped}
 use Rattle.pool_runs.specs.Acts.{Birth, born}
 use Rattle.pool_runs.specs.Devices.{Device, number_in, size_in}
 use Rattle.pool_runs.specs.Hosts.{Host}
+use Rattle.pool_runs.specs.Knowing.{HasRoster}
 
 -- How a pool came to be as it is: it began behind its stamps, an event came behind others, or a further run has the same devices under other
 -- numbers: device d is the one that was `was d`, and is called `called d`.
@@ -32,11 +33,15 @@ called_in (Born birth sectors) = birth.called
 called_in (Then past v) = called_in past
 called_in (Numbered past was called) = called
 
+-- each member's device has one number: the one that it is given now
+abbrev pub KeepsNumbers : Pool → (was : ℕ → ℕ) → Type 0
+KeepsNumbers p was = (now : ℕ → ℕ) × ((d : ℕ) → p.member (was d) ≡ true → now (was d) ≡ d)
+
 -- Each of its events was one that a pool may have, it began behind whole stamps, and each member keeps its name.
 abbrev pub IsAllowed : Codec → Past → Type 0
-IsAllowed c (Born birth sectors) = AreStamped birth.pool birth.member birth.guid birth.size birth.room birth.home sectors
+IsAllowed c (Born birth sectors) = AreStamped birth.pool birth.member birth.guid birth.size birth.room birth.home sectors × HasRoster (born birth sectors)
 IsAllowed c (Then past v) = IsAllowed c past × May c (pool_of past) v
-IsAllowed c (Numbered past was called) = IsAllowed c past × ((d : ℕ) → (pool_of past).member (was d) ≡ true → called d ≡ called_in past (was d))
+IsAllowed c (Numbered past was called) = IsAllowed c past × KeepsNumbers (pool_of past) was × ((d : ℕ) → (pool_of past).member (was d) ≡ true → called d ≡ called_in past (was d))
 
 -- more events behind it
 abbrev pub then_all : Past → List Event → Past
@@ -75,8 +80,9 @@ pub record IsNext (p : Pool) (images : ℕ → ℕ → List ℕ) (h : Host) : Ty
   pub closed : h.pools ≡ []
   pub unknown : (d : ℕ) → h.owner d ≡ None
 
--- Each member keeps its name under its new number, and each device that the run has is called by its name.
+-- Each member's device has one number, and keeps its name, and each device that the run has is called by its name.
 pub record AreNamed (past : Past) (was : ℕ → ℕ) (called : ℕ → List ℕ) (h : Host) : Type 0 where
+  pub numbers : KeepsNumbers (pool_of past) was
   pub kept : (d : ℕ) → (pool_of past).member (was d) ≡ true → called d ≡ called_in past (was d)
   pub here : (name : List ℕ) (d : ℕ) → number_in name h.table ≡ Some d → called d ≡ name
 
