@@ -150,7 +150,7 @@ roster_by_events vs p has = (roster_after vs has.0, roster_goes_on vs p has.0 ha
 call_seats : (c : Codec) (s : PoolState) (p : Pool) (noted : Noted) → Mays c p (Calls noted ∷ []) → HasSeats c s p → HasSeats c s (after (Calls noted) p)
 call_seats c s p noted may has = (has.0, move_keeps c (Makes noted) s (record { pool = p; seats = has.0 }) may tt has.1)
 
-call_known : (c : Codec) (h : Host) (p : Pool) (noted : Noted) → Mays c p (Calls noted ∷ []) → Knows c h p → Knows c (record h { disk = run (noted ∷ []) h.disk }) (after (Calls noted) p)
+pub call_known : (c : Codec) (h : Host) (p : Pool) (noted : Noted) → Mays c p (Calls noted ∷ []) → Knows c h p → Knows c (record h { disk = run (noted ∷ []) h.disk }) (after (Calls noted) p)
 call_known c h p noted may knows = record {
   survives = event_survives c p (Calls noted) knows.survives may.0;
   roster = roster_by_events (Calls noted ∷ []) p knows.roster;
@@ -250,7 +250,7 @@ same_pool_known c h p q is knows = subst (Knows c h) (sym is) knows
 abbrev Acted : Codec → Host → Pool → Act → Type 0
 Acted c h p act = Mays c p (events_for act p) × Knows c (host_by act h) (pool_by act p)
 
-looked_acted : (c : Codec) (h : Host) (p : Pool) (known : Known) (t : Bool) → IsTrueLook h known → Knows c h p → Mays c p (cond t (Looks known ∷ []) []) × Knows c h (pool_after (cond t (Looks known ∷ []) []) p)
+pub looked_acted : (c : Codec) (h : Host) (p : Pool) (known : Known) (t : Bool) → IsTrueLook h known → Knows c h p → Mays c p (cond t (Looks known ∷ []) []) × Knows c h (pool_after (cond t (Looks known ∷ []) []) p)
 looked_acted c h p known true look knows = (((λ d s bytes is clean. let one = look.here d s bytes is in
     look.reads d s bytes is (subst (λ x. IsClean x) (knows.disk d s one) clean) ∙ sym (ap (λ x. x.stable) (knows.disk d s one))), tt), knows)
 looked_acted c h p known false look knows = (tt, knows)

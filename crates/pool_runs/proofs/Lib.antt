@@ -3,7 +3,9 @@ pub mod Answering
 pub mod Bearing
 pub mod Counting
 pub mod Creating
+pub mod GroupMoves
 pub mod Heading
+pub mod Importing
 pub mod Knowing
 pub mod Members
 pub mod Moments

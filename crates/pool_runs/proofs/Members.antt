@@ -1,5 +1,5 @@
 -- Which lines leave a pool's members.
-use Rattle.std.proofs.Common.{◌≡◌, ◌≢◌, ◌⊎◌, inl, inr, ⊎_elim, ℕ, ◌+◌, ◌==◌, ◌||◌, Bool, true, false, cond, List, [], ◌∷◌, ◌++◌, map, length, Option, Some, None, refl, sym, ap, ◌∙◌, subst, arith}
+use Rattle.std.proofs.Common.{◌≡◌, ◌≢◌, ◌⊎◌, inl, inr, ⊎_elim, ℕ, ◌+◌, ◌==◌, ◌||◌, nat_le, Bool, true, false, cond, List, [], ◌∷◌, ◌++◌, map, length, Option, Some, None, refl, sym, ap, ◌∙◌, subst, arith}
 use Rattle.std.specs.List.{AllByRecursion, find, filter}
 use Rattle.std.specs.Str.{bytes_eq}
 use Rattle.std.proofs.lemmas.Bool.Decides.{nat_tests}
@@ -10,7 +10,7 @@ use Rattle.bank_core.specs.Disk.{Noted}
 use Rattle.label_store.specs.declared.member.Member.{Member}
 use Rattle.label_store.specs.Plans.{stamp_plan}
 use Rattle.label_store.specs.Rounds.{third_plan}
-use Rattle.txg_history.specs.Events.{Event, Calls, Looks, Opens, Loses, as_events}
+use Rattle.txg_history.specs.Events.{Event, Known, Calls, Looks, Opens, Loses, as_events}
 use Rattle.txg_history.specs.Pages.{Codec, Sum}
 use Rattle.txg_history.specs.Pools.{Pool, after, pool_after}
 use Rattle.txg_history.specs.Records.{Cell}
@@ -19,22 +19,26 @@ use Rattle.txg_history.proofs.Logging.{by_bool}
 use Rattle.pool_moves.specs.AwayRows.{WriteReply, WriteFits, WriteBy, RowWrite, OfflineReply, is_offline, is_spare, leave_if, drop_if, gone, OfflineLeaf, OfflineHere, OfflineBy, leaf_named, RowOffline}
 use Rattle.pool_moves.specs.Boards.{board_of, board_under, emptied}
 use Rattle.pool_moves.specs.CommitRows.{NamedLog, RowLogs, RowFound}
-use Rattle.pool_moves.specs.FreezeRow.{joins, RowFreeze, RowEmptyFreeze}
+use Rattle.pool_moves.specs.FreezeRow.{up_devs}
 use Rattle.pool_moves.specs.Leaves.{LeafSeen}
 use Rattle.pool_moves.specs.LineRows.{TurnReply, sets_failed, has_number, count_moves, EndsBy, EndsTurn, IsTurnOf, IsWritePart, IsFlushPart, IsRoundPart, StartsBy, TurnBy, RowTurn, Committed, Suspended, Idle, Write, Flush, Round, AreTurns, moves_in, EndsGroup, CommitsOpen, FreezeReply, FreezeFor, FreezeBy, RowFreezeLine, SyncReply, CommitsFor, SyncOpen, SyncBehind, EndsFirst, SyncBy, RowSync}
-use Rattle.pool_moves.specs.Moves.{Draft, Move, Makes, Puts, Freeze, Wrote_key, Flushed_all, Draw, Leave, Burn, Starts, Copies, Copied, Commits, Sets, Lose, Comes, Drop, events_of, steps}
+use Rattle.pool_moves.specs.Moves.{Draft, Move, Makes, Puts, Freeze, Wrote_key, Flushed_all, Draw, Leave, Burn, Starts, Copies, Copied, Commits, Sets, Lose, Comes, Drop, Scan_from, Rest, events_of, steps}
+use Rattle.pool_moves.specs.OpeningRow.{SeekReply, NoRecord, NumbersEnd, TakesRecord, OpenReply, Opens_state, NoPage, lacking_of, ResumesBy, ResumesUnless}
 use Rattle.pool_moves.specs.ReadRow.{ReadReply, count_reads, RowCopies, stands_under, ReadRecord, ReadGroup, ReadOpen, RowRead, made_in}
 use Rattle.pool_moves.specs.Refusing.{FreezeRefusal, IsRefused}
+use Rattle.pool_moves.specs.Resilvers.{rest_if, Resilvers}
 use Rattle.pool_moves.specs.States.{PoolSeen, PoolState}
 use Rattle.pool_moves.specs.TurnRows.{turn_moves, ended, IsThirdMoves, round_end, RowWriteTurn, RowFlushTurn, RowRound}
 use Rattle.pool_moves.specs.Walking.{as_moves, leave_moves}
 use Rattle.pool_runs.specs.Acts.{Act, Bare, Does, Gave, Looked, Shows, Reads_as, Enters, Names, Takes, Bears, Closes, does, bare, read_by, events_for, pool_by, pool_along}
 use Rattle.pool_runs.specs.Creating.{NewLeaf, leaves_of, new_leaves, new_state, new_birth, all_names, or_else, unknown_by, unknown, create_refusal, is_at, dev_or_none, AreStamps, failed_in, FoundBy, RowCreate}
 use Rattle.pool_runs.specs.Devices.{Device, number_in, size_in}
-use Rattle.pool_runs.specs.HostRows.{ByMoves, is_reading, marked_behind, read_acts, ByRead, WriteLine, ReadLine, FreezeLine, TurnLine, SyncLine, OfflineLine, LogsLine, OnPool, RowOf, ChangesNone, IsReadLine, RunsOut, HostRow}
+use Rattle.pool_runs.specs.HostRows.{ByMoves, is_reading, marked_behind, read_acts, ByRead, WriteLine, ReadLine, FreezeLine, TurnLine, SyncLine, OfflineLine, LogsLine, OnPool, RowOf, ChangesNone, MayRewrite, RunsOut, HostRow}
 use Rattle.pool_runs.specs.Hosts.{Host, named}
-use Rattle.pool_runs.specs.Lines.{Asked, Asks_nothing, Asks_write, Asks_read, Asks_freeze, Asks_turn, Asks_sync, Asks_offline, Asks_logs, Asks_create, Reply, To_create, Created, DeviceFault, Entry}
+use Rattle.pool_runs.specs.Importing.{read_in, all_shown, OpensBy, FollowsMap, ImportBy, host_behind, ImportFor, ImportUnless}
+use Rattle.pool_runs.specs.Lines.{Asked, Asks_nothing, Asks_write, Asks_read, Asks_freeze, Asks_turn, Asks_sync, Asks_offline, Asks_logs, Asks_import, Asks_create, Reply, To_create, Created, DeviceFault, Entry}
 use Rattle.pool_runs.specs.Taking.{IsTakenBy}
+use Rattle.pool_runs.proofs.GroupMoves.{IsKind, more, all_calls, all_reads, all_turn, all_freeze, all_sync, all_found, all_reopen}
 use Rattle.pool_runs.proofs.Creating.{or_first, or_second, none_refused}
 
 -- Moves that leave the members.
@@ -92,144 +96,27 @@ abbrev AllKeep : List Move → Type 0
 AllKeep vs = AllByRecursion KeepsMembers vs
 
 keep_more : (vs ws : List Move) → AllKeep vs → AllKeep ws → AllKeep (vs ++ ws)
-keep_more [] ws a b = b
-keep_more (v ∷ vs) ws a b = (a.0, keep_more vs ws a.1 b)
+keep_more vs ws a b = more KeepsMembers vs ws a b
+
+kept_kind : IsKind KeepsMembers
+kept_kind = record {
+  calls = λ noted. tt;
+  leave = λ d. tt;
+  set = λ m own. tt;
+  wrote = λ k. tt;
+  flushed = tt;
+  draw = tt;
+  starts = λ draft. tt;
+  copies = λ draft d. tt;
+  copied = λ draft d. tt;
+  commits = λ draft. tt;
+}
 
 keep_calls : (made : List Noted) → AllKeep (as_moves made)
-keep_calls [] = tt
-keep_calls (noted ∷ made) = (tt, keep_calls made)
-
-keep_leave : (ms : List Member) (results : List Bool) → AllKeep (leave_moves ms results)
-keep_leave [] results = tt
-keep_leave (m ∷ ms) [] = tt
-keep_leave (m ∷ ms) (true ∷ results) = keep_leave ms results
-keep_leave (m ∷ ms) (false ∷ results) = (tt, keep_leave ms results)
-
-keep_failed : (found : Option LeafSeen) → AllKeep (sets_failed found)
-keep_failed None = tt
-keep_failed (Some leaf) = (tt, tt)
-
-keep_counts : (leaves : List LeafSeen) (ms : List Member) (results : List Bool) → AllKeep (count_moves leaves ms results)
-keep_counts leaves [] results = tt
-keep_counts leaves (m ∷ ms) [] = tt
-keep_counts leaves (m ∷ ms) (true ∷ results) = keep_counts leaves ms results
-keep_counts leaves (m ∷ ms) (false ∷ results) = keep_more (sets_failed (find (has_number m.guid) leaves)) (count_moves leaves ms results)
-    (keep_failed (find (has_number m.guid) leaves)) (keep_counts leaves ms results)
-
-keep_joins : (leaves : List LeafSeen) → AllKeep (joins leaves)
-keep_joins [] = tt
-keep_joins (leaf ∷ leaves) = (tt, keep_joins leaves)
+keep_calls made = all_calls KeepsMembers kept_kind made
 
 keep_reads : (sum : List ℕ) (made : List Noted) (leaves : List LeafSeen) → AllKeep (count_reads sum made leaves)
-keep_reads sum made [] = tt
-keep_reads sum made (leaf ∷ leaves) = (tt, keep_reads sum made leaves)
-
-keep_ended : (c : Bool) (draft : Draft) (d : ℕ) → AllKeep (ended c draft d)
-keep_ended true draft d = (tt, tt)
-keep_ended false draft d = tt
-
-keep_third : (plan : Member → List Ask) (draft : Draft) (ms : List Member) (was is : List Bool) (vs : List Move) → IsThirdMoves plan draft ms was is vs → AllKeep vs
-keep_third plan draft [] [] [] vs third = subst AllKeep (sym third) tt
-keep_third plan draft [] [] (c ∷ is) vs third = absurd third
-keep_third plan draft [] (b ∷ was) is vs third = absurd third
-keep_third plan draft (m ∷ ms) [] is vs third = absurd third
-keep_third plan draft (m ∷ ms) (b ∷ was) [] vs third = absurd third
-keep_third plan draft (m ∷ ms) (true ∷ was) (c ∷ is) vs third = subst AllKeep (sym third.2)
-    (tt, keep_more (as_moves third.0) (ended c draft m.dev ++ third.1) (keep_calls third.0)
-    (keep_more (ended c draft m.dev) third.1 (keep_ended c draft m.dev) (keep_third plan draft ms was is third.1 third.4)))
-keep_third plan draft (m ∷ ms) (false ∷ was) (c ∷ is) vs third = keep_third plan draft ms was is vs third.1
-
-keep_end : (whole : Bool) (draft : Draft) (ms : List Member) (results : List Bool) → AllKeep (round_end whole draft ms results)
-keep_end true draft ms results = (tt, tt)
-keep_end false draft ms results = keep_leave ms results
-
-keep_round : (c : Codec) (size : ℕ → ℕ) (s : PoolSeen) (vs : List Move) (whole : Bool) → RowRound c size s vs whole → AllKeep vs
-keep_round c size s vs whole row = let ms = board_of s.leaves in subst AllKeep (sym row.moves)
-    (tt, keep_more (as_moves row.first) (as_moves row.second ++ (row.thirds ++ round_end whole row.draft ms row.results)) (keep_calls row.first)
-    (keep_more (as_moves row.second) (row.thirds ++ round_end whole row.draft ms row.results) (keep_calls row.second)
-    (keep_more row.thirds (round_end whole row.draft ms row.results) (keep_third (third_plan size row.draft.commit) row.draft ms row.in_second row.results row.thirds row.copies)
-    (keep_end whole row.draft ms row.results))))
-
-keep_ends : (top : Option ℕ) (s : PoolState) (more : List Move) (going : TurnReply) (vs : List Move) (reply : TurnReply) → AllKeep more → EndsBy top s more going vs reply → AllKeep vs
-keep_ends (Some top) s more going vs reply keeps ends = subst AllKeep (sym ends.0) (tt, tt)
-keep_ends None s more going vs reply keeps ends = subst AllKeep (sym ends.0) keeps
-
-keep_turn_moves : (made : List Noted) (ms : List Member) (results : List Bool) (mark : Move) → KeepsMembers mark → AllKeep (turn_moves made ms results mark)
-keep_turn_moves made ms results mark keeps = keep_more (as_moves made) (leave_moves ms results ++ (mark ∷ [])) (keep_calls made) (keep_more (leave_moves ms results) (mark ∷ []) (keep_leave ms results) (keeps, tt))
-
-keep_part : (s : PoolState) (part : List Move) (ms : List Member) (results : List Bool) (going : TurnReply) (vs : List Move) (reply : TurnReply) → AllKeep part → IsTurnOf s part ms results [] going vs reply → AllKeep vs
-keep_part s part ms results going vs reply keeps turn = subst AllKeep (sym turn.moves)
-    (keep_more (part ++ count_moves s.core.leaves ms results) turn.ending (keep_more part (count_moves s.core.leaves ms results) keeps (keep_counts s.core.leaves ms results))
-    (keep_ends (emptied (steps (part ++ count_moves s.core.leaves ms results) s).core.leaves) (steps (part ++ count_moves s.core.leaves ms results) s) [] going turn.ending reply tt turn.ends))
-
-keep_round_part : (c : Codec) (size : ℕ → ℕ) (s : PoolState) (vs : List Move) (reply : TurnReply) → IsRoundPart c size s vs reply → AllKeep vs
-keep_round_part c size s vs reply w = let ms = board_of s.core.leaves in subst AllKeep (sym w.moves) (keep_more w.behind w.ending
-    (subst AllKeep (sym w.counted) (keep_more w.part (count_moves s.core.leaves ms w.row.results) (keep_round c size s.core w.part w.whole w.row) (keep_counts s.core.leaves ms w.row.results)))
-    (of w.whole w.ends))
-  where
-    of : (whole : Bool) → cond whole ((w.ending ≡ []) × (reply ≡ Committed s.core.number)) (EndsTurn (steps w.behind s) (Draw ∷ []) (Round s.core.number) w.ending reply) → AllKeep w.ending
-    of true ends = subst AllKeep (sym ends.0) tt
-    of false ends = keep_ends (emptied (steps w.behind s).core.leaves) (steps w.behind s) (Draw ∷ []) (Round s.core.number) w.ending reply (tt, tt) ends
-
-keep_starts : (top : Option ℕ) (c : Codec) (size : ℕ → ℕ) (s : PoolState) (vs : List Move) (reply : TurnReply) → StartsBy top c size s vs reply → AllKeep vs
-keep_starts (Some top) c size s vs reply row = subst AllKeep (sym row.0) (tt, tt)
-keep_starts None c size s vs reply (inl w) = keep_part s w.part (board_under w.row.cell.top s.core.leaves) w.row.results Write vs reply
-    (subst AllKeep (sym w.row.moves) (keep_turn_moves w.row.made (board_under w.row.cell.top s.core.leaves) w.row.results (Wrote_key w.row.key) tt)) w.turn
-keep_starts None c size s vs reply (inr (inl w)) = keep_part s w.part (board_of s.core.leaves) w.row.results Flush vs reply
-    (subst AllKeep (sym w.row.moves) (keep_turn_moves w.row.made (board_of s.core.leaves) w.row.results Flushed_all tt)) w.turn
-keep_starts None c size s vs reply (inr (inr w)) = keep_round_part c size s vs reply w
-
-keep_turn_by : (frozen : Bool) (c : Codec) (size : ℕ → ℕ) (s : PoolState) (vs : List Move) (reply : TurnReply) → TurnBy frozen c size s vs reply → AllKeep vs
-keep_turn_by false c size s vs reply row = subst AllKeep (sym row.0) tt
-keep_turn_by true c size s vs reply row = keep_starts (emptied s.core.leaves) c size s vs reply row
-
-keep_turn : (c : Codec) (size : ℕ → ℕ) (s : PoolState) (vs : List Move) (reply : TurnReply) → RowTurn c size s vs reply → AllKeep vs
-keep_turn c size s vs reply row = keep_turn_by s.core.group.frozen c size s vs reply row
-
-keep_turns : (c : Codec) (size : ℕ → ℕ) (s : PoolState) (turns : List (List Move × TurnReply)) (reply : TurnReply) → AreTurns c size s turns reply → AllKeep (moves_in turns)
-keep_turns c size s [] reply are = absurd are
-keep_turns c size s (turn ∷ []) reply are = keep_more turn.0 [] (keep_turn c size s turn.0 turn.1 are.0) tt
-keep_turns c size s (turn ∷ (next ∷ turns)) reply are = keep_more turn.0 (moves_in (next ∷ turns)) (keep_turn c size s turn.0 turn.1 are.0) (keep_turns c size (steps turn.0 s) (next ∷ turns) reply are.2)
-
-pub keep_group : (c : Codec) (size : ℕ → ℕ) (s : PoolState) (vs : List Move) (reply : TurnReply) → EndsGroup c size s vs reply → AllKeep vs
-keep_group c size s vs reply g = subst AllKeep (sym g.moves) (keep_turns c size s g.turns reply g.are)
-
-keep_freeze : (c : Codec) (s : PoolState) (vs : List Move) → RowFreeze c s vs → AllKeep vs
-keep_freeze c s vs row = subst AllKeep (sym row.moves) (tt, keep_joins s.core.leaves)
-
-pub keep_empty : (s : PoolState) (vs : List Move) → RowEmptyFreeze s vs → AllKeep vs
-keep_empty s vs row = subst AllKeep (sym row.moves) (tt, keep_joins s.core.leaves)
-
-keep_commits : (c : Codec) (size : ℕ → ℕ) (s : PoolState) (vs : List Move) (reply : TurnReply) → CommitsOpen c size s vs reply → AllKeep vs
-keep_commits c size s vs reply w = subst AllKeep (sym w.moves) (keep_more w.first w.rest (keep_freeze c s w.first w.freeze) (keep_group c size (steps w.first s) w.rest reply w.ends))
-
-keep_for : (refusal : Option FreezeRefusal) (c : Codec) (size : ℕ → ℕ) (s : PoolState) (vs : List Move) (reply : SyncReply) → CommitsFor refusal c size s vs reply → AllKeep vs
-keep_for (Some refusal) c size s vs reply row = subst AllKeep (sym row.0) tt
-keep_for None c size s vs reply row = keep_commits c size s vs row.0 row.1
-
-keep_open : (c : Codec) (size : ℕ → ℕ) (s : PoolState) (vs : List Move) (reply : SyncReply) → SyncOpen c size s vs reply → AllKeep vs
-keep_open c size s vs reply row = keep_for row.0 c size s vs reply row.2
-
-keep_behind : (turn : TurnReply) (c : Codec) (size : ℕ → ℕ) (s : PoolState) (vs : List Move) (reply : SyncReply) → SyncBehind turn c size s vs reply → AllKeep vs
-keep_behind (Committed number) c size s vs reply (inl row) = subst AllKeep (sym row.0) tt
-keep_behind (Committed number) c size s vs reply (inr row) = keep_open c size s vs reply row
-keep_behind Idle c size s vs reply row = subst AllKeep (sym row.0) tt
-keep_behind Write c size s vs reply row = subst AllKeep (sym row.0) tt
-keep_behind Flush c size s vs reply row = subst AllKeep (sym row.0) tt
-keep_behind (Round number) c size s vs reply row = subst AllKeep (sym row.0) tt
-keep_behind (Suspended group top faults) c size s vs reply row = subst AllKeep (sym row.0) tt
-
-keep_sync : (frozen : Bool) (c : Codec) (size : ℕ → ℕ) (s : PoolState) (vs : List Move) (reply : SyncReply) → SyncBy frozen c size s vs reply → AllKeep vs
-keep_sync false c size s vs reply row = keep_open c size s vs reply row
-keep_sync true c size s vs reply row = subst AllKeep (sym row.moves) (keep_more row.first row.rest (keep_group c size s row.first row.turn row.ends) (keep_behind row.turn c size (steps row.first s) row.rest reply row.behind))
-
-keep_freeze_for : (refusal : Option FreezeRefusal) (c : Codec) (s : PoolState) (vs : List Move) (reply : FreezeReply) → FreezeFor refusal c s vs reply → AllKeep vs
-keep_freeze_for (Some refusal) c s vs reply row = subst AllKeep (sym row.0) tt
-keep_freeze_for None c s vs reply row = keep_freeze c s vs row.0
-
-keep_freeze_by : (frozen : Bool) (c : Codec) (s : PoolState) (vs : List Move) (reply : FreezeReply) → FreezeBy frozen c s vs reply → AllKeep vs
-keep_freeze_by true c s vs reply row = subst AllKeep (sym row.0) tt
-keep_freeze_by false c s vs reply row = keep_freeze_for row.0 c s vs reply row.2
+keep_reads sum made leaves = all_reads KeepsMembers kept_kind sum made leaves
 
 keep_fits : (short : Bool) (need free a : ℕ) (block : List ℕ) (vs : List Move) (reply : WriteReply) → WriteFits short need free a block vs reply → AllKeep vs
 keep_fits true need free a block vs reply row = subst AllKeep (sym row.0) tt
@@ -284,9 +171,35 @@ keep_offline : (found : Option LeafSeen) (s : PoolState) (name : List ℕ) (temp
 keep_offline None s name temporary vs reply row = subst AllKeep (sym row.0) tt
 keep_offline (Some leaf) s name temporary vs reply row = keep_offline_here (is_spare s leaf) s leaf temporary vs reply row
 
-pub keep_found : (c : Codec) (size : ℕ → ℕ) (s : PoolState) (vs : List Move) (whole : Bool) → RowFound c size s vs whole → AllKeep vs
-keep_found c size s vs whole row = subst AllKeep (sym row.moves) (keep_more (row.first ++ (Flushed_all ∷ [])) row.round
-    (keep_more row.first (Flushed_all ∷ []) (keep_empty s row.first row.freeze) (tt, tt)) (keep_round c size (steps (row.first ++ (Flushed_all ∷ [])) s).core row.round whole row.ends))
+keep_freeze_for : (refusal : Option FreezeRefusal) (c : Codec) (s : PoolState) (vs : List Move) (reply : FreezeReply) → FreezeFor refusal c s vs reply → AllKeep vs
+keep_freeze_for (Some refusal) c s vs reply row = subst AllKeep (sym row.0) tt
+keep_freeze_for None c s vs reply row = all_freeze KeepsMembers kept_kind (λ cells board. tt) c s vs row.0
+
+keep_freeze_by : (frozen : Bool) (c : Codec) (s : PoolState) (vs : List Move) (reply : FreezeReply) → FreezeBy frozen c s vs reply → AllKeep vs
+keep_freeze_by true c s vs reply row = subst AllKeep (sym row.0) tt
+keep_freeze_by false c s vs reply row = keep_freeze_for row.0 c s vs reply row.2
+
+-- an opening's commit
+keep_resilver : (s : PoolSeen) (vs : List Move) → Resilvers s vs → AllKeep vs
+keep_resilver s vs (inl row) = subst AllKeep (sym row.moves) (rests s.scan.running)
+  where
+    rests : (running : Bool) → AllKeep (rest_if running ++ (Scan_from s.read_number (up_devs s.leaves) ∷ []))
+    rests true = (tt, (tt, tt))
+    rests false = (tt, tt)
+keep_resilver s vs (inr row) = subst AllKeep (sym row.1) tt
+
+keep_resumes : (turn : TurnReply) (s : PoolState) (vs : List Move) → ResumesBy turn s vs → AllKeep vs
+keep_resumes (Committed number) s vs row = keep_resilver s.core vs row
+keep_resumes Idle s vs row = subst AllKeep (sym row) tt
+keep_resumes Write s vs row = subst AllKeep (sym row) tt
+keep_resumes Flush s vs row = subst AllKeep (sym row) tt
+keep_resumes (Round number) s vs row = subst AllKeep (sym row) tt
+keep_resumes (Suspended group top faults) s vs row = subst AllKeep (sym row) tt
+
+keep_resume : (top : Option ℕ) (c : Codec) (size : ℕ → ℕ) (s : PoolState) (vs : List Move) (turn : TurnReply) → ResumesUnless top c size s vs turn → AllKeep vs
+keep_resume (Some top) c size s vs turn row = subst AllKeep (sym row.0) tt
+keep_resume None c size s vs turn row = subst AllKeep (sym row.moves) (keep_more row.first row.rest (all_reopen KeepsMembers kept_kind (λ cells board. tt) c size s row.first turn (λ bad. tt) row.row)
+    (keep_resumes turn (steps row.first s) row.rest row.resumes))
 
 -- Lines.
 keep_does : (d g : ℕ) (vs : List Move) → AllKeep vs → AllByRecursion (KeepsAt d) (does g vs)
@@ -430,12 +343,46 @@ create_keeps c h e d name blocks tops asked (inr (inr row)) = by_bool (is_at (ne
     (λ off. inl (subst (Keep d) (sym row.all) (tt, keep_acts d row.stamps (Bears (new_birth name row.pool blocks h.table tops) ∷ row.rest)
     (keep_stamps d row.pool (size_in h.table) (new_leaves h.table tops 1 1) row.stamps None row.are (not_at (new_leaves h.table tops 1 1) d off))
     (tt, keep_founding row.whole d row.pool.0 row.moves (failed_in (new_leaves h.table tops 1 1) row.row.ends.results) row.rest e.reply
-    (keep_found c (size_in h.table) (new_state name row.pool blocks h.table tops) row.moves row.whole row.row) row.ends))))
+    (all_found KeepsMembers kept_kind (λ cells board. tt) c (size_in h.table) (new_state name row.pool blocks h.table tops) row.moves row.whole row.row) row.ends))))
   where
     says : (whole : Bool) → FoundBy whole row.pool.0 row.moves (failed_in (new_leaves h.table tops 1 1) row.row.ends.results) row.rest e.reply
         → (e.reply ≡ To_create (Created 1)) ⊎ ((failed : List ℕ) × (e.reply ≡ To_create (DeviceFault failed)))
     says true ends = inl ends.1
     says false ends = inr (ends.1.name, ends.3)
+
+-- Imports.
+keep_shown : (d g : ℕ) (known : Known) (devs : List (Option ℕ)) (rest : List Act) → Keep d rest → Keep d (all_shown g known devs ++ rest)
+keep_shown d g known [] rest all = all
+keep_shown d g known (None ∷ devs) rest all = keep_shown d g known devs rest all
+keep_shown d g known (Some e ∷ devs) rest all = (tt, keep_shown d g known devs rest all)
+
+keep_opens : (turn : TurnReply) (d g : ℕ) (s : PoolState) (vs : List Move) (acts : List Act) (reply : Reply) → AllKeep vs → OpensBy turn g s vs acts reply → Keep d acts
+keep_opens (Committed number) d g s vs acts reply all by = subst (Keep d) (sym by.0) (tt, keep_does d g vs all)
+keep_opens (Suspended group top faults) d g s vs acts reply all by = subst (Keep d) (sym by.0) (tt, keep_acts d (does g vs) (Closes g ∷ []) (keep_does d g vs all) (tt, tt))
+keep_opens Idle d g s vs acts reply all by = absurd by
+keep_opens Write d g s vs acts reply all by = absurd by
+keep_opens Flush d g s vs acts reply all by = absurd by
+keep_opens (Round number) d g s vs acts reply all by = absurd by
+
+keep_follows : (outcome : OpenReply) (c : Codec) (size : ℕ → ℕ) (d g : ℕ) (acts : List Act) (reply : Reply) → FollowsMap outcome c size g acts reply → Keep d acts
+keep_follows (NoPage page shown) c size d g acts reply row = subst (Keep d) (sym row.0) tt
+keep_follows (Opens_state s) c size d g acts reply row = keep_opens row.1 d g s row.0 acts reply (keep_resume (lacking_of s.core.leaves s.core.leaves) c size s row.0 row.1 row.2) row.3
+
+keep_import_by : (seek : SeekReply) (c : Codec) (h : Host) (name : List ℕ) (acts : List Act) (reply : Reply) (d : ℕ) → ImportBy seek c h name acts reply → Keep d acts
+keep_import_by NoRecord c h name acts reply d row = subst (Keep d) (sym row.0) tt
+keep_import_by (NumbersEnd limit count) c h name acts reply d row = subst (Keep d) (sym row.0) tt
+keep_import_by (TakesRecord found) c h name acts reply d row = subst (Keep d) (sym row.are)
+    (tt, keep_bare d row.row.ids (all_shown found.pool.0 (read_in row.row.ids) row.row.devs ++ (bare row.row.pages ++ row.rest))
+    (keep_shown d found.pool.0 (read_in row.row.ids) row.row.devs (bare row.row.pages ++ row.rest)
+    (keep_bare d row.row.pages row.rest (keep_follows row.outcome c (size_in h.table) d found.pool.0 row.rest reply row.follows))))
+
+keep_for : (full : Bool) (c : Codec) (h : Host) (name : List ℕ) (acts : List Act) (reply : Reply) (d : ℕ) → ImportFor full c h name acts reply → Keep d acts
+keep_for true c h name acts reply d row = subst (Keep d) (sym row.0) tt
+keep_for false c h name acts reply d row = subst (Keep d) (sym row.are) (keep_bare d row.made (Looked name _ ∷ row.rest) (tt, keep_import_by row.seek c (host_behind row.made h) name row.rest reply d row.follows))
+
+keep_unless : (found : Option PoolState) (c : Codec) (h : Host) (name : List ℕ) (acts : List Act) (reply : Reply) (d : ℕ) → ImportUnless found c h name acts reply → Keep d acts
+keep_unless (Some s) c h name acts reply d row = subst (Keep d) (sym row.0) tt
+keep_unless None c h name acts reply d row = keep_for (nat_le 16 (length h.pools)) c h name acts reply d row
 
 -- a row's acts keep the device, but those of a create that takes it
 row_keeps : (c : Codec) (h : Host) (asked : Asked) (acts : List Act) (reply : Reply) (d : ℕ) → ((name : List ℕ) (blocks : ℕ) (tops : List (List (List ℕ))) → asked ≡ Asks_create name blocks tops → ⊥)
@@ -447,13 +394,14 @@ row_keeps c h (Asks_read name a) acts reply d other row = on_keeps d (named name
 row_keeps c h (Asks_freeze name) acts reply d other row = on_keeps d (named name h.pools) (FreezeLine c h) acts reply
     (λ s line. by_moves d h s (λ vs. RowFreezeLine c s vs line.0) acts (λ vs is. keep_freeze_by s.core.group.frozen c s vs line.0 is) line.2) row
 row_keeps c h (Asks_turn name) acts reply d other row = on_keeps d (named name h.pools) (TurnLine c h) acts reply
-    (λ s line. by_moves d h s (λ vs. RowTurn c (size_in h.table) s vs line.0) acts (λ vs is. keep_turn c (size_in h.table) s vs line.0 is) line.2) row
+    (λ s line. by_moves d h s (λ vs. RowTurn c (size_in h.table) s vs line.0) acts (λ vs is. all_turn KeepsMembers kept_kind c (size_in h.table) s vs line.0 (λ bad. tt) is) line.2) row
 row_keeps c h (Asks_sync name) acts reply d other row = on_keeps d (named name h.pools) (SyncLine c h) acts reply
-    (λ s line. by_moves d h s (λ vs. RowSync c (size_in h.table) s vs line.0) acts (λ vs is. keep_sync s.core.group.frozen c (size_in h.table) s vs line.0 is) line.2) row
+    (λ s line. by_moves d h s (λ vs. RowSync c (size_in h.table) s vs line.0) acts (λ vs is. all_sync KeepsMembers kept_kind (λ cells board. tt) s.core.group.frozen c (size_in h.table) s vs line.0 (λ bad. tt) is) line.2) row
 row_keeps c h (Asks_offline name device temporary) acts reply d other row = on_keeps d (named name h.pools) (OfflineLine h device temporary) acts reply
     (λ s line. by_moves d h s (λ vs. RowOffline s device temporary vs line.0) acts (λ vs is. keep_offline (leaf_named device s.core.leaves) s device temporary vs line.0 is) line.2) row
 row_keeps c h (Asks_logs name) acts reply d other row = on_keeps d (named name h.pools) (LogsLine h) acts reply
     (λ s line. by_moves d h s (λ vs. RowLogs s vs line.0) acts (λ vs is. subst AllKeep (sym is.0) tt) line.2) row
+row_keeps c h (Asks_import name) acts reply d other row = keep_unless (named name h.pools) c h name acts reply d row
 row_keeps c h (Asks_create name blocks tops) acts reply d other row = absurd (other name blocks tops refl)
 
 none_keeps : (d : ℕ) (acts : List Act) → AllByRecursion ChangesNone acts → Keep d acts
@@ -469,9 +417,10 @@ none_keeps d (act ∷ acts) all = (one act all.0, none_keeps d acts all.1)
     one (Takes g e) is = absurd is
     one act is = tt
 
-read_front : (c : Codec) (h : Host) (asked : Asked) (acts rest : List Act) (reply : Reply) (d : ℕ) → IsReadLine asked → RowOf c h asked (acts ++ rest) reply → Keep d acts
-read_front c h (Asks_read name a) acts rest reply d is row = keep_front d acts rest (row_keeps c h (Asks_read name a) (acts ++ rest) reply d (λ name blocks tops e. absurd (cc)) row)
-read_front c h asked acts rest reply d is row = absurd is
+rewrite_front : (c : Codec) (h : Host) (asked : Asked) (acts rest : List Act) (reply : Reply) (d : ℕ) → MayRewrite asked acts → RowOf c h asked (acts ++ rest) reply → Keep d acts
+rewrite_front c h (Asks_read name a) acts rest reply d is row = keep_front d acts rest (row_keeps c h (Asks_read name a) (acts ++ rest) reply d (λ name blocks tops e. absurd (cc)) row)
+rewrite_front c h (Asks_import name) acts rest reply d is row = none_keeps d acts is
+rewrite_front c h asked acts rest reply d is row = absurd is
 
 entry_row : (c : Codec) (h : Host) (e : Entry) (d : ℕ) (asked : Asked) → e.asked ≡ asked → RowOf c h asked e.acts e.reply → Keep d e.acts ⊎ IsTakenBy h e d
 entry_row c h e d (Asks_create name blocks tops) is row = create_keeps c h e d name blocks tops is row
@@ -479,4 +428,4 @@ entry_row c h e d asked is row = inl (row_keeps c h asked e.acts e.reply d (λ n
 
 pub entry_keeps : (c : Codec) (h : Host) (e : Entry) (d : ℕ) (p : Pool) → HostRow c h e → p.member d ≡ true → ((pool_along e.acts p).member d ≡ true) ⊎ IsTakenBy h e d
 entry_keeps c h e d p (inl row) is = ⊎_elim (λ keeps. inl (acts_members d e.acts p keeps is)) (λ taken. inr taken) (entry_row c h e d e.asked refl row.0)
-entry_keeps c h e d p (inr out) is = inl (acts_members d e.acts p (⊎_elim (λ early. none_keeps d e.acts early.0) (λ reads. read_front c h e.asked e.acts out.rest out.reply d reads out.goes_on) out.early) is)
+entry_keeps c h e d p (inr out) is = inl (acts_members d e.acts p (⊎_elim (λ early. none_keeps d e.acts early.0) (λ rewrites. rewrite_front c h e.asked e.acts out.rest out.reply d rewrites out.goes_on) out.early) is)

@@ -28,10 +28,11 @@ use Rattle.pool_runs.specs.Fairness.{AreFair}
 use Rattle.pool_runs.specs.HostRows.{AreMade, ByMoves, is_read, is_reading, marked_behind, read_acts, ByRead, WriteLine, ReadLine, FreezeLine, TurnLine, SyncLine, OfflineLine, LogsLine, OnPool, RowOf, RunsOut, HostRow, acts_of, acts_in, IsRun}
 use Rattle.pool_runs.specs.Hosts.{Host, IsOpen, named, moved, host_by, host_along}
 use Rattle.pool_runs.specs.Knowing.{HasSeats, Knows, MayActs, IsOwnMove, AreOwnActs}
-use Rattle.pool_runs.specs.Lines.{Asked, Asks_nothing, Asks_write, Asks_read, Asks_freeze, Asks_turn, Asks_sync, Asks_offline, Asks_logs, Asks_create, Reply, Entry}
+use Rattle.pool_runs.specs.Lines.{Asked, Asks_nothing, Asks_write, Asks_read, Asks_freeze, Asks_turn, Asks_sync, Asks_offline, Asks_logs, Asks_import, Asks_create, Reply, Entry}
 use Rattle.pool_runs.proofs.Acting.{same_number, number_of_test, own_events, move_number}
 use Rattle.pool_runs.proofs.Answering.{all_answer, does_calls, read_calls}
 use Rattle.pool_runs.proofs.Creating.{create_may}
+use Rattle.pool_runs.proofs.Importing.{import_may}
 use Rattle.pool_runs.proofs.Knowing.{may_more, moved_own, open_moved, other_may, own_does, walk_may}
 use Rattle.pool_runs.proofs.Sparing.{untouched_sparing}
 
@@ -141,6 +142,7 @@ row_may c h p (Asks_offline name device temporary) acts reply knows made row = o
     (λ s is line. line_may c h p s (λ vs. RowOffline s device temporary vs line.0) acts knows is (λ t vs kept at row. offline_walks c s t device temporary vs line.0 kept row) line.2) row
 row_may c h p (Asks_logs name) acts reply knows made row = on_pool c h p name (named name h.pools) (LogsLine h) acts reply refl
     (λ s is line. line_may c h p s (λ vs. RowLogs s vs line.0) acts knows is (λ t vs kept at row. logs_walks c s t vs line.0 row) line.2) row
+row_may c h p (Asks_import name) acts reply knows made row = import_may c h p name acts reply knows made row
 row_may c h p (Asks_create name blocks tops) acts reply knows made row = create_may c h p name blocks tops acts reply knows row
 
 pub entry_may : (c : Codec) (h : Host) (p : Pool) (e : Entry) → Knows c h p → HostRow c h e → MayActs c h p e.acts

@@ -15,8 +15,9 @@ use Rattle.pool_runs.specs.Acts.{Act, Hears, Bare, Does, Gave, Looked, Shows, Re
 use Rattle.pool_runs.specs.Creating.{RowCreate}
 use Rattle.pool_runs.specs.Devices.{size_in}
 use Rattle.pool_runs.specs.Hosts.{Host, named, host_by, host_along}
+use Rattle.pool_runs.specs.Importing.{RowImport}
 use Rattle.pool_runs.specs.Knowing.{AreOwnActs}
-use Rattle.pool_runs.specs.Lines.{Asked, Asks_nothing, Asks_write, Asks_read, Asks_freeze, Asks_turn, Asks_sync, Asks_offline, Asks_logs, Asks_create, Reply, To_nothing, To_write, To_read, To_freeze, To_turn, To_sync, To_offline, To_logs, No_pool, No_memory, Entry}
+use Rattle.pool_runs.specs.Lines.{Asked, Asks_nothing, Asks_write, Asks_read, Asks_freeze, Asks_turn, Asks_sync, Asks_offline, Asks_logs, Asks_import, Asks_create, Reply, To_nothing, To_write, To_read, To_freeze, To_turn, To_sync, To_offline, To_logs, No_pool, No_memory, Entry}
 
 -- Device calls that a line made: each on a device that the run has, with an answer by the disk model.
 pub record AreMade (h : Host) (calls : List Noted) : Type 0 where
@@ -91,6 +92,7 @@ RowOf c h (Asks_turn name) acts reply = OnPool (named name h.pools) (TurnLine c 
 RowOf c h (Asks_sync name) acts reply = OnPool (named name h.pools) (SyncLine c h) acts reply
 RowOf c h (Asks_offline name device temporary) acts reply = OnPool (named name h.pools) (OfflineLine h device temporary) acts reply
 RowOf c h (Asks_logs name) acts reply = OnPool (named name h.pools) (LogsLine h) acts reply
+RowOf c h (Asks_import name) acts reply = RowImport c h name acts reply
 RowOf c h (Asks_create name blocks tops) acts reply = RowCreate c h name blocks tops acts reply
 
 -- the act changes no pool: it is a call, or it marks something
@@ -103,19 +105,21 @@ ChangesNone (Bears birth) = ⊥
 ChangesNone (Closes g) = ⊥
 ChangesNone act = Unit {0}
 
-abbrev pub IsReadLine : Asked → Type 0
-IsReadLine (Asks_read name a) = Unit {0}
-IsReadLine asked = ⊥
+-- the line may rewrite copies: a read, and an import before its pool is open
+abbrev pub MayRewrite : Asked → List Act → Type 0
+MayRewrite (Asks_read name a) acts = Unit {0}
+MayRewrite (Asks_import name) acts = AllByRecursion ChangesNone acts
+MayRewrite asked acts = ⊥
 
 -- A line for which there was no memory: it did what some row of this line begins with. Each call so far answered Ok; none of them wrote or
--- flushed, and no pool changed, but where a read rewrote copies and counted. (A sync that ended a group before is a row of its own.)
+-- flushed, and no pool changed, but where a read rewrote copies and counted, or an import rewrote pages. (A sync that ended a group before is a row of its own.)
 pub record RunsOut (c : Codec) (h : Host) (e : Entry) : Type 0 where
   pub rest : List Act
   pub reply : Reply
   pub goes_on : RowOf c h e.asked (e.acts ++ rest) reply
   pub made : AreMade h (calls_along (e.acts ++ rest))
   pub answered : AllByRecursion (λ noted. fault_of noted.call ≡ None) (calls_along e.acts)
-  pub early : (AllByRecursion ChangesNone e.acts × AreReads (calls_along e.acts)) ⊎ IsReadLine e.asked
+  pub early : (AllByRecursion ChangesNone e.acts × AreReads (calls_along e.acts)) ⊎ MayRewrite e.asked e.acts
   pub says : e.reply ≡ No_memory
 
 -- An entry of a run.

@@ -6,6 +6,7 @@ pub mod Fairness
 pub mod Headline
 pub mod HostRows
 pub mod Hosts
+pub mod Importing
 pub mod Knowing
 pub mod Lines
 pub mod Moments

@@ -1,8 +1,11 @@
 -- Lines: what is asked of a host, and what it answers.
 use Rattle.std.specs.Prelude.{ℕ, Bool, List}
+use Rattle.mp_base.specs.declared.number.Guid.{Guid}
+use Rattle.mp_base.specs.declared.place.Key.{Key}
 use Rattle.pool_moves.specs.AwayRows.{WriteReply, OfflineReply}
 use Rattle.pool_moves.specs.CommitRows.{NamedLog}
 use Rattle.pool_moves.specs.LineRows.{TurnReply, FreezeReply, SyncReply}
+use Rattle.pool_moves.specs.PageReads.{LeafShown}
 use Rattle.pool_moves.specs.ReadRow.{ReadReply}
 use Rattle.pool_runs.specs.Acts.{Act}
 
@@ -16,6 +19,7 @@ pub data Asked : Type 0 where
   Asks_sync : (name : List ℕ) → Asked
   Asks_offline : (name device : List ℕ) (temporary : Bool) → Asked
   Asks_logs : (name : List ℕ) → Asked
+  Asks_import : (name : List ℕ) → Asked
   -- a pool of so many blocks over these mirrors, each of devices by name
   Asks_create : (name : List ℕ) (blocks : ℕ) (tops : List (List (List ℕ))) → Asked
 
@@ -36,6 +40,17 @@ pub data CreateReply : Type 0 where
   DeviceFault : (device : List ℕ) → CreateReply
   Uncreated : (refusal : CreateRefusal) → CreateReply
 
+-- What an import answers: the number that it committed; that a pool of the name is open, or as many as may be; that no record of the name is
+-- there, or one of the last number; that a page of the map was lost, with what each leaf showed; or that its commit was suspended.
+pub data ImportReply : Type 0 where
+  Opened : (number : ℕ) → ImportReply
+  NameOpen : ImportReply
+  TooManyPools : (limit count : ℕ) → ImportReply
+  NothingFound : ImportReply
+  LastNumber : (limit count : ℕ) → ImportReply
+  PageLost : (page : Key) (shown : List LeafShown) → ImportReply
+  Unopened : (group : ℕ) (top : Guid) (faults : ℕ) → ImportReply
+
 pub data Reply : Type 0 where
   To_nothing : Reply
   To_write : (reply : WriteReply) → Reply
@@ -45,6 +60,7 @@ pub data Reply : Type 0 where
   To_sync : (reply : SyncReply) → Reply
   To_offline : (reply : OfflineReply) → Reply
   To_logs : (logs : List NamedLog) → Reply
+  To_import : (reply : ImportReply) → Reply
   To_create : (reply : CreateReply) → Reply
   -- no open pool has the name
   No_pool : Reply
