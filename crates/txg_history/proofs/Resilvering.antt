@@ -1,43 +1,10 @@
 -- A disk's week: a leaf is away from the commit of a block, comes back, and a resilver brings it what it missed.
-use Rattle.std.proofs.Common.{
-  ◌≡◌,
-  ℕ,
-  zero,
-  suc,
-  ◌+◌,
-  ◌*◌,
-  ◌≤◌,
-  ◌<◌,
-  ◌==◌,
-  nat_lt,
-  nat_le,
-  Bool,
-  true,
-  false,
-  cond,
-  List,
-  [],
-  ◌∷◌,
-  ◌++◌,
-  length,
-  Option,
-  Some,
-  None,
-  refl,
-  sym,
-  ap,
-  ◌∙◌,
-  subst,
-  inl,
-  inr,
-  arith,
-  ⊎_elim,
-}
+use Rattle.std.proofs.Common.{◌≡◌, ℕ, suc, ◌+◌, ◌≤◌, ◌<◌, ◌==◌, nat_lt, nat_le, Bool, true, false, cond, List, [], ◌∷◌, ◌++◌, length, Some, None, refl, sym, ap, ◌∙◌, subst, inl, inr, arith}
 use Rattle.std.proofs.lemmas.Bool.Decides.{nat_tests}
 use Rattle.mp_base.specs.declared.place.Key.{Key}
-use Rattle.txg_history.specs.Events.{Event, calls_of, Calls, Freezes, Wrote, Flushed, Scans, Passes, Clears}
-use Rattle.txg_history.specs.Groups.{same_key, no_log, at_device}
-use Rattle.txg_history.specs.Moves.{IsSparing, WasCopied, IsLeafOf, IsDrawnUp, MayFreeze, MayScan, MayPass, Mays}
+use Rattle.txg_history.specs.Events.{Event, calls_of, Calls, Scans, Passes}
+use Rattle.txg_history.specs.Groups.{no_log, at_device}
+use Rattle.txg_history.specs.Moves.{IsSparing, WasCopied, IsLeafOf, IsDrawnUp, MayScan, MayPass, Mays}
 use Rattle.txg_history.specs.Needs.{NeedsScan}
 use Rattle.txg_history.specs.Pages.{Codec}
 use Rattle.txg_history.specs.Pools.{Pool, seat, after, pool_after}
@@ -45,19 +12,17 @@ use Rattle.txg_history.specs.Records.{Rec, Cell, key, data_start, number_of}
 use Rattle.txg_history.specs.Rounds.{IsRoundEvents, RoundEnds}
 use Rattle.txg_history.specs.Scans.{up_to}
 use Rattle.txg_history.specs.Survival.{Survives}
-use Rattle.txg_history.specs.Turns.{AreJust, OnBoard, OnTop}
-use Rattle.txg_history.specs.Branches.{Branch, cell_on, branch_cells, writes_well, flushes_well, IsDay, day_until_round}
+use Rattle.txg_history.specs.Turns.{OnBoard}
+use Rattle.txg_history.specs.Branches.{Branch, cell_on, branch_cells, writes_well, flushes_well, day_until_round}
 use Rattle.txg_history.specs.Weeks.{IsWeek, brings_on, clears, resilver}
 use Rattle.txg_history.proofs.Branching.{same_test, alone, one_apart, branch_is, branch_has, over_none, keys_one, day_commits}
 use Rattle.txg_history.proofs.Folding.{mays_more, pool_more}
-use Rattle.txg_history.proofs.Listing.{one_key, same_cell, laid_of}
 use Rattle.txg_history.proofs.Logging.{by_bool, true_not_false, at_here, same_device}
 use Rattle.txg_history.proofs.Moving.{event_survives}
 use Rattle.txg_history.proofs.RoundMoves.{round_may, round_ends}
 use Rattle.txg_history.proofs.Copying.{step_copies}
 use Rattle.txg_history.proofs.Showing.{clear_may}
 use Rattle.txg_history.proofs.Surviving.{history_survives}
-use Rattle.txg_history.proofs.Turning.{write_turn_may, flush_turn_may}
 use Rattle.txg_history.proofs.Writing.{copy_sparing}
 
 -- A pool that reads a branch, of which b owes each key, settled.
@@ -94,20 +59,23 @@ on_level branch p k cell cells at = let is = branch_is branch k cell (sym (cells
 -- The key on its level is brought.
 bring_may : (c : Codec) (p : Pool) (b hi : ℕ) (branch : Branch) (level : ℕ) → InResilver c p b hi branch level → level < 4
     → Mays c p (brings_on b branch level) × InResilver c (pool_after (brings_on b branch level) p) b hi branch (suc level)
-bring_may c p b hi branch level w low = ((copy, (pass, tt)), record {
-  survives = event_survives c p1 (Passes (key level 0) no_log) sv1 pass;
-  is_b = w.is_b;
-  cells = w.cells;
-  top = w.top;
-  settled = w.settled;
-  long = w.long;
-  running = w.running;
-  hi_is = w.hi_is;
-  low = w.low;
-  eligible = w.eligible;
-  scrub = refl;
-  passed = behind;
-})
+bring_may c p b hi branch level w low = (
+  (copy, (pass, tt)),
+  record {
+    survives = event_survives c p1 (Passes (key level 0) no_log) sv1 pass;
+    is_b = w.is_b;
+    cells = w.cells;
+    top = w.top;
+    settled = w.settled;
+    long = w.long;
+    running = w.running;
+    hi_is = w.hi_is;
+    low = w.low;
+    eligible = w.eligible;
+    scrub = refl;
+    passed = behind;
+  },
+)
   where
     at_level : p.reads.cells (key level 0) ≡ Some (cell_on branch level)
     at_level = w.cells (key level 0) ∙ branch_has branch level 0 refl low
@@ -248,7 +216,8 @@ week_may c p a b branch q vs w drawn knows round = (
   mays_more c (day_until_round a branch) (vs ++ resilver b (number_of q) branch) p commit
       (mays_more c vs (resilver b (number_of q) branch) p3 may (subst (λ n. Mays c p4 (resilver b n branch)) hi back.0)),
   ap (λ x. x.owes b branch.birth) (pool_more (day_until_round a branch) vs p) ∙ (ap (λ owes. owes b branch.birth) (ends.owes refl) ∙ owed),
-  ap (λ x. x.owes b branch.birth) (pool_more (day_until_round a branch) (vs ++ resilver b (number_of q) branch) p ∙ pool_more vs (resilver b (number_of q) branch) p3)
+  ap (λ x. x.owes b branch.birth)
+      (pool_more (day_until_round a branch) (vs ++ resilver b (number_of q) branch) p ∙ pool_more vs (resilver b (number_of q) branch) p3)
       ∙ subst (λ n. (pool_after (resilver b n branch) p4).owes b branch.birth ≡ false) hi back.1,
 )
   where
@@ -275,7 +244,8 @@ week_may c p a b branch q vs w drawn knows round = (
     off_board = let ne = w.two in grind (arith, nat_tests)
 
     owed : p3.owes b branch.birth ≡ true
-    owed = sv3.boards.off_board refl b branch.birth w.is_b off_board (let born = w.day.born in omega (arith, born)) (let born = w.day.born in omega (arith, born))
+    owed = sv3.boards.off_board refl b branch.birth w.is_b off_board (let born = w.day.born in omega (arith, born))
+        (let born = w.day.born in omega (arith, born))
 
     cells_are : (k : Key) → p4.reads.cells k ≡ branch_cells branch k
     cells_are k = ap (λ r. r.cells k) ends.reads ∙ (drawn.cells_are k ∙ over_none (branch_cells branch k) (p.reads.cells k) (w.day.none k))
