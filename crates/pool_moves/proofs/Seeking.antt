@@ -228,7 +228,7 @@ claimed p size room handed (leaf ∷ leaves) made (dev ∷ devs) d m is claim = 
     same_guid : (a b : Guid) → (a.0 == b.0) ≡ true → a ≡ b
     same_guid a b is = let at : ℕ → Guid = λ n. record { 0 = n } in ap at (same_device a.0 b.0 is)
 
-sought_no_twin : (c : Codec) (p : Pool) (r : Rec) (size room : ℕ → ℕ) (handed : List ℕ → Option ℕ) (leaves : List LeafKept) (made : List Noted)
+pub sought_no_twin : (c : Codec) (p : Pool) (r : Rec) (size room : ℕ → ℕ) (handed : List ℕ → Option ℕ) (leaves : List LeafKept) (made : List Noted)
     (devs : List (Option ℕ)) → Survives c p → HasSizes size p
     → AreSought p.pool size room handed leaves made devs → AreWholeReads p made
     → ((d : ℕ) (m : Guid) → claims_of leaves devs d m ≡ true → p.member d ≡ true) → HasNoTwin p r (claims_of leaves devs)

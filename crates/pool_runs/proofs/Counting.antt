@@ -19,15 +19,16 @@ use Rattle.txg_history.specs.Rounds.{all_true}
 use Rattle.txg_history.specs.Turns.{write_plan, flush_plan}
 use Rattle.txg_history.proofs.Logging.{by_bool, true_not_false}
 use Rattle.pool_moves.specs.Boards.{is_on_under, board_of, board_under, has_on, emptied_of, emptied}
-use Rattle.pool_moves.specs.FreezeRow.{is_dev, up_devs, joined_own, joins, RowFreeze}
+use Rattle.pool_moves.specs.FreezeRow.{is_dev, up_devs, RowFreeze}
 use Rattle.pool_moves.specs.Leaves.{LeafSeen}
-use Rattle.pool_moves.specs.LineRows.{TurnReply, Idle, Write, Flush, Round, Committed, Suspended, sets_failed, has_number, count_moves, EndsBy, EndsTurn, IsTurnOf, IsWritePart, IsFlushPart, IsRoundPart, StartsBy, TurnBy, RowTurn, Ends, AreTurns, moves_in, EndsGroup, CommitsOpen, SyncReply, Ended, Refused, NoMemory, CommitsFor, SyncOpen, SyncBehind, EndsFirst, SyncBy, RowSync}
-use Rattle.pool_moves.specs.Moves.{Draft, Move, Makes, Freeze, Wrote_key, Flushed_all, Draw, Leave, Burn, Starts, Copies, Copied, Commits, Sets, on_dev, leaf_step, step, state_step, steps}
+use Rattle.pool_moves.specs.LineRows.{TurnReply, Idle, Write, Flush, Round, Committed, Suspended, sets_failed, has_number, count_moves, Draws, EndsBy, EndsTurn, IsTurnOf, IsWritePart, IsFlushPart, IsRoundPart, StartsBy, TurnBy, RowTurn, Ends, AreTurns, moves_in, EndsGroup, CommitsOpen, SyncReply, Ended, Refused, NoMemory, CommitsFor, SyncOpen, SyncBehind, EndsFirst, SyncBy, RowSync}
+use Rattle.pool_moves.specs.Moves.{Draft, Move, Makes, Freeze, Wrote_key, Flushed_all, Draw, Leave, Widen, Burn, Starts, Copies, Copied, Commits, Sets, on_dev, leaf_step, step, state_step, steps}
 use Rattle.pool_moves.specs.ReadRow.{made_in}
 use Rattle.pool_moves.specs.Refusing.{FreezeRefusal, is_writable, is_writable_under, unwritable_of, unwritable, last_number, RefusedBy, IsRefused}
 use Rattle.pool_moves.specs.States.{PoolSeen, PoolState}
-use Rattle.pool_moves.specs.TurnRows.{turn_moves, ended, IsThirdMoves, round_end, RowWriteTurn, RowFlushTurn, RowRound}
-use Rattle.pool_moves.specs.Walking.{as_moves, leave_moves}
+use Rattle.pool_moves.specs.TurnRows.{turn_moves, ended, round_moves, IsThirdMoves, RowWriteTurn, RowFlushTurn, RowRound}
+use Rattle.pool_moves.specs.Walking.{as_moves}
+use Rattle.pool_moves.specs.Widening.{AreWidens, AreLeaves}
 use Rattle.pool_runs.specs.Counting.{SomeRose, HasLostBoard, IsSuspended, SuspendsSync}
 
 -- Counts.
@@ -134,11 +135,11 @@ third_true plan draft (m ∷ ms) (true ∷ was) (c ∷ is) vs third on all =
     (third_true plan draft ms was is rest third.4 on (answered_second (ended c draft m.dev) rest (answered_second (as_moves mine) (ended c draft m.dev ++ rest) here)))
 third_true plan draft (m ∷ ms) (false ∷ was) (c ∷ is) vs third on all = true_not_false false on refl
 
-none_leave : (ms : List Member) (results : List Bool) → all_true results ≡ true → leave_moves ms results ≡ []
-none_leave [] results on = refl
-none_leave (m ∷ ms) [] on = refl
-none_leave (m ∷ ms) (true ∷ results) on = none_leave ms results on
-none_leave (m ∷ ms) (false ∷ results) on = absurd (cc)
+none_leave : (s : PoolSeen) (ms : List Member) (results : List Bool) (vs : List Move) → all_true results ≡ true → AreLeaves s ms results vs → vs ≡ []
+none_leave s [] results vs on are = are
+none_leave s (m ∷ ms) [] vs on are = are
+none_leave s (m ∷ ms) (true ∷ results) vs on are = none_leave s ms results vs on are
+none_leave s (m ∷ ms) (false ∷ results) vs on are = absurd (cc)
 
 none_counted : (leaves : List LeafSeen) (ms : List Member) (results : List Bool) → all_true results ≡ true → count_moves leaves ms results ≡ []
 none_counted leaves [] results on = refl
@@ -155,6 +156,7 @@ IsStill (Starts draft) = Unit {0}
 IsStill (Copies draft d) = Unit {0}
 IsStill (Copied draft d) = Unit {0}
 IsStill (Sets m own) = Unit {0}
+IsStill (Widen m low high) = Unit {0}
 IsStill v = ⊥
 
 abbrev IsSameBoard : LeafSeen → LeafSeen → Type 0
@@ -186,6 +188,8 @@ still_step (Sets m own) is s = (
       (λ leaf. set_same (leaf.guid.0 == m.0) leaf (record leaf { own = own }) (refl, refl)) s.core.leaves s.core.leaves,
   refl,
 )
+still_step (Widen m low high) is s =
+    (empty_same (leaf_step (Widen m low high) s.core.number s.core.group.first s.core.scan.hi) (λ leaf. (refl, refl)) s.core.leaves s.core.leaves, refl)
 still_step v is s = absurd is
 
 pub record IsGoing (s : PoolState) : Type 0 where
@@ -210,20 +214,20 @@ pub record IsFine (s : PoolState) (vs : List Move) (reply : TurnReply) : Type 0 
   pub ends : IsSuspended reply → ⊥
   pub goes : Ends reply ≡ false → IsGoing (steps vs s)
 
-turn_still : (made : List Noted) (ms : List Member) (results : List Bool) (mark : Move) (leaves : List LeafSeen) → IsStill mark → all_true results ≡ true
-    → AllByRecursion IsStill (turn_moves made ms results mark ++ count_moves leaves ms results)
-turn_still made ms results mark leaves is on = still_more (turn_moves made ms results mark) (count_moves leaves ms results)
-    (still_more (as_moves made) (leave_moves ms results ++ (mark ∷ [])) (still_calls made)
-    (subst (λ l. AllByRecursion IsStill (l ++ (mark ∷ []))) (sym (none_leave ms results on)) (is, tt)))
+turn_still : (s : PoolSeen) (made : List Noted) (ms : List Member) (results : List Bool) (leaving : List Move) (mark : Move) (leaves : List LeafSeen) → IsStill mark → all_true results ≡ true
+    → AreLeaves s ms results leaving → AllByRecursion IsStill (turn_moves made leaving mark ++ count_moves leaves ms results)
+turn_still s made ms results leaving mark leaves is on are = still_more (turn_moves made leaving mark) (count_moves leaves ms results)
+    (still_more (as_moves made) (leaving ++ (mark ∷ [])) (still_calls made)
+    (subst (λ l. AllByRecursion IsStill (l ++ (mark ∷ []))) (sym (none_leave s ms results leaving on are)) (is, tt)))
     (subst (AllByRecursion IsStill) (sym (none_counted leaves ms results on)) tt)
 
 -- the turn's part left the boards as they were, so it goes on
 goes_on : (s : PoolState) (part : List Move) (ms : List Member) (results : List Bool) (going : TurnReply) (vs : List Move) (reply : TurnReply) → Ends going ≡ false → (IsSuspended going → ⊥) → IsGoing s
-    → AllByRecursion IsStill (part ++ count_moves s.core.leaves ms results) → IsTurnOf s part ms results [] going vs reply → IsFine s vs reply
+    → AllByRecursion IsStill (part ++ count_moves s.core.leaves ms results) → IsTurnOf s part ms results going vs reply → IsFine s vs reply
 goes_on s part ms results going vs reply stays never is still turn =
     let behind : IsGoing (steps (part ++ count_moves s.core.leaves ms results) s) = still_going (part ++ count_moves s.core.leaves ms results) s still is in
-    let end : EndsBy None (steps (part ++ count_moves s.core.leaves ms results) s) [] going turn.ending reply =
-    subst (λ found. EndsBy found (steps (part ++ count_moves s.core.leaves ms results) s) [] going turn.ending reply) behind.full turn.ends in
+    let end : EndsBy None (steps (part ++ count_moves s.core.leaves ms results) s) false going turn.ending reply =
+    subst (λ found. EndsBy found (steps (part ++ count_moves s.core.leaves ms results) s) false going turn.ending reply) behind.full turn.ends in
     let whole : vs ≡ part ++ count_moves s.core.leaves ms results = turn.moves ∙ (ap (λ l. (part ++ count_moves s.core.leaves ms results) ++ l) end.0 ∙ append-nil (part ++ count_moves s.core.leaves ms results)) in record {
       ends = λ bad. never (subst IsSuspended end.1 bad);
       goes = λ more. subst (λ l. IsGoing (steps l s)) (sym whole) behind;
@@ -234,36 +238,38 @@ write_fine s vs reply is all w =
     let ms = board_under w.row.cell.top s.core.leaves in
     let part : AllByRecursion Answered w.part = answered_first w.part (count_moves s.core.leaves ms w.row.results)
     (answered_first (w.part ++ count_moves s.core.leaves ms w.row.results) w.turn.ending (subst (AllByRecursion Answered) w.turn.moves all)) in
-    let made : AllByRecursion NoFault w.row.made = answered_calls w.row.made (answered_first (as_moves w.row.made) (leave_moves ms w.row.results ++ (Wrote_key w.row.key ∷ [])) (subst (AllByRecursion Answered) w.row.moves part)) in
+    let made : AllByRecursion NoFault w.row.made = answered_calls w.row.made (answered_first (as_moves w.row.made) (w.row.leaving ++ (Wrote_key w.row.key ∷ [])) (subst (AllByRecursion Answered) w.row.moves part)) in
     let on : all_true w.row.results ≡ true = phase_true (write_plan w.row.cell) ms (map (λ m. true) ms) w.row.results w.row.made w.row.calls (start_true ms) made in
     goes_on s w.part ms w.row.results Write vs reply refl (λ bad. bad) is
-    (subst (λ p. AllByRecursion IsStill (p ++ count_moves s.core.leaves ms w.row.results)) (sym w.row.moves) (turn_still w.row.made ms w.row.results (Wrote_key w.row.key) s.core.leaves tt on)) w.turn
+    (subst (λ p. AllByRecursion IsStill (p ++ count_moves s.core.leaves ms w.row.results)) (sym w.row.moves)
+    (turn_still s.core w.row.made ms w.row.results w.row.leaving (Wrote_key w.row.key) s.core.leaves tt on w.row.leaves)) w.turn
 
 flush_fine : (s : PoolState) (vs : List Move) (reply : TurnReply) → IsGoing s → AllByRecursion Answered vs → IsFlushPart s vs reply → IsFine s vs reply
 flush_fine s vs reply is all w =
     let ms = board_of s.core.leaves in
     let part : AllByRecursion Answered w.part = answered_first w.part (count_moves s.core.leaves ms w.row.results)
     (answered_first (w.part ++ count_moves s.core.leaves ms w.row.results) w.turn.ending (subst (AllByRecursion Answered) w.turn.moves all)) in
-    let made : AllByRecursion NoFault w.row.made = answered_calls w.row.made (answered_first (as_moves w.row.made) (leave_moves ms w.row.results ++ (Flushed_all ∷ [])) (subst (AllByRecursion Answered) w.row.moves part)) in
+    let made : AllByRecursion NoFault w.row.made = answered_calls w.row.made (answered_first (as_moves w.row.made) (w.row.leaving ++ (Flushed_all ∷ [])) (subst (AllByRecursion Answered) w.row.moves part)) in
     let on : all_true w.row.results ≡ true = phase_true flush_plan ms (map (λ m. true) ms) w.row.results w.row.made w.row.calls (start_true ms) made in
     goes_on s w.part ms w.row.results Flush vs reply refl (λ bad. bad) is
-    (subst (λ p. AllByRecursion IsStill (p ++ count_moves s.core.leaves ms w.row.results)) (sym w.row.moves) (turn_still w.row.made ms w.row.results Flushed_all s.core.leaves tt on)) w.turn
+    (subst (λ p. AllByRecursion IsStill (p ++ count_moves s.core.leaves ms w.row.results)) (sym w.row.moves)
+    (turn_still s.core w.row.made ms w.row.results w.row.leaving Flushed_all s.core.leaves tt on w.row.leaves)) w.turn
 
 round_fine : (c : Codec) (size : ℕ → ℕ) (s : PoolState) (vs : List Move) (reply : TurnReply) → AllByRecursion Answered vs → IsRoundPart c size s vs reply → IsFine s vs reply
 round_fine c size s vs reply all w =
     let ms = board_of s.core.leaves in
     let behind : AllByRecursion Answered (w.part ++ count_moves s.core.leaves ms w.row.results) = subst (AllByRecursion Answered) w.counted (answered_first w.behind w.ending (subst (AllByRecursion Answered) w.moves all)) in
-    let part : AllByRecursion Answered (as_moves w.row.first ++ (as_moves w.row.second ++ (w.row.thirds ++ round_end w.whole w.row.draft ms w.row.results))) =
-    (subst (AllByRecursion Answered) w.row.moves (answered_first w.part (count_moves s.core.leaves ms w.row.results) behind)).1 in
-    let more = answered_second (as_moves w.row.first) (as_moves w.row.second ++ (w.row.thirds ++ round_end w.whole w.row.draft ms w.row.results)) part in
-    let last = answered_second (as_moves w.row.second) (w.row.thirds ++ round_end w.whole w.row.draft ms w.row.results) more in
+    let part : AllByRecursion Answered (as_moves w.row.first ++ (as_moves w.row.second ++ w.row.thirds)) =
+    (answered_first (round_moves w.row.draft w.row.first w.row.second w.row.thirds) w.row.ending
+    (subst (AllByRecursion Answered) w.row.moves (answered_first w.part (count_moves s.core.leaves ms w.row.results) behind))).1 in
+    let more = answered_second (as_moves w.row.first) (as_moves w.row.second ++ w.row.thirds) part in
+    let last = answered_second (as_moves w.row.second) w.row.thirds more in
     let one : all_true w.row.in_first ≡ true = phase_true (first_plan size w.row.draft.commit) ms (map (λ m. true) ms) w.row.in_first w.row.first w.row.configs (start_true ms)
-    (answered_calls w.row.first (answered_first (as_moves w.row.first) (as_moves w.row.second ++ (w.row.thirds ++ round_end w.whole w.row.draft ms w.row.results)) part)) in
+    (answered_calls w.row.first (answered_first (as_moves w.row.first) (as_moves w.row.second ++ w.row.thirds) part)) in
     let two : all_true w.row.in_second ≡ true = phase_true (second_plan size w.row.draft.commit) ms w.row.in_first w.row.in_second w.row.second w.row.uberblocks one
-    (answered_calls w.row.second (answered_first (as_moves w.row.second) (w.row.thirds ++ round_end w.whole w.row.draft ms w.row.results) more)) in
-    let three : all_true w.row.results ≡ true = third_true (third_plan size w.row.draft.commit) w.row.draft ms w.row.in_second w.row.results w.row.thirds w.row.copies two
-    (answered_first w.row.thirds (round_end w.whole w.row.draft ms w.row.results) last) in
-    let end : (w.ending ≡ []) × (reply ≡ Committed s.core.number) = subst (λ t. cond t ((w.ending ≡ []) × (reply ≡ Committed s.core.number)) (EndsTurn (steps w.behind s) (Draw ∷ []) (Round s.core.number) w.ending reply))
+    (answered_calls w.row.second (answered_first (as_moves w.row.second) w.row.thirds more)) in
+    let three : all_true w.row.results ≡ true = third_true (third_plan size w.row.draft.commit) w.row.draft ms w.row.in_second w.row.results w.row.thirds w.row.copies two last in
+    let end : (w.ending ≡ []) × (reply ≡ Committed s.core.number) = subst (λ t. cond t ((w.ending ≡ []) × (reply ≡ Committed s.core.number)) (EndsTurn (steps w.behind s) true (Round s.core.number) w.ending reply))
     (w.row.whole_is ∙ three) w.ends in record {
       ends = λ bad. subst IsSuspended end.1 bad;
       goes = λ more. absurd (let no : true ≡ false = sym (ap Ends end.1) ∙ more in cc);
@@ -290,9 +296,10 @@ pub group_fine : (c : Codec) (size : ℕ → ℕ) (s : PoolState) (vs : List Mov
 group_fine c size s vs reply is all g = turns_fine c size s g.turns reply is (subst (AllByRecursion Answered) g.moves all) g.are
 
 -- A freeze over leaves of which each top has a writable one.
-joins_still : (leaves : List LeafSeen) → AllByRecursion IsStill (joins leaves)
-joins_still [] = tt
-joins_still (leaf ∷ leaves) = (tt, joins_still leaves)
+widens_still : (s : PoolSeen) (vs : List Move) → AreWidens s vs → AllByRecursion IsStill vs
+widens_still s [] are = tt
+widens_still s (Widen m low high ∷ vs) are = (tt, widens_still (step (Widen m low high) s) vs are.2)
+widens_still s (v ∷ vs) are = absurd are
 
 abbrev frozen_leaf : (board : ℕ → Bool) → (number first hi : ℕ) → LeafSeen → LeafSeen
 frozen_leaf board number first hi leaf = leaf_step (Freeze (λ k. None) board) number first hi leaf
@@ -341,8 +348,9 @@ full_up board number first hi all (leaf ∷ leaves) up none = by_bool (list_any 
     (λ off. absurd (let no : Some leaf.top ≡ None = sym (ap (λ t. cond t (unwritable_of all leaves) (Some leaf.top)) off) ∙ none in cc))
 
 freeze_going : (c : Codec) (s : PoolState) (first : List Move) → unwritable s.core.leaves ≡ None → RowFreeze c s first → IsGoing (steps first s)
-freeze_going c s first none row = subst (λ vs. IsGoing (steps vs s)) (sym row.moves)
-    (still_going (joins s.core.leaves) (state_step (Freeze row.cells (up_devs s.core.leaves)) s) (joins_still s.core.leaves) (record {
+freeze_going c s first none row = subst (λ vs. IsGoing (steps vs s)) (sym row.moves.moves)
+    (still_going row.moves.widens (state_step (Freeze row.cells (up_devs s.core.leaves)) s)
+    (widens_still (step (Freeze row.cells (up_devs s.core.leaves)) s.core) row.moves.widens row.moves.are) (record {
       frozen = refl;
       full = full_up (up_devs s.core.leaves) s.core.number s.core.group.first s.core.scan.hi s.core.leaves s.core.leaves (all_up (up_devs s.core.leaves) s.core.leaves (λ d is. is)) none;
     }))

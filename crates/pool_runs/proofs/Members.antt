@@ -16,7 +16,7 @@ use Rattle.txg_history.specs.Pools.{Pool, after, pool_after}
 use Rattle.txg_history.specs.Records.{Cell}
 use Rattle.txg_history.specs.Survival.{IsAmong}
 use Rattle.txg_history.proofs.Logging.{by_bool}
-use Rattle.pool_moves.specs.AwayRows.{WriteReply, WriteFits, WriteBy, RowWrite, OfflineReply, is_offline, is_spare, leave_if, drop_if, gone, OfflineLeaf, OfflineHere, OfflineBy, leaf_named, RowOffline}
+use Rattle.pool_moves.specs.AwayRows.{WriteReply, WriteFits, WriteBy, RowWrite, OfflineReply, is_offline, is_spare, LeaveIf, drop_if, gone, OfflineLeaf, OfflineHere, OfflineBy, leaf_named, RowOffline}
 use Rattle.pool_moves.specs.Boards.{board_of, board_under, emptied}
 use Rattle.pool_moves.specs.CommitRows.{NamedLog, RowLogs, RowFound}
 use Rattle.pool_moves.specs.FreezeRow.{up_devs}
@@ -28,8 +28,9 @@ use Rattle.pool_moves.specs.ReadRow.{ReadReply, count_reads, RowCopies, stands_u
 use Rattle.pool_moves.specs.Refusing.{FreezeRefusal, IsRefused}
 use Rattle.pool_moves.specs.Resilvers.{rest_if, Resilvers}
 use Rattle.pool_moves.specs.States.{PoolSeen, PoolState}
-use Rattle.pool_moves.specs.TurnRows.{turn_moves, ended, IsThirdMoves, round_end, RowWriteTurn, RowFlushTurn, RowRound}
-use Rattle.pool_moves.specs.Walking.{as_moves, leave_moves}
+use Rattle.pool_moves.specs.TurnRows.{turn_moves, ended, IsThirdMoves, RowWriteTurn, RowFlushTurn, RowRound}
+use Rattle.pool_moves.specs.Walking.{as_moves}
+use Rattle.pool_moves.specs.Widening.{seen_along}
 use Rattle.pool_runs.specs.Acts.{Act, Bare, Does, Gave, Looked, Shows, Reads_as, Enters, Names, Takes, Bears, Closes, does, bare, read_by, events_for, pool_by, pool_along}
 use Rattle.pool_runs.specs.Creating.{NewLeaf, leaves_of, new_leaves, new_state, new_birth, all_names, or_else, unknown_by, unknown, create_refusal, is_at, dev_or_none, AreStamps, failed_in, FoundBy, RowCreate}
 use Rattle.pool_runs.specs.Devices.{Device, number_in, size_in}
@@ -38,7 +39,7 @@ use Rattle.pool_runs.specs.Hosts.{Host, named}
 use Rattle.pool_runs.specs.Importing.{read_in, all_shown, OpensBy, FollowsMap, ImportBy, host_behind, ImportFor, ImportUnless}
 use Rattle.pool_runs.specs.Lines.{Asked, Asks_nothing, Asks_write, Asks_read, Asks_freeze, Asks_turn, Asks_sync, Asks_offline, Asks_logs, Asks_import, Asks_create, Reply, To_create, Created, DeviceFault, Entry}
 use Rattle.pool_runs.specs.Taking.{IsTakenBy}
-use Rattle.pool_runs.proofs.GroupMoves.{IsKind, more, all_calls, all_reads, all_turn, all_freeze, all_sync, all_found, all_reopen}
+use Rattle.pool_runs.proofs.GroupMoves.{IsKind, more, all_calls, all_widened, all_reads, all_turn, all_freeze, all_sync, all_found, all_reopen}
 use Rattle.pool_runs.proofs.Creating.{or_first, or_second, none_refused}
 
 -- Moves that leave the members.
@@ -106,6 +107,7 @@ kept_kind = record {
   wrote = λ k. tt;
   flushed = tt;
   draw = tt;
+  widen = λ m low high. tt;
   starts = λ draft. tt;
   copies = λ draft d. tt;
   copied = λ draft d. tt;
@@ -147,10 +149,10 @@ keep_read s a vs reply (inr row) = open_by (s.own.writes a) _ _ row.1
     open_by (Some block) cell sum row = subst AllKeep (sym row.0) tt
     open_by None cell sum row = group_by cell sum row
 
-keep_leave_if : (on : Bool) (dev : Option ℕ) → AllKeep (leave_if on dev)
-keep_leave_if true (Some d) = (tt, tt)
-keep_leave_if true None = tt
-keep_leave_if false dev = tt
+keep_leave_if : (on : Bool) (dev : Option ℕ) (s : PoolSeen) (vs : List Move) → LeaveIf on dev s vs → AllKeep vs
+keep_leave_if true (Some d) s vs is = all_widened KeepsMembers kept_kind s (Leave d) vs tt is
+keep_leave_if true None s vs is = subst AllKeep (sym is) tt
+keep_leave_if false dev s vs is = subst AllKeep (sym is) tt
 
 keep_drop_if : (on : Bool) (dev : Option ℕ) → AllKeep (drop_if on dev)
 keep_drop_if true (Some d) = (tt, tt)
@@ -160,8 +162,9 @@ keep_drop_if false dev = tt
 keep_offline_leaf : (already : Bool) (s : PoolState) (leaf : LeafSeen) (temporary : Bool) (vs : List Move) (reply : OfflineReply) → OfflineLeaf already s leaf temporary vs reply → AllKeep vs
 keep_offline_leaf true s leaf temporary vs reply row = subst AllKeep (sym row.0) (tt, tt)
 keep_offline_leaf false s leaf temporary vs reply (inl row) = subst AllKeep (sym row.2) tt
-keep_offline_leaf false s leaf temporary vs reply (inr row) = subst AllKeep (sym row.1) (keep_more (leave_if leaf.on leaf.dev) (drop_if leaf.eligible leaf.dev ++ (Sets leaf.guid (gone temporary leaf.own) ∷ []))
-    (keep_leave_if leaf.on leaf.dev) (keep_more (drop_if leaf.eligible leaf.dev) (Sets leaf.guid (gone temporary leaf.own) ∷ []) (keep_drop_if leaf.eligible leaf.dev) (tt, tt)))
+keep_offline_leaf false s leaf temporary vs reply (inr row) = let goes = row.1 in subst AllKeep (sym goes.moves)
+    (keep_more (drop_if leaf.eligible leaf.dev) (goes.leaving ++ (Sets leaf.guid (gone temporary leaf.own) ∷ [])) (keep_drop_if leaf.eligible leaf.dev)
+    (keep_more goes.leaving (Sets leaf.guid (gone temporary leaf.own) ∷ []) (keep_leave_if leaf.on leaf.dev (seen_along (drop_if leaf.eligible leaf.dev) s.core) goes.leaving goes.leaves) (tt, tt)))
 
 keep_offline_here : (spare : Bool) (s : PoolState) (leaf : LeafSeen) (temporary : Bool) (vs : List Move) (reply : OfflineReply) → OfflineHere spare s leaf temporary vs reply → AllKeep vs
 keep_offline_here true s leaf temporary vs reply row = subst AllKeep (sym row.0) tt
