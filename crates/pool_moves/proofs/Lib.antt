@@ -27,4 +27,5 @@ pub mod ScanSteps
 pub mod Seeing
 pub mod Seeking
 pub mod Shaping
+pub mod StampWalks
 pub mod TurnWalks

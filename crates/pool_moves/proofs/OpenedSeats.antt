@@ -35,7 +35,8 @@ first_kept leaf leaves = record {
   log_is = λ g. ap (λ t. cond t (leaf.owes g) (kept_log leaves leaf.guid g)) (one_number leaf.guid);
 }
 
-later_kept : (first : LeafKept) (leaves : List LeafKept) (leaf : LeafKept) → (first.guid.0 == leaf.guid.0) ≡ false → IsOwnKept leaves leaf → IsOwnKept (first ∷ leaves) leaf
+later_kept : (first : LeafKept) (leaves : List LeafKept) (leaf : LeafKept) → (first.guid.0 == leaf.guid.0) ≡ false → IsOwnKept leaves leaf
+    → IsOwnKept (first ∷ leaves) leaf
 later_kept first leaves leaf other own = record {
   top_is = ap (λ t. cond t first.top (kept_top leaves leaf.guid)) other ∙ own.top_is;
   log_is = λ g. ap (λ t. cond t (first.owes g) (kept_log leaves leaf.guid g)) other ∙ own.log_is g;
@@ -43,8 +44,11 @@ later_kept first leaves leaf other own = record {
 
 own_kept : (leaves : List LeafKept) → AreNumbersApart leaves → AllByRecursion (IsOwnKept leaves) leaves
 own_kept [] apart = tt
-own_kept (leaf ∷ leaves) apart = (first_kept leaf leaves, all_two (λ other. (leaf.guid.0 == other.guid.0) ≡ false) (IsOwnKept leaves) (IsOwnKept (leaf ∷ leaves))
-    (λ other off own. later_kept leaf leaves other off own) leaves apart.0 (own_kept leaves apart.1))
+own_kept (leaf ∷ leaves) apart = (
+  first_kept leaf leaves,
+  all_two (λ other. (leaf.guid.0 == other.guid.0) ≡ false) (IsOwnKept leaves) (IsOwnKept (leaf ∷ leaves))
+      (λ other off own. later_kept leaf leaves other off own) leaves apart.0 (own_kept leaves apart.1),
+)
 
 has_kept : (leaves : List LeafKept) (m : Guid) → 1 ≤ kept_top leaves m → HasKept m leaves
 has_kept [] m low = absurd (omega (arith, low))
@@ -96,7 +100,8 @@ or_second : (t u : Bool) → u ≡ true → (t || u) ≡ true
 or_second true u is = refl
 or_second false u is = is
 
-seat_is : (p : Pool) (r : Rec) (roster : List ℕ) (leaf : LeafKept) (dev : Option ℕ) → IsRoster p roster → ((d : ℕ) → dev ≡ Some d → (p.member d ≡ true) × (p.guid d ≡ leaf.guid))
+seat_is : (p : Pool) (r : Rec) (roster : List ℕ) (leaf : LeafKept) (dev : Option ℕ) → IsRoster p roster
+    → ((d : ℕ) → dev ≡ Some d → (p.member d ≡ true) × (p.guid d ≡ leaf.guid))
     → IsSeatOf p leaf (opened_seat p roster leaf dev)
 seat_is p r roster leaf (Some d) ros home = home d refl
 seat_is p r roster leaf None ros home = by (member_of p roster leaf.guid) refl
@@ -105,14 +110,16 @@ seat_is p r roster leaf None ros home = by (member_of p roster leaf.guid) refl
     by (Some d) is = let m = found_member p roster leaf.guid d is in (m.0, same_guid (p.guid d) leaf.guid m.1)
     by None is = (refl, λ d mine. turned (p.guid d) leaf.guid (no_member p roster leaf.guid ros is d mine))
 
-pub seats_are : (p : Pool) (r : Rec) (roster : List ℕ) (leaves : List LeafKept) (devs : List (Option ℕ)) → IsRoster p roster → AllByRecursion (IsIn r.tops r.owes) leaves → ArePaired leaves devs
+pub seats_are : (p : Pool) (r : Rec) (roster : List ℕ) (leaves : List LeafKept) (devs : List (Option ℕ)) → IsRoster p roster
+    → AllByRecursion (IsIn r.tops r.owes) leaves → ArePaired leaves devs
     → HasNoTwin p r (claims_of leaves devs) → AreSeatsOf p leaves (opened_seats p roster leaves devs)
 seats_are p r roster [] [] ros all pairs home = tt
 seats_are p r roster [] (dev ∷ devs) ros all pairs home = absurd pairs
 seats_are p r roster (leaf ∷ leaves) [] ros all pairs home = absurd pairs
 seats_are p r roster (leaf ∷ leaves) (dev ∷ devs) ros all pairs home = (
   seat_is p r roster leaf dev ros (λ d is. home d leaf.guid (claimed d is) (subst (λ n. 1 ≤ n) (sym all.0.top_is) all.0.under)),
-  seats_are p r roster leaves devs ros all.1 pairs (λ d m claim top. home d m (or_second (is_dev d dev && (leaf.guid.0 == m.0)) (claims_of leaves devs d m) claim) top),
+  seats_are p r roster leaves devs ros all.1 pairs
+      (λ d m claim top. home d m (or_second (is_dev d dev && (leaf.guid.0 == m.0)) (claims_of leaves devs d m) claim) top),
 )
   where
     claimed : (d : ℕ) → dev ≡ Some d → claims_of (leaf ∷ leaves) (dev ∷ devs) d leaf.guid ≡ true
@@ -134,7 +141,8 @@ opened_away p (leaf ∷ leaves) [] are = absurd are
 opened_away p (leaf ∷ leaves) (At d found own ∷ seats) are = (tt, opened_away p leaves seats are.1)
 opened_away p (leaf ∷ leaves) (Adrift other ∷ seats) are = ((ap (λ l. l.dev) are.0.0, ap (λ l. l.on) are.0.0), opened_away p leaves seats are.1)
 
-off_each : (p : Pool) (leaf : LeafKept) (d : ℕ) → p.guid d ≡ leaf.guid → (leaves : List LeafKept) (seats : List Seat) → AllByRecursion (λ other. (leaf.guid.0 == other.guid.0) ≡ false) leaves
+off_each : (p : Pool) (leaf : LeafKept) (d : ℕ) → p.guid d ≡ leaf.guid → (leaves : List LeafKept) (seats : List Seat)
+    → AllByRecursion (λ other. (leaf.guid.0 == other.guid.0) ≡ false) leaves
     → AreSeatsOf p leaves seats → AllByRecursion (IsElsewhere d) seats
 off_each p leaf d here [] [] off are = tt
 off_each p leaf d here [] (seat ∷ seats) off are = absurd are
@@ -158,34 +166,42 @@ pub opened_apart : (p : Pool) (leaves : List LeafKept) (seats : List Seat) → A
 opened_apart p [] [] apart are = tt
 opened_apart p [] (seat ∷ seats) apart are = absurd are
 opened_apart p (leaf ∷ leaves) [] apart are = absurd are
-opened_apart p (leaf ∷ leaves) (At d found own ∷ seats) apart are = (off_each p leaf d are.0.1 leaves seats apart.0 are.1, opened_apart p leaves seats apart.1 are.1)
+opened_apart p (leaf ∷ leaves) (At d found own ∷ seats) apart are =
+    (off_each p leaf d are.0.1 leaves seats apart.0 are.1, opened_apart p leaves seats apart.1 are.1)
 opened_apart p (leaf ∷ leaves) (Adrift other ∷ seats) apart are = opened_apart p leaves seats apart.1 are.1
 
-pub opened_numbered : (p : Pool) (roster : List ℕ) (leaves : List LeafKept) (seats : List Seat) (d : ℕ) → IsRoster p roster → AreSeatsOf p leaves seats → p.member d ≡ true
+pub opened_numbered : (p : Pool) (roster : List ℕ) (leaves : List LeafKept) (seats : List Seat) (d : ℕ) → IsRoster p roster
+    → AreSeatsOf p leaves seats → p.member d ≡ true
     → AllByRecursion (IsOwnNumber p.guid d) seats
 opened_numbered p roster [] [] d ros are mine = tt
 opened_numbered p roster [] (seat ∷ seats) d ros are mine = absurd are
 opened_numbered p roster (leaf ∷ leaves) [] d ros are mine = absurd are
-opened_numbered p roster (leaf ∷ leaves) (At e found own ∷ seats) d ros are mine =
-    (by_bool ((p.guid e).0 == (p.guid d).0) (λ same. inl (turn e d (ros.numbers e d are.0.0 mine same))) (λ other. inr other), opened_numbered p roster leaves seats d ros are.1 mine)
+opened_numbered p roster (leaf ∷ leaves) (At e found own ∷ seats) d ros are mine = (
+  by_bool ((p.guid e).0 == (p.guid d).0) (λ same. inl (turn e d (ros.numbers e d are.0.0 mine same))) (λ other. inr other),
+  opened_numbered p roster leaves seats d ros are.1 mine,
+)
   where
     turn : (a b : ℕ) → (a == b) ≡ true → (b == a) ≡ true
     turn a b is = grind (arith, nat_tests)
 opened_numbered p roster (leaf ∷ leaves) (Adrift other ∷ seats) d ros are mine =
     (subst (λ m. (m.0 == (p.guid d).0) ≡ false) (sym (ap (λ l. l.guid) are.0.0)) (are.0.1 d mine), opened_numbered p roster leaves seats d ros are.1 mine)
 
-pub opened_under : (p : Pool) (r : Rec) (leaves : List LeafKept) (seats : List Seat) (d : ℕ) → AllByRecursion (IsIn r.tops r.owes) leaves → AreSeatsOf p leaves seats → HasKept (p.guid d) leaves
+pub opened_under : (p : Pool) (r : Rec) (leaves : List LeafKept) (seats : List Seat) (d : ℕ) → AllByRecursion (IsIn r.tops r.owes) leaves
+    → AreSeatsOf p leaves seats → HasKept (p.guid d) leaves
     → HasUnder (λ e. r.tops (p.guid e)) (r.tops (p.guid d)) seats
 opened_under p r [] seats d all are has = absurd has
 opened_under p r (leaf ∷ leaves) [] d all are has = absurd are
 opened_under p r (leaf ∷ leaves) (At e found own ∷ seats) d all are (inl is) = inl (ap r.tops (are.0.1 ∙ same_guid leaf.guid (p.guid d) is))
-opened_under p r (leaf ∷ leaves) (Adrift other ∷ seats) d all are (inl is) = inl (ap (λ l. l.top) are.0.0 ∙ (sym all.0.top_is ∙ ap r.tops (same_guid leaf.guid (p.guid d) is)))
+opened_under p r (leaf ∷ leaves) (Adrift other ∷ seats) d all are (inl is) =
+    inl (ap (λ l. l.top) are.0.0 ∙ (sym all.0.top_is ∙ ap r.tops (same_guid leaf.guid (p.guid d) is)))
 opened_under p r (leaf ∷ leaves) (At e found own ∷ seats) d all are (inr has) = inr (opened_under p r leaves seats d all.1 are.1 has)
 opened_under p r (leaf ∷ leaves) (Adrift other ∷ seats) d all are (inr has) = inr (opened_under p r leaves seats d all.1 are.1 has)
 
-pub opened_topped : (p : Pool) (r : Rec) (leaves : List LeafKept) (seats : List Seat) (d : ℕ) → AllByRecursion (IsIn r.tops r.owes) leaves → kept_top leaves ≡ r.tops → AreSeatsOf p leaves seats
+pub opened_topped : (p : Pool) (r : Rec) (leaves : List LeafKept) (seats : List Seat) (d : ℕ) → AllByRecursion (IsIn r.tops r.owes) leaves
+    → kept_top leaves ≡ r.tops → AreSeatsOf p leaves seats
     → 1 ≤ r.tops (p.guid d) → HasUnder (λ e. r.tops (p.guid e)) (r.tops (p.guid d)) seats
-opened_topped p r leaves seats d all tops are low = opened_under p r leaves seats d all are (has_kept leaves (p.guid d) (subst (λ f. 1 ≤ f (p.guid d)) (sym tops) low))
+opened_topped p r leaves seats d all tops are low =
+    opened_under p r leaves seats d all are (has_kept leaves (p.guid d) (subst (λ f. 1 ≤ f (p.guid d)) (sym tops) low))
 
 -- The leaves are what is seen at the seats.
 abbrev opened_told : Pool → Rec → (board eligible : ℕ → Bool) → (scrub : ℕ → ℕ → Bool) → Told
@@ -207,20 +223,25 @@ seen_at : (r : Rec) (leaf : LeafKept) (m : Guid) (dev : Option ℕ) (own : OwnLe
 seen_at r leaf m dev own is same = ap (λ m. shape m dev own (r.tops m) (r.owes m)) same
     ∙ (ap (λ top. shape leaf.guid dev own top (r.owes leaf.guid)) is.top_is ∙ ap (λ log. shape leaf.guid dev own leaf.top log) is.log_is)
 
-seat_seen : (p : Pool) (r : Rec) (roster : List ℕ) (board eligible : ℕ → Bool) (scrub : ℕ → ℕ → Bool) (leaf : LeafKept) (dev : Option ℕ) → IsIn r.tops r.owes leaf
-    → IsSeatOf p leaf (opened_seat p roster leaf dev) → leaf_seen false false (opened_told p r board eligible scrub) (opened_seat p roster leaf dev) ≡ opened_leaf leaf dev
+seat_seen : (p : Pool) (r : Rec) (roster : List ℕ) (board eligible : ℕ → Bool) (scrub : ℕ → ℕ → Bool) (leaf : LeafKept) (dev : Option ℕ)
+    → IsIn r.tops r.owes leaf
+    → IsSeatOf p leaf (opened_seat p roster leaf dev)
+    → leaf_seen false false (opened_told p r board eligible scrub) (opened_seat p roster leaf dev) ≡ opened_leaf leaf dev
 seat_seen p r roster board eligible scrub leaf (Some d) is seat = seen_at r leaf (p.guid d) (Some d) (opened_own leaf (Some d)) is seat.1
 seat_seen p r roster board eligible scrub leaf None is seat = by (member_of p roster leaf.guid) seat
   where
-    by : (found : Option ℕ) → IsSeatOf p leaf (seat_unfound found leaf) → leaf_seen false false (opened_told p r board eligible scrub) (seat_unfound found leaf) ≡ opened_leaf leaf None
+    by : (found : Option ℕ) → IsSeatOf p leaf (seat_unfound found leaf)
+        → leaf_seen false false (opened_told p r board eligible scrub) (seat_unfound found leaf) ≡ opened_leaf leaf None
     by (Some d) seat = seen_at r leaf (p.guid d) None (opened_own leaf None) is seat.1
     by None seat = refl
 
-pub seats_seen : (p : Pool) (r : Rec) (roster : List ℕ) (board eligible : ℕ → Bool) (scrub : ℕ → ℕ → Bool) (leaves : List LeafKept) (devs : List (Option ℕ)) → AllByRecursion (IsIn r.tops r.owes) leaves
+pub seats_seen : (p : Pool) (r : Rec) (roster : List ℕ) (board eligible : ℕ → Bool) (scrub : ℕ → ℕ → Bool) (leaves : List LeafKept)
+    (devs : List (Option ℕ)) → AllByRecursion (IsIn r.tops r.owes) leaves
     → AreSeatsOf p leaves (opened_seats p roster leaves devs)
     → map (leaf_seen false false (opened_told p r board eligible scrub)) (opened_seats p roster leaves devs) ≡ opened_leaves leaves devs
 seats_seen p r roster board eligible scrub [] devs all are = refl
 seats_seen p r roster board eligible scrub (leaf ∷ leaves) [] all are = refl
 seats_seen p r roster board eligible scrub (leaf ∷ leaves) (dev ∷ devs) all are =
-    ap (λ x. x ∷ map (leaf_seen false false (opened_told p r board eligible scrub)) (opened_seats p roster leaves devs)) (seat_seen p r roster board eligible scrub leaf dev all.0 are.0)
+    ap (λ x. x ∷ map (leaf_seen false false (opened_told p r board eligible scrub)) (opened_seats p roster leaves devs))
+    (seat_seen p r roster board eligible scrub leaf dev all.0 are.0)
     ∙ ap (λ xs. opened_leaf leaf dev ∷ xs) (seats_seen p r roster board eligible scrub leaves devs all.1 are.1)

@@ -1,6 +1,42 @@
 -- An opening reads a live record: its calls may be made, and the state that it comes to is what the history has; or a page's bytes
 -- clash.
-use Rattle.std.proofs.Common.{◌≡◌, ◌≢◌, ◌⊎◌, inl, inr, ⊎_elim, ℕ, zero, suc, ◌+◌, ◌*◌, ◌/◌, ◌%◌, ◌≤◌, ◌<◌, ◌==◌, ◌&&◌, ◌||◌, not, is_none, Bool, true, false, cond, Option, Some, None, List, [], ◌∷◌, ◌++◌, map, refl, sym, ap, ◌∙◌, subst, arith}
+use Rattle.std.proofs.Common.{
+  ◌≡◌,
+  ◌⊎◌,
+  inl,
+  inr,
+  ⊎_elim,
+  ℕ,
+  zero,
+  suc,
+  ◌+◌,
+  ◌*◌,
+  ◌/◌,
+  ◌%◌,
+  ◌≤◌,
+  ◌<◌,
+  ◌==◌,
+  ◌&&◌,
+  ◌||◌,
+  not,
+  is_none,
+  Bool,
+  true,
+  false,
+  Option,
+  Some,
+  None,
+  List,
+  [],
+  ◌∷◌,
+  ◌++◌,
+  refl,
+  sym,
+  ap,
+  ◌∙◌,
+  subst,
+  arith,
+}
 use mathlib.Core.Path.{fun_ext}
 use Rattle.std.specs.List.{AllByRecursion}
 use Rattle.std.proofs.lemmas.Bool.{and_parts}
@@ -8,18 +44,16 @@ use Rattle.std.proofs.lemmas.Bool.Decides.{nat_tests}
 use Rattle.mp_base.specs.declared.number.Guid.{Guid}
 use Rattle.mp_base.specs.declared.place.Key.{Key}
 use Rattle.bank_core.specs.Calls.{device_of, fault_of}
-use Rattle.bank_core.specs.Disk.{Noted, AllAnswer, run}
+use Rattle.bank_core.specs.Disk.{Noted, AllAnswer}
 use Rattle.label_store.specs.declared.found.Found.{Found}
-use Rattle.label_store.specs.Rounds.{config_of}
 use Rattle.txg_history.specs.Events.{Opens, as_events}
 use Rattle.txg_history.specs.Moves.{Mays}
-use Rattle.txg_history.specs.Pages.{LeafKept, Codec, Sum, sum_of, IsOfVolume, IsConfigOf, kept_top, kept_log, ClashesAt}
+use Rattle.txg_history.specs.Pages.{LeafKept, Codec, Sum, sum_of, IsOfVolume, kept_top, kept_log, ClashesAt}
 use Rattle.txg_history.specs.Pools.{Pool, after, pool_after}
 use Rattle.txg_history.specs.Premises.{HasNoTwin, HasGoodLeaf, HasGoodPages}
-use Rattle.txg_history.specs.Records.{Rec, Cell, Cells, IsIn, key, number_of}
+use Rattle.txg_history.specs.Records.{Rec, Cell, key, number_of}
 use Rattle.txg_history.specs.Survival.{Fits, Survives}
 use Rattle.txg_history.proofs.Folding.{with_calls, calls_after, events_more, mays_calls, pool_more}
-use Rattle.txg_history.proofs.Logging.{by_bool, same_device, true_not_false}
 use Rattle.txg_history.proofs.Moving.{event_survives}
 use Rattle.txg_history.proofs.ReadingBack.{numbered_fits}
 use Rattle.txg_history.proofs.Surviving.{history_survives}
@@ -44,7 +78,8 @@ config_tells : (c : Codec) (p : Pool) (r : Rec) (found : Found) → Survives c p
 config_tells c p r found sv is = numbered_fits c p r sv is.is_live is.some
 
 -- Leaves that were found are as the history has them.
-true_leaves : (p : Pool) (r : Rec) (leaves : List LeafKept) (devs : List (Option ℕ)) → AllByRecursion (IsKeptIn r.tops r.owes) leaves → HasNoTwin p r (claims_of leaves devs)
+true_leaves : (p : Pool) (r : Rec) (leaves : List LeafKept) (devs : List (Option ℕ)) → AllByRecursion (IsKeptIn r.tops r.owes) leaves
+    → HasNoTwin p r (claims_of leaves devs)
     → AllByRecursion (IsTrueLeaf p.member (λ d. r.tops (p.guid d)) (λ d. r.owes (p.guid d))) (opened_leaves leaves devs)
 true_leaves p r [] devs all home = tt
 true_leaves p r (leaf ∷ leaves) [] all home = tt
@@ -69,7 +104,8 @@ true_leaves p r (leaf ∷ leaves) (dev ∷ devs) all home = (
     mine d at = home d leaf.guid (claimed d at) (subst (λ n. 1 ≤ n) (sym all.0.top_is) all.0.under)
 
 -- What a row of an opening begins from.
-record Opening (c : Codec) (size : ℕ → ℕ) (handed : List ℕ → Option ℕ) (name : List ℕ) (p : Pool) (r : Rec) (found : Found) (made : List Noted) (reply : OpenReply) : Type 0 where
+record Opening (c : Codec) (size : ℕ → ℕ) (handed : List ℕ → Option ℕ) (name : List ℕ) (p : Pool) (r : Rec) (found : Found) (made : List Noted)
+    (reply : OpenReply) : Type 0 where
   survives : Survives c p
   named : p.name ≡ name
   is : IsLiveOne p found r
@@ -77,7 +113,8 @@ record Opening (c : Codec) (size : ℕ → ℕ) (handed : List ℕ → Option �
   answers : AllAnswer p.sectors made
   home : HasNoTwin p r (claims_of (c.leaves found.blob.items) row.devs)
 
-module _ (c : Codec) (size : ℕ → ℕ) (handed : List ℕ → Option ℕ) (name : List ℕ) (p : Pool) (r : Rec) (found : Found) (made : List Noted) (reply : OpenReply) (o : Opening c size handed name p r found made reply) where
+module _ (c : Codec) (size : ℕ → ℕ) (handed : List ℕ → Option ℕ) (name : List ℕ) (p : Pool) (r : Rec) (found : Found) (made : List Noted)
+    (reply : OpenReply) (o : Opening c size handed name p r found made reply) where
   abbrev config : List ℕ
   config = found.blob.items
 
@@ -145,8 +182,10 @@ module _ (c : Codec) (size : ℕ → ℕ) (handed : List ℕ → Option ℕ) (na
       (subst (Mays c q) (sym (events_more o.row.ids o.row.pages)) (mays_calls c o.row.ids (as_events o.row.pages) q ids_may may))
 
   -- The whole map.
-  known_all : (reached : Key → Bool) → ((k : Key) → reached k ≡ true) → IsReadTo x reached → ((k : Key) → IsKnown reached k → x.got k ≡ sum_of (r.cells k)) → (k : Key) → x.got k ≡ sum_of (r.cells k)
-  known_all reached all back right k = ⊎_elim (λ v. right k (known k v)) (λ off. back.beyond k off ∙ sym (none_of (r.cells k) (λ cell at. off (inside k cell at))))
+  known_all : (reached : Key → Bool) → ((k : Key) → reached k ≡ true) → IsReadTo x reached
+      → ((k : Key) → IsKnown reached k → x.got k ≡ sum_of (r.cells k)) → (k : Key) → x.got k ≡ sum_of (r.cells k)
+  known_all reached all back right k = ⊎_elim (λ v. right k (known k v))
+      (λ off. back.beyond k off ∙ sym (none_of (r.cells k) (λ cell at. off (inside k cell at))))
       (of_volume_or (c.blocks config) k)
     where
       none_of : (cell : Option Cell) → ((cell' : Cell) → cell ≡ Some cell' → ⊥) → sum_of cell ≡ None
@@ -160,13 +199,22 @@ module _ (c : Codec) (size : ℕ → ℕ) (handed : List ℕ → Option ℕ) (na
       rest n = omega arith
 
       below : (k : Key) → k.level < 3 → IsKnown reached k
-      below k low = inr (record { level = k.level; index = k.index / 64; j = k.index % 64; low = low; few = rest k.index; is = ap (key k.level) (sym (whole k.index)); reaches = all (key (suc k.level) (k.index / 64)) })
+      below k low = inr (record {
+        level = k.level;
+        index = k.index / 64;
+        j = k.index % 64;
+        low = low;
+        few = rest k.index;
+        is = ap (key k.level) (sym (whole k.index));
+        reaches = all (key (suc k.level) (k.index / 64));
+      })
 
       by_level : (level index : ℕ) → IsOfVolume (c.blocks config) (key level index) → IsKnown reached (key level index)
       by_level zero index v = below (key 0 index) (omega arith)
       by_level (suc zero) index v = below (key 1 index) (omega arith)
       by_level (suc (suc zero)) index v = below (key 2 index) (omega arith)
-      by_level (suc (suc (suc zero))) index v = inl (ap (key 3) (let lt : index < 1 = volume_width (c.blocks config) 3 index o.row.volume v in let e : index ≡ 0 = omega (arith, lt) in e))
+      by_level (suc (suc (suc zero))) index v =
+          inl (ap (key 3) (let lt : index < 1 = volume_width (c.blocks config) 3 index o.row.volume v in let e : index ≡ 0 = omega (arith, lt) in e))
       by_level (suc (suc (suc (suc n)))) index v = absurd (let low = v.low in omega (arith, low))
 
       known : (k : Key) → IsOfVolume (c.blocks config) k → IsKnown reached k
@@ -207,7 +255,8 @@ module _ (c : Codec) (size : ℕ → ℕ) (handed : List ℕ → Option ℕ) (na
   side roster = record { pool = q; seats = seats roster }
 
   seated : (roster : List ℕ) → IsRoster p roster → AreSeatsOf p leaves (seats roster)
-  seated roster ros = seats_are p r roster leaves o.row.devs ros kept (sought_paired found.pool size (c.room config) handed leaves o.row.ids o.row.devs o.row.sought) o.home
+  seated roster ros = seats_are p r roster leaves o.row.devs ros kept
+      (sought_paired found.pool size (c.room config) handed leaves o.row.ids o.row.devs o.row.sought) o.home
 
   core_seen : (roster : List ℕ) → IsRoster p roster → ((k : Key) → x.got k ≡ sum_of (r.cells k)) → (shape : ShapeKept) → (opened_state c shape name found o.row.devs o.row.got).core ≡ seen (side roster)
   core_seen roster ros right shape =
@@ -216,7 +265,8 @@ module _ (c : Codec) (size : ℕ → ℕ) (handed : List ℕ → Option ℕ) (na
       ∙ (ap (λ n. core_of p.name p.pool n o.row.got (c.room config) (opened_leaves leaves o.row.devs)) (ap (λ n. n.0) o.is.number_is)
       ∙ (ap (λ g. core_of p.name p.pool (number_of r) g (c.room config) (opened_leaves leaves o.row.devs)) (fun_ext right)
       ∙ (ap (λ f. core_of p.name p.pool (number_of r) (sums r.cells) f (opened_leaves leaves o.row.devs)) room_is
-      ∙ ap (core_of p.name p.pool (number_of r) (sums r.cells) p.room) (sym (seats_seen p r roster p.group.board p.scan.eligible p.scan.scrub leaves o.row.devs kept (seated roster ros)))))))
+      ∙ ap (core_of p.name p.pool (number_of r) (sums r.cells) p.room)
+      (sym (seats_seen p r roster p.group.board p.scan.eligible p.scan.scrub leaves o.row.devs kept (seated roster ros)))))))
 
   opened_at : (roster : List ℕ) (s : PoolState) → IsRoster p roster → (shape : ShapeKept) → s ≡ opened_state c shape name found o.row.devs o.row.got → ((k : Key) → x.got k ≡ sum_of (r.cells k)) → IsOpened c s (side roster)
   opened_at roster s ros shape is right = record {
@@ -252,13 +302,15 @@ module _ (c : Codec) (size : ℕ → ℕ) (handed : List ℕ → Option ℕ) (na
     stop_right = known_right x r p.room up_to (o.survives.fit r o.is.is_live).1 st.back (closed_before stop) o.row.volume root inside
 
     -- a page with a pointer is known, where the page above it is read
-    page_is_known : (l i : ℕ) (sum : Sum) → l < 3 → x.got (key (suc l) i) ≡ Some sum → (l < 2 → up_to (key (suc (suc l)) (i / 64)) ≡ true) → IsKnown up_to (key (suc l) i)
+    page_is_known : (l i : ℕ) (sum : Sum) → l < 3 → x.got (key (suc l) i) ≡ Some sum → (l < 2 → up_to (key (suc (suc l)) (i / 64)) ≡ true)
+        → IsKnown up_to (key (suc l) i)
     page_is_known zero i sum low is above = below_known up_to 0 i (omega arith) (above (omega arith))
     page_is_known (suc zero) i sum low is above = below_known up_to 1 i (omega arith) (above (omega arith))
     page_is_known (suc (suc zero)) i sum low is above = inl (ap (key 3) (root_index i sum is))
     page_is_known (suc (suc (suc l))) i sum low is above = absurd (omega (arith, low))
 
-    turn_right : ((k : Key) → IsKnown up_to k → x.got k ≡ sum_of (r.cells k)) → (turn : PageTurn) → IsPageTurn x turn → up_to (page_of turn) ≡ true → IsRightTurn x r turn.level turn.index
+    turn_right : ((k : Key) → IsKnown up_to k → x.got k ≡ sum_of (r.cells k)) → (turn : PageTurn) → IsPageTurn x turn → up_to (page_of turn) ≡ true
+        → IsRightTurn x r turn.level turn.index
     turn_right right turn is before = record {
       pointer = right (page_of turn) (page_is_known turn.level turn.index is.sum is.low is.sum_is (λ low. closed_before stop turn.level turn.index low before));
       known = λ k known. right k (⊎_elim (λ e. inl e) (λ b. inr (record {
@@ -272,7 +324,8 @@ module _ (c : Codec) (size : ℕ → ℕ) (handed : List ℕ → Option ℕ) (na
       })) known);
     }
 
-    turns_right : ((k : Key) → IsKnown up_to k → x.got k ≡ sum_of (r.cells k)) → (turns : List PageTurn) → AllByRecursion (IsPageTurn x) turns → AllByRecursion (λ turn. up_to (page_of turn) ≡ true) turns
+    turns_right : ((k : Key) → IsKnown up_to k → x.got k ≡ sum_of (r.cells k)) → (turns : List PageTurn) → AllByRecursion (IsPageTurn x) turns
+        → AllByRecursion (λ turn. up_to (page_of turn) ≡ true) turns
         → AllByRecursion (λ turn. IsRightTurn x r turn.level turn.index) turns
     turns_right right [] each before = tt
     turns_right right (turn ∷ turns) each before = (turn_right right turn each.0 before.0, turns_right right turns each.1 before.1)
@@ -287,7 +340,8 @@ module _ (c : Codec) (size : ℕ → ℕ) (handed : List ℕ → Option ℕ) (na
     answered = subst (AllAnswer behind.sectors) st.calls pages_answer
 
     first_may : ((k : Key) → IsKnown up_to k → x.got k ≡ sum_of (r.cells k)) → Mays c behind (as_events (calls_of_turns st.turns)) ⊎ ClashesAt r.cells x.found
-    first_may right = turns_may x r behind st.turns on st.each (turns_right right st.turns st.each st.before) (answers_front (calls_of_turns st.turns) st.reads behind.sectors answered)
+    first_may right = turns_may x r behind st.turns on st.each (turns_right right st.turns st.each st.before)
+        (answers_front (calls_of_turns st.turns) st.reads behind.sectors answered)
 
     abbrev stopped : Pool
     stopped = with_calls (calls_of_turns st.turns) behind
@@ -298,13 +352,15 @@ module _ (c : Codec) (size : ℕ → ℕ) (handed : List ℕ → Option ℕ) (na
     stopped_may : Mays c q (as_events made) ⊎ ClashesAt r.cells x.found
     stopped_may = ⊎_elim (λ right. ⊎_elim (λ may. inl (all_may (subst (λ l. Mays c behind (as_events l)) (sym st.calls)
         (subst (Mays c behind) (sym (events_more (calls_of_turns st.turns) st.reads)) (mays_calls c (calls_of_turns st.turns) (as_events st.reads) behind may
-        (stop_may x r stopped level index st.sum st.reads st.wrong None (on_behind x r behind (calls_of_turns st.turns) on may) st.low st.sum_is (stop_turn right) reads_answer st.tried))))))
+        (stop_may x r stopped level index st.sum st.reads st.wrong None (on_behind x r behind (calls_of_turns st.turns) on may) st.low st.sum_is
+        (stop_turn right) reads_answer st.tried))))))
         (λ clash. inr clash) (first_may right)) (λ clash. inr clash) stop_right
 
     -- the pool behind all calls
     end_is : pool_after (as_events made) q ≡ with_calls st.reads stopped
     end_is = ap (λ l. pool_after (as_events l) q) (o.row.calls ∙ ap (λ l. o.row.ids ++ l) st.calls)
-        ∙ (ap (λ vs. pool_after vs q) (events_more o.row.ids (calls_of_turns st.turns ++ st.reads) ∙ ap (λ vs. as_events o.row.ids ++ vs) (events_more (calls_of_turns st.turns) st.reads))
+        ∙ (ap (λ vs. pool_after vs q) (events_more o.row.ids (calls_of_turns st.turns ++ st.reads)
+        ∙ ap (λ vs. as_events o.row.ids ++ vs) (events_more (calls_of_turns st.turns) st.reads))
         ∙ (pool_more (as_events o.row.ids) (as_events (calls_of_turns st.turns) ++ as_events st.reads) q
         ∙ (ap (λ u. pool_after (as_events (calls_of_turns st.turns) ++ as_events st.reads) u) (calls_after o.row.ids q)
         ∙ (pool_more (as_events (calls_of_turns st.turns)) (as_events st.reads) behind
@@ -330,14 +386,18 @@ module _ (c : Codec) (size : ℕ → ℕ) (handed : List ℕ → Option ℕ) (na
     stopped_never : HasGoodPages (pool_after (as_events made) q) r (answers_in x.leaves o.row.pages) → ClashesAt r.cells x.found
     stopped_never good = ⊎_elim (λ right. ⊎_elim (λ may. absurd (stop_never x r stopped level index st.sum st.reads st.wrong (answers_in x.leaves o.row.pages)
         (on_behind x r behind (calls_of_turns st.turns) on may) st.low st.sum_is (stop_turn right) reads_answer st.tried none_failed
-        (λ cell at. subst (λ u. HasGoodLeaf u r cell (answers_in x.leaves o.row.pages)) end_is (good (suc level) index cell (omega arith) (let low = st.low in omega (arith, low)) at))))
+        (λ cell at. subst (λ u. HasGoodLeaf u r cell (answers_in x.leaves o.row.pages)) end_is
+        (good (suc level) index cell (omega arith) (let low = st.low in omega (arith, low)) at))))
         (λ clash. clash) (first_may right)) (λ clash. clash) stop_right
 
 -- An opening that comes to a state.
-pub opening_opens : (c : Codec) (size : ℕ → ℕ) (handed : List ℕ → Option ℕ) (name : List ℕ) (p : Pool) (r : Rec) (roster : List ℕ) (found : Found) (made : List Noted) (s : PoolState) → Survives c p → p.name ≡ name
-    → IsLiveOne p found r → IsRoster p roster → (row : RowOpen c size handed name found made (Opens_state s)) → AllAnswer p.sectors made → HasNoTwin p r (claims_of (c.leaves found.blob.items) row.devs)
+pub opening_opens : (c : Codec) (size : ℕ → ℕ) (handed : List ℕ → Option ℕ) (name : List ℕ) (p : Pool) (r : Rec) (roster : List ℕ) (found : Found)
+    (made : List Noted) (s : PoolState) → Survives c p → p.name ≡ name
+    → IsLiveOne p found r → IsRoster p roster → (row : RowOpen c size handed name found made (Opens_state s)) → AllAnswer p.sectors made
+    → HasNoTwin p r (claims_of (c.leaves found.blob.items) row.devs)
     → (IsOpened c s (record { pool = after (Opens r) p; seats = opened_seats p roster (c.leaves found.blob.items) row.devs })
-    × Walks c (record { pool = after (Opens r) p; seats = opened_seats p roster (c.leaves found.blob.items) row.devs }) (as_moves made)) ⊎ ClashesAt r.cells row.bytes
+    × Walks c (record { pool = after (Opens r) p; seats = opened_seats p roster (c.leaves found.blob.items) row.devs }) (as_moves made))
+    ⊎ ClashesAt r.cells row.bytes
 opening_opens c size handed name p r roster found made s sv named is ros row answers home = ⊎_elim
     (λ right. ⊎_elim (λ may. inl (opened_at c size handed name p r found made (Opens_state s) o roster s ros row.ends.0 row.ends.2 right, calls_walk c made (side c size handed name p r found made (Opens_state s) o roster) may))
     (λ clash. inr clash) (map_may c size handed name p r found made (Opens_state s) o row.ends.1 right))
@@ -347,8 +407,10 @@ opening_opens c size handed name p r roster found made s sv named is ros row ans
     o = record { survives = sv; named = named; is = is; row = row; answers = answers; home = home }
 
 -- Its calls may be made, however it ends.
-pub opening_may : (c : Codec) (size : ℕ → ℕ) (handed : List ℕ → Option ℕ) (name : List ℕ) (p : Pool) (r : Rec) (found : Found) (made : List Noted) (reply : OpenReply) → Survives c p → p.name ≡ name
-    → IsLiveOne p found r → (row : RowOpen c size handed name found made reply) → AllAnswer p.sectors made → HasNoTwin p r (claims_of (c.leaves found.blob.items) row.devs)
+pub opening_may : (c : Codec) (size : ℕ → ℕ) (handed : List ℕ → Option ℕ) (name : List ℕ) (p : Pool) (r : Rec) (found : Found) (made : List Noted)
+    (reply : OpenReply) → Survives c p → p.name ≡ name
+    → IsLiveOne p found r → (row : RowOpen c size handed name found made reply) → AllAnswer p.sectors made
+    → HasNoTwin p r (claims_of (c.leaves found.blob.items) row.devs)
     → Mays c (after (Opens r) p) (as_events made) ⊎ ClashesAt r.cells row.bytes
 opening_may c size handed name p r found made (Opens_state s) sv named is row answers home =
     ⊎_elim (λ right. map_may c size handed name p r found made (Opens_state s) o row.ends.1 right) (λ clash. inr clash) (map_right c size handed name p r found made (Opens_state s) o row.ends.1.back)
@@ -362,9 +424,12 @@ opening_may c size handed name p r found made (NoPage page shown) sv named is ro
     o = record { survives = sv; named = named; is = is; row = row; answers = answers; home = home }
 
 -- Where each page has a good leaf, each is found.
-pub opening_finds : (c : Codec) (size : ℕ → ℕ) (handed : List ℕ → Option ℕ) (name : List ℕ) (p : Pool) (r : Rec) (found : Found) (made : List Noted) (page : Key) (shown : List LeafShown) → Survives c p → p.name ≡ name
-    → IsLiveOne p found r → (row : RowOpen c size handed name found made (NoPage page shown)) → AllAnswer p.sectors made → HasNoTwin p r (claims_of (c.leaves found.blob.items) row.devs)
-    → HasGoodPages (pool_after (as_events made) (after (Opens r) p)) r (answers_in (opened_leaves (c.leaves found.blob.items) row.devs) row.pages) → ClashesAt r.cells row.bytes
+pub opening_finds : (c : Codec) (size : ℕ → ℕ) (handed : List ℕ → Option ℕ) (name : List ℕ) (p : Pool) (r : Rec) (found : Found) (made : List Noted)
+    (page : Key) (shown : List LeafShown) → Survives c p → p.name ≡ name
+    → IsLiveOne p found r → (row : RowOpen c size handed name found made (NoPage page shown)) → AllAnswer p.sectors made
+    → HasNoTwin p r (claims_of (c.leaves found.blob.items) row.devs)
+    → HasGoodPages (pool_after (as_events made) (after (Opens r) p)) r (answers_in (opened_leaves (c.leaves found.blob.items) row.devs) row.pages)
+    → ClashesAt r.cells row.bytes
 opening_finds c size handed name p r found made page shown sv named is row answers home good =
     stopped_never c size handed name p r found made (NoPage page shown) o row.ends.0 page.index shown row.ends.2 good
   where

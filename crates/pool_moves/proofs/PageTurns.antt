@@ -1,29 +1,63 @@
 -- The pages of a map may be read back, and wrong copies of them rewritten; and where each has a good leaf, each is found.
-use Rattle.std.proofs.Common.{◌≡◌, ◌≢◌, ◌⊎◌, inl, inr, ⊎_elim, ℕ, suc, ◌+◌, ◌*◌, ◌≤◌, ◌<◌, ◌==◌, ◌&&◌, ◌||◌, not, is_none, Bool, true, false, cond, Option, Some, None, List, [], ◌∷◌, ◌++◌, map, length, refl, sym, ap, ◌∙◌, subst, arith}
+use Rattle.std.proofs.Common.{
+  ◌≡◌,
+  ◌≢◌,
+  ◌⊎◌,
+  inl,
+  inr,
+  ⊎_elim,
+  ℕ,
+  suc,
+  ◌+◌,
+  ◌<◌,
+  ◌==◌,
+  ◌&&◌,
+  ◌||◌,
+  not,
+  is_none,
+  Bool,
+  true,
+  false,
+  cond,
+  Option,
+  Some,
+  None,
+  List,
+  [],
+  ◌∷◌,
+  ◌++◌,
+  map,
+  length,
+  refl,
+  sym,
+  ap,
+  ◌∙◌,
+  subst,
+  arith,
+}
 use Rattle.std.specs.List.{AllByRecursion, filter}
 use Rattle.std.proofs.lemmas.Bool.{and_parts}
 use Rattle.std.proofs.lemmas.Bool.Decides.{nat_tests}
-use Rattle.sha2.specs.Sha256.{sha256}
 use Rattle.mp_base.specs.declared.place.Key.{Key}
 use Rattle.bank_core.specs.declared.bank.Fault.{Fault}
 use Rattle.bank_core.specs.Calls.{device_of, fault_of}
-use Rattle.bank_core.specs.Disk.{Call, Read, Noted, Sectors, Answers, AllAnswer, as_found, run}
+use Rattle.bank_core.specs.Disk.{Read, Noted, Sectors, Answers, AllAnswer, as_found, run}
 use Rattle.mirror_io.specs.declared.copies.CopyOf.{CopyOf}
 use Rattle.mirror_io.specs.Copies.{is_due, tries}
 use Rattle.mirror_io.specs.Mirror.{IsHealed}
-use Rattle.mirror_io.specs.Reads.{Fails, rewrites}
+use Rattle.mirror_io.specs.Reads.{rewrites}
 use Rattle.txg_history.specs.Events.{Calls, as_events}
 use Rattle.txg_history.specs.Moves.{IsSparing, Mays}
-use Rattle.txg_history.specs.Pages.{Codec, Sum, sum_of, IsTree, ClashesAt}
-use Rattle.txg_history.specs.Pools.{Pool, after, pool_after}
-use Rattle.txg_history.specs.Records.{Rec, Cell, Cells, key, data_start}
+use Rattle.txg_history.specs.Pages.{Codec, Sum, sum_of, ClashesAt}
+use Rattle.txg_history.specs.Pools.{Pool, after}
+use Rattle.txg_history.specs.Records.{Rec, Cell, key, data_start}
 use Rattle.txg_history.specs.Survival.{Survives}
 use Rattle.txg_history.proofs.Folding.{with_calls, calls_after, events_more, mays_calls}
 use Rattle.txg_history.proofs.Logging.{by_bool, same_device, true_not_false}
 use Rattle.txg_history.proofs.Moving.{event_survives}
 use Rattle.txg_history.proofs.Showing.{read_damage, stays_damaged}
 use Rattle.txg_history.proofs.Surviving.{history_survives}
-use Rattle.pool_moves.specs.PageReads.{Reading, is_read_before, IsKnown, IsPageHere, GivesSome, AreTried, PageTurn, page_of, calls_of_turns, IsPageTurn, failed_on}
+use Rattle.pool_moves.specs.PageReads.{Reading, is_read_before, IsKnown, IsPageHere, AreTried, PageTurn, page_of, calls_of_turns, IsPageTurn, failed_on}
 use Rattle.vdev_tree.specs.Leaf.{is_up}
 use Rattle.txg_history.specs.Premises.{HasGoodLeaf}
 use Rattle.txg_history.specs.Groups.{Logs}
@@ -32,17 +66,39 @@ use Rattle.pool_moves.specs.Leaves.{LeafSeen}
 use Rattle.pool_moves.specs.ReadRow.{copy_at, copy_of, stands_under, copies_of}
 use Rattle.pool_moves.proofs.FreeWalks.{all_append}
 use Rattle.pool_moves.proofs.PagesBack.{same_bytes_or, IsReadOf, page_here}
-use Rattle.pool_moves.proofs.ReadWalks.{IsCopy, IsHurt, IsReadOrWrite, none_heals, AreRead, read_one, plain_one, heals_may, all_filter, answers_front, sum_of_cell}
+use Rattle.pool_moves.proofs.ReadWalks.{
+  IsCopy,
+  IsHurt,
+  IsReadOrWrite,
+  none_heals,
+  AreRead,
+  read_one,
+  plain_one,
+  heals_may,
+  all_filter,
+  answers_front,
+  sum_of_cell,
+}
 
 -- Reads of copies, by what bytes are good: the record's own block always is.
-hurt_by : (c : Codec) (p : Pool) (k : Key) (cell : Cell) (copy : CopyOf) (noted : Noted) (bytes : List ℕ) → Survives c p → p.reads.cells k ≡ Some cell → IsCopy p.member p.in_top p.owes cell copy
-    → noted.call ≡ Read copy.dev (data_start + cell.sector) bytes None → length bytes ≡ 4096 → bytes ≢ cell.block → Answers (as_found noted p.sectors) noted.call
+hurt_by : (c : Codec) (p : Pool) (k : Key) (cell : Cell) (copy : CopyOf) (noted : Noted) (bytes : List ℕ) → Survives c p
+    → p.reads.cells k ≡ Some cell → IsCopy p.member p.in_top p.owes cell copy
+    → noted.call ≡ Read copy.dev (data_start + cell.sector) bytes None → length bytes ≡ 4096 → bytes ≢ cell.block
+    → Answers (as_found noted p.sectors) noted.call
     → IsHurt cell (after (Calls noted) p).sectors copy
 hurt_by c p k cell copy noted bytes sv at is call long other answers lacks =
     read_damage c p noted copy.dev (data_start + cell.sector) bytes cell.block sv is.is_member
-    (inr (record { k = k; cell = cell; cell_is = at; top_is = is.top_is; has = is.lacks_is ∙ lacks; at = record { sector_is = refl; bytes_are = refl } })) call long answers other
+    (inr (record {
+      k = k;
+      cell = cell;
+      cell_is = at;
+      top_is = is.top_is;
+      has = is.lacks_is ∙ lacks;
+      at = record { sector_is = refl; bytes_are = refl };
+    })) call long answers other
 
-tried_read : (c : Codec) (p : Pool) (k : Key) (cell : Cell) (Good : List ℕ → Type 0) (copies : List CopyOf) (made : List Noted) (wrong : List CopyOf) (outcome : Option (List ℕ)) → Good cell.block
+tried_read : (c : Codec) (p : Pool) (k : Key) (cell : Cell) (Good : List ℕ → Type 0) (copies : List CopyOf) (made : List Noted) (wrong : List CopyOf)
+    (outcome : Option (List ℕ)) → Good cell.block
     → Survives c p → p.reads.cells k ≡ Some cell → AllByRecursion (IsCopy p.member p.in_top p.owes cell) copies → AllAnswer p.sectors made
     → AreTried (data_start + cell.sector) Good copies made wrong outcome → AreRead c p cell made wrong
 tried_read c p k cell Good [] made wrong outcome good sv at are answers tried = none made wrong tried.0 tried.1
@@ -55,36 +111,51 @@ tried_read c p k cell Good (copy ∷ more) [] wrong outcome good sv at are answe
 tried_read c p k cell Good (copy ∷ more) (noted ∷ made) wrong outcome good sv at are answers (inl (fails, rest)) =
     let call = fails.gives.is in
     let sparing = read_one c p noted copy.dev (data_start + cell.sector) fails.bytes (Some fails.fault) call in
-    let later = tried_read c (after (Calls noted) p) k cell Good more made wrong outcome good (event_survives c p (Calls noted) sv sparing) at are.1 answers.1 rest in
-    record { may = (sparing, later.may); only = (plain_one noted copy.dev (data_start + cell.sector) fails.bytes (Some fails.fault) call, later.only); hurt = later.hurt; are = later.are }
+    let later = tried_read c (after (Calls noted) p) k cell Good more made wrong outcome good (event_survives c p (Calls noted) sv sparing) at are.1
+    answers.1 rest in
+    record {
+      may = (sparing, later.may);
+      only =
+          (plain_one noted copy.dev (data_start + cell.sector) fails.bytes (Some fails.fault) call, later.only);
+      hurt = later.hurt;
+      are = later.are;
+    }
 tried_read c p k cell Good (copy ∷ more) (noted ∷ made) wrong outcome good sv at are answers (inr (inl (others, bytes, gave, wrong_is, rest))) =
     let call = gave.gives.is in
     let sparing = read_one c p noted copy.dev (data_start + cell.sector) bytes None call in
-    let later = tried_read c (after (Calls noted) p) k cell Good more made others outcome good (event_survives c p (Calls noted) sv sparing) at are.1 answers.1 rest in
+    let later = tried_read c (after (Calls noted) p) k cell Good more made others outcome good (event_survives c p (Calls noted) sv sparing) at are.1
+    answers.1 rest in
     let hurt = hurt_by c p k cell copy noted bytes sv at are.0 call gave.gives.whole (λ same. gave.is (subst Good (sym same) good)) answers.0 in
     record {
       may = (sparing, later.may);
       only = (plain_one noted copy.dev (data_start + cell.sector) bytes None call, later.only);
-      hurt = subst (AllByRecursion (IsHurt cell (run made (after (Calls noted) p).sectors))) (sym wrong_is)
-          ((λ lacks. stays_damaged made copy.dev (data_start + cell.sector) (after (Calls noted) p).sectors (none_heals made copy.dev later.only) (hurt lacks)), later.hurt);
+      hurt = subst (AllByRecursion (IsHurt cell (run made (after (Calls noted) p).sectors))) (sym wrong_is) (
+        (λ lacks. stays_damaged made copy.dev (data_start + cell.sector) (after (Calls noted) p).sectors (none_heals made copy.dev later.only)
+            (hurt lacks)),
+        later.hurt,
+      );
       are = subst (AllByRecursion (IsCopy p.member p.in_top p.owes cell)) (sym wrong_is) (are.0, later.are);
     }
 tried_read c p k cell Good (copy ∷ more) (noted ∷ made) wrong outcome good sv at are answers (inr (inr (bytes, gave, made_is, wrong_is, outcome_is))) =
     let call = gave.gives.is in
-    one made wrong made_is wrong_is (read_one c p noted copy.dev (data_start + cell.sector) bytes None call) (plain_one noted copy.dev (data_start + cell.sector) bytes None call)
+    one made wrong made_is wrong_is (read_one c p noted copy.dev (data_start + cell.sector) bytes None call)
+    (plain_one noted copy.dev (data_start + cell.sector) bytes None call)
   where
-    one : (made : List Noted) (wrong : List CopyOf) → made ≡ [] → wrong ≡ [] → IsSparing p noted.call → IsReadOrWrite noted.call → AreRead c p cell (noted ∷ made) wrong
+    one : (made : List Noted) (wrong : List CopyOf) → made ≡ [] → wrong ≡ [] → IsSparing p noted.call → IsReadOrWrite noted.call
+        → AreRead c p cell (noted ∷ made) wrong
     one [] [] a b sparing plain = record { may = (sparing, tt); only = (plain, tt); hurt = tt; are = tt }
     one (noted ∷ made) wrong a b sparing plain = absurd (cc)
     one [] (copy ∷ wrong) a b sparing plain = absurd (cc)
 
 -- the bytes that come out of it are good
-tried_good : (at : ℕ) (Good : List ℕ → Type 0) (copies : List CopyOf) (made : List Noted) (wrong : List CopyOf) (bytes : List ℕ) → AreTried at Good copies made wrong (Some bytes) → Good bytes
+tried_good : (at : ℕ) (Good : List ℕ → Type 0) (copies : List CopyOf) (made : List Noted) (wrong : List CopyOf) (bytes : List ℕ)
+    → AreTried at Good copies made wrong (Some bytes) → Good bytes
 tried_good at Good [] made wrong bytes tried = absurd (let no : Some bytes ≡ None = tried.2 in cc)
 tried_good at Good (copy ∷ more) [] wrong bytes tried = absurd tried
 tried_good at Good (copy ∷ more) (noted ∷ made) wrong bytes (inl (fails, rest)) = tried_good at Good more made wrong bytes rest
 tried_good at Good (copy ∷ more) (noted ∷ made) wrong bytes (inr (inl (others, found, gave, wrong_is, rest))) = tried_good at Good more made others bytes rest
-tried_good at Good (copy ∷ more) (noted ∷ made) wrong bytes (inr (inr (found, gave, made_is, wrong_is, outcome_is))) = subst Good (some_same found bytes (sym outcome_is)) gave.is
+tried_good at Good (copy ∷ more) (noted ∷ made) wrong bytes (inr (inr (found, gave, made_is, wrong_is, outcome_is))) =
+    subst Good (some_same found bytes (sym outcome_is)) gave.is
   where
     some_same : (a b : List ℕ) → Some a ≡ Some b → a ≡ b
     some_same a b e = cc
@@ -122,7 +193,8 @@ on_behind x r p made on may = record {
 abbrev CopyIs : (member : ℕ → Bool) (in_top : ℕ → ℕ) (owes : Logs) → Cell → CopyOf → Type 0
 CopyIs member in_top owes cell copy = copy.readable ≡ true → IsCopy member in_top owes cell copy
 
-copy_is : (member : ℕ → Bool) (in_top : ℕ → ℕ) (owes : Logs) (cell : Cell) (leaf : LeafSeen) → IsTrueLeaf member in_top owes leaf → stands_under cell.top leaf ≡ true
+copy_is : (member : ℕ → Bool) (in_top : ℕ → ℕ) (owes : Logs) (cell : Cell) (leaf : LeafSeen) → IsTrueLeaf member in_top owes leaf
+    → stands_under cell.top leaf ≡ true
     → CopyIs member in_top owes cell (copy_of cell.birth leaf)
 copy_is member in_top owes cell leaf is under = by leaf.dev refl
   where
@@ -140,7 +212,8 @@ copies_are member in_top owes cell [] all = tt
 copies_are member in_top owes cell (leaf ∷ leaves) all = step (copies_are member in_top owes cell leaves all.1) (stands_under cell.top leaf) refl
   where
     step : AllByRecursion (CopyIs member in_top owes cell) (copies_of (sum_of_cell cell) leaves) → (t : Bool) → stands_under cell.top leaf ≡ t
-        → AllByRecursion (CopyIs member in_top owes cell) (map (copy_of cell.birth) (cond t (leaf ∷ filter (stands_under cell.top) leaves) (filter (stands_under cell.top) leaves)))
+        → AllByRecursion (CopyIs member in_top owes cell)
+        (map (copy_of cell.birth) (cond t (leaf ∷ filter (stands_under cell.top) leaves) (filter (stands_under cell.top) leaves)))
     step rest true under = (copy_is member in_top owes cell leaf all.0 under, rest)
     step rest false off = rest
 
@@ -150,8 +223,10 @@ tried_copies member in_top owes cell leaves all =
     let copies = copies_of (sum_of_cell cell) leaves in
     let are = copies_are member in_top owes cell leaves all in
     all_append (IsCopy member in_top owes cell) (filter (is_due false) copies) (filter (is_due true) copies)
-    (all_filter (CopyIs member in_top owes cell) (IsCopy member in_top owes cell) (is_due false) (λ copy is due. is (and_parts copy.readable (not copy.lacks) due).0) copies are)
-    (all_filter (CopyIs member in_top owes cell) (IsCopy member in_top owes cell) (is_due true) (λ copy is due. is (and_parts copy.readable copy.lacks due).0) copies are)
+    (all_filter (CopyIs member in_top owes cell) (IsCopy member in_top owes cell) (is_due false)
+    (λ copy is due. is (and_parts copy.readable (not copy.lacks) due).0) copies are)
+    (all_filter (CopyIs member in_top owes cell) (IsCopy member in_top owes cell) (is_due true)
+    (λ copy is due. is (and_parts copy.readable copy.lacks due).0) copies are)
 
 -- The pointer of a page, and what is known before it is read, are right.
 pub record IsRightTurn (x : Reading) (r : Rec) (level index : ℕ) : Type 0 where
@@ -170,7 +245,8 @@ cell_of (Some c) sum is = (c, refl, same is)
     same e = cc
 
 -- One page: it may be read and its wrong copies rewritten, or its bytes clash.
-turn_may : (x : Reading) (r : Rec) (p : Pool) (turn : PageTurn) → IsOn x r p → IsPageTurn x turn → IsRightTurn x r turn.level turn.index → AllAnswer p.sectors (turn.reads ++ turn.rewrites)
+turn_may : (x : Reading) (r : Rec) (p : Pool) (turn : PageTurn) → IsOn x r p → IsPageTurn x turn → IsRightTurn x r turn.level turn.index
+    → AllAnswer p.sectors (turn.reads ++ turn.rewrites)
     → Mays x.codec p (as_events (turn.reads ++ turn.rewrites)) ⊎ ClashesAt r.cells x.found
 turn_may x r p turn on is right answers = subst Goal cell.2 whole is.tried is.healed
   where
@@ -178,8 +254,10 @@ turn_may x r p turn on is right answers = subst Goal cell.2 whole is.tried is.he
     cell = cell_of (r.cells (page_of turn)) is.sum (sym right.pointer ∙ is.sum_is)
 
     Goal : Sum → Type 0
-    Goal sum = AreTried (data_start + sum.sector) (IsPageHere x turn.level turn.index sum) (tries (copies_of sum x.leaves)) turn.reads turn.wrong (Some is.bytes)
-        → IsHealed (data_start + sum.sector) (Some is.bytes) turn.wrong turn.rewrites → Mays x.codec p (as_events (turn.reads ++ turn.rewrites)) ⊎ ClashesAt r.cells x.found
+    Goal sum = AreTried (data_start + sum.sector) (IsPageHere x turn.level turn.index sum) (tries (copies_of sum x.leaves)) turn.reads turn.wrong
+        (Some is.bytes)
+        → IsHealed (data_start + sum.sector) (Some is.bytes) turn.wrong turn.rewrites
+        → Mays x.codec p (as_events (turn.reads ++ turn.rewrites)) ⊎ ClashesAt r.cells x.found
 
     at : p.reads.cells (page_of turn) ≡ Some cell.0
     at = on.reads_is (page_of turn) ∙ cell.1
@@ -206,14 +284,16 @@ turn_may x r p turn on is right answers = subst Goal cell.2 whole is.tried is.he
         }))
       where
         are : AreRead x.codec p cell.0 turn.reads turn.wrong
-        are = tried_read x.codec p (page_of turn) cell.0 (IsPageHere x turn.level turn.index (sum_of_cell cell.0)) (tries (copies_of (sum_of_cell cell.0) x.leaves)) turn.reads turn.wrong (Some is.bytes) good
+        are = tried_read x.codec p (page_of turn) cell.0 (IsPageHere x turn.level turn.index (sum_of_cell cell.0))
+            (tries (copies_of (sum_of_cell cell.0) x.leaves)) turn.reads turn.wrong (Some is.bytes) good
             on.of.survives at (tried_copies p.member p.in_top p.owes cell.0 x.leaves on.leaves) (answers_front turn.reads turn.rewrites p.sectors answers) tried
 
         survives : Survives x.codec (with_calls turn.reads p)
         survives = subst (Survives x.codec) (calls_after turn.reads p) (history_survives x.codec (as_events turn.reads) p on.of.survives are.may)
 
 -- One page after another.
-pub turns_may : (x : Reading) (r : Rec) (p : Pool) (turns : List PageTurn) → IsOn x r p → AllByRecursion (IsPageTurn x) turns → AllByRecursion (λ turn. IsRightTurn x r turn.level turn.index) turns
+pub turns_may : (x : Reading) (r : Rec) (p : Pool) (turns : List PageTurn) → IsOn x r p → AllByRecursion (IsPageTurn x) turns
+    → AllByRecursion (λ turn. IsRightTurn x r turn.level turn.index) turns
     → AllAnswer p.sectors (calls_of_turns turns) → Mays x.codec p (as_events (calls_of_turns turns)) ⊎ ClashesAt r.cells x.found
 turns_may x r p [] on each right answers = inl tt
 turns_may x r p (turn ∷ turns) on each right answers = ⊎_elim
@@ -226,10 +306,13 @@ turns_may x r p (turn ∷ turns) on each right answers = ⊎_elim
     (turn_may x r p turn on each.0 right.0 (answers_front (turn.reads ++ turn.rewrites) (calls_of_turns turns) p.sectors answers))
 
 -- A page none of whose copies is good.
-pub stop_may : (x : Reading) (r : Rec) (p : Pool) (level index : ℕ) (sum : Sum) (reads : List Noted) (wrong : List CopyOf) (outcome : Option (List ℕ)) → IsOn x r p → level < 3 → x.got (key (suc level) index) ≡ Some sum
-    → IsRightTurn x r level index → AllAnswer p.sectors reads → AreTried (data_start + sum.sector) (IsPageHere x level index sum) (tries (copies_of sum x.leaves)) reads wrong outcome
+pub stop_may : (x : Reading) (r : Rec) (p : Pool) (level index : ℕ) (sum : Sum) (reads : List Noted) (wrong : List CopyOf)
+    (outcome : Option (List ℕ)) → IsOn x r p → level < 3 → x.got (key (suc level) index) ≡ Some sum
+    → IsRightTurn x r level index → AllAnswer p.sectors reads
+    → AreTried (data_start + sum.sector) (IsPageHere x level index sum) (tries (copies_of sum x.leaves)) reads wrong outcome
     → Mays x.codec p (as_events reads)
-stop_may x r p level index sum reads wrong outcome on low sum_is right answers tried = subst Goal cell.2 (λ tried. (tried_read x.codec p (key (suc level) index) cell.0
+stop_may x r p level index sum reads wrong outcome on low sum_is right answers tried =
+    subst Goal cell.2 (λ tried. (tried_read x.codec p (key (suc level) index) cell.0
     (IsPageHere x level index (sum_of_cell cell.0)) (tries (copies_of (sum_of_cell cell.0) x.leaves)) reads wrong outcome
     (page_here x p r level index cell.0 on.of low cell.1 right.known) on.of.survives (on.reads_is (key (suc level) index) ∙ cell.1)
     (tried_copies p.member p.in_top p.owes cell.0 x.leaves on.leaves) answers tried).may) tried
@@ -238,14 +321,16 @@ stop_may x r p level index sum reads wrong outcome on low sum_is right answers t
     cell = cell_of (r.cells (key (suc level) index)) sum (sym right.pointer ∙ sum_is)
 
     Goal : Sum → Type 0
-    Goal sum = AreTried (data_start + sum.sector) (IsPageHere x level index sum) (tries (copies_of sum x.leaves)) reads wrong outcome → Mays x.codec p (as_events reads)
+    Goal sum = AreTried (data_start + sum.sector) (IsPageHere x level index sum) (tries (copies_of sum x.leaves)) reads wrong outcome
+        → Mays x.codec p (as_events reads)
 
 -- Where a good leaf has it, that does not come.
 abbrev HasCopy : ℕ → List CopyOf → Type 0
 HasCopy d [] = ⊥
 HasCopy d (copy ∷ copies) = ((copy.dev ≡ d) × (copy.lacks ≡ false)) ⊎ HasCopy d copies
 
-failed_here : (d : ℕ) (noted : Noted) (at : ℕ) (bytes : List ℕ) (fault : Fault) (made : List Noted) → noted.call ≡ Read d at bytes (Some fault) → failed_on (noted ∷ made) d ≡ true
+failed_here : (d : ℕ) (noted : Noted) (at : ℕ) (bytes : List ℕ) (fault : Fault) (made : List Noted) → noted.call ≡ Read d at bytes (Some fault)
+    → failed_on (noted ∷ made) d ≡ true
 failed_here d noted at bytes fault made call = let here : (d == d) ≡ true = grind (arith, nat_tests) in
     subst (λ call. (((device_of call == d) && not (is_none (fault_of call))) || failed_on made d) ≡ true) (sym call) (rw here refl)
 
@@ -256,16 +341,20 @@ failed_more d noted made is = by ((device_of noted.call == d) && not (is_none (f
     by true = refl
     by false = is
 
-none_good : (c : Codec) (p : Pool) (k : Key) (cell : Cell) (Good : List ℕ → Type 0) (d : ℕ) (copies : List CopyOf) (made : List Noted) (wrong : List CopyOf) → Good cell.block → Survives c p
-    → p.reads.cells k ≡ Some cell → AllByRecursion (IsCopy p.member p.in_top p.owes cell) copies → AllAnswer p.sectors made → AreTried (data_start + cell.sector) Good copies made wrong None
+none_good : (c : Codec) (p : Pool) (k : Key) (cell : Cell) (Good : List ℕ → Type 0) (d : ℕ) (copies : List CopyOf) (made : List Noted)
+    (wrong : List CopyOf) → Good cell.block → Survives c p
+    → p.reads.cells k ≡ Some cell → AllByRecursion (IsCopy p.member p.in_top p.owes cell) copies → AllAnswer p.sectors made
+    → AreTried (data_start + cell.sector) Good copies made wrong None
     → HasCopy d copies → (run made p.sectors d (data_start + cell.sector)).damaged ≡ false → failed_on made d ≡ true
 none_good c p k cell Good d [] made wrong good sv at are answers tried has sound = absurd has
 none_good c p k cell Good d (copy ∷ more) [] wrong good sv at are answers tried has sound = absurd tried
 none_good c p k cell Good d (copy ∷ more) (noted ∷ made) wrong good sv at are answers (inl (fails, rest)) (inl here) sound =
-    failed_here d noted (data_start + cell.sector) fails.bytes fails.fault made (subst (λ e. noted.call ≡ Read e (data_start + cell.sector) fails.bytes (Some fails.fault)) here.0 fails.gives.is)
+    failed_here d noted (data_start + cell.sector) fails.bytes fails.fault made
+    (subst (λ e. noted.call ≡ Read e (data_start + cell.sector) fails.bytes (Some fails.fault)) here.0 fails.gives.is)
 none_good c p k cell Good d (copy ∷ more) (noted ∷ made) wrong good sv at are answers (inl (fails, rest)) (inr later) sound =
     failed_more d noted made (none_good c (after (Calls noted) p) k cell Good d more made wrong good
-    (event_survives c p (Calls noted) sv (read_one c p noted copy.dev (data_start + cell.sector) fails.bytes (Some fails.fault) fails.gives.is)) at are.1 answers.1 rest later sound)
+    (event_survives c p (Calls noted) sv (read_one c p noted copy.dev (data_start + cell.sector) fails.bytes (Some fails.fault) fails.gives.is)) at
+    are.1 answers.1 rest later sound)
 none_good c p k cell Good d (copy ∷ more) (noted ∷ made) wrong good sv at are answers (inr (inl (others, bytes, gave, wrong_is, rest))) (inl here) sound =
     let call = gave.gives.is in
     let later = tried_read c (after (Calls noted) p) k cell Good more made others None good
@@ -277,7 +366,8 @@ none_good c p k cell Good d (copy ∷ more) (noted ∷ made) wrong good sv at ar
 none_good c p k cell Good d (copy ∷ more) (noted ∷ made) wrong good sv at are answers (inr (inl (others, bytes, gave, wrong_is, rest))) (inr later) sound =
     failed_more d noted made (none_good c (after (Calls noted) p) k cell Good d more made others good
     (event_survives c p (Calls noted) sv (read_one c p noted copy.dev (data_start + cell.sector) bytes None gave.gives.is)) at are.1 answers.1 rest later sound)
-none_good c p k cell Good d (copy ∷ more) (noted ∷ made) wrong good sv at are answers (inr (inr (bytes, gave, made_is, wrong_is, outcome_is))) has sound = absurd (let no : None ≡ Some bytes = outcome_is in cc)
+none_good c p k cell Good d (copy ∷ more) (noted ∷ made) wrong good sv at are answers (inr (inr (bytes, gave, made_is, wrong_is, outcome_is))) has
+    sound = absurd (let no : None ≡ Some bytes = outcome_is in cc)
 
 copy_first : (d : ℕ) (copies others : List CopyOf) → HasCopy d copies → HasCopy d (copies ++ others)
 copy_first d [] others has = absurd has
@@ -287,13 +377,16 @@ copy_first d (copy ∷ copies) others (inr more) = inr (copy_first d copies othe
 -- a readable leaf that has the block is tried
 abbrev HasDue : (top birth d : ℕ) → List LeafSeen → Type 0
 HasDue top birth d [] = ⊥
-HasDue top birth d (leaf ∷ leaves) = ((is_up leaf.own.mode ≡ true) × (leaf.dev ≡ Some d) × (leaf.top ≡ top) × (leaf.owes birth ≡ false)) ⊎ HasDue top birth d leaves
+HasDue top birth d (leaf ∷ leaves) = ((is_up leaf.own.mode ≡ true) × (leaf.dev ≡ Some d) × (leaf.top ≡ top) × (leaf.owes birth ≡ false))
+    ⊎ HasDue top birth d leaves
 
-due_copy : (cell : Cell) (d : ℕ) (leaves : List LeafSeen) → HasDue cell.top cell.birth d leaves → HasCopy d (filter (is_due false) (copies_of (sum_of_cell cell) leaves))
+due_copy : (cell : Cell) (d : ℕ) (leaves : List LeafSeen) → HasDue cell.top cell.birth d leaves
+    → HasCopy d (filter (is_due false) (copies_of (sum_of_cell cell) leaves))
 due_copy cell d [] has = absurd has
 due_copy cell d (leaf ∷ leaves) (inl is) =
     let under : stands_under cell.top leaf ≡ true = same_top leaf.top cell.top is.2 in
-    subst (λ t. HasCopy d (filter (is_due false) (map (copy_of cell.birth) (cond t (leaf ∷ filter (stands_under cell.top) leaves) (filter (stands_under cell.top) leaves))))) (sym under)
+    subst (λ t. HasCopy d (filter (is_due false)
+    (map (copy_of cell.birth) (cond t (leaf ∷ filter (stands_under cell.top) leaves) (filter (stands_under cell.top) leaves))))) (sym under)
     (of (copy_of cell.birth leaf) (copy_shape leaf is.0 is.1 is.3))
   where
     same_top : (a b : ℕ) → a ≡ b → (a == b) ≡ true
@@ -312,7 +405,8 @@ due_copy cell d (leaf ∷ leaves) (inl is) =
     due readable lacks a b = rw (a, b) refl
 
     of : (copy : CopyOf) → Shape copy → HasCopy d (filter (is_due false) (copy ∷ rest))
-    of copy shape = subst (λ t. HasCopy d (cond t (copy ∷ filter (is_due false) rest) (filter (is_due false) rest))) (sym (due copy.readable copy.lacks shape.2 shape.1)) (inl (shape.0, shape.1))
+    of copy shape = subst (λ t. HasCopy d (cond t (copy ∷ filter (is_due false) rest) (filter (is_due false) rest)))
+        (sym (due copy.readable copy.lacks shape.2 shape.1)) (inl (shape.0, shape.1))
 due_copy cell d (leaf ∷ leaves) (inr more) = by (stands_under cell.top leaf) (due_copy cell d leaves more)
   where
     rest : List CopyOf
@@ -326,11 +420,13 @@ due_copy cell d (leaf ∷ leaves) (inr more) = by (stands_under cell.top leaf) (
         of false = has
 
     by : (t : Bool) → HasCopy d (filter (is_due false) rest)
-        → HasCopy d (filter (is_due false) (map (copy_of cell.birth) (cond t (leaf ∷ filter (stands_under cell.top) leaves) (filter (stands_under cell.top) leaves))))
+        → HasCopy d (filter (is_due false) (map (copy_of cell.birth)
+        (cond t (leaf ∷ filter (stands_under cell.top) leaves) (filter (stands_under cell.top) leaves))))
     by true has = skip (copy_of cell.birth leaf) has
     by false has = has
 
-up_due : (p : Pool) (r : Rec) (cell : Cell) (d : ℕ) (leaves : List LeafSeen) → AllByRecursion (IsTrueLeaf p.member p.in_top p.owes) leaves → up_devs leaves d ≡ true
+up_due : (p : Pool) (r : Rec) (cell : Cell) (d : ℕ) (leaves : List LeafSeen) → AllByRecursion (IsTrueLeaf p.member p.in_top p.owes) leaves
+    → up_devs leaves d ≡ true
     → p.in_top d ≡ cell.top → p.owes d cell.birth ≡ false → HasDue cell.top cell.birth d leaves
 up_due p r cell d [] all up top has = absurd (cc)
 up_due p r cell d (leaf ∷ leaves) all up top has = by_bool (is_up leaf.own.mode && is_dev d leaf.dev)
@@ -342,8 +438,10 @@ up_due p r cell d (leaf ∷ leaves) all up top has = by_bool (is_up leaf.own.mod
     dev_of None is = absurd (let no : false ≡ true = is in cc)
     dev_of (Some e) is = ap Some (sym (same_device d e is))
 
-pub stop_never : (x : Reading) (r : Rec) (p : Pool) (level index : ℕ) (sum : Sum) (reads : List Noted) (wrong : List CopyOf) (answering : ℕ → Bool) → IsOn x r p → level < 3 → x.got (key (suc level) index) ≡ Some sum
-    → IsRightTurn x r level index → AllAnswer p.sectors reads → AreTried (data_start + sum.sector) (IsPageHere x level index sum) (tries (copies_of sum x.leaves)) reads wrong None
+pub stop_never : (x : Reading) (r : Rec) (p : Pool) (level index : ℕ) (sum : Sum) (reads : List Noted) (wrong : List CopyOf) (answering : ℕ → Bool)
+    → IsOn x r p → level < 3 → x.got (key (suc level) index) ≡ Some sum
+    → IsRightTurn x r level index → AllAnswer p.sectors reads
+    → AreTried (data_start + sum.sector) (IsPageHere x level index sum) (tries (copies_of sum x.leaves)) reads wrong None
     → ((d : ℕ) → answering d ≡ true → (up_devs x.leaves d ≡ true) × (failed_on reads d ≡ false))
     → ((cell : Cell) → r.cells (key (suc level) index) ≡ Some cell → HasGoodLeaf (with_calls reads p) r cell answering) → ⊥
 stop_never x r p level index sum reads wrong answering on low sum_is right answers tried up goods = subst Goal cell.2 whole tried
@@ -359,10 +457,12 @@ stop_never x r p level index sum reads wrong answering on low sum_is right answe
 
     whole : Goal (sum_of_cell cell.0)
     whole tried = true_not_false (failed_on reads good.d)
-        (none_good x.codec p (key (suc level) index) cell.0 (IsPageHere x level index (sum_of_cell cell.0)) good.d (tries (copies_of (sum_of_cell cell.0) x.leaves)) reads wrong
+        (none_good x.codec p (key (suc level) index) cell.0 (IsPageHere x level index (sum_of_cell cell.0)) good.d
+        (tries (copies_of (sum_of_cell cell.0) x.leaves)) reads wrong
         (page_here x p r level index cell.0 on.of low cell.1 right.known) on.of.survives (on.reads_is (key (suc level) index) ∙ cell.1)
         (tried_copies p.member p.in_top p.owes cell.0 x.leaves on.leaves) answers tried
         (copy_first good.d (filter (is_due false) (copies_of (sum_of_cell cell.0) x.leaves)) (filter (is_due true) (copies_of (sum_of_cell cell.0) x.leaves))
-        (due_copy cell.0 good.d x.leaves (up_due p r cell.0 good.d x.leaves on.leaves (up good.d good.answers).0 (on.tops good.d ∙ good.top_is) (on.logs good.d cell.0.birth ∙ good.has))))
+        (due_copy cell.0 good.d x.leaves (up_due p r cell.0 good.d x.leaves on.leaves (up good.d good.answers).0 (on.tops good.d ∙ good.top_is)
+        (on.logs good.d cell.0.birth ∙ good.has))))
         good.unhurt)
         (up good.d good.answers).1

@@ -1,18 +1,52 @@
 -- What is read back of a live record's pages are its pointers, or bytes with another page's sum; and each of its pages is one.
-use Rattle.std.proofs.Common.{◌≡◌, ◌≢◌, ◌⊎◌, inl, inr, ⊎_elim, ℕ, zero, suc, ◌+◌, ◌*◌, ◌/◌, ◌%◌, ◌<◌, ◌≤◌, ◌==◌, ◌&&◌, ◌||◌, nat_le, nat_lt, Bool, true, false, cond, Option, Some, None, List, refl, sym, ap, ◌∙◌, subst, arith}
+use Rattle.std.proofs.Common.{
+  ◌≡◌,
+  ◌≢◌,
+  ◌⊎◌,
+  inl,
+  inr,
+  ⊎_elim,
+  ℕ,
+  zero,
+  suc,
+  ◌+◌,
+  ◌*◌,
+  ◌/◌,
+  ◌%◌,
+  ◌<◌,
+  ◌≤◌,
+  ◌==◌,
+  ◌&&◌,
+  ◌||◌,
+  nat_le,
+  nat_lt,
+  Bool,
+  true,
+  false,
+  Option,
+  Some,
+  None,
+  List,
+  refl,
+  sym,
+  ap,
+  ◌∙◌,
+  subst,
+  arith,
+}
 use Rattle.std.specs.Str.{bytes_eq}
 use Rattle.std.proofs.lemmas.Slice.Eq.{bytes_eq-Decides}
 use Rattle.std.proofs.lemmas.Bool.{and_parts}
 use Rattle.std.proofs.lemmas.Bool.Decides.{nat_tests}
 use Rattle.sha2.specs.Sha256.{sha256}
 use Rattle.mp_base.specs.declared.place.Key.{Key}
-use Rattle.txg_history.specs.Pages.{Codec, Sum, sum_of, span, IsOfVolume, IsTree, IsConfigOf, width, ClashesAt}
+use Rattle.txg_history.specs.Pages.{Sum, sum_of, span, IsOfVolume, IsTree, width, ClashesAt}
 use Rattle.txg_history.specs.Pools.{Pool}
-use Rattle.txg_history.specs.Records.{Rec, Cell, Cells, IsIn, AreAtOne, key, number_of}
+use Rattle.txg_history.specs.Records.{Rec, Cell, Cells, IsIn, key, number_of}
 use Rattle.txg_history.specs.Survival.{IsMapped, HaveOneKey, Survives}
 use Rattle.txg_history.proofs.Logging.{by_bool, true_not_false}
 use Rattle.txg_history.proofs.ReadingBack.{all_or}
-use Rattle.pool_moves.specs.PageReads.{Reading, is_read_before, IsBelow, IsKnown, AreOnePlace, IsPageHere, IsReadTo}
+use Rattle.pool_moves.specs.PageReads.{Reading, is_read_before, IsKnown, IsPageHere, IsReadTo}
 
 -- A key is one of a volume, or not.
 pub of_volume_or : (blocks : ℕ) (k : Key) → IsOfVolume blocks k ⊎ (IsOfVolume blocks k → ⊥)
@@ -45,7 +79,8 @@ same_bytes_or a b same other = by_bool (bytes_eq a b) (λ is. same ((bytes_eq-De
     (λ off. other (λ is. absurd (let no : true ≡ false = sym ((bytes_eq-Decides a b).1 is) ∙ off in cc)))
 
 -- A page whose pointer is right gives the right pointers below it, or other bytes with its sum.
-page_right : (x : Reading) (cells : Cells) (reached : Key → Bool) (level index : ℕ) → IsTree x.codec cells → IsReadTo x reached → level < 3 → reached (key (suc level) index) ≡ true
+page_right : (x : Reading) (cells : Cells) (reached : Key → Bool) (level index : ℕ) → IsTree x.codec cells → IsReadTo x reached → level < 3
+    → reached (key (suc level) index) ≡ true
     → x.got (key (suc level) index) ≡ sum_of (cells (key (suc level) index))
     → ((j : ℕ) → j < 64 → x.got (key level (64 * index + j)) ≡ sum_of (cells (key level (64 * index + j)))) ⊎ ClashesAt cells x.found
 page_right x cells reached level index tree back low on right = of (cells (key (suc level) index)) refl right
@@ -70,7 +105,8 @@ page_right x cells reached level index tree back low on right = of (cells (key (
 
 -- what is known of a level is right
 abbrev AreRight : Reading → Cells → (reached : Key → Bool) → (level : ℕ) → Type 0
-AreRight x cells reached level = (index : ℕ) → index < width level → IsKnown reached (key level index) → x.got (key level index) ≡ sum_of (cells (key level index))
+AreRight x cells reached level = (index : ℕ) → index < width level → IsKnown reached (key level index)
+    → x.got (key level index) ≡ sum_of (cells (key level index))
 
 -- where a page is read, so is the one above it
 abbrev pub IsClosed : (reached : Key → Bool) → Type 0
@@ -82,12 +118,14 @@ level_below : (x : Reading) (cells : Cells) (reached : Key → Bool) (level : �
     → AreRight x cells reached (suc level) → AreRight x cells reached level ⊎ ClashesAt cells x.found
 level_below x cells reached level tree back low inside known above =
     ⊎_elim (λ all. inl (λ index lt is. by all index lt is)) (λ clash. inr clash)
-    (all_or (λ i. reached (key (suc level) i) ≡ true → (j : ℕ) → j < 64 → x.got (key level (64 * i + j)) ≡ sum_of (cells (key level (64 * i + j)))) (ClashesAt cells x.found) (width (suc level))
+    (all_or (λ i. reached (key (suc level) i) ≡ true → (j : ℕ) → j < 64 → x.got (key level (64 * i + j)) ≡ sum_of (cells (key level (64 * i + j))))
+    (ClashesAt cells x.found) (width (suc level))
     (λ i lt. by_bool (reached (key (suc level) i))
     (λ on. ⊎_elim (λ right. inl (λ on. right)) (λ clash. inr clash) (page_right x cells reached level i tree back low on (above i lt (known i lt on))))
     (λ off. inl (λ on. true_not_false (reached (key (suc level) i)) on off))))
   where
-    by : ((i : ℕ) → i < width (suc level) → reached (key (suc level) i) ≡ true → (j : ℕ) → j < 64 → x.got (key level (64 * i + j)) ≡ sum_of (cells (key level (64 * i + j))))
+    by : ((i : ℕ) → i < width (suc level) → reached (key (suc level) i) ≡ true → (j : ℕ) → j < 64
+        → x.got (key level (64 * i + j)) ≡ sum_of (cells (key level (64 * i + j))))
         → (index : ℕ) → index < width level → IsKnown reached (key level index) → x.got (key level index) ≡ sum_of (cells (key level index))
     by all index lt (inl root) = absurd (let e = ap (λ k. k.level) root in omega (arith, low, e))
     by all index lt (inr b) =
@@ -98,7 +136,8 @@ level_below x cells reached level tree back low inside known above =
         (all b.index under (subst (λ l. reached (key (suc l) b.index) ≡ true) level_is b.reaches) b.j b.few)
 
 -- A page is known where the one above it is read; so it is where it is read itself.
-pub below_known : (reached : Key → Bool) (level index : ℕ) → level < 2 → reached (key (suc (suc level)) (index / 64)) ≡ true → IsKnown reached (key (suc level) index)
+pub below_known : (reached : Key → Bool) (level index : ℕ) → level < 2 → reached (key (suc (suc level)) (index / 64)) ≡ true
+    → IsKnown reached (key (suc level) index)
 below_known reached level index low on = inr (record {
   level = suc level;
   index = index / 64;
@@ -115,11 +154,13 @@ below_known reached level index low on = inr (record {
     rest : (n : ℕ) → n % 64 < 64
     rest n = omega arith
 
-page_known : (reached : Key → Bool) (level index : ℕ) → IsClosed reached → level < 2 → reached (key (suc level) index) ≡ true → IsKnown reached (key (suc level) index)
+page_known : (reached : Key → Bool) (level index : ℕ) → IsClosed reached → level < 2 → reached (key (suc level) index) ≡ true
+    → IsKnown reached (key (suc level) index)
 page_known reached level index closed low on = below_known reached level index low (closed level index low on)
 
 -- What is known of a record's pointers is right, or some page's bytes clash.
-pub known_right : (x : Reading) (r : Rec) (room : ℕ → ℕ) (reached : Key → Bool) → IsTree x.codec r.cells → IsReadTo x reached → IsClosed reached → x.codec.blocks x.config ≤ 262144
+pub known_right : (x : Reading) (r : Rec) (room : ℕ → ℕ) (reached : Key → Bool) → IsTree x.codec r.cells → IsReadTo x reached → IsClosed reached
+    → x.codec.blocks x.config ≤ 262144
     → x.codec.root x.config ≡ sum_of (r.cells (key 3 0)) → ((k : Key) (cell : Cell) → r.cells k ≡ Some cell → IsOfVolume (x.codec.blocks x.config) k)
     → ((k : Key) → IsKnown reached k → x.got k ≡ sum_of (r.cells k)) ⊎ ClashesAt r.cells x.found
 known_right x r room reached tree back closed most root inside = levels three
@@ -142,7 +183,8 @@ known_right x r room reached tree back closed most root inside = levels three
     at_level d b a z (suc (suc (suc zero))) index le lt is = d index lt is
     at_level d b a z (suc (suc (suc (suc n)))) index le lt is = absurd (omega (arith, le))
 
-    by_key : AreRight x r.cells reached 3 → AreRight x r.cells reached 2 → AreRight x r.cells reached 1 → AreRight x r.cells reached 0 → (k : Key) → IsKnown reached k → x.got k ≡ sum_of (r.cells k)
+    by_key : AreRight x r.cells reached 3 → AreRight x r.cells reached 2 → AreRight x r.cells reached 1 → AreRight x r.cells reached 0 → (k : Key)
+        → IsKnown reached k → x.got k ≡ sum_of (r.cells k)
     by_key d b a z k known = ⊎_elim (λ v. at_level d b a z k.level k.index v.low (volume_width (x.codec.blocks x.config) k.level k.index most v) known)
         (λ off. back.beyond k off ∙ sym (none_of (r.cells k) (λ c at. off (inside k c at)))) (of_volume_or (x.codec.blocks x.config) k)
 
@@ -151,14 +193,17 @@ known_right x r room reached tree back closed most root inside = levels three
 
     levels : AreRight x r.cells reached 3 → ((k : Key) → IsKnown reached k → x.got k ≡ sum_of (r.cells k)) ⊎ ClashesAt r.cells x.found
     levels d = ⊎_elim (λ b. ⊎_elim (λ a. ⊎_elim (λ z. inl (by_key d b a z)) (λ clash. inr clash)
-        (level_below x r.cells reached 0 tree back (omega arith) (λ i j lt. omega (arith, lt)) (λ i lt on. page_known reached 0 i closed (omega arith) on) a)) (λ clash. inr clash)
-        (level_below x r.cells reached 1 tree back (omega arith) (λ i j lt. omega (arith, lt)) (λ i lt on. page_known reached 1 i closed (omega arith) on) b)) (λ clash. inr clash)
+        (level_below x r.cells reached 0 tree back (omega arith) (λ i j lt. omega (arith, lt))
+        (λ i lt on. page_known reached 0 i closed (omega arith) on) a)) (λ clash. inr clash)
+        (level_below x r.cells reached 1 tree back (omega arith) (λ i j lt. omega (arith, lt))
+        (λ i lt on. page_known reached 1 i closed (omega arith) on) b)) (λ clash. inr clash)
         (level_below x r.cells reached 2 tree back (omega arith) (λ i j lt. omega (arith, lt)) root_known d)
 
 -- The order of pages.
 before_of : (a b : Key) → is_read_before a b ≡ true → (b.level < a.level) ⊎ ((a.level ≡ b.level) × (a.index < b.index))
 before_of a b is = by_bool (nat_lt b.level a.level) (λ up. inl (lt_of b.level a.level up))
-    (λ off. let parts = and_parts (a.level == b.level) (nat_lt a.index b.index) (sym (ap (λ t. t || ((a.level == b.level) && nat_lt a.index b.index)) off) ∙ is) in
+    (λ off. let parts = and_parts (a.level == b.level) (nat_lt a.index b.index)
+    (sym (ap (λ t. t || ((a.level == b.level) && nat_lt a.index b.index)) off) ∙ is) in
     inr (eq_of a.level b.level parts.0, lt_of a.index b.index parts.1))
   where
     lt_of : (m n : ℕ) → nat_lt m n ≡ true → m < n
@@ -172,7 +217,8 @@ is_before a b (inl up) = rw (lt_of b.level a.level up) refl
   where
     lt_of : (m n : ℕ) → m < n → nat_lt m n ≡ true
     lt_of m n e = grind (arith, nat_tests)
-is_before a b (inr same) = by_bool (nat_lt b.level a.level) (λ up. rw up refl) (λ off. rw (off, eq_of a.level b.level same.0, lt_of a.index b.index same.1) refl)
+is_before a b (inr same) = by_bool (nat_lt b.level a.level) (λ up. rw up refl)
+    (λ off. rw (off, eq_of a.level b.level same.0, lt_of a.index b.index same.1) refl)
   where
     lt_of : (m n : ℕ) → m < n → nat_lt m n ≡ true
     lt_of m n e = grind (arith, nat_tests)
@@ -181,9 +227,11 @@ is_before a b (inr same) = by_bool (nat_lt b.level a.level) (λ up. rw up refl) 
     eq_of m n e = grind (arith, nat_tests)
 
 pub before_more : (a b c : Key) → is_read_before a b ≡ true → is_read_before b c ≡ true → is_read_before a c ≡ true
-before_more a b c x y = is_before a c (⊎_elim (λ up. ⊎_elim (λ more. inl (omega (arith, up, more))) (λ same. inl (let e = same.0 in omega (arith, up, e))) (before_of b c y))
+before_more a b c x y = is_before a c (⊎_elim
+    (λ up. ⊎_elim (λ more. inl (omega (arith, up, more))) (λ same. inl (let e = same.0 in omega (arith, up, e))) (before_of b c y))
     (λ same. let e = same.0 in let i = same.1 in
-    ⊎_elim (λ more. inl (omega (arith, e, more))) (λ again. let f = again.0 in let j = again.1 in inr (e ∙ f, omega (arith, i, j))) (before_of b c y)) (before_of a b x))
+    ⊎_elim (λ more. inl (omega (arith, e, more))) (λ again. let f = again.0 in let j = again.1 in inr (e ∙ f, omega (arith, i, j)))
+    (before_of b c y)) (before_of a b x))
 
 pub not_itself : (a : Key) → is_read_before a a ≡ true → ⊥
 not_itself a x = ⊎_elim (λ up. absurd (omega (arith, up))) (λ same. let i = same.1 in absurd (omega (arith, i))) (before_of a a x)
@@ -205,7 +253,8 @@ pub record IsReadOf (x : Reading) (p : Pool) (r : Rec) : Type 0 where
   pub room_is : x.codec.room x.config ≡ p.room
   pub inside : (k : Key) (cell : Cell) → r.cells k ≡ Some cell → IsOfVolume (x.codec.blocks x.config) k
 
-sum_parts : (cell : Option Cell) (sum : Sum) → sum_of cell ≡ Some sum → (c : Cell) × (cell ≡ Some c) × (c.birth ≡ sum.birth) × (c.top ≡ sum.top) × (c.sector ≡ sum.sector)
+sum_parts : (cell : Option Cell) (sum : Sum) → sum_of cell ≡ Some sum
+    → (c : Cell) × (cell ≡ Some c) × (c.birth ≡ sum.birth) × (c.top ≡ sum.top) × (c.sector ≡ sum.sector)
 sum_parts None sum is = absurd (cc)
 sum_parts (Some c) sum is = (c, refl, ap (λ s. s.birth) (same is), ap (λ s. s.top) (same is), ap (λ s. s.sector) (same is))
   where
@@ -222,12 +271,15 @@ page_here x p r level index cell of low at right = record {
   born = λ j sum lt is. let c = below j sum lt is in let le = one_key.births r (key level (64 * index + j)) c.0 of.live c.1 in
       subst (λ n. n ≤ x.number) c.2 (subst (λ n. c.0.birth ≤ n) (sym of.number_is) le);
   on_top = λ j sum lt is. let c = below j sum lt is in
-      subst (λ f. sum.sector < f sum.top) (sym of.room_is) (subst (λ t. sum.sector < p.room t) c.3 (subst (λ n. n < p.room c.0.top) c.4 (mapped j c.0 c.1).inside));
+      subst (λ f. sum.sector < f sum.top) (sym of.room_is)
+      (subst (λ t. sum.sector < p.room t) c.3 (subst (λ n. n < p.room c.0.top) c.4 (mapped j c.0 c.1).inside));
   apart = λ i j a b lt few is_a is_b one. let c = below i a (omega (arith, lt, few)) is_a in let d = below j b few is_b in
-      let same = (one_key.one r r (key level (64 * index + i)) (key level (64 * index + j)) c.0 d.0 of.live of.live c.1 d.1 (c.3 ∙ (one.0 ∙ sym d.3), c.4 ∙ (one.1 ∙ sym d.4))).0 in
+      let same = (one_key.one r r (key level (64 * index + i)) (key level (64 * index + j)) c.0 d.0 of.live of.live c.1 d.1
+      (c.3 ∙ (one.0 ∙ sym d.3), c.4 ∙ (one.1 ∙ sym d.4))).0 in
       absurd (let e = ap (λ k. k.index) same in omega (arith, lt, e));
   fresh = λ j sum other k lt is known there one. let c = below j sum lt is in let d = sum_parts (r.cells k) other (sym (right k known) ∙ there) in
-      not_known j k (one_key.one r r (key level (64 * index + j)) k c.0 d.0 of.live of.live c.1 d.1 (c.3 ∙ (one.0 ∙ sym d.3), c.4 ∙ (one.1 ∙ sym d.4))).0 lt known;
+      not_known j k (one_key.one r r (key level (64 * index + j)) k c.0 d.0 of.live of.live c.1 d.1
+      (c.3 ∙ (one.0 ∙ sym d.3), c.4 ∙ (one.1 ∙ sym d.4))).0 lt known;
 }
   where
     tree : IsTree x.codec r.cells

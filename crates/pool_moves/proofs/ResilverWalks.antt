@@ -1,5 +1,5 @@
 -- A resilver may start by itself, and an opening may be committed.
-use Rattle.std.proofs.Common.{◌≡◌, ◌⊎◌, inl, inr, ⊎_elim, ℕ, ◌≤◌, Bool, true, false, Option, Some, None, List, [], ◌∷◌, ◌++◌, map, refl, sym, ap, ◌∙◌, subst, arith}
+use Rattle.std.proofs.Common.{◌≡◌, inl, inr, ℕ, Bool, true, false, Option, Some, None, List, [], ◌∷◌, ◌++◌, refl, sym, subst, arith}
 use Rattle.std.specs.List.{AllByRecursion}
 use Rattle.txg_history.specs.Moves.{MayScan}
 use Rattle.txg_history.specs.Pages.{Codec}
@@ -9,11 +9,10 @@ use Rattle.txg_history.specs.Scans.{Scan}
 use Rattle.pool_moves.specs.FreezeRow.{up_devs}
 use Rattle.pool_moves.specs.Keeping.{IsOfFound, Kept, Walks}
 use Rattle.pool_moves.specs.LineRows.{IsSized, TurnReply, Committed}
-use Rattle.pool_moves.specs.Leaves.{Seat}
 use Rattle.pool_moves.specs.Moves.{Move, Scan_from, Rest, seat_step, steps, after_move, after_moves}
 use Rattle.pool_moves.specs.OpeningRow.{ResumesBy, ResumesUnless, RowResume, lacking_of}
 use Rattle.pool_moves.specs.Resilvers.{rest_if, StartsResilver, Resilvers}
-use Rattle.pool_moves.specs.States.{scan_seen, PoolSeen, PoolState, Side, seen}
+use Rattle.pool_moves.specs.States.{scan_seen, PoolState, Side, seen}
 use Rattle.pool_moves.proofs.CommitWalks.{reopen_walks}
 use Rattle.pool_moves.proofs.FreeWalks.{walks_more}
 use Rattle.pool_moves.proofs.FreezeWalks.{up_of_found}
@@ -25,12 +24,22 @@ may_scan p opened = record { opened = opened; hi_low = omega arith }
 scan_at : (c : Codec) (t : Side) (running : Bool) (eligible : ℕ → Bool) → t.pool.opened ≡ true → AllByRecursion (IsOfFound eligible) t.seats
     → Walks c t (rest_if running ++ (Scan_from (number_of t.pool.reads) eligible ∷ []))
 scan_at c t false eligible opened all = (((may_scan t.pool opened, tt), all), tt)
-scan_at c t true eligible opened all = (((tt, tt), tt), (((may_scan (after_move Rest t).pool opened, tt), all_map (IsOfFound eligible) (IsOfFound eligible) (seat_step Rest t.pool)
-    (seat_cases (λ seat. IsOfFound eligible seat → IsOfFound eligible (seat_step Rest t.pool seat)) (λ d found own is. is) (λ leaf is. tt)) t.seats all), tt))
+scan_at c t true eligible opened all = (
+  ((tt, tt), tt),
+  (
+    (
+      (may_scan (after_move Rest t).pool opened, tt),
+      all_map (IsOfFound eligible) (IsOfFound eligible) (seat_step Rest t.pool)
+          (seat_cases (λ seat. IsOfFound eligible seat → IsOfFound eligible (seat_step Rest t.pool seat)) (λ d found own is. is) (λ leaf is. tt)) t.seats all,
+    ),
+    tt,
+  ),
+)
 
 starts_at : (c : Codec) (s : PoolState) (t : Side) (vs : List Move) → Kept c s t → StartsResilver (seen t) vs → Walks c t vs
 starts_at c s t vs kept row = subst (Walks c t) (sym row.moves)
-    (subst (λ b. Walks c t (rest_if b ++ (Scan_from (number_of t.pool.reads) (up_devs (seen t).leaves) ∷ []))) (sym (running_seen t.pool.scan.running t.pool.scan))
+    (subst (λ b. Walks c t (rest_if b ++ (Scan_from (number_of t.pool.reads) (up_devs (seen t).leaves) ∷ [])))
+    (sym (running_seen t.pool.scan.running t.pool.scan))
     (scan_at c t t.pool.scan.running (up_devs (seen t).leaves) row.opened (up_of_found t.pool.group.frozen t.pool t.seats kept.away kept.apart)))
   where
     running_seen : (b : Bool) (scan : Scan) → (scan_seen b scan).running ≡ b
@@ -45,12 +54,15 @@ resumes_by : (c : Codec) (reply : TurnReply) (s : PoolState) (t : Side) (vs : Li
 resumes_by c (Committed number) s t vs kept row = resilver_walks c s t vs kept row
 resumes_by c reply s t vs kept row = subst (Walks c t) (sym row) tt
 
-resumes_unless : (c : Codec) (lacking : Option ℕ) (size : ℕ → ℕ) (s : PoolState) (t : Side) (vs : List Move) (reply : TurnReply) → Kept c s t → IsSized size t → ResumesUnless lacking c size s vs reply → Walks c t vs
+resumes_unless : (c : Codec) (lacking : Option ℕ) (size : ℕ → ℕ) (s : PoolState) (t : Side) (vs : List Move) (reply : TurnReply) → Kept c s t
+    → IsSized size t → ResumesUnless lacking c size s vs reply → Walks c t vs
 resumes_unless c (Some top) size s t vs reply kept same row = subst (Walks c t) (sym row.0) tt
 resumes_unless c None size s t vs reply kept same row =
     let first = reopen_walks c size s t row.first reply kept same row.row in
-    subst (Walks c t) (sym row.moves) (walks_more c row.first row.rest t first (resumes_by c reply (steps row.first s) (after_moves row.first t) row.rest (walk_keeps c row.first s t first kept) row.resumes))
+    subst (Walks c t) (sym row.moves) (walks_more c row.first row.rest t first
+    (resumes_by c reply (steps row.first s) (after_moves row.first t) row.rest (walk_keeps c row.first s t first kept) row.resumes))
 
 -- The commit of an opening.
-pub resume_walks : (c : Codec) (size : ℕ → ℕ) (s : PoolState) (t : Side) (vs : List Move) (reply : TurnReply) → Kept c s t → IsSized size t → RowResume c size s vs reply → Walks c t vs
+pub resume_walks : (c : Codec) (size : ℕ → ℕ) (s : PoolState) (t : Side) (vs : List Move) (reply : TurnReply) → Kept c s t → IsSized size t
+    → RowResume c size s vs reply → Walks c t vs
 resume_walks c size s t vs reply kept same row = resumes_unless c (lacking_of s.core.leaves s.core.leaves) size s t vs reply kept same row

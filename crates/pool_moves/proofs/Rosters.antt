@@ -1,6 +1,30 @@
 -- A pool's members stand on a list, from its beginning on and behind each event.
-use Rattle.std.proofs.Common.{◌≡◌, ◌⊎◌, inl, inr, ⊎_elim, ℕ, ◌==◌, ◌&&◌, Bool, true, false, cond, Option, Some, None, List, [], ◌∷◌, map, refl, sym, ap, ◌∙◌, subst, arith}
-use Rattle.std.specs.List.{find}
+use Rattle.std.proofs.Common.{
+  ◌≡◌,
+  ◌⊎◌,
+  inl,
+  inr,
+  ⊎_elim,
+  ℕ,
+  ◌==◌,
+  ◌&&◌,
+  Bool,
+  true,
+  false,
+  cond,
+  Some,
+  None,
+  List,
+  [],
+  ◌∷◌,
+  map,
+  refl,
+  sym,
+  ap,
+  ◌∙◌,
+  subst,
+  arith,
+}
 use Rattle.std.proofs.lemmas.Bool.{and_parts}
 use Rattle.std.proofs.lemmas.Bool.Decides.{nat_tests}
 use Rattle.mp_base.specs.declared.number.Guid.{Guid}
@@ -8,7 +32,7 @@ use Rattle.txg_history.specs.Events.{Event, Joins, Loses}
 use Rattle.txg_history.specs.Groups.{at_device}
 use Rattle.txg_history.specs.Numbering.{renumbered}
 use Rattle.txg_history.specs.Pools.{Pool, after, pool_after, other_than}
-use Rattle.txg_history.proofs.Folding.{other_was, taken_false}
+use Rattle.txg_history.proofs.Folding.{taken_false}
 use Rattle.txg_history.proofs.Logging.{by_bool, same_device, true_not_false}
 use Rattle.pool_moves.specs.Leaves.{Seat, At, Adrift}
 use Rattle.pool_moves.specs.Making.{HasSeat, IsMade}
@@ -34,8 +58,10 @@ made_roster s t made = subst (λ p. IsRoster p (devices_of t.seats)) (sym made.i
     turn d e is = grind (arith, nat_tests)
 
 -- Behind a device that comes in.
-was_or_new : (d e : ℕ) (m : Guid) (p : Pool) → (after (Joins d m 0) p).member e ≡ true → ((d == e) ≡ true) ⊎ (((d == e) ≡ false) × (p.member e ≡ true) × (((p.guid e).0 == m.0) ≡ false))
-was_or_new d e m p is = by_bool (d == e) (λ here. inl here) (λ away. let was = still (sym (ap (λ t. cond t true (other_than m p.guid p.member e)) away) ∙ is) in inr (away, was.0, was.1))
+was_or_new : (d e : ℕ) (m : Guid) (p : Pool) → (after (Joins d m 0) p).member e ≡ true
+    → ((d == e) ≡ true) ⊎ (((d == e) ≡ false) × (p.member e ≡ true) × (((p.guid e).0 == m.0) ≡ false))
+was_or_new d e m p is = by_bool (d == e) (λ here. inl here)
+    (λ away. let was = still (sym (ap (λ t. cond t true (other_than m p.guid p.member e)) away) ∙ is) in inr (away, was.0, was.1))
   where
     still : other_than m p.guid p.member e ≡ true → (p.member e ≡ true) × (((p.guid e).0 == m.0) ≡ false)
     still is = by_bool ((p.guid e).0 == m.0) (λ same. absurd (let no : false ≡ true = sym (ap (λ t. cond t false (p.member e)) same) ∙ is in cc))
@@ -77,7 +103,8 @@ joins_roster d m top p devs ros = record {
         (flip m (p.guid b) (clash m (p.guid b) (at_device d m p.guid a) (at_device d m p.guid b) (new_guid a x) (old_guid b y.0) same)) y.2
     both a b (inr x) (inl y) same = true_not_false ((p.guid a).0 == m.0)
         (clash (p.guid a) m (at_device d m p.guid a) (at_device d m p.guid b) (old_guid a x.0) (new_guid b y) same) x.2
-    both a b (inr x) (inr y) same = ros.numbers a b x.1 y.1 (clash (p.guid a) (p.guid b) (at_device d m p.guid a) (at_device d m p.guid b) (old_guid a x.0) (old_guid b y.0) same)
+    both a b (inr x) (inr y) same = ros.numbers a b x.1 y.1
+        (clash (p.guid a) (p.guid b) (at_device d m p.guid a) (at_device d m p.guid b) (old_guid a x.0) (old_guid b y.0) same)
 
 event_roster : (v : Event) (p : Pool) (devs : List ℕ) → IsRoster p devs → IsRoster (after v p) (roster_by v devs)
 event_roster (Joins d m top) p devs ros = joins_roster d m top p devs ros
@@ -97,7 +124,8 @@ listed_map now d [] is = is
 listed_map now d (e ∷ devs) (inl same) = inl (subst (λ x. (now d == now x) ≡ true) (same_device d e same) (same_here (now d)))
 listed_map now d (e ∷ devs) (inr more) = inr (listed_map now d devs more)
 
-pub roster_anew : (p : Pool) (was now : ℕ → ℕ) (devs : List ℕ) → IsRoster p devs → ((d : ℕ) → p.member (was d) ≡ true → now (was d) ≡ d) → IsRoster (renumbered was p) (map now devs)
+pub roster_anew : (p : Pool) (was now : ℕ → ℕ) (devs : List ℕ) → IsRoster p devs → ((d : ℕ) → p.member (was d) ≡ true → now (was d) ≡ d)
+    → IsRoster (renumbered was p) (map now devs)
 roster_anew p was now devs ros back = record {
   all = λ d is. subst (λ x. IsListed x (map now devs)) (back d is) (listed_map now (was d) devs (ros.all (was d) is));
   numbers = λ a b mine others same. let one : was a ≡ was b = same_device (was a) (was b) (ros.numbers (was a) (was b) mine others same) in
@@ -122,9 +150,11 @@ not_on : (p : Pool) (devs : List ℕ) (m : Guid) (d : ℕ) → member_of p devs 
 not_on p [] m d none listed mine same = listed
 not_on p (e ∷ devs) m d none listed mine same = by_bool (p.member e && ((p.guid e).0 == m.0))
     (λ yes. absurd (let no : Some e ≡ None = sym (ap (λ t. cond t (Some e) (member_of p devs m)) yes) ∙ none in cc))
-    (λ off. ⊎_elim (λ here. true_not_false (p.member e && ((p.guid e).0 == m.0)) (subst (λ x. (p.member x && ((p.guid x).0 == m.0)) ≡ true) (same_device d e here)
+    (λ off. ⊎_elim (λ here. true_not_false (p.member e && ((p.guid e).0 == m.0))
+    (subst (λ x. (p.member x && ((p.guid x).0 == m.0)) ≡ true) (same_device d e here)
     (both_true (p.member d) ((p.guid d).0 == m.0) mine same)) off)
     (λ more. not_on p devs m d (sym (ap (λ t. cond t (Some e) (member_of p devs m)) off) ∙ none) more mine same) listed)
 
-pub no_member : (p : Pool) (devs : List ℕ) (m : Guid) → IsRoster p devs → member_of p devs m ≡ None → (d : ℕ) → p.member d ≡ true → ((p.guid d).0 == m.0) ≡ false
+pub no_member : (p : Pool) (devs : List ℕ) (m : Guid) → IsRoster p devs → member_of p devs m ≡ None → (d : ℕ) → p.member d ≡ true
+    → ((p.guid d).0 == m.0) ≡ false
 no_member p devs m ros none d mine = by_bool ((p.guid d).0 == m.0) (λ same. absurd (not_on p devs m d none (ros.all d mine) mine same)) (λ other. other)

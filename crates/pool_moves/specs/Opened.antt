@@ -6,13 +6,15 @@ use Rattle.vdev_tree.specs.declared.vdev.Counts.{Counts}
 use Rattle.vdev_tree.specs.declared.vdev.State.{State}
 use Rattle.vdev_tree.specs.declared.vdev.State.TheVariants.{Unavail}
 use Rattle.label_store.specs.declared.found.Found.{Found}
+use Rattle.txg_history.specs.Events.{Opens}
 use Rattle.txg_history.specs.Groups.{no_log}
 use Rattle.txg_history.specs.Pages.{LeafKept, Codec}
-use Rattle.txg_history.specs.Pools.{Pool}
+use Rattle.txg_history.specs.Pools.{Pool, after}
+use Rattle.txg_history.specs.Records.{Rec}
 use Rattle.pool_moves.specs.FreezeRow.{is_dev}
 use Rattle.pool_moves.specs.Leaves.{OwnLeaf, LeafSeen, Seat, At, Adrift}
 use Rattle.pool_moves.specs.Rosters.{member_of}
-use Rattle.pool_moves.specs.States.{Sums, no_group_seen, no_scan_seen, PoolState}
+use Rattle.pool_moves.specs.States.{Sums, no_group_seen, no_scan_seen, PoolState, Side}
 use Rattle.pool_moves.specs.Trees.{Child}
 
 -- a leaf of this number is among these
@@ -114,6 +116,10 @@ abbrev pub opened_seats : Pool → (roster : List ℕ) → List LeafKept → (de
 opened_seats p roster [] devs = []
 opened_seats p roster (leaf ∷ leaves) [] = []
 opened_seats p roster (leaf ∷ leaves) (dev ∷ devs) = opened_seat p roster leaf dev ∷ opened_seats p roster leaves devs
+
+-- the pool reads the record from here on, and has its leaves at these seats
+abbrev pub opened_side : Pool → Rec → (roster : List ℕ) → List LeafKept → (devs : List (Option ℕ)) → Side
+opened_side p r roster leaves devs = record { pool = after (Opens r) p; seats = opened_seats p roster leaves devs }
 
 -- the device is taken for the leaf of this number
 abbrev pub claims_of : List LeafKept → (devs : List (Option ℕ)) → ℕ → Guid → Bool

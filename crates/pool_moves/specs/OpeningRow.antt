@@ -1,5 +1,33 @@
 -- An opening as rows: what it finds on the labels, what it opens, and its commit.
-use Rattle.std.specs.Prelude.{◌≡◌, ◌≢◌, ◌⊎◌, ℕ, suc, ◌+◌, ◌-◌, ◌*◌, ◌≤◌, ◌^◌, ◌==◌, ◌&&◌, nat_le, Bool, true, false, cond, Option, Some, None, List, [], ◌∷◌, ◌++◌, length, Result, Ok, Err}
+use Rattle.std.specs.Prelude.{
+  ◌≡◌,
+  ◌≢◌,
+  ◌⊎◌,
+  ℕ,
+  suc,
+  ◌+◌,
+  ◌-◌,
+  ◌*◌,
+  ◌≤◌,
+  ◌^◌,
+  ◌==◌,
+  ◌&&◌,
+  nat_le,
+  Bool,
+  true,
+  false,
+  cond,
+  Option,
+  Some,
+  None,
+  List,
+  [],
+  ◌∷◌,
+  ◌++◌,
+  length,
+  Result,
+  Ok,
+}
 use Rattle.std.specs.List.{list_any, AllByRecursion}
 use Rattle.mp_base.specs.declared.number.Guid.{Guid}
 use Rattle.bank_core.specs.declared.bank.Fault.{Fault}
@@ -19,7 +47,7 @@ use Rattle.txg_history.specs.Premises.{AreNotTorn}
 use Rattle.txg_history.specs.Records.{Rec, IsIn, key, number_of}
 use Rattle.pool_moves.specs.CommitRows.{RowReopen}
 use Rattle.pool_moves.specs.Leaves.{LeafSeen}
-use Rattle.pool_moves.specs.LineRows.{TurnReply, Idle, Write, Flush, Round, Committed, Suspended}
+use Rattle.pool_moves.specs.LineRows.{TurnReply, Committed, Suspended}
 use Rattle.pool_moves.specs.Moves.{Move, steps}
 use Rattle.pool_moves.specs.Opened.{ShapeKept, AreValidLeaves, opened_leaves, opened_state}
 use Rattle.pool_moves.specs.PageReads.{Reading, ReadsMap, LeafShown, StopsAt}
@@ -131,7 +159,8 @@ reading_of c found devs bytes got = record {
 
 -- Behind that the identities of the leaves are looked for, on the devices that are handed in under their names, and then the pages of
 -- the map are read back.
-pub record RowOpen (c : Codec) (size : ℕ → ℕ) (handed : List ℕ → Option ℕ) (name : List ℕ) (found : Found) (made : List Noted) (reply : OpenReply) : Type 0 where
+pub record RowOpen (c : Codec) (size : ℕ → ℕ) (handed : List ℕ → Option ℕ) (name : List ℕ) (found : Found) (made : List Noted) (reply : OpenReply) :
+    Type 0 where
   pub volume : c.blocks found.blob.items ≤ 262144
   pub valid : AreValidLeaves (c.next_member found.blob.items) (c.leaves found.blob.items)
   pub devs : List (Option ℕ)

@@ -1,6 +1,33 @@
 -- How an opening reads the pages of a map back: one after another, each from the copies on the leaves of its top.
-use Rattle.std.specs.Prelude.{◌≡◌, ◌⊎◌, ℕ, suc, ◌+◌, ◌*◌, ◌<◌, ◌≤◌, ◌==◌, ◌&&◌, ◌||◌, nat_lt, Bool, true, false, cond, Option, Some, None, is_none, not, List, [], ◌∷◌, ◌++◌, map}
-use Rattle.std.specs.List.{filter, AllByRecursion}
+use Rattle.std.specs.Prelude.{
+  ◌≡◌,
+  ◌⊎◌,
+  ℕ,
+  suc,
+  ◌+◌,
+  ◌*◌,
+  ◌<◌,
+  ◌≤◌,
+  ◌==◌,
+  ◌&&◌,
+  ◌||◌,
+  nat_lt,
+  Bool,
+  true,
+  false,
+  cond,
+  Option,
+  Some,
+  None,
+  is_none,
+  not,
+  List,
+  [],
+  ◌∷◌,
+  ◌++◌,
+  map,
+}
+use Rattle.std.specs.List.{AllByRecursion}
 use Rattle.sha2.specs.Sha256.{sha256}
 use Rattle.mp_base.specs.declared.place.Key.{Key}
 use Rattle.bank_core.specs.Calls.{device_of, fault_of}
@@ -13,7 +40,7 @@ use Rattle.txg_history.specs.Pages.{Codec, Sum, IsOfVolume}
 use Rattle.txg_history.specs.Records.{key, data_start}
 use Rattle.pool_moves.specs.FreezeRow.{up_devs}
 use Rattle.pool_moves.specs.Leaves.{LeafSeen}
-use Rattle.pool_moves.specs.ReadRow.{copy_at, stands_under, copies_of}
+use Rattle.pool_moves.specs.ReadRow.{copies_of}
 use Rattle.pool_moves.specs.States.{Sums}
 
 -- What a map is read with, and what is got: how bytes are read, the configuration and its number, the leaves, the bytes of each page
@@ -57,7 +84,8 @@ pub record IsPageHere (x : Reading) (level index : ℕ) (sum : Sum) (bytes : Lis
   pub born : (j : ℕ) (below : Sum) → j < 64 → x.codec.pointer bytes j ≡ Some below → below.birth ≤ x.number
   pub on_top : (j : ℕ) (below : Sum) → j < 64 → x.codec.pointer bytes j ≡ Some below → below.sector < x.codec.room x.config below.top
   pub apart : (i j : ℕ) (a b : Sum) → i < j → j < 64 → x.codec.pointer bytes i ≡ Some a → x.codec.pointer bytes j ≡ Some b → AreOnePlace a b → ⊥
-  pub fresh : (j : ℕ) (below other : Sum) (k : Key) → j < 64 → x.codec.pointer bytes j ≡ Some below → IsKnown (λ above. is_read_before above (key (suc level) index)) k → x.got k ≡ Some other
+  pub fresh : (j : ℕ) (below other : Sum) (k : Key) → j < 64 → x.codec.pointer bytes j ≡ Some below
+      → IsKnown (λ above. is_read_before above (key (suc level) index)) k → x.got k ≡ Some other
       → AreOnePlace below other → ⊥
 
 -- a read gave bytes of this kind
@@ -161,7 +189,8 @@ pub record StopsAt (x : Reading) (level index : ℕ) (shown : List LeafShown) (m
   pub each : AllByRecursion (IsPageTurn x) turns
   pub order : AreInOrder turns
   pub before : AllByRecursion (λ turn. is_read_before (page_of turn) (key (suc level) index) ≡ true) turns
-  pub all : (l i : ℕ) (sum : Sum) → l < 3 → is_read_before (key (suc l) i) (key (suc level) index) ≡ true → x.got (key (suc l) i) ≡ Some sum → IsTurned (key (suc l) i) turns
+  pub all : (l i : ℕ) (sum : Sum) → l < 3 → is_read_before (key (suc l) i) (key (suc level) index) ≡ true → x.got (key (suc l) i) ≡ Some sum
+      → IsTurned (key (suc l) i) turns
   pub only : (k : Key) (bytes : List ℕ) → x.found k ≡ Some bytes → IsTurned k turns
   pub back : IsReadTo x (λ k. is_read_before k (key (suc level) index))
   pub sum : Sum

@@ -9,8 +9,8 @@ mod trees;
 
 pub use laws::{moves_step_what_is_seen, walks_keep_the_state};
 pub use openings::{
-    leaves_may_come_online, members_stand_on_a_list, openings_may_be_committed,
-    openings_read_the_record, openings_seek_a_live_record,
+    creates_make_a_pool, leaves_may_come_online, members_stand_on_a_list,
+    openings_may_be_committed, openings_read_the_record, openings_seek_a_live_record,
 };
 pub use rows::{
     freezes_may_be_made, leaves_may_go_offline, made_pools_are_kept, pools_may_be_opened,

@@ -34,16 +34,22 @@ use Rattle.std.proofs.Common.{
   inr,
   arith,
 }
+use Rattle.std.specs.Prelude.{slice_get}
 use Rattle.std.proofs.lemmas.Bool.{and_parts}
 use Rattle.std.proofs.lemmas.Bool.Decides.{nat_tests}
 use Rattle.bank_core.specs.Disk.{after_crash}
 use Rattle.mp_base.specs.declared.place.Key.{Key}
+use Rattle.label_store.specs.declared.member.Member.{Member}
 use Rattle.label_store.specs.Records.{AreUnhurt}
+use Rattle.label_store.specs.Seats.{AreApart}
+use Rattle.label_store.proofs.Keeping.{same_member, no_member}
 use Rattle.txg_history.specs.Branches.{
   Branch,
   cell_on,
   branch_cells,
   IsDay,
+  writes_well,
+  flushes_well,
   turn_on,
   flush_of,
   day_until_round,
@@ -63,22 +69,44 @@ use Rattle.txg_history.specs.Premises.{AreOwnConfigs, HoldsLabels, Premises}
 use Rattle.txg_history.specs.Records.{Rec, Cell, IsIn, IsNoLeaf, key, cell_over, block_of, laid_over, number_of, takes_part}
 use Rattle.txg_history.specs.Rounds.{IsRoundEvents, RoundEnds}
 use Rattle.txg_history.specs.Survival.{Survives}
-use Rattle.txg_history.specs.Turns.{OnBoard, OnTop}
-use Rattle.txg_history.specs.Weeks.{writes_well, flushes_well}
+use Rattle.txg_history.specs.Turns.{AreJust, OnBoard, OnTop}
 use Rattle.txg_history.proofs.Calming.{premises_met, stable_true}
 use Rattle.txg_history.proofs.Folding.{mays_more}
 use Rattle.txg_history.proofs.Listing.{one_key, same_cell, only_one}
 use Rattle.txg_history.proofs.Logging.{by_bool, true_not_false, same_device}
 use Rattle.txg_history.proofs.Moving.{event_survives}
-use Rattle.txg_history.proofs.Resilvering.{same_test, alone, one_apart}
 use Rattle.txg_history.proofs.RoundMoves.{round_may, round_ends}
 use Rattle.txg_history.proofs.Surviving.{history_survives, crash_may}
 use Rattle.txg_history.proofs.Tracked.{promise_holds}
 use Rattle.txg_history.proofs.Turning.{write_turn_may, flush_turn_may}
 use Rattle.txg_history.proofs.Yields.{yield_live}
 
+pub same_test : (d : ℕ) → (d == d) ≡ true
+same_test d = grind (arith, nat_tests)
+
+-- the list of a alone
+pub alone : (p q : Pool) (a : ℕ) (Which : ℕ → Type 0) → q.member ≡ p.member → q.guid ≡ p.guid → Which a
+    → ((d : ℕ) → q.member d ≡ true → Which d → a ≡ d) → AreJust q Which (seat q a ∷ [])
+alone p q a Which m g is only = record {
+  seated = λ i n at member. of i n at;
+  all = λ d member which. (0, ap (λ d. Some (seat q d)) (only d member which));
+}
+  where
+    of : (i : ℕ) (n : Member) → slice_get (seat q a ∷ []) i ≡ Some n → (n ≡ seat q n.dev) × Which n.dev
+    of zero n at = (
+      sym (same_member (seat q a) n at) ∙ ap (λ n. seat q n.dev) (same_member (seat q a) n at),
+      subst
+          (λ n. Which n.dev) (same_member (seat q a) n at) is,
+    )
+    of (suc i) n at = absurd (no_member n at)
+
+pub one_apart : (m : Member) → AreApart (m ∷ [])
+one_apart m zero zero x y ex ey lt = absurd (omega (arith, lt))
+one_apart m zero (suc j) x y ex ey lt = absurd (no_member y ey)
+one_apart m (suc i) j x y ex ey lt = absurd (no_member x ex)
+
 -- a key of the branch is that of some level, with index 0
-branch_is : (b : Branch) (k : Key) (cell : Cell) → branch_cells b k ≡ Some cell → (k.index ≡ 0) × (k.level < 4) × (cell_on b k.level ≡ cell)
+pub branch_is : (b : Branch) (k : Key) (cell : Cell) → branch_cells b k ≡ Some cell → (k.index ≡ 0) × (k.level < 4) × (cell_on b k.level ≡ cell)
 branch_is b k cell e = of ((k.index == 0) && nat_lt k.level 4) refl e
   where
     of : (t : Bool) → ((k.index == 0) && nat_lt k.level 4) ≡ t → cond t (Some (cell_on b k.level)) None ≡ Some cell
@@ -93,7 +121,7 @@ branch_is b k cell e = of ((k.index == 0) && nat_lt k.level 4) refl e
         )
     of false is e = absurd (cc)
 
-branch_has : (b : Branch) (level index : ℕ) → index ≡ 0 → level < 4 → branch_cells b (key level index) ≡ Some (cell_on b level)
+pub branch_has : (b : Branch) (level index : ℕ) → index ≡ 0 → level < 4 → branch_cells b (key level index) ≡ Some (cell_on b level)
 branch_has b level index none low =
     let a : (index == 0) ≡ true = grind (arith, nat_tests) in
     let l : nat_lt level 4 ≡ true = grind (arith, nat_tests) in rw (a, l) refl
@@ -101,11 +129,11 @@ branch_has b level index none low =
 branch_lacks : (b : Branch) (x : ℕ) → (x == 0) ≡ false → branch_cells b (key 0 x) ≡ None
 branch_lacks b x off = rw off refl
 
-over_none : (x old : Option Cell) → old ≡ None → cell_over x old ≡ x
+pub over_none : (x old : Option Cell) → old ≡ None → cell_over x old ≡ x
 over_none (Some cell) old e = refl
 over_none None old e = e
 
-keys_one : (j k : Key) → j.level ≡ k.level → j.index ≡ k.index → j ≡ k
+pub keys_one : (j k : Key) → j.level ≡ k.level → j.index ≡ k.index → j ≡ k
 keys_one j k level index = one_key j k
     (let a : (j.level == k.level) ≡ true = grind (arith, nat_tests) in let b : (j.index == k.index) ≡ true = grind (arith, nat_tests) in rw (a, b) refl)
 
@@ -180,7 +208,7 @@ turn_may c p q a b level day sv low undone = write_turn_may c q (key level 0) (c
     on d is = ap (λ f. f d) day.board ∙ is
 
 -- The write, the freeze and the turns are allowed.
-day_commits : (c : Codec) (p : Pool) (a : ℕ) (b : Branch) → IsDay c p a b → Mays c p (day_until_round a b)
+pub day_commits : (c : Codec) (p : Pool) (a : ℕ) (b : Branch) → IsDay c p a b → Mays c p (day_until_round a b)
 day_commits c p a b w = (
   tt,
   (

@@ -17,7 +17,11 @@ empty_freeze c p board none answers boarded = record {
   free = λ k cell e. no_cell cell e;
   inside = λ k cell e. no_cell cell e;
   apart = λ j k a b e f one. no_cell a e;
-  dirty = record { up = λ level index j cell low lt e. no_cell cell e; formed = λ level index cell low e. no_cell cell e; pages = λ level index cell low e. no_cell cell e };
+  dirty = record {
+    up = λ level index j cell low lt e. no_cell cell e;
+    formed = λ level index cell low e. no_cell cell e;
+    pages = λ level index cell low e. no_cell cell e;
+  };
   blocks = answers;
   boarded = boarded;
 }

@@ -1,256 +1,234 @@
--- A disk's week: a leaf is away from a commit, comes back, and a resilver brings it what it missed.
-use Rattle.std.proofs.Common.{
-  ◌≡◌,
-  ℕ,
-  zero,
-  suc,
-  ◌+◌,
-  ◌*◌,
-  ◌≤◌,
-  ◌<◌,
-  ◌==◌,
-  nat_le,
-  Bool,
-  true,
-  false,
-  cond,
-  List,
-  [],
-  ◌∷◌,
-  ◌++◌,
-  length,
-  Option,
-  Some,
-  None,
-  refl,
-  sym,
-  ap,
-  ◌∙◌,
-  subst,
-  inl,
-  inr,
-  arith,
-  ⊎_elim,
-}
-use Rattle.std.specs.Prelude.{slice_get}
+-- A disk's week: a leaf is away from the commit of a block, comes back, and a resilver brings it what it missed.
+use Rattle.std.proofs.Common.{◌≡◌, ℕ, suc, ◌+◌, ◌≤◌, ◌<◌, ◌==◌, nat_lt, nat_le, Bool, true, false, cond, List, [], ◌∷◌, ◌++◌, length, Some, None, refl, sym, ap, ◌∙◌, subst, inl, inr, arith}
 use Rattle.std.proofs.lemmas.Bool.Decides.{nat_tests}
 use Rattle.mp_base.specs.declared.place.Key.{Key}
-use Rattle.label_store.specs.declared.member.Member.{Member}
-use Rattle.label_store.specs.Seats.{AreApart}
-use Rattle.label_store.proofs.Keeping.{same_member, no_member}
-use Rattle.txg_history.specs.Events.{Event, calls_of, Calls, Freezes, Wrote, Flushed, Scans, Passes, Clears}
-use Rattle.txg_history.specs.Groups.{same_key, no_log, at_device}
-use Rattle.txg_history.specs.Moves.{IsSparing, WasCopied, IsLeafOf, IsDrawnUp, MayFreeze, MayScan, MayPass, Mays}
-use Rattle.txg_history.specs.Places.{IsFree}
-use Rattle.txg_history.specs.Pages.{Codec, sum_of}
+use Rattle.txg_history.specs.Events.{Event, calls_of, Calls, Scans, Passes}
+use Rattle.txg_history.specs.Groups.{no_log, at_device}
+use Rattle.txg_history.specs.Moves.{IsSparing, WasCopied, IsLeafOf, IsDrawnUp, MayScan, MayPass, Mays}
+use Rattle.txg_history.specs.Needs.{NeedsScan}
+use Rattle.txg_history.specs.Pages.{Codec}
 use Rattle.txg_history.specs.Pools.{Pool, seat, after, pool_after}
-use Rattle.txg_history.specs.Records.{Rec, Cell, key, cell_over, block_of, laid_over, number_of}
+use Rattle.txg_history.specs.Records.{Rec, Cell, key, data_start, number_of}
 use Rattle.txg_history.specs.Rounds.{IsRoundEvents, RoundEnds}
 use Rattle.txg_history.specs.Scans.{up_to}
 use Rattle.txg_history.specs.Survival.{Survives}
-use Rattle.txg_history.specs.Turns.{AreJust, OnBoard, OnTop}
-use Rattle.txg_history.specs.Weeks.{root_key, only_root, writes_well, flushes_well, IsWeek, until_round, resilver}
+use Rattle.txg_history.specs.Turns.{OnBoard}
+use Rattle.txg_history.specs.Branches.{Branch, cell_on, branch_cells, writes_well, flushes_well, day_until_round}
+use Rattle.txg_history.specs.Weeks.{IsWeek, brings_on, clears, resilver}
+use Rattle.txg_history.proofs.Branching.{same_test, alone, one_apart, branch_is, branch_has, over_none, keys_one, day_commits}
 use Rattle.txg_history.proofs.Folding.{mays_more, pool_more}
-use Rattle.txg_history.proofs.Listing.{one_key, same_cell, laid_of}
-use Rattle.txg_history.proofs.Logging.{true_not_false, at_here, same_device}
+use Rattle.txg_history.proofs.Logging.{by_bool, true_not_false, at_here, same_device}
 use Rattle.txg_history.proofs.Moving.{event_survives}
 use Rattle.txg_history.proofs.RoundMoves.{round_may, round_ends}
 use Rattle.txg_history.proofs.Copying.{step_copies}
 use Rattle.txg_history.proofs.Showing.{clear_may}
 use Rattle.txg_history.proofs.Surviving.{history_survives}
-use Rattle.txg_history.proofs.Turning.{write_turn_may, flush_turn_may}
 use Rattle.txg_history.proofs.Writing.{copy_sparing}
 
--- a key of the one-key map is the root
-only_is : (cell other : Cell) (k : Key) → only_root cell k ≡ Some other → (k ≡ root_key) × (cell ≡ other)
-only_is cell other k e = of (same_key root_key k) refl e
-  where
-    of : (t : Bool) → same_key root_key k ≡ t → cond t (Some cell) None ≡ Some other → (k ≡ root_key) × (cell ≡ other)
-    of true is e = (sym (one_key root_key k is), same_cell cell other e)
-    of false is e = absurd (cc)
-
-pub same_test : (d : ℕ) → (d == d) ≡ true
-same_test d = grind (arith, nat_tests)
-
--- no level but the root's has a key
-below_none : (cell : Cell) (level index : ℕ) → level < 3 → only_root cell (key level index) ≡ None
-below_none cell level index low = of (only_root cell (key level index)) refl
-  where
-    of : (x : Option Cell) → only_root cell (key level index) ≡ x → only_root cell (key level index) ≡ None
-    of None e = e
-    of (Some other) e = absurd (let same = ap (λ k. k.level) (only_is cell other (key level index) e).0 in omega (arith, low, same))
-
--- The freeze of the root page.
-week_freezes : (c : Codec) (p : Pool) (a b : ℕ) (cell : Cell) → IsWeek c p a b cell → MayFreeze c p (only_root cell) (λ d. a == d)
-week_freezes c p a b cell w = record {
-  none = w.idle;
-  births = λ k other e. ap (λ cell. cell.birth) (sym (only_is cell other k e).1) ∙ w.born;
-  long = λ k other e. ap (λ cell. length cell.block) (sym (only_is cell other k e).1) ∙ w.long;
-  free = λ k other e. subst (λ cell. IsFree p cell.top cell.sector) (only_is cell other k e).1 w.free;
-  inside = λ k other e. subst (λ cell. cell.sector < p.room cell.top) (only_is cell other k e).1 w.inside;
-  apart = λ j k x y ex ey one. (only_is cell x j ex).0 ∙ sym (only_is cell y k ey).0;
-  dirty = record {
-    up = λ level index j other low lt e. absurd (let same = ap (λ k. k.level)
-        (only_is cell other (key level (64 * index + j)) e).0 in omega (arith, low, same));
-    formed = λ level index other low e. subst (λ cell. c.is_page cell.block ≡ true) (only_is cell other (key (suc level) index) e).1 w.formed;
-    pages = λ level index other low e j lt. subst (λ cell. c.pointer cell.block j ≡ None) (only_is cell other (key (suc level) index) e).1 (w.holes j lt)
-        ∙ sym (ap sum_of (both_none level (64 * index + j) low));
-  };
-  blocks = λ x. ap block_of (both_none 0 x (omega arith)) ∙ sym (w.written x ∙ ap block_of (w.none (key 0 x)));
-  boarded = λ d is on. subst (λ d. 1 ≤ p.in_top d) (same_device a d on) (top_of_a (p.in_top a) refl);
-}
-  where
-    both_none : (level index : ℕ) → level < 3 → laid_over (only_root cell) p.reads.cells (key level index) ≡ None
-    both_none level index low = ap (λ x. cell_over x (p.reads.cells (key level index))) (below_none cell level index low) ∙ w.none (key level index)
-
-    top_of_a : (t : ℕ) → p.in_top a ≡ t → 1 ≤ t
-    top_of_a zero e = absurd (let inside : cell.sector < p.room 0 = subst (λ t. cell.sector < p.room t)
-        (sym w.a_top ∙ e) w.inside in omega (arith, inside, w.survives.roomy.no_top))
-    top_of_a (suc t) e = omega arith
-
--- the list of a alone
-pub alone : (p q : Pool) (a : ℕ) (Which : ℕ → Type 0) → q.member ≡ p.member → q.guid ≡ p.guid → Which a
-    → ((d : ℕ) → q.member d ≡ true → Which d → a ≡ d) → AreJust q Which (seat q a ∷ [])
-alone p q a Which m g is only = record {
-  seated = λ i n at member. of i n at;
-  all = λ d member which. (0, ap (λ d. Some (seat q d)) (only d member which));
-}
-  where
-    of : (i : ℕ) (n : Member) → slice_get (seat q a ∷ []) i ≡ Some n → (n ≡ seat q n.dev) × Which n.dev
-    of zero n at = (
-      sym (same_member (seat q a) n at) ∙ ap (λ n. seat q n.dev) (same_member (seat q a) n at),
-      subst
-          (λ n. Which n.dev) (same_member (seat q a) n at) is,
-    )
-    of (suc i) n at = absurd (no_member n at)
-
-pub one_apart : (m : Member) → AreApart (m ∷ [])
-one_apart m zero zero x y ex ey lt = absurd (omega (arith, lt))
-one_apart m zero (suc j) x y ex ey lt = absurd (no_member y ey)
-one_apart m (suc i) j x y ex ey lt = absurd (no_member x ex)
-
--- The commit up to its round is allowed.
-pub week_commits : (c : Codec) (p : Pool) (a b : ℕ) (cell : Cell) → IsWeek c p a b cell → Mays c p (until_round a cell)
-week_commits c p a b cell w =
-    mays_more c (Freezes (only_root cell) (λ d. a == d) ∷ [])
-    (Calls (writes_well a cell) ∷ Wrote root_key ∷ Calls (flushes_well a) ∷ Flushed ∷ []) p (freeze, tt)
-    (mays_more c (Calls (writes_well a cell) ∷ Wrote root_key ∷ []) (Calls (flushes_well a) ∷ Flushed ∷ []) p1 written
-    (flush_turn_may c p2 (seat p2 a ∷ []) (true ∷ []) (Calls (flushes_well a) ∷ Flushed ∷ [])
-    (history_survives c (Calls (writes_well a cell) ∷ Wrote root_key ∷ []) p1 sv1 written) refl
-    (λ k other e. ap (λ k. cond (same_key root_key k) true false) (only_is cell other k e).0)
-    (alone p p2 a (OnBoard p2) refl refl (same_test a) (λ d member on. same_device a d on)) (one_apart (seat p2 a))
-    (record { made = flushes_well a ∷ []; phase = (flushes_well a ∷ [], [], refl, (None, (refl, inl (refl, refl)), refl), refl); all = refl })))
-  where
-    freeze : MayFreeze c p (only_root cell) (λ d. a == d)
-    freeze = week_freezes c p a b cell w
-
-    p1 : Pool
-    p1 = after (Freezes (only_root cell) (λ d. a == d)) p
-
-    sv1 : Survives c p1
-    sv1 = event_survives c p (Freezes (only_root cell) (λ d. a == d)) w.survives freeze
-
-    p2 : Pool
-    p2 = pool_after (Calls (writes_well a cell) ∷ Wrote root_key ∷ []) p1
-
-    written : Mays c p1 (Calls (writes_well a cell) ∷ Wrote root_key ∷ [])
-    written = write_turn_may c p1 root_key cell (seat p1 a ∷ []) (true ∷ []) (Calls (writes_well a cell) ∷ Wrote root_key ∷ []) sv1 refl refl refl refl
-        (alone p p1 a (OnTop p1 cell.top) refl refl (same_test a, w.a_top) (λ d member on. same_device a d on.0)) (one_apart (seat p1 a))
-        (record { made = writes_well a cell ∷ []; phase = (writes_well a cell ∷ [], [], refl, (None, (refl, inl (refl, refl)), refl), refl); all = refl })
-
--- A pool that reads one key, which b owes, settled.
-record OwesRoot (c : Codec) (p : Pool) (b : ℕ) (cell : Cell) : Type 0 where
+-- A pool that reads a branch, of which b owes each key, settled.
+record OwesBranch (c : Codec) (p : Pool) (b : ℕ) (branch : Branch) : Type 0 where
   survives : Survives c p
   opened : p.opened ≡ true
   is_b : p.member b ≡ true
-  root_is : p.reads.cells root_key ≡ Some cell
-  only : (k : Key) (other : Cell) → p.reads.cells k ≡ Some other → k ≡ root_key
-  top : p.in_top b ≡ cell.top
-  settled : p.settled b cell.birth ≡ true
-  low : cell.birth ≤ number_of p.reads
-  long : length cell.block ≡ 4096
+  cells : (k : Key) → p.reads.cells k ≡ branch_cells branch k
+  top : p.in_top b ≡ branch.top
+  settled : p.settled b branch.birth ≡ true
+  low : branch.birth ≤ number_of p.reads
+  long : (level : ℕ) → level < 4 → length (branch.bytes level) ≡ 4096
 
--- Its resilver is allowed, and behind it b owes the key's group no more.
-resilver_may : (c : Codec) (p : Pool) (b : ℕ) (cell : Cell) → OwesRoot c p b cell
-    → Mays c p (resilver b (number_of p.reads) cell) × ((pool_after (resilver b (number_of p.reads) cell) p).owes b cell.birth ≡ false)
-resilver_may c p b cell w = ((scan, (copy, (pass, clear))), cleared)
+-- The pool in the middle of its resilver, which has come past the keys below a level.
+record InResilver (c : Codec) (p : Pool) (b hi : ℕ) (branch : Branch) (level : ℕ) : Type 0 where
+  survives : Survives c p
+  is_b : p.member b ≡ true
+  cells : (k : Key) → p.reads.cells k ≡ branch_cells branch k
+  top : p.in_top b ≡ branch.top
+  settled : p.settled b branch.birth ≡ true
+  long : (level : ℕ) → level < 4 → length (branch.bytes level) ≡ 4096
+  running : p.scan.running ≡ true
+  hi_is : p.scan.hi ≡ hi
+  low : branch.birth ≤ hi
+  eligible : p.scan.eligible ≡ (λ d. b == d)
+  scrub : p.scan.scrub ≡ no_log
+  passed : (j : ℕ) → j < 4 → p.scan.passed (key j 0) ≡ nat_lt j level
+
+-- a key that is read is on some level
+on_level : (branch : Branch) (p : Pool) (k : Key) (cell : Cell) → ((k : Key) → p.reads.cells k ≡ branch_cells branch k) → p.reads.cells k ≡ Some cell
+    → (k ≡ key k.level 0) × (k.level < 4) × (cell_on branch k.level ≡ cell)
+on_level branch p k cell cells at = let is = branch_is branch k cell (sym (cells k) ∙ at) in (keys_one k (key k.level 0) refl is.0, is.1, is.2)
+
+-- The key on its level is brought.
+bring_may : (c : Codec) (p : Pool) (b hi : ℕ) (branch : Branch) (level : ℕ) → InResilver c p b hi branch level → level < 4
+    → Mays c p (brings_on b branch level) × InResilver c (pool_after (brings_on b branch level) p) b hi branch (suc level)
+bring_may c p b hi branch level w low = (
+  (copy, (pass, tt)),
+  record {
+    survives = event_survives c p1 (Passes (key level 0) no_log) sv1 pass;
+    is_b = w.is_b;
+    cells = w.cells;
+    top = w.top;
+    settled = w.settled;
+    long = w.long;
+    running = w.running;
+    hi_is = w.hi_is;
+    low = w.low;
+    eligible = w.eligible;
+    scrub = refl;
+    passed = behind;
+  },
+)
+  where
+    at_level : p.reads.cells (key level 0) ≡ Some (cell_on branch level)
+    at_level = w.cells (key level 0) ∙ branch_has branch level 0 refl low
+
+    not_passed : (j : ℕ) → j ≡ level → j < 4 → p.scan.passed (key j 0) ≡ true → ⊥
+    not_passed j same few is = true_not_false (p.scan.passed (key j 0)) is (w.passed j few ∙ (let t : nat_lt j level ≡ false = grind (arith, nat_tests) in t))
+
+    unneeded : NeedsScan p.scan p.reads p.in_top b (data_start + level) (branch.bytes level) → ⊥
+    unneeded n = let on = on_level branch p n.k n.cell w.cells n.cell_is in
+        not_passed n.k.level (let sector = ap (λ cell. cell.sector) on.2 in let here = n.at.sector_is in omega (arith, sector, here)) on.1
+        (ap p.scan.passed (sym on.0) ∙ n.is_passed)
+
+    copy : IsSparing p (writes_well b (cell_on branch level)).call
+    copy = copy_sparing c p (key level 0) (cell_on branch level) b None w.survives at_level (λ is. (w.top, w.settled, unneeded))
+
+    p1 : Pool
+    p1 = after (Calls (writes_well b (cell_on branch level))) p
+
+    sv1 : Survives c p1
+    sv1 = event_survives c p (Calls (writes_well b (cell_on branch level))) w.survives copy
+
+    copied : WasCopied p1 b (cell_on branch level)
+    copied = step_copies p (writes_well b (cell_on branch level)) [] b (cell_on branch level) refl (w.long level low) tt
+
+    fresh : p.scan.passed (key level 0) ≡ false
+    fresh = w.passed level low ∙ (let t : nat_lt level level ≡ false = grind (arith, nat_tests) in t)
+
+    next : (j : Key) (other : Cell) → up_to (key level 0) j ≡ true → p.scan.passed j ≡ false → p.reads.cells j ≡ Some other → j ≡ key level 0
+    next j other up new at = let on = on_level branch p j other w.cells at in
+        on.0 ∙ ap (λ l. key l 0) (same j.level (sym (w.passed j.level on.1) ∙ (ap p.scan.passed (sym on.0) ∙ new)) (ap (up_to (key level 0)) (sym on.0) ∙ up))
+      where
+        same : (l : ℕ) → nat_lt l level ≡ false → up_to (key level 0) (key l 0) ≡ true → l ≡ level
+        same l above below = grind (arith, nat_tests)
+
+    pass : MayPass p1 (key level 0) no_log
+    pass = record {
+      running = w.running;
+      cell = cell_on branch level;
+      cell_is = at_level;
+      low = subst (λ n. branch.birth ≤ n) (sym w.hi_is) w.low;
+      new = fresh;
+      next = λ j other up new at low. next j other up new at;
+      more = λ d g has. sym (ap (λ log. log d g) w.scrub) ∙ has;
+      only = λ d g has. inl (ap (λ log. log d g) w.scrub ∙ has);
+      each = λ d is on top. inr (inr (subst (λ d. WasCopied p1 d (cell_on branch level)) (same_device b d (sym (ap (λ f. f d) w.eligible) ∙ on)) copied));
+    }
+
+    behind : (j : ℕ) → j < 4 → up_to (key level 0) (key j 0) ≡ nat_lt j (suc level)
+    behind j few = by_bool (nat_lt j (suc level))
+        (λ is. (let t : up_to (key level 0) (key j 0) ≡ true = grind (arith, nat_tests) in t) ∙ sym is)
+        (λ out. (let t : up_to (key level 0) (key j 0) ≡ false = grind (arith, nat_tests) in t) ∙ sym out)
+
+-- Its resilver is allowed, and behind it b owes the branch's group no more.
+resilver_may : (c : Codec) (p : Pool) (b : ℕ) (branch : Branch) → OwesBranch c p b branch
+    → Mays c p (resilver b (number_of p.reads) branch) × ((pool_after (resilver b (number_of p.reads) branch) p).owes b branch.birth ≡ false)
+resilver_may c p b branch w = (
+  (
+    scan,
+    mays_more c (brings_on b branch 0) (brings_on b branch 1 ++ (brings_on b branch 2 ++ (brings_on b branch 3 ++ clears b))) p0 m0.0
+        (mays_more c (brings_on b branch 1) (brings_on b branch 2 ++ (brings_on b branch 3 ++ clears b)) p1 m1.0
+        (mays_more c (brings_on b branch 2) (brings_on b branch 3 ++ clears b) p2 m2.0
+        (mays_more c (brings_on b branch 3) (clears b) p3 m3.0 clear))),
+  ),
+  cleared,
+)
   where
     scan : MayScan p (number_of p.reads)
     scan = record { opened = w.opened; hi_low = omega arith }
 
-    p1 : Pool
-    p1 = after (Scans (number_of p.reads) (λ d. b == d)) p
+    p0 : Pool
+    p0 = after (Scans (number_of p.reads) (λ d. b == d)) p
 
-    sv1 : Survives c p1
-    sv1 = event_survives c p (Scans (number_of p.reads) (λ d. b == d)) w.survives scan
-
-    copy : IsSparing p1 (writes_well b cell).call
-    copy = copy_sparing c p1 root_key cell b None sv1 w.root_is (λ is. (w.top, w.settled, λ n. true_not_false false n.is_passed refl))
-
-    p2 : Pool
-    p2 = after (Calls (writes_well b cell)) p1
-
-    sv2 : Survives c p2
-    sv2 = event_survives c p1 (Calls (writes_well b cell)) sv1 copy
-
-    copied : WasCopied p2 b cell
-    copied = step_copies p1 (writes_well b cell) [] b cell refl w.long tt
-
-    pass : MayPass p2 root_key no_log
-    pass = record {
+    start : InResilver c p0 b (number_of p.reads) branch 0
+    start = record {
+      survives = event_survives c p (Scans (number_of p.reads) (λ d. b == d)) w.survives scan;
+      is_b = w.is_b;
+      cells = w.cells;
+      top = w.top;
+      settled = w.settled;
+      long = w.long;
       running = refl;
-      cell = cell;
-      cell_is = w.root_is;
+      hi_is = refl;
       low = w.low;
-      new = refl;
-      next = λ j other up new at low. w.only j other at;
-      more = λ d g has. has;
-      only = λ d g has. inl has;
-      each = λ d is on top. inr (inr (subst (λ d. WasCopied p2 d cell) (same_device b d on) copied));
+      eligible = refl;
+      scrub = refl;
+      passed = λ j few. (let t : nat_lt j 0 ≡ false = grind (arith, nat_tests) in sym t);
     }
 
+    m0 : Mays c p0 (brings_on b branch 0) × InResilver c (pool_after (brings_on b branch 0) p0) b (number_of p.reads) branch 1
+    m0 = bring_may c p0 b (number_of p.reads) branch 0 start (omega arith)
+
+    p1 : Pool
+    p1 = pool_after (brings_on b branch 0) p0
+
+    m1 : Mays c p1 (brings_on b branch 1) × InResilver c (pool_after (brings_on b branch 1) p1) b (number_of p.reads) branch 2
+    m1 = bring_may c p1 b (number_of p.reads) branch 1 m0.1 (omega arith)
+
+    p2 : Pool
+    p2 = pool_after (brings_on b branch 1) p1
+
+    m2 : Mays c p2 (brings_on b branch 2) × InResilver c (pool_after (brings_on b branch 2) p2) b (number_of p.reads) branch 3
+    m2 = bring_may c p2 b (number_of p.reads) branch 2 m1.1 (omega arith)
+
     p3 : Pool
-    p3 = after (Passes root_key no_log) p2
+    p3 = pool_after (brings_on b branch 2) p2
 
-    clear : Mays c p3 (Calls (flushes_well b) ∷ Clears b ∷ [])
-    clear = clear_may c p3 b (flushes_well b) (event_survives c p2 (Passes root_key no_log) sv2 pass) refl (same_test b)
-        (λ k other at low. ap (up_to root_key) (w.only k other at)) refl
+    m3 : Mays c p3 (brings_on b branch 3) × InResilver c (pool_after (brings_on b branch 3) p3) b (number_of p.reads) branch 4
+    m3 = bring_may c p3 b (number_of p.reads) branch 3 m2.1 (omega arith)
 
-    cleared : at_device b (λ g. cond (nat_le g (number_of p.reads)) false (p.owes b g)) p.owes b cell.birth ≡ false
-    cleared = ap (λ log. log cell.birth) (at_here b b (λ g. cond (nat_le g (number_of p.reads)) false (p.owes b g)) p.owes (same_test b))
-        ∙ low_out (nat_le cell.birth (number_of p.reads)) is_low
+    p4 : Pool
+    p4 = pool_after (brings_on b branch 3) p3
+
+    clear : Mays c p4 (clears b)
+    clear = clear_may c p4 b (flushes_well b) m3.1.survives refl (same_test b)
+        (λ k cell at low. let on = on_level branch p4 k cell m3.1.cells at in ap p4.scan.passed on.0 ∙ (m3.1.passed k.level on.1
+        ∙ (let few = on.1 in let t : nat_lt k.level 4 ≡ true = grind (arith, nat_tests) in t))) refl
+
+    cleared : at_device b (λ g. cond (nat_le g (number_of p.reads)) false (p.owes b g)) p.owes b branch.birth ≡ false
+    cleared = ap (λ log. log branch.birth) (at_here b b (λ g. cond (nat_le g (number_of p.reads)) false (p.owes b g)) p.owes (same_test b))
+        ∙ low_out (nat_le branch.birth (number_of p.reads)) is_low
       where
-        is_low : nat_le cell.birth (number_of p.reads) ≡ true
+        is_low : nat_le branch.birth (number_of p.reads) ≡ true
         is_low = let low = w.low in grind (arith, nat_tests)
 
-        low_out : (t : Bool) → t ≡ true → cond t false (p.owes b cell.birth) ≡ false
+        low_out : (t : Bool) → t ≡ true → cond t false (p.owes b branch.birth) ≡ false
         low_out true e = refl
         low_out false e = absurd (cc)
 
 -- The whole week.
-pub week_may : (c : Codec) (p : Pool) (a b : ℕ) (cell : Cell) (q : Rec) (vs : List Event) → IsWeek c p a b cell
-    → IsDrawnUp c (pool_after (until_round a cell) p) q
-    → IsLeafOf (pool_after (until_round a cell) p) q b
-    → IsRoundEvents (pool_after (until_round a cell) p).size q (seat (pool_after (until_round a cell) p) a ∷ []) (true ∷ []) vs
-    → Mays c p (until_round a cell ++ (vs ++ resilver b (number_of q) cell))
-    × ((pool_after (until_round a cell ++ vs) p).owes b cell.birth ≡ true)
-    × ((pool_after (until_round a cell ++ (vs ++ resilver b (number_of q) cell)) p).owes b cell.birth ≡ false)
-week_may c p a b cell q vs w drawn knows round = (
-  mays_more c (until_round a cell) (vs ++ resilver b (number_of q) cell) p commit
-      (mays_more c vs (resilver b (number_of q) cell) p3 may (subst (λ n. Mays c p4 (resilver b n cell)) hi back.0)),
-  ap (λ x. x.owes b cell.birth) (pool_more (until_round a cell) vs p) ∙ (ap (λ owes. owes b cell.birth) (ends.owes refl) ∙ owed),
-  ap (λ x. x.owes b cell.birth) (pool_more (until_round a cell) (vs ++ resilver b (number_of q) cell) p ∙ pool_more vs (resilver b (number_of q) cell) p3)
-      ∙ subst (λ n. (pool_after (resilver b n cell) p4).owes b cell.birth ≡ false) hi back.1,
+pub week_may : (c : Codec) (p : Pool) (a b : ℕ) (branch : Branch) (q : Rec) (vs : List Event) → IsWeek c p a b branch
+    → IsDrawnUp c (pool_after (day_until_round a branch) p) q
+    → IsLeafOf (pool_after (day_until_round a branch) p) q b
+    → IsRoundEvents (pool_after (day_until_round a branch) p).size q (seat (pool_after (day_until_round a branch) p) a ∷ []) (true ∷ []) vs
+    → Mays c p (day_until_round a branch ++ (vs ++ resilver b (number_of q) branch))
+    × ((pool_after (day_until_round a branch ++ vs) p).owes b branch.birth ≡ true)
+    × ((pool_after (day_until_round a branch ++ (vs ++ resilver b (number_of q) branch)) p).owes b branch.birth ≡ false)
+week_may c p a b branch q vs w drawn knows round = (
+  mays_more c (day_until_round a branch) (vs ++ resilver b (number_of q) branch) p commit
+      (mays_more c vs (resilver b (number_of q) branch) p3 may (subst (λ n. Mays c p4 (resilver b n branch)) hi back.0)),
+  ap (λ x. x.owes b branch.birth) (pool_more (day_until_round a branch) vs p) ∙ (ap (λ owes. owes b branch.birth) (ends.owes refl) ∙ owed),
+  ap (λ x. x.owes b branch.birth)
+      (pool_more (day_until_round a branch) (vs ++ resilver b (number_of q) branch) p ∙ pool_more vs (resilver b (number_of q) branch) p3)
+      ∙ subst (λ n. (pool_after (resilver b n branch) p4).owes b branch.birth ≡ false) hi back.1,
 )
   where
-    commit : Mays c p (until_round a cell)
-    commit = week_commits c p a b cell w
+    commit : Mays c p (day_until_round a branch)
+    commit = day_commits c p a branch w.day
 
     p3 : Pool
-    p3 = pool_after (until_round a cell) p
+    p3 = pool_after (day_until_round a branch) p
 
     sv3 : Survives c p3
-    sv3 = history_survives c (until_round a cell) p w.survives commit
+    sv3 = history_survives c (day_until_round a branch) p w.day.survives commit
 
     may : Mays c p3 vs
     may = round_may c p3 q (seat p3 a ∷ []) (true ∷ []) vs sv3 drawn
@@ -265,34 +243,27 @@ week_may c p a b cell q vs w drawn knows round = (
     off_board : (a == b) ≡ false
     off_board = let ne = w.two in grind (arith, nat_tests)
 
-    owed : p3.owes b cell.birth ≡ true
-    owed = sv3.boards.off_board refl b cell.birth w.is_b off_board (let born = w.born in omega (arith, born)) (let born = w.born in omega (arith, born))
+    owed : p3.owes b branch.birth ≡ true
+    owed = sv3.boards.off_board refl b branch.birth w.is_b off_board (let born = w.day.born in omega (arith, born))
+        (let born = w.day.born in omega (arith, born))
 
-    reads_are : (k : Key) → p4.reads.cells k ≡ laid_over (only_root cell) p.reads.cells k
-    reads_are k = ap (λ r. r.cells k) ends.reads ∙ drawn.cells_are k
-
-    key_of : (k : Key) (other : Cell) → p4.reads.cells k ≡ Some other → k ≡ root_key
-    key_of k other at = ⊎_elim (λ new. (only_is cell other k new).0) (λ old. absurd (none_some other (sym (w.none k) ∙ old.1)))
-        (laid_of (only_root cell) p.reads.cells k other (sym (reads_are k) ∙ at))
-      where
-        none_some : (other : Cell) → None ≡ Some other → ⊥
-        none_some other e = cc
+    cells_are : (k : Key) → p4.reads.cells k ≡ branch_cells branch k
+    cells_are k = ap (λ r. r.cells k) ends.reads ∙ (drawn.cells_are k ∙ over_none (branch_cells branch k) (p.reads.cells k) (w.day.none k))
 
     hi : number_of p4.reads ≡ number_of q
     hi = ap number_of ends.reads
 
-    owes_root : OwesRoot c p4 b cell
-    owes_root = record {
+    owes_branch : OwesBranch c p4 b branch
+    owes_branch = record {
       survives = history_survives c vs p3 sv3 may;
       opened = ends.opened;
       is_b = ap (λ f. f b) ends.member ∙ w.is_b;
-      root_is = reads_are root_key;
-      only = key_of;
+      cells = cells_are;
       top = ap (λ f. f b) ends.in_top ∙ (knows.top_is ∙ w.b_top);
-      settled = ap (λ f. f b cell.birth) ends.settled ∙ owed;
-      low = let born = w.born in let number = drawn.number_is in omega (arith, born, number, hi);
-      long = w.long;
+      settled = ap (λ f. f branch.birth) (ap (λ f. f b) ends.settled) ∙ owed;
+      low = let born = w.day.born in let number = drawn.number_is in omega (arith, born, number, hi);
+      long = w.day.long;
     }
 
-    back : Mays c p4 (resilver b (number_of p4.reads) cell) × ((pool_after (resilver b (number_of p4.reads) cell) p4).owes b cell.birth ≡ false)
-    back = resilver_may c p4 b cell owes_root
+    back : Mays c p4 (resilver b (number_of p4.reads) branch) × ((pool_after (resilver b (number_of p4.reads) branch) p4).owes b branch.birth ≡ false)
+    back = resilver_may c p4 b branch owes_branch

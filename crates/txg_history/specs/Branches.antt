@@ -2,7 +2,7 @@
 -- opening finds the record.
 use Rattle.std.specs.Prelude.{◌≡◌, ℕ, suc, ◌+◌, ◌<◌, ◌≤◌, ◌==◌, ◌&&◌, nat_lt, Bool, true, false, cond, List, [], ◌∷◌, ◌++◌, length, Some, None}
 use Rattle.mp_base.specs.declared.place.Key.{Key}
-use Rattle.bank_core.specs.Disk.{Noted, after_crash}
+use Rattle.bank_core.specs.Disk.{Write, Flush, Noted, after_crash}
 use Rattle.label_store.specs.declared.uberblock.Uberblock.{Uberblock}
 use Rattle.txg_history.specs.Calm.{stable_of}
 use Rattle.txg_history.specs.Events.{Event, Calls, Accepts, Freezes, Wrote, Flushed, Begins, Looks, Opens, Stops, as_events}
@@ -11,9 +11,8 @@ use Rattle.txg_history.specs.Pages.{Codec, IsPageOf}
 use Rattle.txg_history.specs.Places.{IsFree}
 use Rattle.txg_history.specs.Pools.{Pool, after, pool_after}
 use Rattle.txg_history.specs.Premises.{Premises}
-use Rattle.txg_history.specs.Records.{Rec, Cell, Cells, key, block_at, block_in}
+use Rattle.txg_history.specs.Records.{Rec, Cell, Cells, key, block_at, block_in, data_start}
 use Rattle.txg_history.specs.Survival.{Survives}
-use Rattle.txg_history.specs.Weeks.{writes_well, flushes_well}
 
 -- The block of address 0 and the page above it on each level, by their levels. Each stands on the sector of its level's number.
 pub record Branch : Type 0 where
@@ -43,6 +42,13 @@ pub record IsDay (c : Codec) (p : Pool) (a : ℕ) (b : Branch) : Type 0 where
   pub long : (level : ℕ) → level < 4 → length (b.bytes level) ≡ 4096
   pub formed : (level : ℕ) → level < 3 → c.is_page (b.bytes (suc level)) ≡ true
   pub pages : (level : ℕ) → level < 3 → IsPageOf c (b.bytes (suc level)) (branch_cells b) level 0
+
+-- calls that answer Ok, with no damage
+abbrev pub writes_well : (d : ℕ) → Cell → Noted
+writes_well d cell = record { call = Write d (data_start + cell.sector) cell.block None; damage = λ e s. false }
+
+abbrev pub flushes_well : (d : ℕ) → Noted
+flushes_well d = record { call = Flush d None; damage = λ e s. false }
 
 -- the write turn of the key on a level
 abbrev pub turn_on : (a : ℕ) → Branch → (level : ℕ) → List Event

@@ -13,28 +13,28 @@ ghost use Rattle.txg_history.specs.Events.{Event, Draws};
 ghost use Rattle.txg_history.specs.Moves.{MayFreeze, IsLeafOf, IsDrawnUp, Mays};
 ghost use Rattle.txg_history.specs.Pages.{Codec};
 ghost use Rattle.txg_history.specs.Pools.{Pool, drawn, seat, pool_after};
-ghost use Rattle.txg_history.specs.Records.{Rec, Cell, Cells, IsIn, number_of};
+ghost use Rattle.txg_history.specs.Records.{Rec, Cells, IsIn, number_of};
 ghost use Rattle.txg_history.specs.Rounds.{all_true, IsRoundEvents};
 ghost use Rattle.txg_history.specs.Survival.{Survives};
 ghost use Rattle.txg_history.specs.Turns.{AreJust, OnBoard};
-ghost use Rattle.txg_history.specs.Weeks.{IsWeek, until_round, resilver, suspended};
+ghost use Rattle.txg_history.specs.Weeks.{IsWeek, resilver, suspended};
 
 /// Small histories are allowed, and end as they should. It computes nothing: its clauses are tests of the moves.
 ///
-/// `week`: a leaf is away from a commit, owes its group, comes back, and a resilver copies the one key and clears its
-/// log. `suspends`: a leaf fails in a group, a further number is drawn, and the group is suspended: each leaf's log is
+/// `week`: a leaf is away from the commit of a block, owes its group, comes back, and a resilver copies the block and the pages
+/// above it and clears its log. `suspends`: a leaf fails in a group, a further number is drawn, and the group is suspended: each leaf's log is
 /// as it was. `further`: a leaf fails in a round, a further number is drawn, and a round of the same keys follows over the
 /// leaves that are left. `day`: a block is written and committed with a page above it on each level, the machine stops, and an
 /// opening finds the record with the block. Its premises hold where no label sector of the leaf is damaged, no opening before missed a
 /// record, and no configuration there has the sum of another.
 pub fn small_histories_are_allowed()
-    ensures week { (c : Codec) (p : Pool) (a b : ℕ) (cell : Cell) (q : Rec) (vs : List Event) → IsWeek c p a b cell
-        → IsDrawnUp c (pool_after (until_round a cell) p) q
-        → IsLeafOf (pool_after (until_round a cell) p) q b
-        → IsRoundEvents (pool_after (until_round a cell) p).size q (seat (pool_after (until_round a cell) p) a ∷ []) (true ∷ []) vs
-        → Mays c p (until_round a cell ++ (vs ++ resilver b (number_of q) cell))
-        × ((pool_after (until_round a cell ++ vs) p).owes b cell.birth ≡ true)
-        × ((pool_after (until_round a cell ++ (vs ++ resilver b (number_of q) cell)) p).owes b cell.birth ≡ false) }
+    ensures week { (c : Codec) (p : Pool) (a b : ℕ) (branch : Branch) (q : Rec) (vs : List Event) → IsWeek c p a b branch
+        → IsDrawnUp c (pool_after (day_until_round a branch) p) q
+        → IsLeafOf (pool_after (day_until_round a branch) p) q b
+        → IsRoundEvents (pool_after (day_until_round a branch) p).size q (seat (pool_after (day_until_round a branch) p) a ∷ []) (true ∷ []) vs
+        → Mays c p (day_until_round a branch ++ (vs ++ resilver b (number_of q) branch))
+        × ((pool_after (day_until_round a branch ++ vs) p).owes b branch.birth ≡ true)
+        × ((pool_after (day_until_round a branch ++ (vs ++ resilver b (number_of q) branch)) p).owes b branch.birth ≡ false) }
     ensures day { (c : Codec) (p : Pool) (a : ℕ) (b : Branch) (q : Rec) (vs : List Event) (size : ℕ → ℕ) → IsDay c p a b
         → IsDrawnUp c (pool_after (day_until_round a b) p) q
         → IsRoundEvents (pool_after (day_until_round a b) p).size q (seat (pool_after (day_until_round a b) p) a ∷ []) (true ∷ []) vs
