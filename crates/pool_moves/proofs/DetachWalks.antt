@@ -187,7 +187,8 @@ suspended_are : (c : Codec) (size : ℕ → ℕ) (s : PoolState) (part : List Mo
 suspended_are c size s part group top faults commit = let are = commit_moves c size s part (Suspended group top faults) commit in let last = are.burns refl in
     record { freeze = are.freeze; is_freeze = are.is_freeze; body = last.body; within = last.within; moves = are.moves ∙ ap (λ l. are.freeze ∷ l) last.moves }
 
-commit_of : (c : Codec) (size : ℕ → ℕ) (s : PoolState) (part : List Move) (turn : TurnReply) → CommitsOpen c size s part turn → AllByRecursion IsOfCommit part
+pub commit_of : (c : Codec) (size : ℕ → ℕ) (s : PoolState) (part : List Move) (turn : TurnReply) → CommitsOpen c size s part turn
+    → AllByRecursion IsOfCommit part
 commit_of c size s part turn commit = let are = commit_moves c size s part turn commit in
     subst (AllByRecursion IsOfCommit) (sym are.moves) (freeze_of are.freeze are.is_freeze, are.of_commit)
 

@@ -115,7 +115,7 @@ new_range : (graft : Graft) (s : PoolState) → s.own.next_member + 1 < last_mem
 new_range Attach s low = (below_all s.own.next_member low).0
 new_range Replace s low = (below_all s.own.next_member low).1
 
-new_above : (graft : Graft) (s : PoolState) → s.own.next_member ≤ (new_number graft s).0
+pub new_above : (graft : Graft) (s : PoolState) → s.own.next_member ≤ (new_number graft s).0
 new_above Attach s = omega arith
 new_above Replace s = omega arith
 

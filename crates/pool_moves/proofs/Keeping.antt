@@ -158,7 +158,7 @@ seated_kept (Shapes top children) t ok all = all
 seated_kept v t ok all = all_map (IsSeated t.pool.member) (IsSeated t.pool.member) (seat_step v t.pool) (seated_map v t.pool t.pool.member) t.seats all
 
 -- A leaf's number stays.
-number_stays : (v : Move) (number first hi : ℕ) (leaf : LeafSeen) → (leaf_step v number first hi leaf).guid ≡ leaf.guid
+pub number_stays : (v : Move) (number first hi : ℕ) (leaf : LeafSeen) → (leaf_step v number first hi leaf).guid ≡ leaf.guid
 number_stays (Sets m own) number first hi leaf = by (leaf.guid.0 == m.0)
   where
     by : (t : Bool) → (cond t (record leaf { own = own }) leaf).guid ≡ leaf.guid
@@ -453,7 +453,7 @@ under_new in_top top [] (suc i) seat is = inl is
 under_new in_top top (x ∷ seats) (suc i) seat is = inr (under_new in_top top seats i seat is)
 
 -- a leaf's top stays
-top_stays : (v : Move) (number first hi : ℕ) (leaf : LeafSeen) → (leaf_step v number first hi leaf).top ≡ leaf.top
+pub top_stays : (v : Move) (number first hi : ℕ) (leaf : LeafSeen) → (leaf_step v number first hi leaf).top ≡ leaf.top
 top_stays (Sets m own) number first hi leaf = by (leaf.guid.0 == m.0)
   where
     by : (t : Bool) → (cond t (record leaf { own = own }) leaf).top ≡ leaf.top

@@ -28,4 +28,6 @@ pub mod Seeing
 pub mod Seeking
 pub mod Shaping
 pub mod StampWalks
+pub mod TreeEdits
+pub mod TreeLeaves
 pub mod TurnWalks

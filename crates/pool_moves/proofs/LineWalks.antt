@@ -215,7 +215,8 @@ open_walks c size s t vs reply kept same row = let walks = freeze_walks c s t ro
     (group_walks c size (steps row.first s) (after_moves row.first t) row.rest reply (walk_keeps c row.first s t walks kept) (sized_along size row.first t same) row.ends))
 
 -- A freeze as a line.
-freeze_for : (c : Codec) (refusal : Option FreezeRefusal) (s : PoolState) (t : Side) (vs : List Move) (reply : FreezeReply) → Kept c s t → FreezeFor refusal c s vs reply → Walks c t vs
+freeze_for : (c : Codec) (refusal : Option FreezeRefusal) (s : PoolState) (t : Side) (vs : List Move) (reply : FreezeReply) → Kept c s t
+    → FreezeFor refusal c s vs reply → Walks c t vs
 freeze_for c (Some refusal) s t vs reply kept row = subst (Walks c t) (sym row.0) tt
 freeze_for c None s t vs reply kept row = freeze_walks c s t vs kept row.0
 
@@ -227,7 +228,8 @@ pub freeze_line_walks : (c : Codec) (s : PoolState) (t : Side) (vs : List Move) 
 freeze_line_walks c s t vs reply kept row = freeze_by c s.core.group.frozen s t vs reply kept row
 
 -- A sync.
-commits_for : (c : Codec) (size : ℕ → ℕ) (refusal : Option FreezeRefusal) (s : PoolState) (t : Side) (vs : List Move) (reply : SyncReply) → Kept c s t → IsSized size t
+commits_for : (c : Codec) (size : ℕ → ℕ) (refusal : Option FreezeRefusal) (s : PoolState) (t : Side) (vs : List Move) (reply : SyncReply) → Kept c s t
+    → IsSized size t
     → CommitsFor refusal c size s vs reply → Walks c t vs
 commits_for c size (Some refusal) s t vs reply kept same row = subst (Walks c t) (sym row.0) tt
 commits_for c size None s t vs reply kept same row = open_walks c size s t vs row.0 kept same row.1

@@ -20,6 +20,7 @@ pub mod Rosters
 pub mod ScanRows
 pub mod StampRow
 pub mod States
+pub mod TreeLeaves
 pub mod TreeRows
 pub mod Trees
 pub mod TurnRows

@@ -17,4 +17,4 @@ pub use rows::{
     reads_give_the_block, turns_may_be_made,
 };
 pub use scans::scans_may_be_made;
-pub use trees::trees_may_be_changed;
+pub use trees::{trees_have_the_leaves, trees_may_be_changed};

@@ -55,16 +55,19 @@ pub fn freezes_may_be_made()
 /// turn: a further number, an acknowledgement, or the group suspended. `sync`: a group ended by its turns, and a new one
 /// frozen and ended. The run has the devices with the sectors that the history says (`IsSized`).
 pub fn turns_may_be_made()
-    ensures turn { (c : Codec) (size : ℕ → ℕ) (s : PoolState) (t : Side) (vs : List Move) (reply : TurnReply) → Kept c s t → IsSized size t → RowTurn c size s vs reply
+    ensures turn { (c : Codec) (size : ℕ → ℕ) (s : PoolState) (t : Side) (vs : List Move) (reply : TurnReply) → Kept c s t → IsSized size t
+        → RowTurn c size s vs reply
         → Walks c t vs }
-    ensures sync { (c : Codec) (size : ℕ → ℕ) (s : PoolState) (t : Side) (vs : List Move) (reply : SyncReply) → Kept c s t → IsSized size t → RowSync c size s vs reply
+    ensures sync { (c : Codec) (size : ℕ → ℕ) (s : PoolState) (t : Side) (vs : List Move) (reply : SyncReply) → Kept c s t → IsSized size t
+        → RowSync c size s vs reply
         → Walks c t vs }
 {}
 
 /// A write may be taken, and a leaf may go offline, also in the middle of a group. It computes nothing: its clauses are the
 /// law.
 pub fn leaves_may_go_offline()
-    ensures write { (c : Codec) (s : PoolState) (t : Side) (a : ℕ) (block : List ℕ) (vs : List Move) (reply : WriteReply) → RowWrite s a block vs reply → Walks c t vs }
+    ensures write { (c : Codec) (s : PoolState) (t : Side) (a : ℕ) (block : List ℕ) (vs : List Move) (reply : WriteReply) → RowWrite s a block vs reply
+        → Walks c t vs }
     ensures offline { (c : Codec) (s : PoolState) (t : Side) (name : List ℕ) (temporary : Bool) (vs : List Move) (reply : OfflineReply) → Kept c s t
         → RowOffline s name temporary vs reply → Walks c t vs }
 {}
