@@ -33,14 +33,14 @@ use Rattle.pool_moves.specs.LineRows.{IsSized, TurnReply, Idle, Write, Flush, Ro
 use Rattle.pool_moves.specs.Leaves.{Seat}
 use Rattle.pool_moves.specs.Moves.{Move, steps, after_moves}
 use Rattle.pool_moves.specs.Opened.{opened_seats, claims_of}
-use Rattle.pool_moves.specs.OpeningRow.{IsLiveOne, SeeksLive, SeekReply, NoRecord, NumbersEnd, TakesRecord, seek_reply, taken_by, last_numbers, RowSeek, AreSought, OpenReply, Opens_state, NoPage, RowOpen, RowResume}
+use Rattle.pool_moves.specs.OpeningRow.{IsLiveOne, SeeksLive, SeekReply, NoRecord, NumbersEnd, TakesRecord, seek_reply, taken_by, last_numbers, RowSeek, OpenReply, Opens_state, NoPage, RowOpen, RowResume}
 use Rattle.pool_moves.specs.States.{PoolState, Side}
 use Rattle.pool_moves.specs.Walking.{as_moves}
 use Rattle.pool_moves.proofs.CommitWalks.{opened_kept}
 use Rattle.pool_moves.proofs.Keeping.{walk_keeps}
 use Rattle.pool_moves.proofs.OpeningWalks.{opening_opens, opening_may}
 use Rattle.pool_moves.proofs.ResilverWalks.{resume_walks}
-use Rattle.pool_moves.proofs.Seeking.{reads_may, seeks_live, sought_no_twin}
+use Rattle.pool_moves.proofs.Seeking.{reads_may, seeks_live, row_no_twin}
 use Rattle.pool_runs.specs.Acts.{Act, Opening, Looked, Shows, Reads_as, Enters, Closes, does, bare, calls_along, is_record_of, record_of, read_by, events_for, pool_by, pool_along}
 use Rattle.pool_runs.specs.Devices.{Device, number_in, size_in, handed}
 use Rattle.pool_runs.specs.Fairness.{IsFair, IsFairOpening, AreFair}
@@ -370,9 +370,7 @@ opening_facts c h p name found acts reply one opens knows found_one made fair = 
     is = record_live p found one found_one
 
     twin : HasNoTwin p (read_by (opening_of c h name found acts reply opens) p) (claims_of (c.leaves found.blob.items) opens.row.devs)
-    twin = sought_no_twin c p r (size_in h.table) (c.room found.blob.items) (λ device. number_in device h.table) (c.leaves found.blob.items) opens.row.ids opens.row.devs knows.survives knows.sizes
-        (subst (λ g. AreSought g (size_in h.table) (c.room found.blob.items) (λ device. number_in device h.table) (c.leaves found.blob.items) opens.row.ids opens.row.devs) is.pool_is opens.row.sought)
-        fair.whole fair.members
+    twin = row_no_twin c (size_in h.table) (λ device. number_in device h.table) name p r found opens.made opens.outcome knows.survives knows.sizes is opens.row fair.whole fair.members
 
     answers : AllAnswer p.sectors opens.made
     answers = opening_answers h p opens.made (calls_along opens.rest) (subst (AreMade h) (opening_calls c h name found acts reply opens) made) knows.disk
