@@ -44,7 +44,7 @@ opened_kept c s t o = record {
 }
 
 -- counts that begin anew
-uncounts_set : (leaves : List LeafSeen) → AllByRecursion IsSet (uncounts leaves)
+pub uncounts_set : (leaves : List LeafSeen) → AllByRecursion IsSet (uncounts leaves)
 uncounts_set [] = tt
 uncounts_set (leaf ∷ leaves) = (tt, uncounts_set leaves)
 

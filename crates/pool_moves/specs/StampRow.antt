@@ -20,6 +20,7 @@ use Rattle.pool_moves.specs.LineRows.{has_number}
 use Rattle.pool_moves.specs.Moves.{Move, Flushed_all, steps}
 use Rattle.pool_moves.specs.Opened.{no_counts}
 use Rattle.pool_moves.specs.States.{no_group_seen, no_scan_seen, PoolState, Side}
+use Rattle.pool_moves.specs.Trees.{Child, Plain, Single}
 
 -- A device that a create names for one of its tops.
 pub record NewMember : Type 0 where
@@ -96,6 +97,11 @@ abbrev pub AreDevicesApart : List NewLeaf → Type 0
 AreDevicesApart [] = Unit {0}
 AreDevicesApart (leaf ∷ leaves) = AllByRecursion (λ other. (leaf.dev == other.dev) ≡ false) leaves × AreDevicesApart leaves
 
+-- the children of a top's mirror
+abbrev pub children_under : List NewLeaf → (top : ℕ) → List Child
+children_under [] top = []
+children_under (leaf ∷ leaves) top = cond (leaf.top == top) (Plain (Single leaf.guid) ∷ children_under leaves top) (children_under leaves top)
+
 -- What a create asks for, where nothing of it is refused: a volume, tops and leaves within the limits, and devices that differ and
 -- have the room of four labels.
 pub record IsNew (size : ℕ → ℕ) (blocks : ℕ) (tops : List (List NewMember)) : Type 0 where
@@ -166,10 +172,6 @@ new_leaf_seen leaf = record {
 abbrev pub new_seat : NewLeaf → Seat
 new_seat leaf = At leaf.dev true (new_own leaf)
 
--- each leaf is a child of its top's mirror
-abbrev pub new_children : List NewLeaf → (top : ℕ) → List Child
-new_children leaves top = map (λ leaf. Plain (Single leaf.guid)) (filter (λ leaf. leaf.top == top) leaves)
-
 -- its state, before its first commit
 abbrev pub new_state : (size : ℕ → ℕ) → (name : List ℕ) → (pool : Guid) → (blocks : ℕ) → List (List NewMember) → PoolState
 new_state size name pool blocks tops = record {
@@ -177,7 +179,7 @@ new_state size name pool blocks tops = record {
     blocks = blocks;
     writes = λ a. None;
     top_number = new_top_number tops;
-    children = new_children (new_leaves tops);
+    children = children_under (new_leaves tops);
     spares = [];
     next_member = next_from 1 tops;
     scrubs = false;

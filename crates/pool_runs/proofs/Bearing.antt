@@ -374,6 +374,7 @@ born_headline c h name blocks tops acts reply entries k new run =
         names = λ n d is. new.names n d (sym (ap (λ table. number_in n table) table_is) ∙ is);
         sizes = λ d one. ap (λ table. size_in table d) (sym table_is);
         disk = λ d s one. refl;
+        stands = λ s is number. known.0.stands s is number;
       };
       knows = known.0;
       may = bears_may c h name blocks tops acts reply k new;

@@ -49,7 +49,7 @@ module _ (P : Move → Type 0) (k : IsKind P) where
   all_calls [] = tt
   all_calls (noted ∷ made) = (k.calls noted, all_calls made)
 
-  all_widens : (s : PoolSeen) (vs : List Move) → AreWidens s vs → All vs
+  pub all_widens : (s : PoolSeen) (vs : List Move) → AreWidens s vs → All vs
   all_widens s [] are = tt
   all_widens s (Widen m low high ∷ vs) are = (k.widen m low high, all_widens (step (Widen m low high) s) vs are.2)
   all_widens s (v ∷ vs) are = absurd are
@@ -210,7 +210,7 @@ module _ (P : Move → Type 0) (k : IsKind P) where
   all_found freezes c size s vs whole row = subst All (sym row.moves) (more P (row.first ++ (Flushed_all ∷ [])) row.round
       (more P row.first (Flushed_all ∷ []) (all_empty freezes s row.first row.freeze) (k.flushed, tt)) (all_round c size (steps (row.first ++ (Flushed_all ∷ [])) s).core row.round whole row.ends))
 
-  all_uncounts : (leaves : List LeafSeen) → All (uncounts leaves)
+  pub all_uncounts : (leaves : List LeafSeen) → All (uncounts leaves)
   all_uncounts [] = tt
   all_uncounts (leaf ∷ leaves) = (k.set _ _, all_uncounts leaves)
 

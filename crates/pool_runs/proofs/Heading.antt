@@ -40,14 +40,19 @@ use Rattle.txg_history.proofs.Folding.{mays_first, mays_second, pool_more}
 use Rattle.txg_history.proofs.ScansBring.{cleared_copied, groups_leave}
 use Rattle.txg_history.proofs.Surviving.{survives_sound}
 use Rattle.pool_moves.specs.AwayRows.{OfflineReply, Gone, Required, LeastOut, IsRequired, is_offline, is_spare, leaf_named, siblings, OfflineLeaf, OfflineHere, OfflineBy}
+use Rattle.pool_moves.specs.Keeping.{Kept}
 use Rattle.pool_moves.specs.Leaves.{LeafSeen}
+use Rattle.pool_moves.specs.LineRows.{SyncReply, Ended, Committed, RowSync}
 use Rattle.pool_moves.specs.Missing.{AllMissed}
-use Rattle.pool_moves.specs.Moves.{Move}
+use Rattle.pool_moves.specs.Moves.{Move, steps, after_moves}
 use Rattle.pool_moves.specs.ReadRow.{ReadReply, Gives, Exhausted, RowRead, made_in}
 use Rattle.pool_moves.specs.States.{PoolState, Side}
+use Rattle.pool_moves.proofs.Keeping.{walk_keeps}
+use Rattle.pool_moves.proofs.LineWalks.{sync_walks}
 use Rattle.pool_moves.proofs.Missing.{exhausted_missed}
 use Rattle.pool_moves.proofs.ReadWalks.{read_right}
 use Rattle.pool_runs.specs.Acts.{Act, Hears, calls_along, pool_along, history}
+use Rattle.pool_runs.specs.Committing.{CommitsAll, FindsPool}
 use Rattle.pool_runs.specs.Counting.{SomeRose, HasLostBoard, Suspends}
 use Rattle.pool_runs.specs.Devices.{number_in, size_in}
 use Rattle.pool_runs.specs.Fairness.{AreFair}
@@ -55,12 +60,14 @@ use Rattle.pool_runs.specs.Headline.{TakesFor, IsRequiredFor, Headline}
 use Rattle.pool_runs.specs.HostRows.{AreMade, ReadLine, TurnLine, SyncLine, OfflineLine, OnPool, RowOf, HostRow, acts_in, IsRun}
 use Rattle.pool_runs.specs.Hosts.{Host, IsOpen, named, host_by, host_along}
 use Rattle.pool_runs.specs.Knowing.{HasSeats, Knows, MayActs}
-use Rattle.pool_runs.specs.Lines.{Asked, Asks_read, Asks_turn, Asks_sync, Asks_offline, Reply, To_read, To_offline, No_memory, Entry}
+use Rattle.pool_runs.specs.Lines.{Asked, Asks_read, Asks_turn, Asks_sync, Asks_offline, Asks_import, Reply, To_read, To_sync, To_import, To_offline, ImportReply, Opened, NothingFound, No_memory, Entry}
 use Rattle.pool_runs.specs.Moments.{Moment, events_at, pool_at, past_at, host_at, LineOf, pool_before, host_before, calls_in_line, IsOpenAs}
 use Rattle.pool_runs.specs.Pasts.{Past, pool_of, then_all, Left, BeginsRun, HasFrozen}
 use Rattle.pool_runs.proofs.Acting.{acts_more, history_pool}
 use Rattle.pool_runs.proofs.Answering.{all_answer, does_calls, read_calls}
+use Rattle.pool_runs.proofs.Committing.{sync_all, does_pool}
 use Rattle.pool_runs.proofs.Counting.{NoFault, fault_or, turn_suspends, sync_suspends, line_answered}
+use Rattle.pool_runs.proofs.Finding.{import_finds}
 use Rattle.pool_runs.proofs.Knowing.{may_more, acts_keep, acts_number}
 use Rattle.pool_runs.proofs.Members.{entry_keeps}
 use Rattle.pool_runs.proofs.Moments.{has_moment, acts_mays, keeps_all, may_take, acts_table, host_more, run_at, run_front}
@@ -93,18 +100,16 @@ at_left : (c : Codec) (past : Past) (h : Host) (acts : List Act) (entries : List
 at_left c past h acts entries f m = let known = at_known c past h acts entries f m in
     let table_is = acts_table (take m.count (acts ++ acts_in entries)) h in
     let same = at_pool c past acts entries m in record {
-      allowed = then_allowed c past (events_at m) f.left.allowed (at_mays c past h acts entries f m);
-      names = λ name d is. ap (λ called. called d) (then_called past (events_at m)) ∙ f.left.names name d (sym (ap (λ table. number_in name table) table_is) ∙ is);
-      sizes = λ d one. ap (λ q. q.size d) same ∙ known.sizes d one;
-      disk = λ d s one. ap (λ q. q.sectors d s) same ∙ known.disk d s one;
-    }
+  allowed = then_allowed c past (events_at m) f.left.allowed (at_mays c past h acts entries f m);
+  names = λ name d is. ap (λ called. called d) (then_called past (events_at m)) ∙ f.left.names name d (sym (ap (λ table. number_in name table) table_is) ∙ is);
+  sizes = λ d one. ap (λ q. q.size d) same ∙ known.sizes d one;
+  disk = λ d s one. ap (λ q. q.sectors d s) same ∙ known.disk d s one;
+  stands = λ s is number. subst (HasSeats c s) (sym same) (known.stands s is (number ∙ ap (λ q. q.pool.0) same));
+}
 
 at_contents : (c : Codec) (past : Past) (h : Host) (acts : List Act) (entries : List Entry) → Follows c past h acts entries → (m : Moment c past acts entries) (r : Rec) → IsIn r (pool_at m).live
     → HasFrozen (past_at m) r
 at_contents c past h acts entries f m r live = live_frozen c (past_at m) (at_left c past h acts entries f m).allowed r (subst (λ q. IsIn r q.live) (sym (at_pool c past acts entries m)) live)
-
-at_number : (c : Codec) (past : Past) (acts : List Act) (entries : List Entry) (m : Moment c past acts entries) → (pool_at m).pool.0 ≡ (pool_of past).pool.0
-at_number c past acts entries m = ap (λ n. n.0) (acts_number (take m.count (acts ++ acts_in entries)) (pool_of past))
 
 -- Scans.
 takes_for : (c : Codec) (p : Pool) (before : List Event) (v : Event) (d g : ℕ) → Survives c p → p.scan.running ≡ false → Mays c p (before ++ (v ∷ [])) → (pool_after before p).member d ≡ true
@@ -150,6 +155,15 @@ read_reply a b e = cc
 offline_reply : (a b : OfflineReply) → To_offline a ≡ To_offline b → a ≡ b
 offline_reply a b e = cc
 
+sync_reply : (a b : SyncReply) → To_sync a ≡ To_sync b → a ≡ b
+sync_reply a b e = cc
+
+import_not_memory : {A : Type 0} (a : ImportReply) → To_import a ≡ No_memory → A
+import_not_memory a e = absurd (cc)
+
+sync_not_memory : {A : Type 0} (a : SyncReply) → To_sync a ≡ No_memory → A
+sync_not_memory a e = absurd (cc)
+
 read_not_memory : {A : Type 0} (a : ReadReply) → To_read a ≡ No_memory → A
 read_not_memory a e = absurd (cc)
 
@@ -181,6 +195,30 @@ line_loses c h p e name a s met asked at is = of met.row
         (all_answer h.table (made_in line.2.moves) h.disk p.sectors made.here (λ d x one. sym (met.knows.disk d x one)) made.answer)
         (subst (RowRead s a line.2.moves) (read_reply line.0 Exhausted (sym line.1 ∙ is)) line.2.row))
     of (inr out) = read_not_memory Exhausted (sym is ∙ out.says)
+
+-- An import finds the pool.
+line_opens : (c : Codec) (h : Host) (p : Pool) (e : Entry) → Meets c h p e → e.asked ≡ Asks_import p.name → AreFair c p e.acts → FindsPool p (pool_along e.acts p) e.reply
+line_opens c h p e met asked fair = of met.row
+  where
+    of : HostRow c h e → FindsPool p (pool_along e.acts p) e.reply
+    of (inl row) = import_finds c h p p.name e.acts e.reply met.knows refl row.1 fair (subst (λ x. RowOf c h x e.acts e.reply) asked row.0)
+    of (inr out) = record { some = λ says. import_not_memory NothingFound (sym says ∙ out.says); opened = λ n says. import_not_memory (Opened n) (sym says ∙ out.says) }
+
+-- A sync acknowledges what was written.
+line_syncs : (c : Codec) (h : Host) (p : Pool) (e : Entry) (name : List ℕ) (s : PoolState) (n : ℕ) → Meets c h p e → e.asked ≡ Asks_sync name → IsOpenAs p h name s
+    → e.reply ≡ To_sync (Ended (Committed n)) → CommitsAll p (pool_along e.acts p) n
+line_syncs c h p e name s n met asked at is = of met.row
+  where
+    of : HostRow c h e → CommitsAll p (pool_along e.acts p) n
+    of (inl row) = let line = on_open h name s (SyncLine c h) e.acts e.reply at.named (subst (λ x. RowOf c h x e.acts e.reply) asked row.0) in
+        let has = met.knows.stands s (named_open name s h.pools at.named) at.ours in
+        let t : Side = record { pool = p; seats = has.0 } in
+        let vs = line.2.moves in
+        let done : RowSync c (size_in h.table) s vs (Ended (Committed n)) = subst (RowSync c (size_in h.table) s vs) (sync_reply line.0 (Ended (Committed n)) (sym line.1 ∙ is)) line.2.row in
+        let kept : Kept c (steps vs s) (after_moves vs t) = walk_keeps c vs s t (sync_walks c (size_in h.table) s t vs (Ended (Committed n)) has.1 met.knows.sizes done) has.1 in
+        subst (λ q. CommitsAll p q n) (sym (ap (λ a. pool_along a p) line.2.are ∙ does_pool s.core.pool.0 vs t (sym at.ours)))
+        (sync_all c (size_in h.table) s t vs n kept done)
+    of (inr out) = sync_not_memory (Ended (Committed n)) (sym is ∙ out.says)
 
 -- The outage rule.
 least_one : (leaves : List LeafSeen) (g k : ℕ) → LeastOut leaves g → LeastOut leaves k → g ≡ k
@@ -240,9 +278,10 @@ pub headline_from : (c : Codec) (past : Past) (h : Host) (acts : List Act) (entr
 headline_from c past h acts entries f = record {
   moments = has_moment past acts entries;
   left = at_left c past h acts entries f;
-  stands = λ m s is number. (at_known c past h acts entries f m).stands s is (number ∙ sym (at_number c past acts entries m));
   sound = λ m. survives_sound c (pool_at m) (at_known c past h acts entries f m).survives;
   contents = at_contents c past h acts entries f;
+  opens = λ l asked fair. line_opens c (host_before h l) (pool_before l) l.entry (meets c past h acts entries f l) asked fair;
+  syncs = λ l name s n asked at is. line_syncs c (host_before h l) (pool_before l) l.entry name s n (meets c past h acts entries f l) asked at is;
   reads = λ l name a s bytes asked at is. line_reads c (host_before h l) (pool_before l) l.entry name a s bytes (meets c past h acts entries f l) asked at is;
   loses = λ l name a s asked at is. line_loses c (host_before h l) (pool_before l) l.entry name a s (meets c past h acts entries f l) asked at is;
   required = λ l name device temporary s leaf group asked at is plain up. line_required c (host_before h l) (pool_before l) l.entry name device temporary s leaf group (meets c past h acts entries f l) asked at is plain up;

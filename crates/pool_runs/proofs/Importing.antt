@@ -33,14 +33,14 @@ use Rattle.pool_moves.specs.LineRows.{IsSized, TurnReply, Idle, Write, Flush, Ro
 use Rattle.pool_moves.specs.Leaves.{Seat}
 use Rattle.pool_moves.specs.Moves.{Move, steps, after_moves}
 use Rattle.pool_moves.specs.Opened.{opened_seats, claims_of}
-use Rattle.pool_moves.specs.OpeningRow.{IsLiveOne, SeekReply, NoRecord, NumbersEnd, TakesRecord, seek_reply, taken_by, last_numbers, RowSeek, AreSought, OpenReply, Opens_state, NoPage, RowOpen, RowResume}
+use Rattle.pool_moves.specs.OpeningRow.{IsLiveOne, SeeksLive, SeekReply, NoRecord, NumbersEnd, TakesRecord, seek_reply, taken_by, last_numbers, RowSeek, OpenReply, Opens_state, NoPage, RowOpen, RowResume}
 use Rattle.pool_moves.specs.States.{PoolState, Side}
 use Rattle.pool_moves.specs.Walking.{as_moves}
 use Rattle.pool_moves.proofs.CommitWalks.{opened_kept}
 use Rattle.pool_moves.proofs.Keeping.{walk_keeps}
 use Rattle.pool_moves.proofs.OpeningWalks.{opening_opens, opening_may}
 use Rattle.pool_moves.proofs.ResilverWalks.{resume_walks}
-use Rattle.pool_moves.proofs.Seeking.{reads_may, seeks_live, sought_no_twin}
+use Rattle.pool_moves.proofs.Seeking.{reads_may, seeks_live, row_no_twin}
 use Rattle.pool_runs.specs.Acts.{Act, Opening, Looked, Shows, Reads_as, Enters, Closes, does, bare, calls_along, is_record_of, record_of, read_by, events_for, pool_by, pool_along}
 use Rattle.pool_runs.specs.Devices.{Device, number_in, size_in, handed}
 use Rattle.pool_runs.specs.Fairness.{IsFair, IsFairOpening, AreFair}
@@ -133,7 +133,7 @@ calls_state : (made : List Noted) (s : PoolState) → steps (as_moves made) s �
 calls_state [] s = refl
 calls_state (noted ∷ made) s = calls_state made s
 
-calls_side : (made : List Noted) (t : Side) → after_moves (as_moves made) t ≡ record { pool = pool_after (as_events made) t.pool; seats = t.seats }
+pub calls_side : (made : List Noted) (t : Side) → after_moves (as_moves made) t ≡ record { pool = pool_after (as_events made) t.pool; seats = t.seats }
 calls_side [] t = refl
 calls_side (noted ∷ made) t = calls_side made (record { pool = after (Calls noted) t.pool; seats = t.seats })
 
@@ -351,12 +351,47 @@ opens_more c h p name found acts reply r opens number knows mays seats none own 
     own3 : AreOwnActs g h3 opens.rest
     own3 = bare_own g h2 pages opens.rest (own_second g h1 shown (bare pages ++ opens.rest) (bare_own g h ids (shown ++ (bare pages ++ opens.rest)) own))
 
+-- what an opening reads, as far as it is fair
+abbrev pub opening_of : (c : Codec) (h : Host) (name : List ℕ) (found : Found) (acts : List Act) (reply : Reply) → OpensFound c h name found acts reply → Opening
+opening_of c h name found acts reply opens = record { name = name; found = found; devs = opens.row.devs; ids = opens.row.ids; bytes = opens.row.bytes }
+
+pub record OpeningFacts (c : Codec) (h : Host) (p : Pool) (name : List ℕ) (found : Found) (acts : List Act) (reply : Reply) (opens : OpensFound c h name found acts reply) : Type 0 where
+  pub is : IsLiveOne p found (read_by (opening_of c h name found acts reply opens) p)
+  pub mays : Mays c (after (Opens (read_by (opening_of c h name found acts reply opens) p)) p) (as_events opens.made)
+  pub seats : (s : PoolState) → opens.outcome ≡ Opens_state s → HasSeats c s (pool_after (as_events opens.made) (after (Opens (read_by (opening_of c h name found acts reply opens) p)) p))
+
+opening_calls : (c : Codec) (h : Host) (name : List ℕ) (found : Found) (acts : List Act) (reply : Reply) → (opens : OpensFound c h name found acts reply) → calls_along acts ≡ opens.made ++ calls_along opens.rest
+opening_calls c h name found acts reply opens = ap calls_along opens.are ∙ (bare_calls opens.row.ids (all_shown found.pool.0 (read_in opens.row.ids) opens.row.devs ++ (bare opens.row.pages ++ opens.rest))
+    ∙ (ap (λ l. opens.row.ids ++ l) (shown_calls found.pool.0 (read_in opens.row.ids) opens.row.devs (bare opens.row.pages ++ opens.rest) ∙ bare_calls opens.row.pages opens.rest)
+    ∙ (sym (append_assoc opens.row.ids opens.row.pages (calls_along opens.rest)) ∙ ap (λ l. l ++ calls_along opens.rest) (sym opens.row.calls))))
+
+pub opening_facts : (c : Codec) (h : Host) (p : Pool) (name : List ℕ) (found : Found) (acts : List Act) (reply : Reply) (one : Rec) → (opens : OpensFound c h name found acts reply) → Knows c h p → IsLiveOne p found one
+    → AreMade h (calls_along acts) → IsFairOpening c p (opening_of c h name found acts reply opens) → OpeningFacts c h p name found acts reply opens
+opening_facts c h p name found acts reply one opens knows found_one made fair = record {
+  is = is;
+  mays = ⊎_elim (λ m. m) (λ clash. absurd (fair.pages clash))
+      (opening_may c (size_in h.table) (λ device. number_in device h.table) name p r found opens.made opens.outcome knows.survives fair.named is opens.row answers twin);
+  seats = opens_seats c h p name found r opens.made opens.outcome opens.row knows fair.named is answers twin fair.pages;
+}
+  where
+    r : Rec
+    r = read_by (opening_of c h name found acts reply opens) p
+
+    is : IsLiveOne p found (read_by (opening_of c h name found acts reply opens) p)
+    is = record_live p found one found_one
+
+    twin : HasNoTwin p (read_by (opening_of c h name found acts reply opens) p) (claims_of (c.leaves found.blob.items) opens.row.devs)
+    twin = row_no_twin c (size_in h.table) (λ device. number_in device h.table) name p r found opens.made opens.outcome knows.survives knows.sizes is opens.row fair.whole fair.members
+
+    answers : AllAnswer p.sectors opens.made
+    answers = opening_answers h p opens.made (calls_along opens.rest) (subst (AreMade h) (opening_calls c h name found acts reply opens) made) knows.disk
+
 own_opens : (c : Codec) (h : Host) (p : Pool) (name : List ℕ) (found : Found) (acts : List Act) (reply : Reply) → Own c h p name found → AreMade h (calls_along acts) → OpensFound c h name found acts reply
     → MayActs c h p acts
 own_opens c h p name found acts reply o made opens = subst (MayActs c h p) (sym opens.are) (λ fair. of (fair o.number))
   where
     opening : Opening
-    opening = record { name = name; found = found; devs = opens.row.devs; ids = opens.row.ids; bytes = opens.row.bytes }
+    opening = opening_of c h name found acts reply opens
 
     more : List Act
     more = bare opens.row.ids ++ (all_shown found.pool.0 (read_in opens.row.ids) opens.row.devs ++ (bare opens.row.pages ++ opens.rest))
@@ -364,29 +399,14 @@ own_opens c h p name found acts reply o made opens = subst (MayActs c h p) (sym 
     of : IsFairOpening c p opening → Mays c p (events_for (Reads_as opening) p) × Knows c (host_by (Reads_as opening) h) (pool_by (Reads_as opening) p)
         × MayActs c (host_by (Reads_as opening) h) (pool_by (Reads_as opening) p) more
     of fair =
-        let found_one = o.live fair.named in
+        let one = o.live fair.named in
+        let facts = opening_facts c h p name found acts reply one.0 opens o.knows one.1 made fair in
         let r = read_by opening p in
-        let is : IsLiveOne p found r = record_live p found found_one.0 found_one.1 in
         let events : events_for (Reads_as opening) p ≡ Opens r ∷ [] = ap (λ t. cond t (Opens r ∷ []) []) (same_number p.pool.0 found.pool.0 o.number) in
         let none = none_open c h p name o.knows fair.named o.free in
-        let q = after (Opens r) p in
-        let known = opens_known c h p r o.knows is.is_live none in
-        let twin : HasNoTwin p r (claims_of (c.leaves found.blob.items) opens.row.devs) = sought_no_twin c p r (size_in h.table) (c.room found.blob.items) (λ device. number_in device h.table)
-        (c.leaves found.blob.items) opens.row.ids opens.row.devs o.knows.survives o.knows.sizes
-        (subst (λ g. AreSought g (size_in h.table) (c.room found.blob.items) (λ device. number_in device h.table) (c.leaves found.blob.items) opens.row.ids opens.row.devs) is.pool_is opens.row.sought)
-        fair.whole fair.members in
-        let calls : calls_along acts ≡ opens.made ++ calls_along opens.rest = ap calls_along opens.are ∙ (bare_calls opens.row.ids (all_shown found.pool.0 (read_in opens.row.ids) opens.row.devs ++ (bare opens.row.pages ++ opens.rest))
-        ∙ (ap (λ l. opens.row.ids ++ l) (shown_calls found.pool.0 (read_in opens.row.ids) opens.row.devs (bare opens.row.pages ++ opens.rest) ∙ bare_calls opens.row.pages opens.rest)
-        ∙ (sym (append_assoc opens.row.ids opens.row.pages (calls_along opens.rest)) ∙ ap (λ l. l ++ calls_along opens.rest) (sym opens.row.calls)))) in
-        let answers : AllAnswer p.sectors opens.made = opening_answers h p opens.made (calls_along opens.rest) (subst (AreMade h) calls made) o.knows.disk in
-        let mays : Mays c q (as_events opens.made) = ⊎_elim (λ m. m) (λ clash. absurd (fair.pages clash))
-        (opening_may c (size_in h.table) (λ device. number_in device h.table) name p r found opens.made opens.outcome o.knows.survives fair.named is opens.row answers twin) in
-        let seats = opens_seats c h p name found r opens.made opens.outcome opens.row o.knows fair.named is answers twin fair.pages in (
-          subst (Mays c p) (sym events) (is.is_live, tt),
-          subst (λ vs. Knows c h (pool_after vs p)) (sym events) known,
-          subst (λ vs. MayActs c h (pool_after vs p) more) (sym events)
-              (opens_more c h p name found acts reply r opens o.number known mays seats none (subst (AreOwnActs found.pool.0 h) opens.are opens.own).1),
-        )
+        let known = opens_known c h p r o.knows facts.is.is_live none in
+        (subst (Mays c p) (sym events) (facts.is.is_live, tt), subst (λ vs. Knows c h (pool_after vs p)) (sym events) known, subst (λ vs. MayActs c h (pool_after vs p) more) (sym events)
+        (opens_more c h p name found acts reply r opens o.number known facts.mays facts.seats none (subst (AreOwnActs found.pool.0 h) opens.are opens.own).1))
 
 -- The looks of an opening, whichever pool is asked for.
 true_look : (c : Codec) (h : Host) (name : List ℕ) (made : List Noted) (seek : SeekReply) → (row : RowSeek c (size_in h.table) (handed h.table) name made seek) → AllAnswer h.disk made
@@ -413,23 +433,53 @@ taken_same : (ended : Bool) (a b : Found) → TakesRecord a ≡ taken_by ended b
 taken_same true a b e = absurd (cc)
 taken_same false a b e = cc
 
-bare_pool : (made : List Noted) (p : Pool) → pool_along (bare made) p ≡ pool_after (as_events made) p
+pub bare_pool : (made : List Noted) (p : Pool) → pool_along (bare made) p ≡ pool_after (as_events made) p
 bare_pool [] p = refl
 bare_pool (noted ∷ made) p = bare_pool made (after (Calls noted) p)
 
-looks_along : (t : Bool) (known : Known) (p : Pool) → pool_after (cond t (Looks known ∷ []) []) p ≡ p
+pub looks_along : (t : Bool) (known : Known) (p : Pool) → pool_after (cond t (Looks known ∷ []) []) p ≡ p
 looks_along true known p = refl
 looks_along false known p = refl
+
+-- what the looks of an opening come to
+pub record LookFacts (c : Codec) (h : Host) (p : Pool) (name : List ℕ) (acts : List Act) (reply : Reply) (row : Imports c h name acts reply) : Type 0 where
+  pub knows : Knows c (host_behind row.made h) (pool_after (as_events row.made) p)
+  pub looked : IsTrueLook (host_behind row.made h) (known_by (size_in h.table) (handed h.table) row.row.looks)
+  pub made : AreMade (host_behind row.made h) (calls_along row.rest)
+  pub seeks : p.name ≡ name → Premises c.head_of (pool_after (as_events row.made) p) (known_by (size_in h.table) (handed h.table) row.row.looks)
+      → SeeksLive c p row.made (known_by (size_in h.table) (handed h.table) row.row.looks) row.seek
+
+calls_known : (c : Codec) (made : List Noted) (h : Host) (p : Pool) → Mays c p (as_events made) → Knows c h p → Knows c (host_behind made h) (pool_after (as_events made) p)
+calls_known c [] h p may knows = knows
+calls_known c (noted ∷ made) h p may knows = calls_known c made (record h { disk = run (noted ∷ []) h.disk }) (after (Calls noted) p) may.1 (call_known c h p noted (may.0, tt) knows)
+
+pub look_facts : (c : Codec) (h : Host) (p : Pool) (name : List ℕ) (acts : List Act) (reply : Reply) → Knows c h p → AreMade h (calls_along acts) → (row : Imports c h name acts reply) → LookFacts c h p name acts reply row
+look_facts c h p name acts reply knows made row = record {
+  knows = calls_known c row.made h p (reads_may c p row.made (look_reads (size_in h.table) (handed h.table) row.row.looks row.made row.row.look)) knows;
+  looked = true_look c h name row.made row.seek row.row (answer_first row.made (calls_along row.rest) h.disk all.answer);
+  made = record {
+    here = all_second (λ noted. 1 ≤ size_in h.table (device_of noted.call)) row.made (calls_along row.rest) all.here;
+    answer = answer_second row.made (calls_along row.rest) h.disk all.answer;
+  };
+  seeks = λ same premises. seeks_live c (size_in h.table) (handed h.table) name row.made p row.seek knows.survives knows.sizes same
+      (opening_answers h p row.made (calls_along row.rest) all knows.disk) row.row premises;
+}
+  where
+    all : AreMade h (row.made ++ calls_along row.rest)
+    all = subst (AreMade h) (ap calls_along row.are ∙ bare_calls row.made (Looked name (known_by (size_in h.table) (handed h.table) row.row.looks) ∷ row.rest)) made
+
+pub taken_live : (c : Codec) (p : Pool) (made : List Noted) (known : Known) (seek : SeekReply) (found : Found) → SeeksLive c p made known seek → seek ≡ TakesRecord found
+    → (r : Rec) × IsLiveOne (pool_after (as_events made) p) found r × (number_of p.acked ≤ number_of r)
+taken_live c p made known seek found seeks is =
+    let one : found ≡ seeks.found = taken_same (nat_le last_numbers seeks.found.number.0) found seeks.found (sym is ∙ seeks.says) in
+    (seeks.r, subst (λ f. IsLiveOne (pool_after (as_events made) p) f seeks.r) (sym one) seeks.is, seeks.not_below)
 
 imports_may : (c : Codec) (h : Host) (p : Pool) (name : List ℕ) (acts : List Act) (reply : Reply) → Knows c h p → AreMade h (calls_along acts) → Imports c h name acts reply → MayActs c h p acts
 imports_may c h p name acts reply knows made row = subst (MayActs c h p) (sym row.are)
     (bare_then c row.made (Looked name known ∷ row.rest) h p (reads_may c p row.made (look_reads (size_in h.table) (handed h.table) row.row.looks row.made row.row.look)) knows
-    (λ before known1. λ fair. let looked = looked_acted c h1 p1 known (bytes_eq p1.name name) (true_look c h name row.made row.seek row.row answers) known1 in (
-      looked.0,
-      looked.1,
-      subst (λ x. MayActs c h1 x row.rest) (sym (looks_along (bytes_eq p1.name name) known p1))
-          (found_may row.seek c h1 p1 name row.rest reply known1 row.free (λ found is same. live found is same (fair same)) rest_made row.follows),
-    )))
+    (λ before known1. λ fair. let looked = looked_acted c h1 p1 known (bytes_eq p1.name name) facts.looked known1 in
+    (looked.0, looked.1, subst (λ x. MayActs c h1 x row.rest) (sym (looks_along (bytes_eq p1.name name) known p1))
+    (found_may row.seek c h1 p1 name row.rest reply known1 row.free (λ found is same. live found is same (fair same)) facts.made row.follows))))
   where
     known : Known
     known = known_by (size_in h.table) (handed h.table) row.row.looks
@@ -440,27 +490,12 @@ imports_may c h p name acts reply knows made row = subst (MayActs c h p) (sym ro
     p1 : Pool
     p1 = pool_after (as_events row.made) p
 
-    calls : calls_along acts ≡ row.made ++ calls_along row.rest
-    calls = ap calls_along row.are ∙ bare_calls row.made (Looked name known ∷ row.rest)
-
-    all : AreMade h (row.made ++ calls_along row.rest)
-    all = subst (AreMade h) calls made
-
-    answers : AllAnswer h.disk row.made
-    answers = answer_first row.made (calls_along row.rest) h.disk all.answer
-
-    rest_made : AreMade h1 (calls_along row.rest)
-    rest_made = record {
-      here = all_second (λ noted. 1 ≤ size_in h.table (device_of noted.call)) row.made (calls_along row.rest) all.here;
-      answer = answer_second row.made (calls_along row.rest) h.disk all.answer;
-    }
+    facts : LookFacts c h p name acts reply row
+    facts = look_facts c h p name acts reply knows made row
 
     live : (found : Found) → row.seek ≡ TakesRecord found → p1.name ≡ name → Premises c.head_of p1 known → (r : Rec) × IsLiveOne p1 found r
-    live found is same premises =
-        let named_is : p.name ≡ name = sym (ap (λ x. x.name) (calls_after row.made p)) ∙ same in
-        let seeks = seeks_live c (size_in h.table) (handed h.table) name row.made p row.seek knows.survives knows.sizes named_is (opening_answers h p row.made (calls_along row.rest) all knows.disk) row.row premises in
-        let one : found ≡ seeks.found = taken_same (nat_le last_numbers seeks.found.number.0) found seeks.found (sym is ∙ seeks.says) in
-        (seeks.r, subst (λ f. IsLiveOne p1 f seeks.r) (sym one) seeks.is)
+    live found is same premises = let taken = taken_live c p row.made known row.seek found
+        (facts.seeks (sym (ap (λ x. x.name) (calls_after row.made p)) ∙ same) premises) is in (taken.0, taken.1)
 
 import_for : (full : Bool) (c : Codec) (h : Host) (p : Pool) (name : List ℕ) (acts : List Act) (reply : Reply) → Knows c h p → AreMade h (calls_along acts) → ImportFor full c h name acts reply → MayActs c h p acts
 import_for true c h p name acts reply knows made row = subst (MayActs c h p) (sym row.0) tt

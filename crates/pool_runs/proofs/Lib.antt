@@ -1,8 +1,10 @@
 pub mod Acting
 pub mod Answering
 pub mod Bearing
+pub mod Committing
 pub mod Counting
 pub mod Creating
+pub mod Finding
 pub mod GroupMoves
 pub mod Heading
 pub mod Importing

@@ -131,6 +131,7 @@ next_begins c past was called images h ok names next = record {
     names = names.here;
     sizes = λ d one. size_next (renumbered was (pool_of past)) images h next d one;
     disk = λ d s one. met_here (renumbered was (pool_of past)) images h d s one;
+    stands = λ s is number. absurd (subst (IsOpen s) next.closed is);
   };
   closed = next.closed;
   unknown = next.unknown;

@@ -10,15 +10,17 @@ use Rattle.txg_history.specs.Records.{Rec, IsIn, key}
 use Rattle.txg_history.specs.Sound.{IsSound}
 use Rattle.pool_moves.specs.AwayRows.{Required, LeastOut, is_offline, is_spare, leaf_named, siblings}
 use Rattle.pool_moves.specs.Leaves.{LeafSeen}
+use Rattle.pool_moves.specs.LineRows.{Committed, Ended}
 use Rattle.pool_moves.specs.Missing.{AllMissed}
 use Rattle.pool_moves.specs.ReadRow.{Gives, Exhausted}
 use Rattle.pool_moves.specs.States.{PoolState}
 use Rattle.pool_runs.specs.Acts.{Act, calls_along, pool_along, history}
+use Rattle.pool_runs.specs.Committing.{CommitsAll, FindsPool}
 use Rattle.pool_runs.specs.Counting.{SomeRose, HasLostBoard, Suspends}
+use Rattle.pool_runs.specs.Fairness.{AreFair}
 use Rattle.pool_runs.specs.HostRows.{acts_in}
-use Rattle.pool_runs.specs.Hosts.{Host, IsOpen}
-use Rattle.pool_runs.specs.Knowing.{HasSeats}
-use Rattle.pool_runs.specs.Lines.{Asks_read, Asks_turn, Asks_sync, Asks_offline, Reply, To_read, To_offline, No_memory, Entry}
+use Rattle.pool_runs.specs.Hosts.{Host}
+use Rattle.pool_runs.specs.Lines.{Asks_read, Asks_turn, Asks_sync, Asks_offline, Asks_import, Reply, To_read, To_sync, To_offline, No_memory, Entry}
 use Rattle.pool_runs.specs.Moments.{Moment, events_at, pool_at, past_at, host_at, LineOf, pool_before, pool_behind, host_before, calls_in_line, IsOpenAs}
 use Rattle.pool_runs.specs.Pasts.{Past, pool_of, Left, HasFrozen}
 use Rattle.pool_runs.specs.Taking.{IsTakenBy}
@@ -44,14 +46,18 @@ pub record IsRequiredFor (leaf : LeafSeen) (leaves : List LeafSeen) (group : ℕ
 pub record Headline (c : Codec) (past : Past) (h : Host) (acts : List Act) (entries : List Entry) : Type 0 where
   -- behind each device call of the run there is a moment, and the pool's history has just the calls so far
   pub moments : (k : ℕ) → HasMoment past acts entries k
-  -- at each moment the devices are as the pool's past leaves them: a further run may begin from there
+  -- at each moment the host is as the pool's past leaves it, the devices and what the open pool's code has in memory: a further run may begin from there
   pub left : (m : Moment c past acts entries) → Left c (past_at m) (host_at h m)
-  -- and where the pool is open, what its code has in memory is what its history says
-  pub stands : (m : Moment c past acts entries) (s : PoolState) → IsOpen s (host_at h m).pools → s.core.pool.0 ≡ (pool_of past).pool.0 → HasSeats c s (pool_at m)
   -- at each moment the pool is sound
   pub sound : (m : Moment c past acts entries) → IsSound (pool_at m)
   -- and each record that an opening may find has the writes that were accepted before a freeze, the last before its round
   pub contents : (m : Moment c past acts entries) (r : Rec) → IsIn r (pool_at m).live → HasFrozen (past_at m) r
+  -- an import of its name, where no pool of the name is open, finds a live record, not below the acknowledged one, and opens it above
+  pub opens : (l : LineOf c past acts entries) → l.entry.asked ≡ Asks_import (pool_before l).name → AreFair c (pool_before l) l.entry.acts
+      → FindsPool (pool_before l) (pool_behind l) l.entry.reply
+  -- a sync that answers a number acknowledged that record, and it has each block as it was written last
+  pub syncs : (l : LineOf c past acts entries) (name : List ℕ) (s : PoolState) (n : ℕ) → l.entry.asked ≡ Asks_sync name
+      → IsOpenAs (pool_before l) (host_before h l) name s → l.entry.reply ≡ To_sync (Ended (Committed n)) → CommitsAll (pool_before l) (pool_behind l) n
   -- a read gives the block that was written last, or that block and the bytes that it gave are two byte strings with one SHA-256 sum
   pub reads : (l : LineOf c past acts entries) (name : List ℕ) (a : ℕ) (s : PoolState) (bytes : List ℕ) → l.entry.asked ≡ Asks_read name a
       → IsOpenAs (pool_before l) (host_before h l) name s → l.entry.reply ≡ To_read (Gives bytes)

@@ -1,4 +1,5 @@
 pub mod Acts
+pub mod Committing
 pub mod Counting
 pub mod Creating
 pub mod Devices

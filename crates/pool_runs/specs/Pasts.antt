@@ -11,8 +11,9 @@ use Rattle.txg_history.specs.Records.{Rec, block_at}
 use Rattle.txg_history.specs.Stamps.{AreStamped}
 use Rattle.pool_runs.specs.Acts.{Birth, born}
 use Rattle.pool_runs.specs.Devices.{Device, number_in, size_in}
-use Rattle.pool_runs.specs.Hosts.{Host}
-use Rattle.pool_runs.specs.Knowing.{HasRoster}
+use Rattle.pool_moves.specs.States.{PoolState}
+use Rattle.pool_runs.specs.Hosts.{Host, IsOpen}
+use Rattle.pool_runs.specs.Knowing.{HasSeats, HasRoster}
 
 -- How a pool came to be as it is: it began behind its stamps, an event came behind others, or a further run has the same devices under other
 -- numbers: device d is the one that was `was d`, and is called `called d`.
@@ -48,12 +49,14 @@ abbrev pub then_all : Past → List Event → Past
 then_all past [] = past
 then_all past (v ∷ vs) = then_all (Then past v) vs
 
--- The devices of a host are as the past leaves them: each that the run has, in its size and its sectors, and under its name.
+-- The host is as the past leaves it: each device that the run has, in its size and its sectors, and under its name, and, where the pool is open, what
+-- its code has in memory.
 pub record Left (c : Codec) (past : Past) (h : Host) : Type 0 where
   pub allowed : IsAllowed c past
   pub names : (name : List ℕ) (d : ℕ) → number_in name h.table ≡ Some d → called_in past d ≡ name
   pub sizes : (d : ℕ) → 1 ≤ size_in h.table d → (pool_of past).size d ≡ size_in h.table d
   pub disk : (d s : ℕ) → 1 ≤ size_in h.table d → (pool_of past).sectors d s ≡ h.disk d s
+  pub stands : (s : PoolState) → IsOpen s h.pools → s.core.pool.0 ≡ (pool_of past).pool.0 → HasSeats c s (pool_of past)
 
 -- A run begins with a host whose devices are as the past leaves them. No pool is open, nothing is known yet of whose a device is, and no
 -- scan runs.

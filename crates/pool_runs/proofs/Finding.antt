@@ -1,0 +1,275 @@
+-- An import finds its pool, and opens a live record of it.
+use Rattle.std.proofs.Common.{◌≡◌, ◌≢◌, ◌⊎◌, inl, inr, ⊎_elim, ℕ, ◌+◌, ◌≤◌, ◌<◌, ◌==◌, nat_le, Bool, true, false, cond, List, [], ◌∷◌, ◌++◌, length, Option, Some, None, refl, sym, ap, ◌∙◌, subst, append_assoc, arith}
+use Rattle.std.specs.List.{AllByRecursion}
+use Rattle.std.specs.Str.{bytes_eq}
+use Rattle.bank_core.specs.Disk.{Noted, AllAnswer}
+use Rattle.label_store.specs.declared.found.Found.{Found}
+use Rattle.mp_base.specs.declared.number.Guid.{Guid}
+use Rattle.mp_base.specs.declared.place.Key.{Key}
+use Rattle.txg_history.specs.Events.{Known, Calls, Opens, as_events}
+use Rattle.txg_history.specs.Looks.{known_by}
+use Rattle.txg_history.specs.Pages.{Codec}
+use Rattle.txg_history.specs.Pools.{Pool, after, pool_after}
+use Rattle.txg_history.specs.Premises.{Premises}
+use Rattle.txg_history.specs.Records.{Rec, IsIn, number_of, block_at}
+use Rattle.txg_history.proofs.Folding.{with_calls, calls_after, events_more, pool_more}
+use Rattle.pool_moves.specs.CommitRows.{uncounts, RowReopen}
+use Rattle.pool_moves.specs.Keeping.{Kept}
+use Rattle.pool_moves.specs.Leaves.{LeafSeen}
+use Rattle.pool_moves.specs.LineRows.{TurnReply, Idle, Write, Flush, Round, Committed, Suspended}
+use Rattle.pool_moves.specs.Moves.{Move, Freeze, Scan_from, Rest, state_step, steps, after_move, after_moves}
+use Rattle.pool_moves.specs.OpeningRow.{IsLiveOne, SeeksLive, SeekReply, NoRecord, NumbersEnd, TakesRecord, seek_reply, taken_by, last_numbers, OpenReply, Opens_state, NoPage, RowOpen, lacking_of, Resumes, ResumesBy, ResumesUnless, RowResume}
+use Rattle.pool_moves.specs.FreezeRow.{up_devs}
+use Rattle.pool_moves.specs.PageReads.{LeafShown}
+use Rattle.pool_moves.specs.Resilvers.{rest_if, Resilvers}
+use Rattle.pool_moves.specs.States.{PoolSeen, PoolState, Side}
+use Rattle.pool_moves.proofs.FreeWalks.{moves_more}
+use Rattle.pool_moves.proofs.Keeping.{walk_keeps}
+use Rattle.pool_moves.proofs.ResilverWalks.{resume_walks}
+use Rattle.pool_moves.proofs.Seeking.{seeks_live}
+use Rattle.pool_runs.specs.Acts.{Act, Opening, Looked, Reads_as, Enters, Closes, does, bare, read_by, record_of, events_for, pool_by, pool_along, calls_along}
+use Rattle.pool_runs.specs.Committing.{OpensLive, FindsPool}
+use Rattle.pool_runs.specs.Devices.{number_in, size_in, handed}
+use Rattle.pool_runs.specs.Fairness.{IsFairOpening, AreFair}
+use Rattle.pool_runs.specs.HostRows.{AreMade}
+use Rattle.pool_runs.specs.Hosts.{Host, named}
+use Rattle.pool_runs.specs.Importing.{read_in, all_shown, OpensBy, FollowsMap, OpensFound, ImportBy, host_behind, Imports, ImportFor, ImportUnless, RowImport}
+use Rattle.pool_runs.specs.Knowing.{Knows}
+use Rattle.pool_runs.specs.Lines.{Reply, To_import, ImportReply, Opened, NameOpen, TooManyPools, NothingFound, LastNumber, PageLost, Unopened}
+use Rattle.pool_runs.proofs.Acting.{same_number, acts_more, calls_number}
+use Rattle.pool_runs.proofs.Committing.{numbers_up, GroupCommits, IsAckedAs, ends_acked, ends_before, group_commits, frozen_writes, written_kind, writes_kind, KeepsWritten, KeepsWrites, written_along, writes_along, kept_blocks, does_pool}
+use Rattle.pool_runs.proofs.GroupMoves.{more, all_group, all_uncounts, all_reopen}
+use Rattle.pool_moves.proofs.CommitWalks.{uncounts_set}
+use Rattle.pool_runs.proofs.Importing.{bare_pool, looks_along, opening_of, OpeningFacts, opening_facts, LookFacts, look_facts, taken_live}
+
+-- The commit of an opening.
+resilver_written : (s : PoolSeen) (vs : List Move) → Resilvers s vs → AllByRecursion KeepsWritten vs × AllByRecursion KeepsWrites vs
+resilver_written s vs (inl row) = subst (λ l. AllByRecursion KeepsWritten l × AllByRecursion KeepsWrites l) (sym row.moves) (rests s.scan.running)
+  where
+    rests : (running : Bool) → AllByRecursion KeepsWritten (rest_if running ++ (Scan_from s.read_number (up_devs s.leaves) ∷ []))
+        × AllByRecursion KeepsWrites (rest_if running ++ (Scan_from s.read_number (up_devs s.leaves) ∷ []))
+    rests true = ((tt, (tt, tt)), (tt, (tt, tt)))
+    rests false = ((tt, tt), (tt, tt))
+resilver_written s vs (inr row) = subst (λ l. AllByRecursion KeepsWritten l × AllByRecursion KeepsWrites l) (sym row.1) (tt, tt)
+
+-- a resilver's start leaves what is acknowledged
+resilver_acked : (s : PoolSeen) (vs : List Move) (t : Side) (n : ℕ) → Resilvers s vs → IsAckedAs t.pool n → IsAckedAs (after_moves vs t).pool n
+resilver_acked s vs t n (inl row) acked = subst (λ l. IsAckedAs (after_moves l t).pool n) (sym row.moves) (rests s.scan.running)
+  where
+    rests : (running : Bool) → IsAckedAs (after_moves (rest_if running ++ (Scan_from s.read_number (up_devs s.leaves) ∷ [])) t).pool n
+    rests true = record { reads = acked.reads; number = acked.number; idle = acked.idle }
+    rests false = record { reads = acked.reads; number = acked.number; idle = acked.idle }
+resilver_acked s vs t n (inr row) acked = subst (λ l. IsAckedAs (after_moves l t).pool n) (sym row.1) acked
+
+steps_more : (vs ws : List Move) (s : PoolState) → steps (vs ++ ws) s ≡ steps ws (steps vs s)
+steps_more [] ws s = refl
+steps_more (v ∷ vs) ws s = steps_more vs ws (state_step v s)
+
+-- What an opening's commit comes to.
+record Resumed (t : Side) (vs : List Move) (from n : ℕ) : Type 0 where
+  up : from < n
+  acked : number_of (after_moves vs t).pool.acked ≡ n
+  blocks : (a : ℕ) → block_at (after_moves vs t).pool.acked a ≡ t.pool.written a
+
+resumed : (c : Codec) (size : ℕ → ℕ) (s : PoolState) (t : Side) (vs : List Move) (n : ℕ) → Kept c (steps vs s) (after_moves vs t) → Resumes c size s vs (Committed n) → Resumed t vs s.core.number n
+resumed c size s t vs n kept w =
+    let first = w.row.first in
+    let leaves = (steps w.row.rest (steps w.row.first s)).core.leaves in
+    let zeros = uncounts leaves in
+    let commits = group_commits c size (steps first s) w.row.rest n w.row.ends in
+    let acked_first : IsAckedAs (after_moves w.first t).pool n = subst (λ l. IsAckedAs (after_moves l t).pool n) (sym w.row.moves)
+        (subst (λ x. IsAckedAs x.pool n) (sym (moves_more first (w.row.rest ++ zeros) t))
+        (ends_acked (w.row.rest ++ zeros) n (after_moves first t) (ends_before w.row.rest zeros n commits.ends (uncounts_set leaves)))) in
+    let acked : IsAckedAs (after_moves vs t).pool n = subst (λ l. IsAckedAs (after_moves l t).pool n) (sym w.moves)
+        (subst (λ x. IsAckedAs x.pool n) (sym (moves_more w.first w.rest t)) (resilver_acked (steps w.first s).core w.rest (after_moves w.first t) n w.resumes acked_first)) in
+    let still = resilver_written (steps w.first s).core w.rest w.resumes in
+    let none : (steps vs s).own.writes ≡ (λ x. None) = ap (λ l. (steps l s).own.writes) w.moves ∙ (ap (λ x. x.own.writes) (steps_more w.first w.rest s)
+        ∙ (writes_along w.rest (steps w.first s) still.1 ∙ (ap (λ l. (steps l s).own.writes) w.row.moves
+        ∙ frozen_writes first (w.row.rest ++ zeros) s (λ k. None) (up_devs s.core.leaves) w.row.freeze.moves
+        (more KeepsWrites w.row.rest zeros (all_group KeepsWrites writes_kind c size (steps first s) w.row.rest (Committed n) (λ bad. absurd bad) w.row.ends)
+        (all_uncounts KeepsWrites writes_kind leaves))))) in
+    let all : AllByRecursion KeepsWritten vs = subst (AllByRecursion KeepsWritten) (sym w.moves) (more KeepsWritten w.first w.rest
+        (all_reopen KeepsWritten written_kind (λ cells board. tt) c size s w.first (Committed n) (λ bad. tt) w.row) still.0) in record {
+  up = let frozen : s.core.number + 1 ≤ (steps first s).core.number = subst (λ l. s.core.number + 1 ≤ (steps l s).core.number) (sym w.row.freeze.moves.moves)
+      (numbers_up w.row.freeze.moves.widens (state_step (Freeze (λ k. None) (up_devs s.core.leaves)) s)) in
+      let most = commits.up in omega (arith, frozen, most);
+  acked = acked.number;
+  blocks = λ a. kept_blocks c (steps vs s) (after_moves vs t) n kept acked none a ∙ ap (λ f. f a) (written_along vs t all);
+}
+
+resumed_by : (top : Option ℕ) (c : Codec) (size : ℕ → ℕ) (s : PoolState) (t : Side) (vs : List Move) (n : ℕ) → Kept c (steps vs s) (after_moves vs t) → ResumesUnless top c size s vs (Committed n) → Resumed t vs s.core.number n
+resumed_by (Some top) c size s t vs n kept row = absurd (let no = row.1 in cc)
+resumed_by None c size s t vs n kept row = resumed c size s t vs n kept row
+
+-- Pools behind acts of an opening.
+bare_more : (made : List Noted) (more : List Act) (p : Pool) → pool_along (bare made ++ more) p ≡ pool_along more (pool_after (as_events made) p)
+bare_more [] more p = refl
+bare_more (noted ∷ made) more p = bare_more made more (after (Calls noted) p)
+
+shown_more : (g : ℕ) (known : Known) (devs : List (Option ℕ)) (more : List Act) (p : Pool) → pool_along (all_shown g known devs ++ more) p ≡ pool_along more p
+shown_more g known [] more p = refl
+shown_more g known (None ∷ devs) more p = shown_more g known devs more p
+shown_more g known (Some d ∷ devs) more p = shown_more g known devs more p
+
+bare_fair : (c : Codec) (made : List Noted) (more : List Act) (p : Pool) → AreFair c p (bare made ++ more) → AreFair c (pool_after (as_events made) p) more
+bare_fair c [] more p fair = fair
+bare_fair c (noted ∷ made) more p fair = bare_fair c made more (after (Calls noted) p) fair.1
+
+-- An opening of a record that was found.
+opened_number : (a b : ℕ) → To_import (Opened a) ≡ To_import (Opened b) → a ≡ b
+opened_number a b e = cc
+
+record Looked_live (p before : Pool) (found : Found) : Type 0 where
+  one : Rec
+  is : IsLiveOne p found one
+  not_below : number_of before.acked ≤ number_of one
+  same : p.live ≡ before.live
+
+opens_live : (c : Codec) (h : Host) (p before : Pool) (name : List ℕ) (found : Found) (acts : List Act) (reply : Reply) (n : ℕ) → Knows c h p → Looked_live p before found → p.name ≡ name
+    → AreMade h (calls_along acts) → AreFair c p acts → OpensFound c h name found acts reply → reply ≡ To_import (Opened n) → OpensLive before (pool_along acts p) n
+opens_live c h p before name found acts reply n knows live named made fair opens says = follow opens.outcome refl opens.follows
+  where
+    opening : Opening
+    opening = opening_of c h name found acts reply opens
+
+    g : ℕ
+    g = found.pool.0
+
+    r : Rec
+    r = read_by opening p
+
+    number : p.pool.0 ≡ found.pool.0
+    number = sym (ap (λ x. x.0) live.is.pool_is)
+
+    facts : OpeningFacts c h p name found acts reply opens
+    facts = opening_facts c h p name found acts reply live.one opens knows live.is made ((subst (AreFair c p) opens.are fair).0 number)
+
+    q : Pool
+    q = pool_after (as_events opens.made) (after (Opens r) p)
+
+    -- the pool behind the calls
+    behind : pool_along acts p ≡ pool_along opens.rest q
+    behind = ap (λ a. pool_along a p) opens.are
+        ∙ (ap (λ vs. pool_along (bare opens.row.ids ++ (all_shown g (read_in opens.row.ids) opens.row.devs ++ (bare opens.row.pages ++ opens.rest))) (pool_after vs p))
+        (ap (λ t. cond t (Opens r ∷ []) []) (same_number p.pool.0 found.pool.0 number))
+        ∙ (bare_more opens.row.ids (all_shown g (read_in opens.row.ids) opens.row.devs ++ (bare opens.row.pages ++ opens.rest)) (after (Opens r) p)
+        ∙ (shown_more g (read_in opens.row.ids) opens.row.devs (bare opens.row.pages ++ opens.rest) (pool_after (as_events opens.row.ids) (after (Opens r) p))
+        ∙ (bare_more opens.row.pages opens.rest (pool_after (as_events opens.row.ids) (after (Opens r) p))
+        ∙ ap (pool_along opens.rest) (sym (ap (λ vs. pool_after vs (after (Opens r) p)) (ap as_events opens.row.calls ∙ events_more opens.row.ids opens.row.pages)
+        ∙ pool_more (as_events opens.row.ids) (as_events opens.row.pages) (after (Opens r) p)))))))
+
+    q_written : q.written ≡ block_at r
+    q_written = ap (λ x. x.written) (calls_after opens.made (after (Opens r) p))
+
+    q_highest : q.highest ≡ number_of r
+    q_highest = ap (λ x. x.highest) (calls_after opens.made (after (Opens r) p))
+
+    q_number : q.pool.0 ≡ g
+    q_number = ap (λ x. x.0) (calls_number opens.made (after (Opens r) p)) ∙ number
+
+    q_sized : (d : ℕ) → 1 ≤ size_in h.table d → q.size d ≡ size_in h.table d
+    q_sized d one = ap (λ x. x.size d) (calls_after opens.made (after (Opens r) p)) ∙ knows.sizes d one
+
+    committed : (s : PoolState) (vs : List Move) (m : ℕ) → opens.outcome ≡ Opens_state s → RowResume c (size_in h.table) s vs (Committed m) → opens.rest ≡ Enters s ∷ does g vs
+        → reply ≡ To_import (Opened m) → OpensLive before (pool_along acts p) n
+    committed s vs m out row rest answers =
+        let has = facts.seats s out in
+        let t : Side = record { pool = q; seats = has.0 } in
+        let kept : Kept c (steps vs s) (after_moves vs t) = walk_keeps c vs s t (resume_walks c (size_in h.table) s t vs (Committed m) has.1 q_sized row) has.1 in
+        let end = resumed_by (lacking_of s.core.leaves s.core.leaves) c (size_in h.table) s t vs m kept row in
+        let same : m ≡ n = opened_number m n (sym answers ∙ says) in
+        let pool_is : pool_along acts p ≡ (after_moves vs t).pool = behind ∙ (ap (λ a. pool_along a q) rest ∙ does_pool g vs t q_number) in
+        let s_number : s.core.number ≡ number_of r = ap (λ core. core.number) has.1.core ∙ q_highest in record {
+      r = r;
+      live = subst (IsIn r) live.same facts.is.is_live;
+      not_below = subst (λ k. number_of before.acked ≤ k) (sym (ap (λ x. x.0) live.is.number_is) ∙ ap (λ x. x.0) facts.is.number_is) live.not_below;
+      above = subst (λ k. number_of r < k) same (subst (λ k. k < m) s_number end.up);
+      acked = ap (λ x. number_of x.acked) pool_is ∙ (end.acked ∙ same);
+      blocks = λ a. ap (λ x. block_at x.acked a) pool_is ∙ (end.blocks a ∙ ap (λ w. w a) q_written);
+    }
+
+    by_turn : (turn : TurnReply) (s : PoolState) (vs : List Move) → opens.outcome ≡ Opens_state s → RowResume c (size_in h.table) s vs turn → OpensBy turn g s vs opens.rest reply → OpensLive before (pool_along acts p) n
+    by_turn (Committed m) s vs out row by = committed s vs m out row by.0 by.1
+    by_turn (Suspended group top faults) s vs out row by = absurd (let no = sym by.1 ∙ says in cc)
+    by_turn Idle s vs out row by = absurd by
+    by_turn Write s vs out row by = absurd by
+    by_turn Flush s vs out row by = absurd by
+    by_turn (Round m) s vs out row by = absurd by
+
+    follow : (outcome : OpenReply) → opens.outcome ≡ outcome → FollowsMap outcome c (size_in h.table) g opens.rest reply → OpensLive before (pool_along acts p) n
+    follow (Opens_state s) out row = by_turn row.1 s row.0 out row.2 row.3
+    follow (NoPage page shown) out row = absurd (let no = sym row.1 ∙ says in cc)
+
+-- By what the looks found.
+not_opened : (before behind : Pool) (reply : Reply) (other : ImportReply) → reply ≡ To_import other → (other ≡ NothingFound → ⊥) → ((n : ℕ) → other ≡ Opened n → ⊥) → FindsPool before behind reply
+not_opened before behind reply other is some none = record {
+  some = λ says. some (same other NothingFound (sym is ∙ says));
+  opened = λ n says. absurd (none n (same other (Opened n) (sym is ∙ says)));
+}
+  where
+    same : (a b : ImportReply) → To_import a ≡ To_import b → a ≡ b
+    same a b e = cc
+
+opens_some : (c : Codec) (h : Host) (name : List ℕ) (found : Found) (acts : List Act) (reply : Reply) → OpensFound c h name found acts reply → reply ≡ To_import NothingFound → ⊥
+opens_some c h name found acts reply opens says = follow opens.outcome opens.follows
+  where
+    by_turn : (turn : TurnReply) (s : PoolState) (vs : List Move) → OpensBy turn found.pool.0 s vs opens.rest reply → ⊥
+    by_turn (Committed m) s vs by = let no = sym by.1 ∙ says in cc
+    by_turn (Suspended group top faults) s vs by = let no = sym by.1 ∙ says in cc
+    by_turn Idle s vs by = by
+    by_turn Write s vs by = by
+    by_turn Flush s vs by = by
+    by_turn (Round m) s vs by = by
+
+    follow : (outcome : OpenReply) → FollowsMap outcome c (size_in h.table) found.pool.0 opens.rest reply → ⊥
+    follow (Opens_state s) row = by_turn row.1 s row.0 row.3
+    follow (NoPage page shown) row = let no = sym row.1 ∙ says in cc
+
+never_none : (ended : Bool) (found : Found) → NoRecord ≡ taken_by ended found → ⊥
+never_none true found e = cc
+never_none false found e = cc
+
+found_finds : (seek : SeekReply) (c : Codec) (h : Host) (before p : Pool) (name : List ℕ) (acts : List Act) (reply : Reply) → Knows c h p → p.name ≡ name → AreMade h (calls_along acts) → AreFair c p acts
+    → (seek ≡ NoRecord → ⊥) → ((found : Found) → seek ≡ TakesRecord found → Looked_live p before found) → ImportBy seek c h name acts reply → FindsPool before (pool_along acts p) reply
+found_finds NoRecord c h before p name acts reply knows named made fair some live row = absurd (some refl)
+found_finds (NumbersEnd limit count) c h before p name acts reply knows named made fair some live row = not_opened before (pool_along acts p) reply (LastNumber limit count) row.1 (λ e. cc) (λ n e. cc)
+found_finds (TakesRecord found) c h before p name acts reply knows named made fair some live row = record {
+  some = opens_some c h name found acts reply row;
+  opened = λ n says. opens_live c h p before name found acts reply n knows (live found refl) named made fair row says;
+}
+
+pub import_finds : (c : Codec) (h : Host) (p : Pool) (name : List ℕ) (acts : List Act) (reply : Reply) → Knows c h p → p.name ≡ name → AreMade h (calls_along acts) → AreFair c p acts → RowImport c h name acts reply
+    → FindsPool p (pool_along acts p) reply
+import_finds c h p name acts reply knows titled made fair row = unless (named_in h.pools) row
+  where
+    named_in : List PoolState → Option PoolState
+    named_in pools = named name pools
+
+    imports : Imports c h name acts reply → FindsPool p (pool_along acts p) reply
+    imports row =
+        let known = known_by (size_in h.table) (handed h.table) row.row.looks in
+        let p1 = pool_after (as_events row.made) p in
+        let facts = look_facts c h p name acts reply knows made row in
+        let all = bare_fair c row.made (Looked name known ∷ row.rest) p (subst (AreFair c p) row.are fair) in
+        let named1 : p1.name ≡ name = ap (λ x. x.name) (calls_after row.made p) ∙ titled in
+        let seeks = facts.seeks titled (all.0 named1) in
+        let rest_fair : AreFair c p1 row.rest = subst (λ x. AreFair c x row.rest) (looks_along (bytes_eq p1.name name) known p1) all.1 in
+        let pool_is : pool_along acts p ≡ pool_along row.rest p1 = ap (λ a. pool_along a p) row.are ∙ (bare_more row.made (Looked name known ∷ row.rest) p
+            ∙ ap (pool_along row.rest) (looks_along (bytes_eq p1.name name) known p1)) in
+        subst (λ x. FindsPool p x reply) (sym pool_is)
+        (found_finds row.seek c (host_behind row.made h) p p1 name row.rest reply facts.knows named1 facts.made rest_fair
+        (λ none. never_none (nat_le last_numbers seeks.found.number.0) seeks.found (sym none ∙ seeks.says))
+        (λ found is. let taken = taken_live c p row.made known row.seek found seeks is in record {
+          one = taken.0;
+          is = taken.1;
+          not_below = taken.2;
+          same = ap (λ x. x.live) (calls_after row.made p);
+        }) row.follows)
+
+    full_by : (full : Bool) → ImportFor full c h name acts reply → FindsPool p (pool_along acts p) reply
+    full_by true row = not_opened p (pool_along acts p) reply (TooManyPools 16 (length h.pools + 1)) row.1 (λ e. cc) (λ n e. cc)
+    full_by false row = imports row
+
+    unless : (found : Option PoolState) → ImportUnless found c h name acts reply → FindsPool p (pool_along acts p) reply
+    unless (Some s) row = not_opened p (pool_along acts p) reply NameOpen row.1 (λ e. cc) (λ n e. cc)
+    unless None row = full_by (nat_le 16 (length h.pools)) row
