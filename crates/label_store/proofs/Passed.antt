@@ -1,12 +1,16 @@
 -- Openings and searches over devices whose rings were cleared: what their own reads show of these.
-use Rattle.std.proofs.Common.{◌≡◌, ℕ, zero, suc, ◌+◌, ◌-◌, ◌*◌, ◌/◌, ◌%◌, ◌^◌, ◌<◌, ◌≤◌, ◌==◌, ◌&&◌, Bool, true, false, cond, List, [], ◌∷◌, ◌++◌, Option, Some, None, is_none, Ok, refl, sym, ap, ◌∙◌, subst, inl, inr, arith}
+use Rattle.std.proofs.Common.{◌≡◌, ℕ, zero, suc, ◌+◌, ◌-◌, ◌*◌, ◌/◌, ◌%◌, ◌^◌, ◌<◌, ◌≤◌, ◌==◌, ◌&&◌, Bool, true, false}
+use Rattle.std.proofs.Common.{cond, List, [], ◌∷◌, ◌++◌, Option, Some, None, is_none, Ok, refl, sym, ap, ◌∙◌, subst}
+use Rattle.std.proofs.Common.{inl, inr, arith}
 use Rattle.std.specs.Prelude.{slice_get, slice_index}
 use Rattle.std.proofs.lemmas.Option.{same_Some}
 use Rattle.mp_base.specs.declared.number.Guid.{Guid}
 use Rattle.bank_core.specs.declared.bank.Fault.{Fault}
 use Rattle.bank_core.specs.Asks.{Ask, Reads, ask_of, asks_of}
 use Rattle.bank_core.specs.Calls.{fault_of}
-use Rattle.bank_core.specs.Disk.{Sector, Sectors, Pending, Nothing, Written, Failing, Call, Read, Write, Flush, Admit, Eject, Noted, sectors_in, sector_of, hurt, after_write, after_flush, effect, replay, run, as_found, Answers, AllAnswer}
+use Rattle.bank_core.specs.Disk.{Sector, Sectors, Pending, Nothing, Written, Failing, Call, Read, Write, Flush, Admit}
+use Rattle.bank_core.specs.Disk.{Eject, Noted, sectors_in, sector_of, hurt, after_write, after_flush, effect, replay}
+use Rattle.bank_core.specs.Disk.{run, as_found, Answers, AllAnswer}
 use Rattle.bank_core.specs.Memory.{zero_sector}
 use Rattle.bank_core.specs.Standing.{Stands, touches, Untouched, aims, Spares}
 use Rattle.bank_core.proofs.Standing.{untouched_stands, untouched_more}

@@ -4,4 +4,12 @@ use Rattle.label_store.proofs.Unfound.{still_hold, wipe_elsewhere, stamp_elsewhe
 use Rattle.label_store.proofs.cleared.cleared_rings_hold.Goals as goal
 
 pub returns : goal.returns
-returns c = record { wiped = wiped_rings; stamped = stamped_rings; stays = still_hold; elsewhere_wiped = wipe_elsewhere; elsewhere_stamped = stamp_elsewhere; configs = configs_off; between = between_off }
+returns c = record {
+  wiped = wiped_rings;
+  stamped = stamped_rings;
+  stays = still_hold;
+  elsewhere_wiped = wipe_elsewhere;
+  elsewhere_stamped = stamp_elsewhere;
+  configs = configs_off;
+  between = between_off;
+}
