@@ -34,11 +34,11 @@ use Rattle.pool_moves.proofs.CommitWalks.{found_walks}
 use Rattle.pool_moves.proofs.Making.{made_kept}
 
 -- Lists of leaves.
-abbrev IsOneOf : NewLeaf → List NewLeaf → Type 0
+abbrev pub IsOneOf : NewLeaf → List NewLeaf → Type 0
 IsOneOf leaf [] = ⊥
 IsOneOf leaf (first ∷ leaves) = (leaf ≡ first) ⊎ IsOneOf leaf leaves
 
-all_of : (P : NewLeaf → Type 0) (leaves : List NewLeaf) (leaf : NewLeaf) → AllByRecursion P leaves → IsOneOf leaf leaves → P leaf
+pub all_of : (P : NewLeaf → Type 0) (leaves : List NewLeaf) (leaf : NewLeaf) → AllByRecursion P leaves → IsOneOf leaf leaves → P leaf
 all_of P [] leaf all is = absurd is
 all_of P (first ∷ leaves) leaf all (inl same) = subst P (sym same) all.0
 all_of P (first ∷ leaves) leaf all (inr more) = all_of P leaves leaf all.1 more
@@ -52,7 +52,7 @@ each_all P Q one [] all = tt
 each_all P Q one (x ∷ xs) all = (one x all.0, each_all P Q one xs all.1)
 
 -- The leaf on a device.
-leaf_found : (d : ℕ) (leaves : List NewLeaf) (leaf : NewLeaf) → leaf_at d leaves ≡ Some leaf → IsOneOf leaf leaves × (leaf.dev ≡ d)
+pub leaf_found : (d : ℕ) (leaves : List NewLeaf) (leaf : NewLeaf) → leaf_at d leaves ≡ Some leaf → IsOneOf leaf leaves × (leaf.dev ≡ d)
 leaf_found d [] leaf is = absurd (cc)
 leaf_found d (first ∷ leaves) leaf is = by_bool (first.dev == d)
     (λ yes. let same : leaf ≡ first = some_same leaf first (sym is ∙ ap (λ t. cond t (Some first) (leaf_at d leaves)) yes) in
@@ -74,7 +74,7 @@ leaf_is_at (first ∷ leaves) leaf apart (inr more) =
     ∙ leaf_is_at leaves leaf apart.1 more
 
 -- a device that has a leaf
-leaf_of : (d : ℕ) (leaves : List NewLeaf) → is_leaf_at (leaf_at d leaves) ≡ true → (leaf : NewLeaf) × (leaf_at d leaves ≡ Some leaf)
+pub leaf_of : (d : ℕ) (leaves : List NewLeaf) → is_leaf_at (leaf_at d leaves) ≡ true → (leaf : NewLeaf) × (leaf_at d leaves ≡ Some leaf)
 leaf_of d leaves is = by (leaf_at d leaves) refl is
   where
     by : (found : Option NewLeaf) → leaf_at d leaves ≡ found → is_leaf_at found ≡ true → (leaf : NewLeaf) × (leaf_at d leaves ≡ Some leaf)

@@ -1,5 +1,5 @@
 -- Which lines leave a pool's members.
-use Rattle.std.proofs.Common.{◌≡◌, ◌≢◌, ◌⊎◌, inl, inr, ⊎_elim, ℕ, ◌+◌, ◌==◌, ◌||◌, nat_le, Bool, true, false, cond, List, [], ◌∷◌, ◌++◌, map, length, Option, Some, None, refl, sym, ap, ◌∙◌, subst, arith}
+use Rattle.std.proofs.Common.{◌≡◌, ◌≢◌, ◌⊎◌, inl, inr, ⊎_elim, ℕ, suc, ◌+◌, ◌==◌, ◌||◌, nat_le, Bool, true, false, cond, List, [], ◌∷◌, ◌++◌, map, length, Option, Some, None, refl, sym, ap, ◌∙◌, subst, arith}
 use Rattle.std.specs.List.{AllByRecursion, find, filter}
 use Rattle.std.specs.Str.{bytes_eq}
 use Rattle.std.proofs.lemmas.Bool.Decides.{nat_tests}
@@ -27,17 +27,19 @@ use Rattle.pool_moves.specs.OpeningRow.{SeekReply, NoRecord, NumbersEnd, TakesRe
 use Rattle.pool_moves.specs.ReadRow.{ReadReply, count_reads, RowCopies, stands_under, ReadRecord, ReadGroup, ReadOpen, RowRead, made_in}
 use Rattle.pool_moves.specs.Refusing.{FreezeRefusal, IsRefused}
 use Rattle.pool_moves.specs.Resilvers.{rest_if, Resilvers}
+use Rattle.pool_moves.specs.StampRow.{NewLeaf, top_leaves, leaves_from, leaf_at, is_leaf_at, Stamp, AreStamps, new_state, CreateReply, Created, FaultOn}
 use Rattle.pool_moves.specs.States.{PoolSeen, PoolState}
 use Rattle.pool_moves.specs.TurnRows.{turn_moves, ended, IsThirdMoves, RowWriteTurn, RowFlushTurn, RowRound}
 use Rattle.pool_moves.specs.Walking.{as_moves}
 use Rattle.pool_moves.specs.Widening.{seen_along}
+use Rattle.pool_moves.proofs.StampWalks.{all_of, leaf_found, leaf_of}
 use Rattle.pool_runs.specs.Acts.{Act, Bare, Does, Gave, Looked, Shows, Reads_as, Enters, Names, Takes, Bears, Closes, does, bare, read_by, events_for, pool_by, pool_along}
-use Rattle.pool_runs.specs.Creating.{NewLeaf, leaves_of, new_leaves, new_state, new_birth, all_names, or_else, unknown_by, unknown, create_refusal, is_at, dev_or_none, AreStamps, failed_in, FoundBy, RowCreate}
+use Rattle.pool_runs.specs.Creating.{dev_or_none, members_of, tops_of, leaves_of, new_birth, or_else, all_names, unknown_by, unknown, create_refusal, stamp_acts, commit_acts, RowCreate}
 use Rattle.pool_runs.specs.Devices.{Device, number_in, size_in}
 use Rattle.pool_runs.specs.HostRows.{ByMoves, is_reading, marked_behind, read_acts, ByRead, WriteLine, ReadLine, FreezeLine, TurnLine, SyncLine, OfflineLine, LogsLine, OnPool, RowOf, ChangesNone, MayRewrite, RunsOut, HostRow}
 use Rattle.pool_runs.specs.Hosts.{Host, named}
 use Rattle.pool_runs.specs.Importing.{read_in, all_shown, OpensBy, FollowsMap, ImportBy, host_behind, ImportFor, ImportUnless}
-use Rattle.pool_runs.specs.Lines.{Asked, Asks_nothing, Asks_write, Asks_read, Asks_freeze, Asks_turn, Asks_sync, Asks_offline, Asks_logs, Asks_import, Asks_create, Reply, To_create, Created, DeviceFault, Entry}
+use Rattle.pool_runs.specs.Lines.{Asked, Asks_nothing, Asks_write, Asks_read, Asks_freeze, Asks_turn, Asks_sync, Asks_offline, Asks_logs, Asks_import, Asks_create, Reply, To_create, Entry}
 use Rattle.pool_runs.specs.Taking.{IsTakenBy}
 use Rattle.pool_runs.proofs.GroupMoves.{IsKind, more, all_calls, all_widened, all_reads, all_turn, all_freeze, all_sync, all_found, all_reopen}
 use Rattle.pool_runs.proofs.Creating.{or_first, or_second, none_refused}
@@ -244,31 +246,32 @@ keep_bare : (d : ℕ) (made : List Noted) (rest : List Act) → Keep d rest → 
 keep_bare d [] rest all = all
 keep_bare d (noted ∷ made) rest all = (tt, keep_bare d made rest all)
 
-not_at : (leaves : List NewLeaf) (d : ℕ) → is_at leaves d ≡ false → AllByRecursion (λ l. (l.dev == d) ≡ false) leaves
-not_at [] d off = tt
-not_at (l ∷ leaves) d off = by (l.dev == d) refl (λ rest. not_at leaves d rest)
+off_all : (leaves : List NewLeaf) (d : ℕ) → is_leaf_at (leaf_at d leaves) ≡ false → AllByRecursion (λ leaf. (leaf.dev == d) ≡ false) leaves
+off_all [] d off = tt
+off_all (l ∷ leaves) d off = by (l.dev == d) refl (λ rest. off_all leaves d rest)
   where
-    by : (t : Bool) → (l.dev == d) ≡ t → (is_at leaves d ≡ false → AllByRecursion (λ l. (l.dev == d) ≡ false) leaves) → ((l.dev == d) ≡ false) × AllByRecursion (λ l. (l.dev == d) ≡ false) leaves
-    by true is rest = absurd (let no : true ≡ false = sym (ap (λ t. t || is_at leaves d) is) ∙ off in cc)
-    by false is rest = (is, rest (sym (ap (λ t. t || is_at leaves d) is) ∙ off))
+    by : (t : Bool) → (l.dev == d) ≡ t → (is_leaf_at (leaf_at d leaves) ≡ false → AllByRecursion (λ leaf. (leaf.dev == d) ≡ false) leaves)
+        → ((l.dev == d) ≡ false) × AllByRecursion (λ leaf. (leaf.dev == d) ≡ false) leaves
+    by true is rest = absurd (let no : true ≡ false = sym (ap (λ t. is_leaf_at (cond t (Some l) (leaf_at d leaves))) is) ∙ off in cc)
+    by false is rest = (is, rest (sym (ap (λ t. is_leaf_at (cond t (Some l) (leaf_at d leaves))) is) ∙ off))
 
-keep_stamps : (d : ℕ) (pool : Guid) (size : ℕ → ℕ) (leaves : List NewLeaf) (acts : List Act) (failed : Option NewLeaf) → AreStamps pool size leaves acts failed → AllByRecursion (λ l. (l.dev == d) ≡ false) leaves → Keep d acts
-keep_stamps d pool size [] acts failed are off = subst (Keep d) (sym are.0) tt
-keep_stamps d pool size (leaf ∷ leaves) acts failed are off = subst (Keep d) (sym are.2) (off.0, keep_bare d are.0 are.1 (of are.3 (λ rest. keep_stamps d pool size leaves are.1 failed rest off.1)))
-  where
-    of : (IsPart (stamp_plan leaf.dev (size leaf.dev) pool leaf.guid) are.0 None × AreStamps pool size leaves are.1 failed)
-        ⊎ ((fault : Fault) × IsPart (stamp_plan leaf.dev (size leaf.dev) pool leaf.guid) are.0 (Some fault) × (are.1 ≡ []) × (failed ≡ Some leaf))
-        → (AreStamps pool size leaves are.1 failed → Keep d are.1) → Keep d are.1
-    of (inl whole) rest = rest whole.1
-    of (inr stop) rest = subst (Keep d) (sym stop.2) tt
+keep_stamps : (d : ℕ) (pool : Guid) (size : ℕ → ℕ) (leaves : List NewLeaf) (stamps : List Stamp) (failed : Option NewLeaf) → AreStamps size pool leaves stamps failed
+    → AllByRecursion (λ leaf. (leaf.dev == d) ≡ false) leaves → Keep d (stamp_acts pool.0 stamps)
+keep_stamps d pool size [] [] failed are off = tt
+keep_stamps d pool size [] (stamp ∷ stamps) failed are off = absurd are
+keep_stamps d pool size (leaf ∷ leaves) [] failed are off = absurd are
+keep_stamps d pool size (leaf ∷ leaves) (stamp ∷ stamps) failed (dev, inl whole) off = (subst (λ e. (e == d) ≡ false) (sym dev) off.0,
+    keep_bare d stamp.made (stamp_acts pool.0 stamps) (keep_stamps d pool size leaves stamps failed whole.1 off.1))
+keep_stamps d pool size (leaf ∷ leaves) (stamp ∷ stamps) failed (dev, inr stop) off = (subst (λ e. (e == d) ≡ false) (sym dev) off.0,
+    keep_bare d stamp.made (stamp_acts pool.0 stamps) (subst (λ l. Keep d (stamp_acts pool.0 l)) (sym stop.2) tt))
 
-keep_founding : (whole : Bool) (d g : ℕ) (vs : List Move) (failed : Option NewLeaf) (rest : List Act) (reply : Reply) → AllKeep vs → FoundBy whole g vs failed rest reply → Keep d rest
-keep_founding true d g vs failed rest reply all row = subst (Keep d) (sym row.0) (keep_does d g vs all)
-keep_founding false d g vs failed rest reply all row = subst (Keep d) (sym row.0) (keep_acts d (does g vs) (Closes g ∷ []) (keep_does d g vs all) (tt, tt))
+keep_commit : (answer : CreateReply) (d g : ℕ) (vs : List Move) → AllKeep vs → Keep d (commit_acts answer g vs)
+keep_commit Created d g vs all = keep_does d g vs all
+keep_commit (FaultOn device) d g vs all = keep_acts d (does g vs) (Closes g ∷ []) (keep_does d g vs all) (tt, tt)
 
--- a leaf's device has one of the names
-abbrev IsNamedAt : List Device → (names : List (List ℕ)) → (d : ℕ) → Type 0
-IsNamedAt table names d = (name : List ℕ) × IsAmong name names × (number_in name table ≡ Some d)
+-- A leaf's device has one of the names.
+abbrev HasName : List Device → (names : List (List ℕ)) → NewLeaf → Type 0
+HasName table names leaf = IsAmong leaf.name names × (number_in leaf.name table ≡ Some leaf.dev)
 
 among_left : (name : List ℕ) (xs ys : List (List ℕ)) → IsAmong name xs → IsAmong name (xs ++ ys)
 among_left name [] ys is = absurd is
@@ -279,35 +282,9 @@ among_right : (name : List ℕ) (xs ys : List (List ℕ)) → IsAmong name ys �
 among_right name [] ys is = is
 among_right name (x ∷ xs) ys is = inr (among_right name xs ys is)
 
-known_number : (number : Option ℕ) (name : List ℕ) (d : ℕ) → unknown_by number name ≡ None → (dev_or_none number == d) ≡ true → number ≡ Some d
-known_number None name d is here = absurd (cc)
-known_number (Some x) name d is here = ap Some (let same : x ≡ d = grind (arith, nat_tests) in same)
-
-or_true : (a b : Bool) → (a || b) ≡ true → (a ≡ true) ⊎ (b ≡ true)
-or_true true b is = inl refl
-or_true false b is = inr is
-
-is_at_more : (xs ys : List NewLeaf) (d : ℕ) → is_at (xs ++ ys) d ≡ true → (is_at xs d ≡ true) ⊎ (is_at ys d ≡ true)
-is_at_more [] ys d is = inr is
-is_at_more (x ∷ xs) ys d is = of (or_true (x.dev == d) (is_at (xs ++ ys) d) is) (λ more. is_at_more xs ys d more)
-  where
-    of : ((x.dev == d) ≡ true) ⊎ (is_at (xs ++ ys) d ≡ true) → (is_at (xs ++ ys) d ≡ true → (is_at xs d ≡ true) ⊎ (is_at ys d ≡ true)) → (is_at (x ∷ xs) d ≡ true) ⊎ (is_at ys d ≡ true)
-    of (inl here) rest = inl (ap (λ t. t || is_at xs d) here)
-    of (inr more) rest = ⊎_elim (λ first. inl (either (x.dev == d) (is_at xs d) first)) (λ second. inr second) (rest more)
-      where
-        either : (a b : Bool) → b ≡ true → (a || b) ≡ true
-        either true b is = refl
-        either false b is = is
-
-leaves_named : (table : List Device) (names : List (List ℕ)) (number top d : ℕ) → unknown table names ≡ None → is_at (leaves_of table names number top) d ≡ true → IsNamedAt table names d
-leaves_named table [] number top d known is = absurd (cc)
-leaves_named table (name ∷ names) number top d known is = of (or_true (dev_or_none (number_in name table) == d) (is_at (leaves_of table names (number + 1) top) d) is)
-    (λ more. leaves_named table names (number + 1) top d (or_second (unknown_by (number_in name table) name) (unknown table names) known) more)
-  where
-    of : ((dev_or_none (number_in name table) == d) ≡ true) ⊎ (is_at (leaves_of table names (number + 1) top) d ≡ true)
-        → (is_at (leaves_of table names (number + 1) top) d ≡ true → IsNamedAt table names d) → IsNamedAt table (name ∷ names) d
-    of (inl here) rest = (name, inl refl, known_number (number_in name table) name d (or_first (unknown_by (number_in name table) name) (unknown table names) known) here)
-    of (inr more) rest = let found = rest more in (found.0, inr found.1, found.2)
+known_number : (number : Option ℕ) (name : List ℕ) → unknown_by number name ≡ None → number ≡ Some (dev_or_none number)
+known_number None name is = absurd (cc)
+known_number (Some x) name is = refl
 
 unknown_left : (table : List Device) (xs ys : List (List ℕ)) → unknown table (xs ++ ys) ≡ None → unknown table xs ≡ None
 unknown_left table [] ys is = refl
@@ -318,45 +295,53 @@ unknown_right : (table : List Device) (xs ys : List (List ℕ)) → unknown tabl
 unknown_right table [] ys is = is
 unknown_right table (x ∷ xs) ys is = unknown_right table xs ys (or_second (unknown_by (number_in x table) x) (unknown table (xs ++ ys)) is)
 
-tops_named : (table : List Device) (tops : List (List (List ℕ))) (number top d : ℕ) → unknown table (all_names tops) ≡ None → is_at (new_leaves table tops number top) d ≡ true → IsNamedAt table (all_names tops) d
-tops_named table [] number top d known is = absurd (cc)
-tops_named table (names ∷ tops) number top d known is = of (is_at_more (leaves_of table names (number + 1) top) (new_leaves table tops (number + 1 + length names) (top + 1)) d is)
-    (λ more. tops_named table tops (number + 1 + length names) (top + 1) d (unknown_right table names (all_names tops) known) more)
-  where
-    of : (is_at (leaves_of table names (number + 1) top) d ≡ true) ⊎ (is_at (new_leaves table tops (number + 1 + length names) (top + 1)) d ≡ true)
-        → (is_at (new_leaves table tops (number + 1 + length names) (top + 1)) d ≡ true → IsNamedAt table (all_names tops) d) → IsNamedAt table (names ++ all_names tops) d
-    of (inl here) rest = let found = leaves_named table names (number + 1) top d (unknown_left table names (all_names tops) known) here in
-        (found.0, among_left found.0 names (all_names tops) found.1, found.2)
-    of (inr more) rest = let found = rest more in (found.0, among_right found.0 names (all_names tops) found.1, found.2)
+all_up : (P Q : NewLeaf → Type 0) → ((leaf : NewLeaf) → P leaf → Q leaf) → (leaves : List NewLeaf) → AllByRecursion P leaves → AllByRecursion Q leaves
+all_up P Q one [] all = tt
+all_up P Q one (leaf ∷ leaves) all = (one leaf all.0, all_up P Q one leaves all.1)
 
-taken_by : (h : Host) (e : Entry) (d : ℕ) (name : List ℕ) (blocks : ℕ) (tops : List (List (List ℕ))) → e.asked ≡ Asks_create name blocks tops → create_refusal h name blocks tops ≡ None
-    → is_at (new_leaves h.table tops 1 1) d ≡ true → (e.reply ≡ To_create (Created 1)) ⊎ ((failed : List ℕ) × (e.reply ≡ To_create (DeviceFault failed))) → IsTakenBy h e d
-taken_by h e d name blocks tops asked none is reply =
-    let found = tops_named h.table tops 1 1 d (none_refused h name blocks tops none).1.1.1.1.1.1.1.0 is in
-    record { name = name; blocks = blocks; tops = tops; asked = asked; device = found.0; is_named = found.1; number = found.2; reply = reply }
+all_both : (P : NewLeaf → Type 0) (xs ys : List NewLeaf) → AllByRecursion P xs → AllByRecursion P ys → AllByRecursion P (xs ++ ys)
+all_both P [] ys a b = b
+all_both P (x ∷ xs) ys a b = (a.0, all_both P xs ys a.1 b)
+
+top_named : (table : List Device) (names : List (List ℕ)) (next top : ℕ) → unknown table names ≡ None → AllByRecursion (HasName table names) (top_leaves next top (members_of table names))
+top_named table [] next top known = tt
+top_named table (name ∷ names) next top known = (
+  (inl refl, known_number (number_in name table) name (or_first (unknown_by (number_in name table) name) (unknown table names) known)),
+  all_up (HasName table names) (HasName table (name ∷ names)) (λ leaf has. (inr has.0, has.1)) (top_leaves (suc next) top (members_of table names))
+      (top_named table names (suc next) top (or_second (unknown_by (number_in name table) name) (unknown table names) known)),
+)
+
+all_named : (table : List Device) (tops : List (List (List ℕ))) (next top : ℕ) → unknown table (all_names tops) ≡ None
+    → AllByRecursion (HasName table (all_names tops)) (leaves_from next top (tops_of table tops))
+all_named table [] next top known = tt
+all_named table (names ∷ tops) next top known =
+    all_both (HasName table (names ++ all_names tops)) (top_leaves (suc next) top (members_of table names)) (leaves_from (suc next + length (members_of table names)) (suc top) (tops_of table tops))
+    (all_up (HasName table names) (HasName table (names ++ all_names tops)) (λ leaf has. (among_left leaf.name names (all_names tops) has.0, has.1))
+    (top_leaves (suc next) top (members_of table names)) (top_named table names (suc next) top (unknown_left table names (all_names tops) known)))
+    (all_up (HasName table (all_names tops)) (HasName table (names ++ all_names tops)) (λ leaf has. (among_right leaf.name names (all_names tops) has.0, has.1))
+    (leaves_from (suc next + length (members_of table names)) (suc top) (tops_of table tops))
+    (all_named table tops (suc next + length (members_of table names)) (suc top) (unknown_right table names (all_names tops) known)))
+
+taken_by : (h : Host) (e : Entry) (d : ℕ) (name : List ℕ) (blocks : ℕ) (tops : List (List (List ℕ))) (answer : CreateReply) → e.asked ≡ Asks_create name blocks tops → create_refusal h name blocks tops ≡ None
+    → is_leaf_at (leaf_at d (leaves_of h.table tops)) ≡ true → e.reply ≡ To_create answer → IsTakenBy h e d
+taken_by h e d name blocks tops answer asked none is reply =
+    let at = leaf_of d (leaves_of h.table tops) is in
+    let found = leaf_found d (leaves_of h.table tops) at.0 at.1 in
+    let has = all_of (HasName h.table (all_names tops)) (leaves_of h.table tops) at.0 (all_named h.table tops 1 1 (none_refused h name blocks tops none).1.1.1.1.1.1.1.0) found.0 in
+    record { name = name; blocks = blocks; tops = tops; asked = asked; device = at.0.name; is_named = has.0; number = has.1 ∙ ap Some found.1; answer = answer; reply = reply }
 
 create_keeps : (c : Codec) (h : Host) (e : Entry) (d : ℕ) (name : List ℕ) (blocks : ℕ) (tops : List (List (List ℕ))) → e.asked ≡ Asks_create name blocks tops → RowCreate c h name blocks tops e.acts e.reply
     → Keep d e.acts ⊎ IsTakenBy h e d
 create_keeps c h e d name blocks tops asked (inl row) = inl (subst (Keep d) (sym row.2) tt)
-create_keeps c h e d name blocks tops asked (inr (inl row)) = by_bool (is_at (new_leaves h.table tops 1 1) d)
-    (λ is. inr (taken_by h e d name blocks tops asked row.may.none is (inr (row.leaf.name, row.says))))
-    (λ off. inl (subst (Keep d) (sym row.all) (tt, keep_stamps d row.pool (size_in h.table) (new_leaves h.table tops 1 1) row.stamps (Some row.leaf) row.are (not_at (new_leaves h.table tops 1 1) d off))))
-create_keeps c h e d name blocks tops asked (inr (inr row)) = by_bool (is_at (new_leaves h.table tops 1 1) d)
-    (λ is. inr (taken_by h e d name blocks tops asked row.may.none is (says row.whole row.ends)))
-    (λ off. inl (subst (Keep d) (sym row.all) (
-      tt,
-      keep_acts d row.stamps (Bears (new_birth name row.pool blocks h.table tops) ∷ row.rest)
-          (keep_stamps d row.pool (size_in h.table) (new_leaves h.table tops 1 1) row.stamps None row.are (not_at (new_leaves h.table tops 1 1) d off)) (
-            tt,
-            keep_founding row.whole d row.pool.0 row.moves (failed_in (new_leaves h.table tops 1 1) row.row.ends.results) row.rest e.reply
-                (all_found KeepsMembers kept_kind (λ cells board. tt) c (size_in h.table) (new_state name row.pool blocks h.table tops) row.moves row.whole row.row) row.ends,
-          ),
-    )))
-  where
-    says : (whole : Bool) → FoundBy whole row.pool.0 row.moves (failed_in (new_leaves h.table tops 1 1) row.row.ends.results) row.rest e.reply
-        → (e.reply ≡ To_create (Created 1)) ⊎ ((failed : List ℕ) × (e.reply ≡ To_create (DeviceFault failed)))
-    says true ends = inl ends.1
-    says false ends = inr (ends.1.name, ends.3)
+create_keeps c h e d name blocks tops asked (inr (inl row)) = by_bool (is_leaf_at (leaf_at d (leaves_of h.table tops)))
+    (λ is. inr (taken_by h e d name blocks tops (FaultOn row.leaf.name) asked row.may.none is row.says))
+    (λ off. inl (subst (Keep d) (sym row.all) (tt, keep_stamps d row.pool (size_in h.table) (leaves_of h.table tops) row.stamps (Some row.leaf) row.are (off_all (leaves_of h.table tops) d off))))
+create_keeps c h e d name blocks tops asked (inr (inr row)) = by_bool (is_leaf_at (leaf_at d (leaves_of h.table tops)))
+    (λ is. inr (taken_by h e d name blocks tops row.answer asked row.may.none is row.says))
+    (λ off. inl (subst (Keep d) (sym row.all) (tt, keep_acts d (stamp_acts row.pool.0 row.stamps) (Bears (new_birth name row.pool blocks h.table tops) ∷ commit_acts row.answer row.pool.0 row.moves)
+    (keep_stamps d row.pool (size_in h.table) (leaves_of h.table tops) row.stamps None row.are (off_all (leaves_of h.table tops) d off))
+    (tt, keep_commit row.answer d row.pool.0 row.moves
+    (all_found KeepsMembers kept_kind (λ cells board. tt) c (size_in h.table) (new_state (size_in h.table) name row.pool blocks (tops_of h.table tops)) row.moves row.row.whole row.row.row)))))
 
 -- Imports.
 keep_shown : (d g : ℕ) (known : Known) (devs : List (Option ℕ)) (rest : List Act) → Keep d rest → Keep d (all_shown g known devs ++ rest)

@@ -1,152 +1,49 @@
 -- `create` as a row: its refusals, its stamps, and the pool that begins behind them.
-use Rattle.std.specs.Prelude.{◌≡◌, ◌≢◌, ◌⊎◌, ℕ, ◌+◌, ◌-◌, ◌*◌, ◌<◌, ◌≤◌, ◌^◌, ◌==◌, ◌||◌, nat_lt, min, Bool, true, false, cond, List, [], ◌∷◌, ◌++◌, map, length, Option, Some, None}
+use Rattle.std.specs.Prelude.{◌≡◌, ◌≢◌, ◌⊎◌, ℕ, ◌+◌, ◌<◌, ◌≤◌, ◌^◌, ◌==◌, ◌||◌, nat_lt, Bool, true, false, cond, List, [], ◌∷◌, ◌++◌, map, length, Option, Some, None}
 use Rattle.std.specs.List.{AllByRecursion, list_any, find}
-use Rattle.std.specs.Option.{is_some, is_none}
+use Rattle.std.specs.Option.{is_some}
 use Rattle.std.specs.Str.{bytes_eq}
 use Rattle.mp_base.specs.declared.number.Guid.{Guid}
-use Rattle.bank_core.specs.declared.bank.Fault.{Fault}
-use Rattle.bank_core.specs.Asks.{IsPart}
-use Rattle.bank_core.specs.Disk.{Noted}
-use Rattle.label_store.specs.Plans.{no_guid, stamp_plan}
-use Rattle.vdev_tree.specs.declared.vdev.Counts.{Counts}
-use Rattle.vdev_tree.specs.declared.vdev.State.TheVariants.{Online}
-use Rattle.txg_history.specs.Groups.{no_log}
 use Rattle.txg_history.specs.Pages.{Codec}
-use Rattle.pool_moves.specs.CommitRows.{RowFound}
 use Rattle.pool_moves.specs.FreezeRow.{is_dev}
-use Rattle.pool_moves.specs.Leaves.{OwnLeaf, LeafSeen}
 use Rattle.pool_moves.specs.Moves.{Move}
-use Rattle.pool_moves.specs.States.{no_group_seen, no_scan_seen, PoolState}
-use Rattle.pool_moves.specs.Trees.{Child, Plain, Single}
+use Rattle.pool_moves.specs.StampRow.{NewMember, NewLeaf, new_leaves, new_room, leaf_at, is_leaf_at, guid_of, top_of, AreDevicesApart, Stamp, AreStamps, new_state, CreateReply, Created, FaultOn, CommitsFirst}
+use Rattle.pool_moves.specs.States.{PoolState}
 use Rattle.pool_runs.specs.Acts.{Act, Birth, Names, Takes, Bears, Closes, does, bare}
 use Rattle.pool_runs.specs.Devices.{Device, number_in, name_in, size_in}
-use Rattle.pool_runs.specs.Hosts.{Host, IsOpen, named}
+use Rattle.pool_runs.specs.Hosts.{Host, IsOpen, named, host_along}
 use Rattle.pool_runs.specs.Knowing.{AreOwnActs}
-use Rattle.pool_runs.specs.Lines.{Reply, To_create, CreateRefusal, NameTaken, TooMany, BadBlocks, NameTwice, UnknownDevice, InUse, TooSmall, CreateReply, Created, DeviceFault, Uncreated}
-
--- A leaf that a create makes: its member number, its device with its name, and its top.
-pub record NewLeaf : Type 0 where
-  pub guid : Guid
-  pub name : List ℕ
-  pub dev : ℕ
-  pub top : ℕ
+use Rattle.pool_runs.specs.Lines.{Reply, To_create, To_uncreated, CreateRefusal, NameTaken, TooMany, BadBlocks, NameTwice, UnknownDevice, InUse, TooSmall}
 
 abbrev pub dev_or_none : Option ℕ → ℕ
 dev_or_none None = 0
 dev_or_none (Some d) = d
 
--- the leaves of a mirror of these devices, numbered from this number on
-abbrev pub leaves_of : List Device → (names : List (List ℕ)) → (number top : ℕ) → List NewLeaf
-leaves_of table [] number top = []
-leaves_of table (name ∷ names) number top =
-    record { guid = record { 0 = number }; name = name; dev = dev_or_none (number_in name table); top = top } ∷ leaves_of table names (number + 1) top
+-- the devices that are named, under their numbers
+abbrev pub members_of : List Device → (names : List (List ℕ)) → List NewMember
+members_of table [] = []
+members_of table (name ∷ names) = record { name = name; dev = dev_or_none (number_in name table) } ∷ members_of table names
 
--- The leaves of these mirrors, in tree order. A mirror is numbered before its leaves, and tops count from 1.
-abbrev pub new_leaves : List Device → (tops : List (List (List ℕ))) → (number top : ℕ) → List NewLeaf
-new_leaves table [] number top = []
-new_leaves table (names ∷ tops) number top = leaves_of table names (number + 1) top ++ new_leaves table tops (number + 1 + length names) (top + 1)
+abbrev pub tops_of : List Device → (tops : List (List (List ℕ))) → List (List NewMember)
+tops_of table [] = []
+tops_of table (names ∷ tops) = members_of table names ∷ tops_of table tops
 
--- the first number that is left
-abbrev pub next_number : (tops : List (List (List ℕ))) → (number : ℕ) → ℕ
-next_number [] number = number
-next_number (names ∷ tops) number = next_number tops (number + 1 + length names)
+-- the leaves of the mirrors that are asked for
+abbrev pub leaves_of : List Device → (tops : List (List (List ℕ))) → List NewLeaf
+leaves_of table tops = new_leaves (tops_of table tops)
 
--- the number of each top
-abbrev pub top_numbers : (tops : List (List (List ℕ))) → (number top : ℕ) → ℕ → Guid
-top_numbers [] number top t = no_guid
-top_numbers (names ∷ tops) number top t = cond (top == t) (record { 0 = number }) (top_numbers tops (number + 1 + length names) (top + 1) t)
-
--- of these leaves: whether one is on a device, and then its number and its top
-abbrev pub is_at : List NewLeaf → ℕ → Bool
-is_at [] d = false
-is_at (leaf ∷ leaves) d = (leaf.dev == d) || is_at leaves d
-
-abbrev pub guid_at : List NewLeaf → ℕ → Guid
-guid_at [] d = no_guid
-guid_at (leaf ∷ leaves) d = cond (leaf.dev == d) leaf.guid (guid_at leaves d)
-
-abbrev pub top_at : List NewLeaf → ℕ → ℕ
-top_at [] d = 0
-top_at (leaf ∷ leaves) d = cond (leaf.dev == d) leaf.top (top_at leaves d)
-
--- A top has as many data sectors as its smallest member.
-abbrev pub least : ℕ → Option ℕ → Option ℕ
-least n None = Some n
-least n (Some m) = Some (min n m)
-
-abbrev pub least_under : List Device → List NewLeaf → (top : ℕ) → Option ℕ
-least_under table [] top = None
-least_under table (leaf ∷ leaves) top = cond (leaf.top == top) (least (size_in table leaf.dev - 256) (least_under table leaves top)) (least_under table leaves top)
-
-abbrev pub room_or_none : Option ℕ → ℕ
-room_or_none None = 0
-room_or_none (Some n) = n
-
-abbrev pub room_under : List Device → List NewLeaf → (top : ℕ) → ℕ
-room_under table leaves top = room_or_none (least_under table leaves top)
-
--- the children of a top's mirror
-abbrev pub children_under : List NewLeaf → (top : ℕ) → List Child
-children_under [] top = []
-children_under (leaf ∷ leaves) top = cond (leaf.top == top) (Plain (Single leaf.guid) ∷ children_under leaves top) (children_under leaves top)
-
-abbrev pub no_counts : Counts
-no_counts = record { reads = 0; writes = 0; mismatches = 0 }
-
-abbrev pub new_own : (name : List ℕ) → OwnLeaf
-new_own name = record { name = name; mode = Online; temporary = false; marked = false; counts = no_counts; joined = false; faults = 0 }
-
-abbrev pub new_leaf_seen : NewLeaf → LeafSeen
-new_leaf_seen leaf = record {
-  guid = leaf.guid;
-  dev = Some leaf.dev;
-  own = new_own leaf.name;
-  top = leaf.top;
-  owes = no_log 0;
-  settled = no_log 0;
-  on = false;
-  eligible = false;
-  scrub = no_log 0;
-}
-
--- The state of a pool that was just made.
-abbrev pub new_state : (name : List ℕ) → (pool : Guid) → (blocks : ℕ) → List Device → (tops : List (List (List ℕ))) → PoolState
-new_state name pool blocks table tops = record {
-  own = record {
-    blocks = blocks;
-    writes = λ a. None;
-    top_number = top_numbers tops 1 1;
-    children = children_under (new_leaves table tops 1 1);
-    spares = [];
-    next_member = next_number tops 1;
-    scrubs = false;
-  };
-  core = record {
-    name = name;
-    pool = pool;
-    number = 0;
-    read_number = 0;
-    opened = false;
-    committed = λ k. None;
-    room = room_under table (new_leaves table tops 1 1);
-    leaves = map new_leaf_seen (new_leaves table tops 1 1);
-    group = no_group_seen;
-    scan = no_scan_seen;
-    pinned = [];
-  };
-}
-
+-- The pool that begins behind the stamps.
 abbrev pub new_birth : (name : List ℕ) → (pool : Guid) → (blocks : ℕ) → List Device → (tops : List (List (List ℕ))) → Birth
 new_birth name pool blocks table tops = record {
   name = name;
   pool = pool;
-  member = is_at (new_leaves table tops 1 1);
-  guid = guid_at (new_leaves table tops 1 1);
+  member = λ d. is_leaf_at (leaf_at d (leaves_of table tops));
+  guid = λ d. guid_of (leaf_at d (leaves_of table tops));
   called = name_in table;
   size = size_in table;
-  room = room_under table (new_leaves table tops 1 1);
-  home = top_at (new_leaves table tops 1 1);
-  state = new_state name pool blocks table tops;
+  room = new_room (size_in table) (leaves_of table tops);
+  home = λ d. top_of (leaf_at d (leaves_of table tops));
+  state = new_state (size_in table) name pool blocks (tops_of table tops);
 }
 
 -- Refusals, each where its cause is, the first one of those that come.
@@ -211,71 +108,62 @@ refusals_of h name blocks tops =
     ∷ refused_if ((blocks == 0) || nat_lt 262144 blocks) (BadBlocks 262144)
     ∷ refused_if (has_twice (all_names tops)) NameTwice
     ∷ unknown h.table (all_names tops)
-    ∷ used h.pools (new_leaves h.table tops 1 1)
-    ∷ too_small h.table (new_leaves h.table tops 1 1)
+    ∷ used h.pools (leaves_of h.table tops)
+    ∷ too_small h.table (leaves_of h.table tops)
     ∷ []
 
 abbrev pub create_refusal : Host → (name : List ℕ) → (blocks : ℕ) → (tops : List (List (List ℕ))) → Option CreateRefusal
 create_refusal h name blocks tops = first_some (refusals_of h name blocks tops)
 
--- The stamps of these leaves, one after another, up to the first call that failed, with the leaf on whose device it did.
-abbrev pub AreStamps : (pool : Guid) → (size : ℕ → ℕ) → List NewLeaf → List Act → (failed : Option NewLeaf) → Type 0
-AreStamps pool size [] acts failed = (acts ≡ []) × (failed ≡ None)
-AreStamps pool size (leaf ∷ leaves) acts failed = (made : List Noted) × (rest : List Act) × (acts ≡ Takes pool.0 leaf.dev ∷ (bare made ++ rest))
-    × ((IsPart (stamp_plan leaf.dev (size leaf.dev) pool leaf.guid) made None × AreStamps pool size leaves rest failed)
-    ⊎ ((fault : Fault) × IsPart (stamp_plan leaf.dev (size leaf.dev) pool leaf.guid) made (Some fault) × (rest ≡ []) × (failed ≡ Some leaf)))
+-- the acts of these stamps: each takes its device as it begins
+abbrev pub stamp_acts : (g : ℕ) → List Stamp → List Act
+stamp_acts g [] = []
+stamp_acts g (stamp ∷ stamps) = Takes g stamp.dev ∷ (bare stamp.made ++ stamp_acts g stamps)
 
--- no two leaves have one device
-abbrev pub AreDevsApart : List NewLeaf → Type 0
-AreDevsApart [] = Unit {0}
-AreDevsApart (leaf ∷ leaves) = AllByRecursion (λ other. (leaf.dev == other.dev) ≡ false) leaves × AreDevsApart leaves
-
--- What each create has that isn't refused: a pool number, which the clock gave, and its leaves on devices of their own.
+-- What each create has that isn't refused: a pool number, which the clock gave, at least one device for each mirror, and its leaves on
+-- devices of their own.
 pub record MayCreate (h : Host) (name : List ℕ) (blocks : ℕ) (tops : List (List (List ℕ))) (pool : Guid) : Type 0 where
   pub none : create_refusal h name blocks tops ≡ None
   pub in_range : pool.0 < 2 ^ 64
-  pub apart : AreDevsApart (new_leaves h.table tops 1 1)
+  pub some : AllByRecursion (λ names. 1 ≤ length names) tops
+  pub apart : AreDevicesApart (leaves_of h.table tops)
 
 -- A stamp failed: no pool begins.
 pub record FailsStamp (h : Host) (name : List ℕ) (blocks : ℕ) (tops : List (List (List ℕ))) (acts : List Act) (reply : Reply) : Type 0 where
   pub pool : Guid
   pub may : MayCreate h name blocks tops pool
-  pub stamps : List Act
+  pub stamps : List Stamp
   pub leaf : NewLeaf
-  pub are : AreStamps pool (size_in h.table) (new_leaves h.table tops 1 1) stamps (Some leaf)
-  pub all : acts ≡ Names pool.0 ∷ stamps
+  pub are : AreStamps (size_in h.table) pool (leaves_of h.table tops) stamps (Some leaf)
+  pub all : acts ≡ Names pool.0 ∷ stamp_acts pool.0 stamps
   pub own : AreOwnActs pool.0 h acts
-  pub says : reply ≡ To_create (DeviceFault leaf.name)
+  pub says : reply ≡ To_create (FaultOn leaf.name)
 
--- the first leaf that failed in the round
-abbrev pub failed_in : List NewLeaf → (results : List Bool) → Option NewLeaf
-failed_in [] results = None
-failed_in (leaf ∷ leaves) [] = None
-failed_in (leaf ∷ leaves) (true ∷ results) = failed_in leaves results
-failed_in (leaf ∷ leaves) (false ∷ results) = Some leaf
-
--- how the commit ends: where a leaf failed in it there is no pool, and the first such leaf is told
-abbrev pub FoundBy : (whole : Bool) → (g : ℕ) → List Move → Option NewLeaf → List Act → Reply → Type 0
-FoundBy true g vs failed rest reply = (rest ≡ does g vs) × (reply ≡ To_create (Created 1))
-FoundBy false g vs failed rest reply = (rest ≡ does g vs ++ (Closes g ∷ [])) × (leaf : NewLeaf) × (failed ≡ Some leaf) × (reply ≡ To_create (DeviceFault leaf.name))
+-- how the first commit ends: where a leaf failed in it, there is no pool
+abbrev pub commit_acts : CreateReply → (g : ℕ) → List Move → List Act
+commit_acts Created g vs = does g vs
+commit_acts (FaultOn device) g vs = does g vs ++ (Closes g ∷ [])
 
 -- All stamps are whole: a pool begins, and record 1 is committed by one round.
 pub record Creates (c : Codec) (h : Host) (name : List ℕ) (blocks : ℕ) (tops : List (List (List ℕ))) (acts : List Act) (reply : Reply) : Type 0 where
   pub pool : Guid
   pub may : MayCreate h name blocks tops pool
-  pub stamps : List Act
-  pub are : AreStamps pool (size_in h.table) (new_leaves h.table tops 1 1) stamps None
+  pub stamps : List Stamp
+  pub are : AreStamps (size_in h.table) pool (leaves_of h.table tops) stamps None
   pub moves : List Move
-  pub whole : Bool
-  pub row : RowFound c (size_in h.table) (new_state name pool blocks h.table tops) moves whole
-  pub rest : List Act
-  pub ends : FoundBy whole pool.0 moves (failed_in (new_leaves h.table tops 1 1) row.ends.results) rest reply
-  pub all : acts ≡ Names pool.0 ∷ (stamps ++ (Bears (new_birth name pool blocks h.table tops) ∷ rest))
+  pub answer : CreateReply
+  pub row : CommitsFirst c (size_in h.table) (new_state (size_in h.table) name pool blocks (tops_of h.table tops)) moves answer
+  pub all : acts ≡ Names pool.0 ∷ (stamp_acts pool.0 stamps ++ (Bears (new_birth name pool blocks h.table tops) ∷ commit_acts answer pool.0 moves))
   pub own : AreOwnActs pool.0 h acts
+  pub says : reply ≡ To_create answer
+
+-- the host behind the stamps
+abbrev pub host_stamped : Host → (g : ℕ) → List Stamp → Host
+host_stamped h g stamps = host_along (stamp_acts g stamps) h
 
 -- `create`
 abbrev pub RowCreate : Codec → Host → (name : List ℕ) → (blocks : ℕ) → (tops : List (List (List ℕ))) → List Act → Reply → Type 0
-RowCreate c h name blocks tops acts reply = ((refusal : CreateRefusal) × (create_refusal h name blocks tops ≡ Some refusal) × (acts ≡ []) × (reply ≡ To_create (Uncreated refusal)))
+RowCreate c h name blocks tops acts reply = ((refusal : CreateRefusal) × (create_refusal h name blocks tops ≡ Some refusal) × (acts ≡ []) × (reply ≡ To_uncreated refusal))
     ⊎ (FailsStamp h name blocks tops acts reply ⊎ Creates c h name blocks tops acts reply)
 
 -- The pool number of a create is no open pool's, and no two names of the host have one device, as its look-ups leave it.

@@ -7,6 +7,7 @@ use Rattle.pool_moves.specs.CommitRows.{NamedLog}
 use Rattle.pool_moves.specs.LineRows.{TurnReply, FreezeReply, SyncReply}
 use Rattle.pool_moves.specs.PageReads.{LeafShown}
 use Rattle.pool_moves.specs.ReadRow.{ReadReply}
+use Rattle.pool_moves.specs.StampRow.{CreateReply}
 use Rattle.pool_runs.specs.Acts.{Act}
 
 -- what a line asks. One that asks nothing is outside of the grammar, or empty
@@ -34,12 +35,6 @@ pub data CreateRefusal : Type 0 where
   InUse : (by : List ℕ) → CreateRefusal
   TooSmall : (need has : ℕ) → CreateRefusal
 
--- What a create answers: the number that it committed, the device that failed in it, or why it did nothing.
-pub data CreateReply : Type 0 where
-  Created : (number : ℕ) → CreateReply
-  DeviceFault : (device : List ℕ) → CreateReply
-  Uncreated : (refusal : CreateRefusal) → CreateReply
-
 -- What an import answers: the number that it committed; that a pool of the name is open, or as many as may be; that no record of the name is
 -- there, or one of the last number; that a page of the map was lost, with what each leaf showed; or that its commit was suspended.
 pub data ImportReply : Type 0 where
@@ -62,6 +57,8 @@ pub data Reply : Type 0 where
   To_logs : (logs : List NamedLog) → Reply
   To_import : (reply : ImportReply) → Reply
   To_create : (reply : CreateReply) → Reply
+  -- a create was refused
+  To_uncreated : (refusal : CreateRefusal) → Reply
   -- no open pool has the name
   No_pool : Reply
   -- there was no memory

@@ -1,10 +1,11 @@
 -- How a pool may lose a device in a run: by a create that names it.
-use Rattle.std.specs.Prelude.{◌≡◌, ◌⊎◌, ℕ, List, Some}
+use Rattle.std.specs.Prelude.{◌≡◌, ℕ, List, Some}
 use Rattle.txg_history.specs.Survival.{IsAmong}
+use Rattle.pool_moves.specs.StampRow.{CreateReply}
 use Rattle.pool_runs.specs.Creating.{all_names}
 use Rattle.pool_runs.specs.Devices.{number_in}
 use Rattle.pool_runs.specs.Hosts.{Host}
-use Rattle.pool_runs.specs.Lines.{Asks_create, To_create, Created, DeviceFault, Entry}
+use Rattle.pool_runs.specs.Lines.{Asks_create, To_create, Entry}
 
 -- The line is a create that names this device, and it wasn't refused: a pool was made, or a device failed in it.
 pub record IsTakenBy (h : Host) (e : Entry) (d : ℕ) : Type 0 where
@@ -15,4 +16,5 @@ pub record IsTakenBy (h : Host) (e : Entry) (d : ℕ) : Type 0 where
   pub device : List ℕ
   pub is_named : IsAmong device (all_names tops)
   pub number : number_in device h.table ≡ Some d
-  pub reply : (e.reply ≡ To_create (Created 1)) ⊎ ((failed : List ℕ) × (e.reply ≡ To_create (DeviceFault failed)))
+  pub answer : CreateReply
+  pub reply : e.reply ≡ To_create answer

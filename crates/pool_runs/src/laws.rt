@@ -4,7 +4,7 @@ ghost use Rattle.txg_history.specs.Numbering.{renumbered};
 ghost use Rattle.txg_history.specs.Pages.{Codec};
 ghost use Rattle.txg_history.specs.Pools.{Pool};
 ghost use Rattle.pool_runs.specs.Acts.{Act, Bears, pool_along};
-ghost use Rattle.pool_runs.specs.Creating.{Creates, IsNew, new_birth};
+ghost use Rattle.pool_runs.specs.Creating.{Creates, IsNew, new_birth, host_stamped, commit_acts};
 ghost use Rattle.pool_runs.specs.Fairness.{AreFair};
 ghost use Rattle.pool_runs.specs.Headline.{Headline};
 ghost use Rattle.pool_runs.specs.HostRows.{IsRun};
@@ -30,8 +30,8 @@ pub fn runs_keep_each_pool()
     ensures first { (c : Codec) (past : Past) (h : Host) (entries : List Entry) → BeginsRun c past h → IsRun c h entries → Headline c past h [] entries }
     ensures born { (c : Codec) (h : Host) (name : List ℕ) (blocks : ℕ) (tops : List (List (List ℕ))) (acts : List Act) (reply : Reply) (entries : List Entry)
         → (k : Creates c h name blocks tops acts reply) → IsNew h k.pool.0 → IsRun c (host_along acts h) entries
-        → Headline c (Born (new_birth name k.pool blocks h.table tops) (host_along k.stamps h).disk)
-        (host_by (Bears (new_birth name k.pool blocks h.table tops)) (host_along k.stamps h)) k.rest entries }
+        → Headline c (Born (new_birth name k.pool blocks h.table tops) (host_stamped h k.pool.0 k.stamps).disk)
+        (host_by (Bears (new_birth name k.pool blocks h.table tops)) (host_stamped h k.pool.0 k.stamps)) (commit_acts k.answer k.pool.0 k.moves) entries }
     ensures next { (c : Codec) (past : Past) (was : ℕ → ℕ) (called : ℕ → List ℕ) (images : ℕ → ℕ → List ℕ) (h : Host) → IsAllowed c past
         → AreNamed past was called h → IsNext (renumbered was (pool_of past)) images h → BeginsRun c (next_past past was called images h) h }
 {}
