@@ -8,8 +8,8 @@ use Rattle.txg_history.specs.Pools.{Pool}
 use Rattle.txg_history.proofs.Logging.{by_bool, same_device, true_not_false}
 use Rattle.pool_moves.specs.AwayRows.{WriteReply, WriteFits, WriteBy, RowWrite, OfflineReply, is_offline, is_spare, LeaveIf, drop_if, gone, GoesAway, OfflineLeaf, OfflineHere, OfflineBy, leaf_named, RowOffline}
 use Rattle.pool_moves.specs.Keeping.{IsElsewhere, AreSeatsApart, IsAway, IsOfFound, IsFoundAt, HasFound, Kept, Walks}
-use Rattle.pool_moves.specs.Leaves.{OwnLeaf, LeafSeen, Seat, At, Adrift, Told, told, dev_if, leaf_seen}
-use Rattle.pool_moves.specs.Moves.{Move, Puts, Leave, Drop, Sets, steps, seat_step, after_moves}
+use Rattle.pool_moves.specs.Leaves.{LeafSeen, Seat, At, Adrift, told, dev_if, leaf_seen}
+use Rattle.pool_moves.specs.Moves.{Move, Leave, Drop, Sets, steps, seat_step, after_moves}
 use Rattle.pool_moves.specs.Refusing.{count_below, keys_needed, written_with, dirty_with}
 use Rattle.pool_moves.specs.States.{PoolState, Side}
 use Rattle.pool_moves.proofs.Boarding.{found_alone}

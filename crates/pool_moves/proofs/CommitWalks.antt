@@ -15,7 +15,7 @@ use Rattle.pool_moves.specs.Keeping.{over, Kept, Walks}
 use Rattle.pool_moves.specs.Leaves.{LeafSeen}
 use Rattle.pool_moves.specs.LineRows.{IsSized, TurnReply}
 use Rattle.pool_moves.specs.Moves.{Move, Freeze, Flushed_all, steps, step, after_move, after_moves}
-use Rattle.pool_moves.specs.States.{PoolState, Side, seen}
+use Rattle.pool_moves.specs.States.{PoolState, Side}
 use Rattle.pool_moves.proofs.FreeWalks.{walks_more}
 use Rattle.pool_moves.proofs.Widenings.{IsLike, widens_like}
 use Rattle.pool_moves.proofs.FreezeWalks.{empty_freeze_walks}

@@ -1,12 +1,11 @@
 -- Free moves, one after another, and what the history gets of them.
-use Rattle.std.proofs.Common.{◌≡◌, ℕ, ◌==◌, Bool, true, false, List, [], ◌∷◌, ◌++◌, refl, sym, ap, ◌∙◌, append-nil, append_assoc}
+use Rattle.std.proofs.Common.{◌≡◌, ℕ, ◌==◌, Bool, true, List, [], ◌∷◌, ◌++◌, refl, sym, ap, ◌∙◌, append_assoc}
 use Rattle.std.specs.List.{AllByRecursion}
 use Rattle.bank_core.specs.Disk.{Noted}
-use Rattle.label_store.specs.declared.member.Member.{Member}
-use Rattle.txg_history.specs.Events.{Event, Calls, Leaves, as_events}
+use Rattle.txg_history.specs.Events.{Calls, as_events}
 use Rattle.txg_history.specs.Moves.{Mays}
 use Rattle.txg_history.specs.Pages.{Codec}
-use Rattle.txg_history.specs.Pools.{Pool, pool_after}
+use Rattle.txg_history.specs.Pools.{pool_after}
 use Rattle.txg_history.proofs.Folding.{mays_first, mays_second, pool_more}
 use Rattle.pool_moves.specs.Keeping.{IsOfFound, Admits, Walks}
 use Rattle.pool_moves.specs.Leaves.{Seat}

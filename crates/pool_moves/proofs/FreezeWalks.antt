@@ -1,6 +1,6 @@
 -- A freeze may be made: its walk from its row.
 use Rattle.std.proofs.Common.{◌≡◌, ◌⊎◌, inl, inr, ⊎_elim, ℕ, ◌+◌, ◌*◌, ◌≤◌, ◌==◌, ◌&&◌, ◌||◌, Bool, true, false, cond, Option, Some, None, List, [], ◌∷◌, map, refl, sym, ap, ◌∙◌, subst, arith}
-use Rattle.std.specs.Option.{option_map, is_some}
+use Rattle.std.specs.Option.{option_map}
 use Rattle.std.specs.List.{AllByRecursion}
 use Rattle.std.proofs.lemmas.Bool.{and_parts}
 use Rattle.std.proofs.lemmas.Bool.Decides.{nat_tests}
@@ -13,12 +13,12 @@ use Rattle.txg_history.specs.Records.{Cell, Cells, block_of, block_in, cell_over
 use Rattle.txg_history.proofs.Freezing.{empty_freeze}
 use Rattle.txg_history.proofs.Logging.{by_bool, same_device, true_not_false}
 use Rattle.pool_moves.specs.FreezeRow.{is_dev, up_devs, IsAtPlace, IsAtPinned, RowFreeze, RowEmptyFreeze}
-use Rattle.pool_moves.specs.Keeping.{IsElsewhere, AreSeatsApart, IsAway, IsFoundAt, HasFound, IsOfFound, over, beneath, Admits, Kept, Walks}
+use Rattle.pool_moves.specs.Keeping.{IsElsewhere, AreSeatsApart, IsAway, HasFound, IsOfFound, over, Admits, Kept, Walks}
 use Rattle.pool_moves.specs.Leaves.{OwnLeaf, LeafSeen, Seat, At, Adrift, dev_if, told, leaf_seen}
-use Rattle.pool_moves.specs.Moves.{Move, Freeze, Sets, sum_over, sums_over, after_move, after_moves}
+use Rattle.pool_moves.specs.Moves.{Move, Freeze}
 use Rattle.pool_moves.specs.Widening.{IsWidened}
 use Rattle.pool_moves.proofs.Widenings.{widened_walk}
-use Rattle.pool_moves.specs.States.{Sums, sums, PoolSeen, PoolState, Side, seen, seen_by}
+use Rattle.pool_moves.specs.States.{sums, PoolSeen, PoolState, Side, seen, seen_by}
 use Rattle.pool_moves.proofs.Seeing.{laid_sum}
 
 -- The devices of readable leaves are those of leaves that the run has found.

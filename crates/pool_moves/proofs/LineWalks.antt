@@ -8,12 +8,12 @@ use Rattle.label_store.specs.Rounds.{third_plan}
 use Rattle.txg_history.specs.Pages.{Codec}
 use Rattle.pool_moves.specs.Boards.{board_of, board_under, emptied}
 use Rattle.pool_moves.specs.Keeping.{Kept, Walks}
-use Rattle.pool_moves.specs.Leaves.{LeafSeen, Seat}
+use Rattle.pool_moves.specs.Leaves.{LeafSeen}
 use Rattle.pool_moves.specs.LineRows.{IsSized, TurnReply, Write, Flush, Round, Committed, sets_failed, has_number, count_moves, Draws, EndsBy, EndsTurn, IsTurnOf, IsWritePart, IsFlushPart, IsRoundPart, StartsBy, TurnBy, RowTurn, AreTurns, moves_in, EndsGroup, CommitsOpen, FreezeReply, FreezeFor, FreezeBy, RowFreezeLine, SyncReply, CommitsFor, SyncOpen, SyncBehind, SyncBy, RowSync}
-use Rattle.pool_moves.specs.Moves.{Draft, Move, Makes, Freeze, Wrote_key, Flushed_all, Burn, Draw, Leave, Widen, Starts, Copies, Copied, Commits, Sets, step, steps, after_move, after_moves}
+use Rattle.pool_moves.specs.Moves.{Draft, Move, Makes, Wrote_key, Flushed_all, Burn, Draw, Leave, Widen, Starts, Copies, Copied, Sets, step, steps, after_move, after_moves}
 use Rattle.pool_moves.specs.Refusing.{FreezeRefusal}
 use Rattle.pool_moves.specs.States.{PoolSeen, PoolState, Side}
-use Rattle.pool_moves.specs.TurnRows.{turn_moves, round_moves, ended, IsThirdMoves, RowWriteTurn, RowFlushTurn, RowRound}
+use Rattle.pool_moves.specs.TurnRows.{turn_moves, round_moves, ended, IsThirdMoves, RowRound}
 use Rattle.pool_moves.specs.Walking.{as_moves}
 use Rattle.pool_moves.specs.Widening.{AreWidens, AreLeaves, seen_along}
 use Rattle.pool_moves.proofs.Boarding.{is_frozen}

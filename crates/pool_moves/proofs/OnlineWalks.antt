@@ -1,12 +1,11 @@
 -- A leaf may come online: its walk from its row.
-use Rattle.std.proofs.Common.{◌≡◌, ◌⊎◌, inl, inr, ⊎_elim, ℕ, ◌+◌, ◌≤◌, nat_le, Bool, true, false, Option, Some, None, List, [], ◌∷◌, ◌++◌, Result, Ok, Err, refl, sym, ap, ◌∙◌, subst, arith}
+use Rattle.std.proofs.Common.{◌≡◌, ℕ, ◌+◌, ◌≤◌, nat_le, Bool, true, false, Option, Some, None, List, [], ◌∷◌, ◌++◌, Result, Ok, Err, refl, sym, subst, arith}
 use Rattle.std.proofs.lemmas.Bool.Decides.{nat_tests}
 use Rattle.bank_core.specs.declared.bank.Fault.{Fault}
 use Rattle.bank_core.specs.Disk.{Noted}
 use Rattle.label_store.specs.Identities.{IsSearch}
 use Rattle.txg_history.specs.Pages.{Codec}
 use Rattle.txg_history.specs.Pools.{Pool}
-use Rattle.txg_history.specs.Premises.{AreNotTorn}
 use Rattle.txg_history.proofs.Folding.{with_calls}
 use Rattle.pool_moves.specs.AwayRows.{leaf_named}
 use Rattle.pool_moves.specs.Keeping.{Kept, Walks}
@@ -14,15 +13,15 @@ use Rattle.pool_moves.specs.Leaves.{LeafSeen}
 use Rattle.pool_moves.specs.LineRows.{IsSized}
 use Rattle.pool_moves.specs.Moves.{Move, Makes, Sets, Finds, steps, after_move, after_moves}
 use Rattle.pool_moves.specs.OnlineRow.{HostDevice, NoneFound, HeldBy, Handed, OnlineReply, Stands, is_away, brought_own, searched_own, SearchEnds, ScansBehind, BringsBack, OnlineRoomy, MarksOnly, OnlineAway, OnlineOn, OnlineBy, RowOnline, FindMembers}
-use Rattle.pool_moves.specs.OpeningRow.{read_of, AreWholeReads}
+use Rattle.pool_moves.specs.OpeningRow.{AreWholeReads}
 use Rattle.pool_moves.specs.ReadRow.{made_in}
-use Rattle.pool_moves.specs.States.{PoolState, Side, seen}
+use Rattle.pool_moves.specs.States.{PoolState, Side}
 use Rattle.pool_moves.specs.Walking.{as_moves}
 use Rattle.pool_moves.proofs.FreeWalks.{walks_more}
 use Rattle.pool_moves.proofs.Keeping.{walk_keeps}
-use Rattle.pool_moves.proofs.ReadWalks.{made_calls, calls_walk}
+use Rattle.pool_moves.proofs.ReadWalks.{calls_walk}
 use Rattle.pool_moves.proofs.ResilverWalks.{resilver_walks}
-use Rattle.pool_moves.proofs.Seeking.{reads_may, search_reads, all_first, search_home}
+use Rattle.pool_moves.proofs.Seeking.{reads_may, search_reads, search_home}
 
 -- behind calls the members are as they were
 calls_pool : (made : List Noted) (t : Side) → (after_moves (as_moves made) t).pool ≡ with_calls made t.pool

@@ -1,6 +1,6 @@
 -- An opening reads a live record: its calls may be made, and the state that it comes to is what the history has; or a page's bytes
 -- clash.
-use Rattle.std.proofs.Common.{◌≡◌, ◌≢◌, ◌⊎◌, inl, inr, ⊎_elim, ℕ, zero, suc, ◌+◌, ◌*◌, ◌/◌, ◌%◌, ◌≤◌, ◌<◌, ◌==◌, ◌&&◌, ◌||◌, not, is_none, Bool, true, false, cond, Option, Some, None, List, [], ◌∷◌, ◌++◌, map, refl, sym, ap, ◌∙◌, subst, arith}
+use Rattle.std.proofs.Common.{◌≡◌, ◌⊎◌, inl, inr, ⊎_elim, ℕ, zero, suc, ◌+◌, ◌*◌, ◌/◌, ◌%◌, ◌≤◌, ◌<◌, ◌==◌, ◌&&◌, ◌||◌, not, is_none, Bool, true, false, Option, Some, None, List, [], ◌∷◌, ◌++◌, refl, sym, ap, ◌∙◌, subst, arith}
 use mathlib.Core.Path.{fun_ext}
 use Rattle.std.specs.List.{AllByRecursion}
 use Rattle.std.proofs.lemmas.Bool.{and_parts}
@@ -8,18 +8,16 @@ use Rattle.std.proofs.lemmas.Bool.Decides.{nat_tests}
 use Rattle.mp_base.specs.declared.number.Guid.{Guid}
 use Rattle.mp_base.specs.declared.place.Key.{Key}
 use Rattle.bank_core.specs.Calls.{device_of, fault_of}
-use Rattle.bank_core.specs.Disk.{Noted, AllAnswer, run}
+use Rattle.bank_core.specs.Disk.{Noted, AllAnswer}
 use Rattle.label_store.specs.declared.found.Found.{Found}
-use Rattle.label_store.specs.Rounds.{config_of}
 use Rattle.txg_history.specs.Events.{Opens, as_events}
 use Rattle.txg_history.specs.Moves.{Mays}
-use Rattle.txg_history.specs.Pages.{LeafKept, Codec, Sum, sum_of, IsOfVolume, IsConfigOf, kept_top, kept_log, ClashesAt}
+use Rattle.txg_history.specs.Pages.{LeafKept, Codec, Sum, sum_of, IsOfVolume, kept_top, kept_log, ClashesAt}
 use Rattle.txg_history.specs.Pools.{Pool, after, pool_after}
 use Rattle.txg_history.specs.Premises.{HasNoTwin, HasGoodLeaf, HasGoodPages}
-use Rattle.txg_history.specs.Records.{Rec, Cell, Cells, IsIn, key, number_of}
+use Rattle.txg_history.specs.Records.{Rec, Cell, key, number_of}
 use Rattle.txg_history.specs.Survival.{Fits, Survives}
 use Rattle.txg_history.proofs.Folding.{with_calls, calls_after, events_more, mays_calls, pool_more}
-use Rattle.txg_history.proofs.Logging.{by_bool, same_device, true_not_false}
 use Rattle.txg_history.proofs.Moving.{event_survives}
 use Rattle.txg_history.proofs.ReadingBack.{numbered_fits}
 use Rattle.txg_history.proofs.Surviving.{history_survives}
@@ -27,13 +25,13 @@ use Rattle.pool_moves.specs.CommitRows.{IsOpened}
 use Rattle.pool_moves.specs.FreezeRow.{is_dev, up_devs}
 use Rattle.pool_moves.specs.Keeping.{HasNumberBelow, Walks}
 use Rattle.pool_moves.specs.Leaves.{LeafSeen, Seat}
-use Rattle.pool_moves.specs.Opened.{AreValidLeaves, opened_leaf, opened_leaves, opened_state, opened_seats, claims_of}
-use Rattle.pool_moves.specs.OpeningRow.{HasSizes, IsLiveOne, OpenReply, Opens_state, NoPage, reading_of, RowOpen}
-use Rattle.pool_moves.specs.PageReads.{Reading, is_read_before, IsBelow, IsKnown, PageTurn, page_of, calls_of_turns, IsPageTurn, IsReadTo, ReadsMap, LeafShown, StopsAt, failed_on, answers_in}
+use Rattle.pool_moves.specs.Opened.{opened_leaves, opened_state, opened_seats, claims_of}
+use Rattle.pool_moves.specs.OpeningRow.{IsLiveOne, OpenReply, Opens_state, NoPage, reading_of, RowOpen}
+use Rattle.pool_moves.specs.PageReads.{Reading, is_read_before, IsKnown, PageTurn, page_of, calls_of_turns, IsPageTurn, IsReadTo, ReadsMap, LeafShown, StopsAt, failed_on, answers_in}
 use Rattle.pool_moves.specs.Rosters.{IsRoster}
 use Rattle.pool_moves.specs.States.{Sums, sums, no_group_seen, no_scan_seen, PoolSeen, PoolState, Side, seen}
-use Rattle.pool_moves.proofs.OpenedSeats.{IsIn as IsKeptIn, kept_in_record, ArePaired, AreSeatsOf, seats_are, opened_seated, opened_away, opened_apart, opened_below, opened_numbered, opened_topped, seats_seen}
-use Rattle.pool_moves.proofs.PagesBack.{of_volume_or, volume_width, IsClosed, below_known, known_right, before_more, above_before, closed_before, IsReadOf}
+use Rattle.pool_moves.proofs.OpenedSeats.{IsIn as IsKeptIn, kept_in_record, AreSeatsOf, seats_are, opened_seated, opened_away, opened_apart, opened_below, opened_numbered, opened_topped, seats_seen}
+use Rattle.pool_moves.proofs.PagesBack.{of_volume_or, volume_width, below_known, known_right, before_more, above_before, closed_before}
 use Rattle.pool_moves.proofs.PageTurns.{IsTrueLeaf, IsOn, on_behind, IsRightTurn, answers_behind, turns_may, stop_may, stop_never}
 use Rattle.pool_moves.specs.Walking.{as_moves}
 use Rattle.pool_moves.proofs.ReadWalks.{answers_front, calls_walk}

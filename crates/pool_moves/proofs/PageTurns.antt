@@ -1,29 +1,28 @@
 -- The pages of a map may be read back, and wrong copies of them rewritten; and where each has a good leaf, each is found.
-use Rattle.std.proofs.Common.{◌≡◌, ◌≢◌, ◌⊎◌, inl, inr, ⊎_elim, ℕ, suc, ◌+◌, ◌*◌, ◌≤◌, ◌<◌, ◌==◌, ◌&&◌, ◌||◌, not, is_none, Bool, true, false, cond, Option, Some, None, List, [], ◌∷◌, ◌++◌, map, length, refl, sym, ap, ◌∙◌, subst, arith}
+use Rattle.std.proofs.Common.{◌≡◌, ◌≢◌, ◌⊎◌, inl, inr, ⊎_elim, ℕ, suc, ◌+◌, ◌<◌, ◌==◌, ◌&&◌, ◌||◌, not, is_none, Bool, true, false, cond, Option, Some, None, List, [], ◌∷◌, ◌++◌, map, length, refl, sym, ap, ◌∙◌, subst, arith}
 use Rattle.std.specs.List.{AllByRecursion, filter}
 use Rattle.std.proofs.lemmas.Bool.{and_parts}
 use Rattle.std.proofs.lemmas.Bool.Decides.{nat_tests}
-use Rattle.sha2.specs.Sha256.{sha256}
 use Rattle.mp_base.specs.declared.place.Key.{Key}
 use Rattle.bank_core.specs.declared.bank.Fault.{Fault}
 use Rattle.bank_core.specs.Calls.{device_of, fault_of}
-use Rattle.bank_core.specs.Disk.{Call, Read, Noted, Sectors, Answers, AllAnswer, as_found, run}
+use Rattle.bank_core.specs.Disk.{Read, Noted, Sectors, Answers, AllAnswer, as_found, run}
 use Rattle.mirror_io.specs.declared.copies.CopyOf.{CopyOf}
 use Rattle.mirror_io.specs.Copies.{is_due, tries}
 use Rattle.mirror_io.specs.Mirror.{IsHealed}
-use Rattle.mirror_io.specs.Reads.{Fails, rewrites}
+use Rattle.mirror_io.specs.Reads.{rewrites}
 use Rattle.txg_history.specs.Events.{Calls, as_events}
 use Rattle.txg_history.specs.Moves.{IsSparing, Mays}
-use Rattle.txg_history.specs.Pages.{Codec, Sum, sum_of, IsTree, ClashesAt}
-use Rattle.txg_history.specs.Pools.{Pool, after, pool_after}
-use Rattle.txg_history.specs.Records.{Rec, Cell, Cells, key, data_start}
+use Rattle.txg_history.specs.Pages.{Codec, Sum, sum_of, ClashesAt}
+use Rattle.txg_history.specs.Pools.{Pool, after}
+use Rattle.txg_history.specs.Records.{Rec, Cell, key, data_start}
 use Rattle.txg_history.specs.Survival.{Survives}
 use Rattle.txg_history.proofs.Folding.{with_calls, calls_after, events_more, mays_calls}
 use Rattle.txg_history.proofs.Logging.{by_bool, same_device, true_not_false}
 use Rattle.txg_history.proofs.Moving.{event_survives}
 use Rattle.txg_history.proofs.Showing.{read_damage, stays_damaged}
 use Rattle.txg_history.proofs.Surviving.{history_survives}
-use Rattle.pool_moves.specs.PageReads.{Reading, is_read_before, IsKnown, IsPageHere, GivesSome, AreTried, PageTurn, page_of, calls_of_turns, IsPageTurn, failed_on}
+use Rattle.pool_moves.specs.PageReads.{Reading, is_read_before, IsKnown, IsPageHere, AreTried, PageTurn, page_of, calls_of_turns, IsPageTurn, failed_on}
 use Rattle.vdev_tree.specs.Leaf.{is_up}
 use Rattle.txg_history.specs.Premises.{HasGoodLeaf}
 use Rattle.txg_history.specs.Groups.{Logs}

@@ -1,18 +1,18 @@
 -- What is read back of a live record's pages are its pointers, or bytes with another page's sum; and each of its pages is one.
-use Rattle.std.proofs.Common.{◌≡◌, ◌≢◌, ◌⊎◌, inl, inr, ⊎_elim, ℕ, zero, suc, ◌+◌, ◌*◌, ◌/◌, ◌%◌, ◌<◌, ◌≤◌, ◌==◌, ◌&&◌, ◌||◌, nat_le, nat_lt, Bool, true, false, cond, Option, Some, None, List, refl, sym, ap, ◌∙◌, subst, arith}
+use Rattle.std.proofs.Common.{◌≡◌, ◌≢◌, ◌⊎◌, inl, inr, ⊎_elim, ℕ, zero, suc, ◌+◌, ◌*◌, ◌/◌, ◌%◌, ◌<◌, ◌≤◌, ◌==◌, ◌&&◌, ◌||◌, nat_le, nat_lt, Bool, true, false, Option, Some, None, List, refl, sym, ap, ◌∙◌, subst, arith}
 use Rattle.std.specs.Str.{bytes_eq}
 use Rattle.std.proofs.lemmas.Slice.Eq.{bytes_eq-Decides}
 use Rattle.std.proofs.lemmas.Bool.{and_parts}
 use Rattle.std.proofs.lemmas.Bool.Decides.{nat_tests}
 use Rattle.sha2.specs.Sha256.{sha256}
 use Rattle.mp_base.specs.declared.place.Key.{Key}
-use Rattle.txg_history.specs.Pages.{Codec, Sum, sum_of, span, IsOfVolume, IsTree, IsConfigOf, width, ClashesAt}
+use Rattle.txg_history.specs.Pages.{Sum, sum_of, span, IsOfVolume, IsTree, width, ClashesAt}
 use Rattle.txg_history.specs.Pools.{Pool}
-use Rattle.txg_history.specs.Records.{Rec, Cell, Cells, IsIn, AreAtOne, key, number_of}
+use Rattle.txg_history.specs.Records.{Rec, Cell, Cells, IsIn, key, number_of}
 use Rattle.txg_history.specs.Survival.{IsMapped, HaveOneKey, Survives}
 use Rattle.txg_history.proofs.Logging.{by_bool, true_not_false}
 use Rattle.txg_history.proofs.ReadingBack.{all_or}
-use Rattle.pool_moves.specs.PageReads.{Reading, is_read_before, IsBelow, IsKnown, AreOnePlace, IsPageHere, IsReadTo}
+use Rattle.pool_moves.specs.PageReads.{Reading, is_read_before, IsKnown, IsPageHere, IsReadTo}
 
 -- A key is one of a volume, or not.
 pub of_volume_or : (blocks : ℕ) (k : Key) → IsOfVolume blocks k ⊎ (IsOfVolume blocks k → ⊥)

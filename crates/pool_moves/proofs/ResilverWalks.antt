@@ -1,5 +1,5 @@
 -- A resilver may start by itself, and an opening may be committed.
-use Rattle.std.proofs.Common.{◌≡◌, ◌⊎◌, inl, inr, ⊎_elim, ℕ, ◌≤◌, Bool, true, false, Option, Some, None, List, [], ◌∷◌, ◌++◌, map, refl, sym, ap, ◌∙◌, subst, arith}
+use Rattle.std.proofs.Common.{◌≡◌, inl, inr, ℕ, Bool, true, false, Option, Some, None, List, [], ◌∷◌, ◌++◌, refl, sym, subst, arith}
 use Rattle.std.specs.List.{AllByRecursion}
 use Rattle.txg_history.specs.Moves.{MayScan}
 use Rattle.txg_history.specs.Pages.{Codec}
@@ -9,11 +9,10 @@ use Rattle.txg_history.specs.Scans.{Scan}
 use Rattle.pool_moves.specs.FreezeRow.{up_devs}
 use Rattle.pool_moves.specs.Keeping.{IsOfFound, Kept, Walks}
 use Rattle.pool_moves.specs.LineRows.{IsSized, TurnReply, Committed}
-use Rattle.pool_moves.specs.Leaves.{Seat}
 use Rattle.pool_moves.specs.Moves.{Move, Scan_from, Rest, seat_step, steps, after_move, after_moves}
 use Rattle.pool_moves.specs.OpeningRow.{ResumesBy, ResumesUnless, RowResume, lacking_of}
 use Rattle.pool_moves.specs.Resilvers.{rest_if, StartsResilver, Resilvers}
-use Rattle.pool_moves.specs.States.{scan_seen, PoolSeen, PoolState, Side, seen}
+use Rattle.pool_moves.specs.States.{scan_seen, PoolState, Side, seen}
 use Rattle.pool_moves.proofs.CommitWalks.{reopen_walks}
 use Rattle.pool_moves.proofs.FreeWalks.{walks_more}
 use Rattle.pool_moves.proofs.FreezeWalks.{up_of_found}

@@ -1,6 +1,5 @@
 -- A pool's members stand on a list, from its beginning on and behind each event.
-use Rattle.std.proofs.Common.{◌≡◌, ◌⊎◌, inl, inr, ⊎_elim, ℕ, ◌==◌, ◌&&◌, Bool, true, false, cond, Option, Some, None, List, [], ◌∷◌, map, refl, sym, ap, ◌∙◌, subst, arith}
-use Rattle.std.specs.List.{find}
+use Rattle.std.proofs.Common.{◌≡◌, ◌⊎◌, inl, inr, ⊎_elim, ℕ, ◌==◌, ◌&&◌, Bool, true, false, cond, Some, None, List, [], ◌∷◌, map, refl, sym, ap, ◌∙◌, subst, arith}
 use Rattle.std.proofs.lemmas.Bool.{and_parts}
 use Rattle.std.proofs.lemmas.Bool.Decides.{nat_tests}
 use Rattle.mp_base.specs.declared.number.Guid.{Guid}
@@ -8,7 +7,7 @@ use Rattle.txg_history.specs.Events.{Event, Joins, Loses}
 use Rattle.txg_history.specs.Groups.{at_device}
 use Rattle.txg_history.specs.Numbering.{renumbered}
 use Rattle.txg_history.specs.Pools.{Pool, after, pool_after, other_than}
-use Rattle.txg_history.proofs.Folding.{other_was, taken_false}
+use Rattle.txg_history.proofs.Folding.{taken_false}
 use Rattle.txg_history.proofs.Logging.{by_bool, same_device, true_not_false}
 use Rattle.pool_moves.specs.Leaves.{Seat, At, Adrift}
 use Rattle.pool_moves.specs.Making.{HasSeat, IsMade}

@@ -17,20 +17,19 @@ use Rattle.txg_history.specs.Pages.{Codec}
 use Rattle.txg_history.specs.Pools.{Pool, pool_after}
 use Rattle.txg_history.specs.Records.{Rec, Cells, laid_over}
 use Rattle.txg_history.specs.Rounds.{all_true, ends_if, acks_or, IsThirds, IsRoundEvents}
-use Rattle.txg_history.specs.Turns.{leavers}
 use Rattle.txg_history.proofs.Folding.{mays_first, mays_second}
 use Rattle.txg_history.proofs.RoundMoves.{round_may}
 use Rattle.pool_moves.specs.Boards.{board_of}
 use Rattle.pool_moves.specs.Keeping.{IsOfFound, IsDraftedBy, Kept, Walks}
 use Rattle.pool_moves.specs.Leaves.{Seat, At, Adrift}
-use Rattle.pool_moves.specs.Moves.{Draft, Move, Makes, Starts, Copies, Copied, Commits, rec_of, events_of, steps, after_move, after_moves}
-use Rattle.pool_moves.specs.States.{PoolSeen, PoolState, Side}
+use Rattle.pool_moves.specs.Moves.{Draft, Move, Makes, Starts, Copies, Copied, rec_of, steps, after_move, after_moves}
+use Rattle.pool_moves.specs.States.{PoolState, Side}
 use Rattle.pool_moves.specs.TurnRows.{ended, IsThirdMoves, EndsRound, round_moves, RowRound}
-use Rattle.pool_moves.specs.Walking.{events_along, AreAdmitted, IsFree, as_moves}
+use Rattle.pool_moves.specs.Walking.{events_along, IsFree, as_moves}
 use Rattle.pool_moves.specs.Widening.{AreLeaves, seen_along}
-use Rattle.pool_moves.proofs.Boarding.{frozen_core, is_frozen, seen_frozen, board_just, board_apart, board_found, all_at}
+use Rattle.pool_moves.proofs.Boarding.{frozen_core, is_frozen, seen_frozen, board_just, board_apart, board_found}
 use Rattle.pool_moves.proofs.Drafting.{HasDraftTop, drawn_up, draft_tops, draft_knows}
-use Rattle.pool_moves.proofs.FreeWalks.{walk_of, walks_more, free_walk, all_append, calls_along, frozen_along, pool_along, free_then, events_more}
+use Rattle.pool_moves.proofs.FreeWalks.{walk_of, walks_more, free_walk, all_append, calls_along, frozen_along, pool_along}
 use Rattle.pool_moves.proofs.Keeping.{walk_keeps}
 use Rattle.pool_moves.proofs.Widenings.{seen_of, leaves_walk}
 

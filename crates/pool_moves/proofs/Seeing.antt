@@ -14,9 +14,9 @@ use Rattle.txg_history.specs.Records.{Cell, Cells, cell_over, laid_over}
 use Rattle.txg_history.specs.Scans.{scanned_log}
 use Rattle.txg_history.proofs.Logging.{same_device}
 use Rattle.pool_moves.specs.Keeping.{IsElsewhere, IsSeated, IsOwnNumber, IsOfFound, IsDrafted, MayCome, MayReturn, Admits, Kept}
-use Rattle.pool_moves.specs.Leaves.{OwnLeaf, LeafSeen, Seat, At, Adrift, dev_if, Told, told, leaf_seen}
-use Rattle.pool_moves.specs.Moves.{Draft, Move, Makes, Puts, Freeze, Wrote_key, Flushed_all, Draw, Leave, Widen, Burn, Starts, Copies, Copied, Commits, Sets, Finds, Lose, Comes, Goes, Returns, Scan_from, Pass, Drop, Clear, Rest, Scrubs, Shapes, joined_own, log_grown, log_scanned, leaf_cleared, leaf_step, leaves_step, step, sum_over, sums_over, rec_of, of_number, seat_step, seats_by, after_move, new_leaf}
-use Rattle.pool_moves.specs.States.{Sums, sums, PoolSeen, seen_by, Side, seen, PoolState}
+use Rattle.pool_moves.specs.Leaves.{OwnLeaf, LeafSeen, Seat, At, Adrift, dev_if, told, leaf_seen}
+use Rattle.pool_moves.specs.Moves.{Draft, Move, Makes, Puts, Freeze, Wrote_key, Flushed_all, Draw, Leave, Widen, Burn, Starts, Copies, Copied, Commits, Sets, Finds, Lose, Comes, Goes, Returns, Scan_from, Pass, Drop, Clear, Rest, Scrubs, Shapes, joined_own, log_grown, log_scanned, leaf_cleared, leaf_step, step, sum_over, sums_over, rec_of, of_number, seat_step, seats_by, after_move, new_leaf}
+use Rattle.pool_moves.specs.States.{sums, seen_by, Side, seen, PoolState}
 
 -- What is so of each seat is so of the list.
 each_seat : (before behind : Seat → LeafSeen) (on_leaf : LeafSeen → LeafSeen) (on_seat : Seat → Seat) (Fits : Seat → Type 0)

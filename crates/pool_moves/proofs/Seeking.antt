@@ -1,40 +1,39 @@
 -- What an opening's looks come to: of a pool of the name, a live record.
-use Rattle.std.proofs.Common.{◌≡◌, ◌⊎◌, inl, inr, ⊎_elim, ℕ, ◌+◌, ◌-◌, ◌*◌, ◌/◌, ◌%◌, ◌≤◌, ◌<◌, ◌==◌, ◌&&◌, ◌||◌, nat_le, nat_lt, zero, suc, Bool, true, false, cond, Option, Some, None, List, [], ◌∷◌, ◌++◌, length, take, Result, Ok, Err, refl, sym, ap, ◌∙◌, subst, arith}
-use Rattle.std.specs.Prelude.{slice_get, slice_index}
+use Rattle.std.proofs.Common.{◌≡◌, inl, inr, ℕ, ◌+◌, ◌-◌, ◌*◌, ◌/◌, ◌%◌, ◌≤◌, ◌<◌, ◌==◌, ◌&&◌, ◌||◌, nat_le, nat_lt, zero, suc, Bool, true, false, cond, Option, Some, None, List, [], ◌∷◌, ◌++◌, length, take, Result, Ok, Err, refl, sym, ap, ◌∙◌, subst, arith}
+use Rattle.std.specs.Prelude.{slice_index}
 use Rattle.std.specs.List.{AllByRecursion}
 use Rattle.std.proofs.lemmas.Bool.{and_parts}
 use Rattle.std.proofs.lemmas.Bool.Decides.{nat_tests}
 use Rattle.mp_base.specs.declared.number.Guid.{Guid}
 use Rattle.bank_core.specs.declared.bank.Fault.{Fault}
 use Rattle.bank_core.specs.Asks.{Ask, Reads, ask_of}
-use Rattle.bank_core.specs.Disk.{Call, Read, Write, Flush, Admit, Eject, Noted, Sectors, AllAnswer, run, covers, sectors_in, sector_of}
+use Rattle.bank_core.specs.Disk.{Call, Read, Write, Flush, Admit, Eject, Noted, AllAnswer, covers, sectors_in, sector_of}
 use Rattle.label_store.specs.declared.found.Found.{Found}
 use Rattle.label_store.specs.declared.rule.Head.{Head}
 use Rattle.label_store.specs.declared.uberblock.Uberblock.{Uberblock}
-use Rattle.label_store.specs.Identities.{HasIdentity, GivesIdentity, rings_of, AreMisses, IsSearch}
-use Rattle.label_store.specs.Layout.{labels_of, ring_offset, ring_slots}
+use Rattle.label_store.specs.Identities.{GivesIdentity, rings_of, AreMisses, IsSearch}
+use Rattle.label_store.specs.Layout.{labels_of}
 use Rattle.label_store.specs.Newest.{Parts, IsRead, AreReads, IsLook, IsBest}
 use Rattle.label_store.specs.Records.{IsVerified, config_at, place_at}
-use Rattle.label_store.specs.Rounds.{config_of}
 use Rattle.label_store.proofs.Reading.{is_read, are_reads_more, look_reads, IsReadAsk}
 use Rattle.txg_history.specs.Events.{Known, Calls, Looks, Opens, as_events}
 use Rattle.txg_history.specs.Looks.{known_by, AreDistinct, HaveRoom}
 use Rattle.txg_history.specs.Moves.{IsSparing, Mays, ReadsTrue}
-use Rattle.txg_history.specs.Openings.{IsVerifiedOn, IsYield, FindsLive}
+use Rattle.txg_history.specs.Openings.{IsVerifiedOn, IsYield}
 use Rattle.txg_history.specs.Pages.{LeafKept, Codec}
 use Rattle.txg_history.specs.Pools.{Pool, after, pool_after}
 use Rattle.txg_history.specs.Premises.{AreNotTorn, Premises, HasNoTwin}
-use Rattle.txg_history.specs.Records.{Rec, IsIn, number_of}
+use Rattle.txg_history.specs.Records.{Rec}
 use Rattle.txg_history.specs.Survival.{Survives}
 use Rattle.txg_history.proofs.Folding.{with_calls, calls_after, mays_more}
 use Rattle.txg_history.proofs.LooksFound.{known_of}
 use Rattle.txg_history.proofs.LooksShow.{best_yields, best_none, looks_true}
-use Rattle.txg_history.proofs.Logging.{by_bool, same_device, true_not_false}
+use Rattle.txg_history.proofs.Logging.{by_bool, same_device}
 use Rattle.txg_history.proofs.Surviving.{history_survives}
 use Rattle.txg_history.proofs.Yields.{identity_whole, finds_some, yield_live}
 use Rattle.pool_moves.specs.FreezeRow.{is_dev}
 use Rattle.pool_moves.specs.Opened.{claims_of}
-use Rattle.pool_moves.specs.OpeningRow.{SeekReply, NoRecord, seek_reply, RowSeek, HasSizes, IsLiveOne, SeeksLive, read_of, AreWholeReads, IsSoughtOn, IsSought, AreSought, OpenReply, RowOpen}
+use Rattle.pool_moves.specs.OpeningRow.{SeekReply, seek_reply, RowSeek, HasSizes, IsLiveOne, SeeksLive, read_of, AreWholeReads, IsSoughtOn, IsSought, AreSought, OpenReply, RowOpen}
 use Rattle.pool_moves.proofs.OpenedSeats.{ArePaired}
 use Rattle.pool_moves.proofs.ReadWalks.{read_sparing}
 

@@ -5,16 +5,15 @@ use Rattle.label_store.specs.declared.member.Member.{Member}
 use Rattle.label_store.specs.Rounds.{third_plan}
 use Rattle.txg_history.specs.Pages.{Codec}
 use Rattle.pool_moves.specs.Boards.{board_of, board_under, emptied}
-use Rattle.pool_moves.specs.FreezeRow.{up_devs, RowFreeze}
-use Rattle.pool_moves.specs.Leaves.{LeafSeen}
-use Rattle.pool_moves.specs.LineRows.{TurnReply, Idle, Write, Flush, Round, Committed, Suspended, count_moves, Draws, EndsBy, EndsTurn, IsTurnOf, IsWritePart, IsFlushPart, IsRoundPart, StartsBy, TurnBy, RowTurn, Ends, AreTurns, moves_in, EndsGroup, CommitsOpen}
-use Rattle.pool_moves.specs.Moves.{Draft, Move, Makes, Freeze, Wrote_key, Flushed_all, Draw, Leave, Widen, Burn, Starts, Copies, Copied, Commits, Sets, step, steps}
+use Rattle.pool_moves.specs.FreezeRow.{up_devs}
+use Rattle.pool_moves.specs.LineRows.{TurnReply, Idle, Write, Flush, Round, Committed, Suspended, count_moves, Draws, EndsBy, EndsTurn, IsTurnOf, IsRoundPart, StartsBy, TurnBy, Ends, AreTurns, moves_in, EndsGroup, CommitsOpen}
+use Rattle.pool_moves.specs.Moves.{Move, Makes, Freeze, Wrote_key, Flushed_all, Draw, Leave, Widen, Burn, Starts, Copies, Copied, Commits, Sets, step, steps}
 use Rattle.pool_moves.specs.States.{PoolSeen, PoolState}
 use Rattle.pool_moves.specs.TurnRows.{round_moves, RowRound}
 use Rattle.pool_moves.specs.Walking.{as_moves}
 use Rattle.pool_moves.proofs.FreeWalks.{all_append}
 use Rattle.pool_moves.proofs.Keeping.{all_same}
-use Rattle.pool_moves.proofs.LineWalks.{IsSet, IsWithin, calls_within, widens_within, leaves_within, sets_within, thirds_within, turn_within, round_within, counted_within, counts_set}
+use Rattle.pool_moves.proofs.LineWalks.{IsWithin, calls_within, widens_within, sets_within, thirds_within, turn_within, round_within, counted_within, counts_set}
 
 -- The moves of a commit: those within a group, its freeze, its acknowledgement and its end.
 abbrev pub IsOfCommit : Move → Type 0

@@ -1,35 +1,34 @@
 -- A create whose stamps all answered makes a pool, and what stamps cost other pools.
-use Rattle.std.proofs.Common.{◌≡◌, ◌≢◌, ◌⊎◌, inl, inr, ⊎_elim, ℕ, zero, suc, ◌+◌, ◌-◌, ◌*◌, ◌≤◌, ◌<◌, ◌^◌, ◌==◌, min, Bool, true, false, cond, Option, Some, None, List, [], ◌∷◌, ◌++◌, map, length, refl, sym, ap, ◌∙◌, subst, arith}
-use Rattle.std.specs.List.{AllByRecursion, find}
-use Rattle.std.proofs.lemmas.Bool.{ne_eqb}
+use Rattle.std.proofs.Common.{◌≡◌, ◌⊎◌, inl, inr, ℕ, suc, ◌+◌, ◌-◌, ◌*◌, ◌≤◌, ◌<◌, ◌^◌, ◌==◌, Bool, true, false, cond, Option, Some, None, List, [], ◌∷◌, ◌++◌, map, length, refl, sym, ap, ◌∙◌, subst, arith}
+use Rattle.std.specs.List.{AllByRecursion}
 use Rattle.std.proofs.lemmas.Bool.Decides.{nat_tests}
 use Rattle.mp_base.specs.declared.number.Guid.{Guid}
 use Rattle.bank_core.specs.declared.bank.Fault.{Fault}
 use Rattle.bank_core.specs.Asks.{IsPart}
-use Rattle.bank_core.specs.Disk.{Noted, Sectors, run, replay}
+use Rattle.bank_core.specs.Disk.{Noted, Sectors, run}
 use Rattle.bank_core.specs.Standing.{Untouched}
 use Rattle.bank_core.proofs.Composing.{run_more}
 use Rattle.bank_core.proofs.Standing.{untouched_more}
 use Rattle.label_store.specs.Plans.{stamp_plan}
 use Rattle.label_store.specs.Records.{place_at}
-use Rattle.txg_history.specs.Events.{Event, Calls, Loses, as_events}
-use Rattle.txg_history.specs.Groups.{at_device, no_log}
+use Rattle.txg_history.specs.Events.{Event, Loses, as_events}
+use Rattle.txg_history.specs.Groups.{no_log}
 use Rattle.txg_history.specs.Losses.{LoseJust, BeginsStamp, IsStamp}
 use Rattle.txg_history.specs.Moves.{Mays}
 use Rattle.txg_history.specs.Pages.{Codec}
 use Rattle.txg_history.specs.Pools.{Pool, after, pool_after}
-use Rattle.txg_history.specs.Stamps.{IsBlank, AreStamped}
-use Rattle.txg_history.proofs.Folding.{with_calls, calls_after, mays_more, pool_more, taken_false}
+use Rattle.txg_history.specs.Stamps.{IsBlank}
+use Rattle.txg_history.proofs.Folding.{with_calls, calls_after, mays_more, pool_more}
 use Rattle.txg_history.proofs.Logging.{by_bool, same_device, true_not_false, at_here}
 use Rattle.txg_history.proofs.Losing.{stamps_may}
 use Rattle.txg_history.proofs.Stamping.{stamp_blanks, stamp_elsewhere, untouched_blank}
 use Rattle.pool_moves.specs.Keeping.{IsElsewhere, AreSeatsApart, IsSeated, HasNumberBelow, Kept, Walks}
-use Rattle.pool_moves.specs.Leaves.{LeafSeen, Seat, At, leaf_seen, told}
+use Rattle.pool_moves.specs.Leaves.{LeafSeen, leaf_seen, told}
 use Rattle.pool_moves.specs.Making.{HasSeat, IsHere, IsMade}
 use Rattle.pool_moves.specs.Moves.{Move}
 use Rattle.pool_moves.specs.Rosters.{IsListed}
 use Rattle.pool_moves.specs.StampRow.{NewMember, NewLeaf, top_leaves, leaves_from, next_from, new_leaves, least_with, least_room, room_or_none, new_room, leaf_at, is_leaf_at, guid_of, top_of, AreDevicesApart, IsNew, Stamp, calls_of_stamps, AreStamps, stamp_events, stamped_devices, new_pool, new_own, new_leaf_seen, new_seat, new_state, CreateReply, CreateBy, RowCreate}
-use Rattle.pool_moves.specs.States.{PoolState, Side, seen}
+use Rattle.pool_moves.specs.States.{PoolState, Side}
 use Rattle.pool_moves.proofs.CommitWalks.{found_walks}
 use Rattle.pool_moves.proofs.Making.{made_kept}
 

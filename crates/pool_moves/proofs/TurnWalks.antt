@@ -1,23 +1,17 @@
 -- Turns may be made: their walks from their rows.
-use Rattle.std.proofs.Common.{◌≡◌, ◌==◌, Bool, true, List, [], ◌∷◌, ◌++◌, refl, sym, subst}
-use Rattle.std.specs.List.{AllByRecursion}
-use Rattle.std.specs.Prelude.{slice_get}
+use Rattle.std.proofs.Common.{◌≡◌, true, List, [], ◌∷◌, ◌++◌, refl, sym, subst}
 use Rattle.mp_base.specs.declared.place.Key.{Key}
-use Rattle.bank_core.specs.Disk.{Noted}
 use Rattle.label_store.specs.declared.member.Member.{Member}
 use Rattle.txg_history.specs.Events.{Wrote, Flushed, as_events}
-use Rattle.txg_history.specs.Moves.{Mays}
 use Rattle.txg_history.specs.Pages.{Codec}
 use Rattle.txg_history.specs.Turns.{leavers}
 use Rattle.txg_history.proofs.Turning.{write_turn_may, flush_turn_may}
-use Rattle.pool_moves.specs.Boards.{members_where, board_of, board_under}
-use Rattle.pool_moves.specs.Keeping.{IsOfFound, IsAway, Kept, Walks}
-use Rattle.pool_moves.specs.Leaves.{LeafSeen, Seat, At, Adrift, leaf_seen, told}
-use Rattle.pool_moves.specs.Moves.{Move, Wrote_key, Flushed_all, Leave}
-use Rattle.pool_moves.specs.States.{PoolSeen, PoolState, Side, seen_by}
-use Rattle.pool_moves.specs.TurnRows.{RowWriteTurn, RowFlushTurn, turn_moves}
+use Rattle.pool_moves.specs.Boards.{board_of, board_under}
+use Rattle.pool_moves.specs.Keeping.{Kept, Walks}
+use Rattle.pool_moves.specs.Moves.{Move, Wrote_key, Flushed_all}
+use Rattle.pool_moves.specs.States.{PoolState, Side}
+use Rattle.pool_moves.specs.TurnRows.{RowWriteTurn, RowFlushTurn}
 use Rattle.pool_moves.specs.Widening.{AreLeaves}
-use Rattle.pool_moves.specs.Walking.{IsFree, as_moves}
 use Rattle.pool_moves.proofs.Boarding.{frozen_core, is_frozen, seen_frozen, board_just, board_apart, board_found, under_just, under_apart, under_found}
 use Rattle.pool_moves.proofs.Widenings.{IsMark, turn_walk}
 

@@ -1,5 +1,5 @@
 -- Logs may be widened: the walks of widenings.
-use Rattle.std.proofs.Common.{◌≡◌, ◌⊎◌, inl, inr, ℕ, ◌+◌, ◌<◌, ◌≤◌, ◌==◌, ◌&&◌, Bool, true, false, cond, Option, Some, None, List, [], ◌∷◌, ◌++◌, map, refl, sym, ap, ◌∙◌, subst, arith, append_assoc}
+use Rattle.std.proofs.Common.{◌≡◌, ◌⊎◌, inl, inr, ℕ, ◌≤◌, ◌==◌, ◌&&◌, Bool, true, false, cond, Some, None, List, [], ◌∷◌, ◌++◌, map, refl, sym, ap, ◌∙◌, subst, arith, append_assoc}
 use Rattle.std.specs.Prelude.{nat_lt, nat_le}
 use Rattle.std.specs.List.{AllByRecursion}
 use Rattle.std.proofs.lemmas.Bool.{and_parts}
@@ -20,8 +20,8 @@ use Rattle.pool_moves.specs.Leaves.{LeafSeen, Seat, At, Adrift, leaf_seen, told}
 use Rattle.pool_moves.specs.Moves.{Move, Makes, Leave, Widen, of_number, step, steps, state_step, seat_step, events_of, after_move, after_moves}
 use Rattle.pool_moves.specs.States.{PoolSeen, PoolState, Side, seen}
 use Rattle.pool_moves.specs.TurnRows.{turn_moves}
-use Rattle.pool_moves.specs.Walking.{events_along, IsFree, as_moves}
-use Rattle.pool_moves.specs.Widening.{ranges_in, ranges_together, widest_of, widest, IsSpanned, IsWidening, AreWidens, IsWidened, AreLeaves, seen_along}
+use Rattle.pool_moves.specs.Walking.{events_along, as_moves}
+use Rattle.pool_moves.specs.Widening.{ranges_in, widest_of, widest, IsSpanned, IsWidening, AreWidens, IsWidened, AreLeaves, seen_along}
 use Rattle.pool_moves.proofs.FreeWalks.{found_stays, walk_of, walks_more, free_walk, frozen_along, free_along, calls_free}
 use Rattle.pool_moves.proofs.Keeping.{all_same, all_map, seat_cases, move_keeps, walk_keeps}
 

@@ -14,7 +14,7 @@ use Rattle.txg_history.specs.Records.{Rec, Cell, Cells, laid_over, key}
 use Rattle.txg_history.specs.Scans.{up_to}
 use Rattle.pool_moves.specs.Leaves.{OwnLeaf, LeafSeen, Seat, At, Adrift, told, leaf_seen, dev_if}
 use Rattle.txg_history.specs.Trees.{Child}
-use Rattle.pool_moves.specs.States.{Sums, sums, GroupSeen, frozen_seen, no_group_seen, started_seen, no_scan_seen, PoolSeen, Side, Own, PoolState}
+use Rattle.pool_moves.specs.States.{Sums, sums, frozen_seen, no_group_seen, started_seen, no_scan_seen, PoolSeen, Side, Own, PoolState}
 use Rattle.pool_moves.specs.Trees.{Child}
 
 -- What the code knows of a record that it draws up: its commit, and the top and the log of each member number.

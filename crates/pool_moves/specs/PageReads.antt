@@ -1,6 +1,6 @@
 -- How an opening reads the pages of a map back: one after another, each from the copies on the leaves of its top.
 use Rattle.std.specs.Prelude.{◌≡◌, ◌⊎◌, ℕ, suc, ◌+◌, ◌*◌, ◌<◌, ◌≤◌, ◌==◌, ◌&&◌, ◌||◌, nat_lt, Bool, true, false, cond, Option, Some, None, is_none, not, List, [], ◌∷◌, ◌++◌, map}
-use Rattle.std.specs.List.{filter, AllByRecursion}
+use Rattle.std.specs.List.{AllByRecursion}
 use Rattle.sha2.specs.Sha256.{sha256}
 use Rattle.mp_base.specs.declared.place.Key.{Key}
 use Rattle.bank_core.specs.Calls.{device_of, fault_of}
@@ -13,7 +13,7 @@ use Rattle.txg_history.specs.Pages.{Codec, Sum, IsOfVolume}
 use Rattle.txg_history.specs.Records.{key, data_start}
 use Rattle.pool_moves.specs.FreezeRow.{up_devs}
 use Rattle.pool_moves.specs.Leaves.{LeafSeen}
-use Rattle.pool_moves.specs.ReadRow.{copy_at, stands_under, copies_of}
+use Rattle.pool_moves.specs.ReadRow.{copies_of}
 use Rattle.pool_moves.specs.States.{Sums}
 
 -- What a map is read with, and what is got: how bytes are read, the configuration and its number, the leaves, the bytes of each page

@@ -1,5 +1,5 @@
 -- What edits make of the trees of a pool's tops.
-use Rattle.std.specs.Prelude.{◌≡◌, ℕ, ◌==◌, ◌||◌, Bool, true, false, cond, Option, Some, None, List, [], ◌∷◌, ◌++◌}
+use Rattle.std.specs.Prelude.{◌==◌, ◌||◌, Bool, false, cond, Option, Some, None, List, [], ◌∷◌, ◌++◌}
 use Rattle.std.specs.List.{list_any}
 use Rattle.mp_base.specs.declared.number.Guid.{Guid}
 pub use Rattle.txg_history.specs.Trees.{Branch, Single, Replacing, Child, Plain, Spared}

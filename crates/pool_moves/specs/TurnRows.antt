@@ -16,8 +16,8 @@ use Rattle.txg_history.specs.Turns.{write_plan, flush_plan}
 use Rattle.pool_moves.specs.Boards.{board_of, board_under, emptied}
 use Rattle.pool_moves.specs.Drafts.{draft_of, kept_leaf}
 use Rattle.pool_moves.specs.FreezeRow.{IsBefore}
-use Rattle.pool_moves.specs.Moves.{Draft, Move, Wrote_key, Flushed_all, Draw, Burn, Starts, Copies, Copied, Commits, sums_over}
-use Rattle.pool_moves.specs.States.{PoolSeen, Own, PoolState}
+use Rattle.pool_moves.specs.Moves.{Draft, Move, Wrote_key, Flushed_all, Starts, Copies, Copied, Commits, sums_over}
+use Rattle.pool_moves.specs.States.{PoolSeen, Own}
 use Rattle.pool_moves.specs.Walking.{as_moves}
 use Rattle.pool_moves.specs.Widening.{AreLeaves, seen_along}
 

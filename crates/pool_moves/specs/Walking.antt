@@ -1,8 +1,7 @@
 -- Walks of moves that every state admits while a group is frozen.
-use Rattle.std.specs.Prelude.{◌==◌, List, [], ◌∷◌, ◌++◌, Bool, true, false}
+use Rattle.std.specs.Prelude.{◌==◌, List, [], ◌∷◌, ◌++◌}
 use Rattle.std.specs.List.{AllByRecursion}
 use Rattle.bank_core.specs.Disk.{Noted}
-use Rattle.label_store.specs.declared.member.Member.{Member}
 use Rattle.txg_history.specs.Events.{Event}
 use Rattle.pool_moves.specs.Keeping.{Admits, IsOfFound}
 use Rattle.pool_moves.specs.Leaves.{Seat}

@@ -1,43 +1,10 @@
 -- A disk's week: a leaf is away from the commit of a block, comes back, and a resilver brings it what it missed.
-use Rattle.std.proofs.Common.{
-  ◌≡◌,
-  ℕ,
-  zero,
-  suc,
-  ◌+◌,
-  ◌*◌,
-  ◌≤◌,
-  ◌<◌,
-  ◌==◌,
-  nat_lt,
-  nat_le,
-  Bool,
-  true,
-  false,
-  cond,
-  List,
-  [],
-  ◌∷◌,
-  ◌++◌,
-  length,
-  Option,
-  Some,
-  None,
-  refl,
-  sym,
-  ap,
-  ◌∙◌,
-  subst,
-  inl,
-  inr,
-  arith,
-  ⊎_elim,
-}
+use Rattle.std.proofs.Common.{◌≡◌, ℕ, suc, ◌+◌, ◌≤◌, ◌<◌, ◌==◌, nat_lt, nat_le, Bool, true, false, cond, List, [], ◌∷◌, ◌++◌, length, Some, None, refl, sym, ap, ◌∙◌, subst, inl, inr, arith}
 use Rattle.std.proofs.lemmas.Bool.Decides.{nat_tests}
 use Rattle.mp_base.specs.declared.place.Key.{Key}
-use Rattle.txg_history.specs.Events.{Event, calls_of, Calls, Freezes, Wrote, Flushed, Scans, Passes, Clears}
-use Rattle.txg_history.specs.Groups.{same_key, no_log, at_device}
-use Rattle.txg_history.specs.Moves.{IsSparing, WasCopied, IsLeafOf, IsDrawnUp, MayFreeze, MayScan, MayPass, Mays}
+use Rattle.txg_history.specs.Events.{Event, calls_of, Calls, Scans, Passes}
+use Rattle.txg_history.specs.Groups.{no_log, at_device}
+use Rattle.txg_history.specs.Moves.{IsSparing, WasCopied, IsLeafOf, IsDrawnUp, MayScan, MayPass, Mays}
 use Rattle.txg_history.specs.Needs.{NeedsScan}
 use Rattle.txg_history.specs.Pages.{Codec}
 use Rattle.txg_history.specs.Pools.{Pool, seat, after, pool_after}
@@ -45,19 +12,17 @@ use Rattle.txg_history.specs.Records.{Rec, Cell, key, data_start, number_of}
 use Rattle.txg_history.specs.Rounds.{IsRoundEvents, RoundEnds}
 use Rattle.txg_history.specs.Scans.{up_to}
 use Rattle.txg_history.specs.Survival.{Survives}
-use Rattle.txg_history.specs.Turns.{AreJust, OnBoard, OnTop}
-use Rattle.txg_history.specs.Branches.{Branch, cell_on, branch_cells, writes_well, flushes_well, IsDay, day_until_round}
+use Rattle.txg_history.specs.Turns.{OnBoard}
+use Rattle.txg_history.specs.Branches.{Branch, cell_on, branch_cells, writes_well, flushes_well, day_until_round}
 use Rattle.txg_history.specs.Weeks.{IsWeek, brings_on, clears, resilver}
 use Rattle.txg_history.proofs.Branching.{same_test, alone, one_apart, branch_is, branch_has, over_none, keys_one, day_commits}
 use Rattle.txg_history.proofs.Folding.{mays_more, pool_more}
-use Rattle.txg_history.proofs.Listing.{one_key, same_cell, laid_of}
 use Rattle.txg_history.proofs.Logging.{by_bool, true_not_false, at_here, same_device}
 use Rattle.txg_history.proofs.Moving.{event_survives}
 use Rattle.txg_history.proofs.RoundMoves.{round_may, round_ends}
 use Rattle.txg_history.proofs.Copying.{step_copies}
 use Rattle.txg_history.proofs.Showing.{clear_may}
 use Rattle.txg_history.proofs.Surviving.{history_survives}
-use Rattle.txg_history.proofs.Turning.{write_turn_may, flush_turn_may}
 use Rattle.txg_history.proofs.Writing.{copy_sparing}
 
 -- A pool that reads a branch, of which b owes each key, settled.
