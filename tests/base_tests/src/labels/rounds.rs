@@ -76,7 +76,7 @@ fn a_round_stopped_at_any_call_leaves_the_old_or_the_new_record(
     let results = commit(&rt, alloc, &mut bank, &MEMBERS, &new)?;
     assert_eq!(rt; results.as_slice(), [true, true].as_slice());
     assert_eq!(rt; bank.place(), CALLS);
-    for moment in (0..=CALLS).step_by(3) {
+    for moment in (0..=CALLS).step_by(5) {
         let choice = choice_at(moment);
         let mut left = crashed(&rt, alloc, &bank, moment, choice)?;
         let wanted = wanted_after(moment, UBERBLOCKS_AT[0], choice);
@@ -146,7 +146,7 @@ fn a_member_whose_call_fails_leaves_the_round(rt: HostRuntime) -> Result<(), Fai
     let alloc = rt.alloc();
     let (old, new) = old_and_new(alloc)?;
     let begun = bank_with(&rt, alloc, &old)?;
-    for place in (0..CALLS).step_by(5) {
+    for place in (0..CALLS).step_by(7) {
         let mut bank = crashed(&rt, alloc, &begun, 0, ImageChoice::Old)?;
         let results = failing_round(&rt, alloc, &mut bank, place, &new)?;
         let dev = failed_device(&bank).ok_or("no call failed")?;

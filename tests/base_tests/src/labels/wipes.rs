@@ -40,7 +40,7 @@ fn a_stop_in_a_wipe_or_a_mark_leaves_the_old_record_or_none(rt: HostRuntime) -> 
         assert_eq!(rt; clear(&rt, &mut bank, how), Ok(()));
         assert_eq!(rt; bank.place(), calls);
         assert!(rt; bank.tells());
-        for moment in (0..=calls).step_by(3) {
+        for moment in (0..=calls).step_by(5) {
             let choice = choice_at(moment);
             let mut left = crashed(&rt, alloc, &bank, moment, choice)?;
             let found = find(&rt, alloc, &mut left, &[0])?;
@@ -67,7 +67,7 @@ fn a_wipe_or_a_mark_stops_at_its_first_failed_call(rt: HostRuntime) -> Result<()
     let alloc = rt.alloc();
     let blob = Blob::new(alloc, 1, b'o', 80)?;
     for (how, calls) in CLEARINGS {
-        for place in (0..calls).step_by(3) {
+        for place in (0..calls).step_by(5) {
             let mut bank = bank_with(&rt, alloc, &blob)?;
             bank.fail(0, place, place, Fault::Gone)?;
             assert_eq!(rt; clear(&rt, &mut bank, how), Err(Fault::Gone), "at {place}");
