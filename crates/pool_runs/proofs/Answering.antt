@@ -5,10 +5,10 @@ use Rattle.bank_core.specs.declared.bank.Fault.{Fault}
 use Rattle.bank_core.specs.Calls.{device_of}
 use Rattle.bank_core.specs.Disk.{Call, Read, Write, Flush, Admit, Eject, Noted, Sectors, IsClean, Answers, AllAnswer, as_found, hurt, replay, run}
 use Rattle.pool_moves.specs.Moves.{Move, Makes}
-use Rattle.pool_moves.specs.ReadRow.{ReadReply, made_in}
+use Rattle.pool_moves.specs.ReadRow.{made_in}
 use Rattle.pool_runs.specs.Acts.{Act, Does, does, calls_of_act, calls_along}
 use Rattle.pool_runs.specs.Devices.{Device, size_in}
-use Rattle.pool_runs.specs.HostRows.{is_reading, marked_behind, read_acts}
+use Rattle.pool_runs.specs.HostRows.{is_reading, marked_behind, marked}
 
 answers_same : (call : Call) (a b : Sectors) → ((s : ℕ) → a (device_of call) s ≡ b (device_of call) s) → Answers a call → Answers b call
 answers_same (Read dev at bytes None) a b same is = (
@@ -39,11 +39,11 @@ pub does_calls : (g : ℕ) (vs : List Move) → calls_along (does g vs) ≡ made
 does_calls g [] = refl
 does_calls g (v ∷ vs) = ap (λ more. made_in (v ∷ []) ++ more) (does_calls g vs) ∙ sym (made_first v vs)
 
-marked_calls : (reading : Bool) (g a : ℕ) (reply : ReadReply) (v : Move) (vs : List Move) (rest : List Act) → calls_along rest ≡ made_in vs
-    → calls_along (marked_behind reading g a reply v vs rest) ≡ made_in (v ∷ vs)
-marked_calls true g a reply v vs rest is = ap (λ more. made_in (v ∷ []) ++ more) is ∙ sym (made_first v vs)
-marked_calls false g a reply v vs rest is = does_calls g (v ∷ vs)
+marked_first : (reading : Bool) (mark : Act) (g : ℕ) (v : Move) (vs : List Move) (rest : List Act) → calls_of_act mark ≡ [] → calls_along rest ≡ made_in vs
+    → calls_along (marked_behind reading mark g v vs rest) ≡ made_in (v ∷ vs)
+marked_first true mark g v vs rest none is = ap (λ more. made_in (v ∷ []) ++ more) is ∙ sym (made_first v vs)
+marked_first false mark g v vs rest none is = ap (λ made. made ++ calls_along (does g (v ∷ vs))) none ∙ does_calls g (v ∷ vs)
 
-pub read_calls : (g a : ℕ) (reply : ReadReply) (vs : List Move) → calls_along (read_acts g a reply vs) ≡ made_in vs
-read_calls g a reply [] = refl
-read_calls g a reply (v ∷ vs) = marked_calls (is_reading v) g a reply v vs (read_acts g a reply vs) (read_calls g a reply vs)
+pub marked_calls : (mark : Act) (g : ℕ) (vs : List Move) → calls_of_act mark ≡ [] → calls_along (marked mark g vs) ≡ made_in vs
+marked_calls mark g [] none = ap (λ made. made ++ []) none
+marked_calls mark g (v ∷ vs) none = marked_first (is_reading v) mark g v vs (marked mark g vs) none (marked_calls mark g vs none)

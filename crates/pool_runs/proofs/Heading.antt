@@ -51,7 +51,7 @@ use Rattle.pool_moves.proofs.Keeping.{walk_keeps}
 use Rattle.pool_moves.proofs.LineWalks.{sync_walks}
 use Rattle.pool_moves.proofs.Missing.{exhausted_missed}
 use Rattle.pool_moves.proofs.ReadWalks.{read_right}
-use Rattle.pool_runs.specs.Acts.{Act, Hears, calls_along, pool_along, history}
+use Rattle.pool_runs.specs.Acts.{Act, Gives_for, Marks, Hears, calls_along, pool_along, history}
 use Rattle.pool_runs.specs.Committing.{CommitsAll, FindsPool}
 use Rattle.pool_runs.specs.Counting.{SomeRose, HasLostBoard, Suspends}
 use Rattle.pool_runs.specs.Devices.{number_in, size_in}
@@ -64,7 +64,7 @@ use Rattle.pool_runs.specs.Lines.{Asked, Asks_read, Asks_turn, Asks_sync, Asks_o
 use Rattle.pool_runs.specs.Moments.{Moment, events_at, pool_at, past_at, host_at, LineOf, pool_before, host_before, calls_in_line, IsOpenAs}
 use Rattle.pool_runs.specs.Pasts.{Past, pool_of, then_all, Left, BeginsRun, HasFrozen}
 use Rattle.pool_runs.proofs.Acting.{acts_more, history_pool}
-use Rattle.pool_runs.proofs.Answering.{all_answer, does_calls, read_calls}
+use Rattle.pool_runs.proofs.Answering.{all_answer, does_calls, marked_calls}
 use Rattle.pool_runs.proofs.Committing.{sync_all, does_pool}
 use Rattle.pool_runs.proofs.Counting.{NoFault, fault_or, turn_suspends, sync_suspends, line_answered}
 use Rattle.pool_runs.proofs.Finding.{import_finds}
@@ -188,7 +188,7 @@ line_loses c h p e name a s met asked at is = of met.row
     of : HostRow c h e → AllMissed (s.core.committed (key 0 a)) (calls_along e.acts) (run (calls_along e.acts) p.sectors) s.core.leaves
     of (inl row) = let line = on_open h name s (ReadLine h a) e.acts e.reply at.named (subst (λ x. RowOf c h x e.acts e.reply) asked row.0) in
         let has = met.knows.stands s (named_open name s h.pools at.named) at.ours in
-        let calls : calls_along e.acts ≡ made_in line.2.moves = ap calls_along line.2.are ∙ read_calls s.core.pool.0 a line.0 line.2.moves in
+        let calls : calls_along e.acts ≡ made_in line.2.moves = ap calls_along line.2.are ∙ marked_calls (Marks s.core.pool.0 (Gives_for a line.0)) s.core.pool.0 line.2.moves refl in
         let made : AreMade h (made_in line.2.moves) = subst (AreMade h) calls row.1 in
         subst (λ made. AllMissed (s.core.committed (key 0 a)) made (run made p.sectors) s.core.leaves) (sym calls)
         (exhausted_missed c s (record { pool = p; seats = has.0 }) a line.2.moves has.1

@@ -95,7 +95,7 @@ shown_calls g known (None ∷ devs) more = shown_calls g known devs more
 shown_calls g known (Some d ∷ devs) more = shown_calls g known devs more
 
 -- a device that shows the pool's own identity
-own_shown : (c : Codec) (h : Host) (p : Pool) (g d : ℕ) → p.pool.0 ≡ g → Knows c h p → Knows c (record h { owner = at_device d (Some g) h.owner }) p
+pub own_shown : (c : Codec) (h : Host) (p : Pool) (g d : ℕ) → p.pool.0 ≡ g → Knows c h p → Knows c (record h { owner = at_device d (Some g) h.owner }) p
 own_shown c h p g d number knows = record {
   survives = knows.survives;
   roster = knows.roster;

@@ -30,7 +30,7 @@ use Rattle.pool_moves.specs.Rosters.{IsRoster, roster_after}
 use Rattle.pool_moves.specs.States.{PoolSeen, PoolState, Side, seen}
 use Rattle.pool_moves.proofs.Keeping.{move_keeps}
 use Rattle.pool_moves.proofs.Rosters.{roster_goes_on}
-use Rattle.pool_runs.specs.Acts.{Act, Opening, Birth, Hears, Bare, Does, Gave, Looked, Shows, Reads_as, Enters, Names, Takes, Bears, Closes, does, read_by, events_for, pool_by, pool_along}
+use Rattle.pool_runs.specs.Acts.{Act, Opening, Birth, Hears, Bare, Does, Marks, Looked, Shows, Reads_as, Enters, Names, Takes, Bears, Closes, does, read_by, events_for, pool_by, pool_along}
 use Rattle.pool_runs.specs.Devices.{Device, size_in}
 use Rattle.pool_runs.specs.Fairness.{IsFair, AreFair}
 use Rattle.pool_runs.specs.Hosts.{Host, IsOpen, is_of, moved, host_by, host_along}
@@ -293,7 +293,7 @@ other_act c h p g (Hears second) off own fair knows = (
 )
 other_act c h p g (Bare noted) off own fair knows = let may = other_call c g h.owner p noted knows.apart off own in (may, call_known c h p noted may knows)
 other_act c h p g (Does k v) off own fair knows = does_acted c h p k v (λ e. off (sym own.0 ∙ e)) (subst (λ n. IsOwnMove n h.owner v) (sym own.0) own.1) knows
-other_act c h p g (Gave k a reply) off own fair knows = (tt, knows)
+other_act c h p g (Marks k mark) off own fair knows = (tt, knows)
 other_act c h p g (Looked name known) off own fair knows = looked_acted c h p known (bytes_eq p.name name) own knows
 other_act c h p g (Shows k d known) off own fair knows = (tt, owned_known c h p k d (shown_other c h p g d known knows fair own.1 off) knows)
 other_act c h p g (Reads_as opening) off own fair knows =

@@ -1,11 +1,12 @@
 -- Which lines leave a pool's members.
-use Rattle.std.proofs.Common.{◌≡◌, ◌≢◌, ◌⊎◌, inl, inr, ⊎_elim, ℕ, suc, ◌+◌, ◌==◌, ◌||◌, nat_le, Bool, true, false, cond, List, [], ◌∷◌, ◌++◌, map, length, Option, Some, None, refl, sym, ap, ◌∙◌, subst, arith}
+use Rattle.std.proofs.Common.{◌≡◌, ◌≢◌, ◌⊎◌, inl, inr, ⊎_elim, ℕ, suc, ◌+◌, ◌==◌, ◌&&◌, ◌||◌, nat_le, Bool, true, false, cond, List, [], ◌∷◌, ◌++◌, map, length, Option, Some, None, Result, Ok, Err, refl, sym, ap, ◌∙◌, subst, arith}
 use Rattle.std.specs.List.{AllByRecursion, find, filter}
 use Rattle.std.specs.Str.{bytes_eq}
 use Rattle.std.proofs.lemmas.Bool.Decides.{nat_tests}
 use Rattle.mp_base.specs.declared.number.Guid.{Guid}
 use Rattle.bank_core.specs.Asks.{Ask, IsPart}
 use Rattle.bank_core.specs.declared.bank.Fault.{Fault}
+use Rattle.bank_core.specs.Calls.{fault_of}
 use Rattle.bank_core.specs.Disk.{Noted}
 use Rattle.label_store.specs.declared.member.Member.{Member}
 use Rattle.label_store.specs.Plans.{stamp_plan}
@@ -16,30 +17,32 @@ use Rattle.txg_history.specs.Pools.{Pool, after, pool_after}
 use Rattle.txg_history.specs.Records.{Cell}
 use Rattle.txg_history.specs.Survival.{IsAmong}
 use Rattle.txg_history.proofs.Logging.{by_bool}
-use Rattle.pool_moves.specs.AwayRows.{WriteReply, WriteFits, WriteBy, RowWrite, OfflineReply, is_offline, is_spare, LeaveIf, drop_if, gone, OfflineLeaf, OfflineHere, OfflineBy, leaf_named, RowOffline}
-use Rattle.pool_moves.specs.Boards.{board_of, board_under, emptied}
+use Rattle.pool_moves.specs.AwayRows.{WriteReply, WriteFits, WriteBy, RowWrite, OfflineReply, is_listed, is_offline, is_spare, LeaveIf, drop_if, gone, OfflineLeaf, OfflineHere, OfflineBy, leaf_named, RowOffline}
+use Rattle.pool_moves.specs.Boards.{board_of, board_under, members_where, emptied}
 use Rattle.pool_moves.specs.CommitRows.{NamedLog, RowLogs, RowFound}
 use Rattle.pool_moves.specs.FreezeRow.{up_devs}
 use Rattle.pool_moves.specs.Leaves.{LeafSeen}
 use Rattle.pool_moves.specs.LineRows.{TurnReply, sets_failed, has_number, count_moves, EndsBy, EndsTurn, IsTurnOf, IsWritePart, IsFlushPart, IsRoundPart, StartsBy, TurnBy, RowTurn, Committed, Suspended, Idle, Write, Flush, Round, AreTurns, moves_in, EndsGroup, CommitsOpen, FreezeReply, FreezeFor, FreezeBy, RowFreezeLine, SyncReply, CommitsFor, SyncOpen, SyncBehind, EndsFirst, SyncBy, RowSync}
-use Rattle.pool_moves.specs.Moves.{Draft, Move, Makes, Puts, Freeze, Wrote_key, Flushed_all, Draw, Leave, Burn, Starts, Copies, Copied, Commits, Sets, Lose, Comes, Drop, Scan_from, Rest, events_of, steps}
+use Rattle.pool_moves.specs.Moves.{Draft, Move, Makes, Puts, Freeze, Wrote_key, Flushed_all, Draw, Leave, Burn, Starts, Copies, Copied, Commits, Sets, Lose, Comes, Finds, Drop, Clear, Pass, Scan_from, Rest, events_of, steps}
+use Rattle.pool_moves.specs.OnlineRow.{HostDevice, NoneFound, HeldBy, Handed, OnlineReply, Stands, NoLeaf, IsSpare, NoDevice, InUse, TooSmall, FaultOnDevice, WrongLabel, is_away, marked_own, brought_own, searched_own, SearchEnds, ScansBehind, OnlineRoomy, OnlineAway, OnlineOn, OnlineBy}
 use Rattle.pool_moves.specs.OpeningRow.{SeekReply, NoRecord, NumbersEnd, TakesRecord, OpenReply, Opens_state, NoPage, lacking_of, ResumesBy, ResumesUnless}
 use Rattle.pool_moves.specs.ReadRow.{ReadReply, count_reads, RowCopies, stands_under, ReadRecord, ReadGroup, ReadOpen, RowRead, made_in}
 use Rattle.pool_moves.specs.Refusing.{FreezeRefusal, IsRefused}
 use Rattle.pool_moves.specs.Resilvers.{rest_if, Resilvers}
+use Rattle.pool_moves.specs.ScanRows.{FlushEnds, AreFlushed, is_eligible, StepReply, StepBy, RowStep, ScrubReply, ScrubBy, RowScrub, StopReply, StopBy, RowStopScrub}
 use Rattle.pool_moves.specs.StampRow.{NewLeaf, top_leaves, leaves_from, leaf_at, is_leaf_at, Stamp, AreStamps, new_state, CreateReply, Created, FaultOn}
 use Rattle.pool_moves.specs.States.{PoolSeen, PoolState}
 use Rattle.pool_moves.specs.TurnRows.{turn_moves, ended, IsThirdMoves, RowWriteTurn, RowFlushTurn, RowRound}
 use Rattle.pool_moves.specs.Walking.{as_moves}
 use Rattle.pool_moves.specs.Widening.{seen_along}
 use Rattle.pool_moves.proofs.StampWalks.{all_of, leaf_found, leaf_of}
-use Rattle.pool_runs.specs.Acts.{Act, Bare, Does, Gave, Looked, Shows, Reads_as, Enters, Names, Takes, Bears, Closes, does, bare, read_by, events_for, pool_by, pool_along}
+use Rattle.pool_runs.specs.Acts.{Act, Mark, Gives_for, Steps_by, Bare, Does, Marks, Looked, Shows, Reads_as, Enters, Names, Takes, Bears, Closes, does, bare, read_by, events_for, pool_by, pool_along}
 use Rattle.pool_runs.specs.Creating.{dev_or_none, members_of, tops_of, leaves_of, new_birth, or_else, all_names, unknown_by, unknown, create_refusal, stamp_acts, commit_acts, RowCreate}
 use Rattle.pool_runs.specs.Devices.{Device, number_in, size_in}
-use Rattle.pool_runs.specs.HostRows.{ByMoves, is_reading, marked_behind, read_acts, ByRead, WriteLine, ReadLine, FreezeLine, TurnLine, SyncLine, OfflineLine, LogsLine, OnPool, RowOf, ChangesNone, MayRewrite, RunsOut, HostRow}
+use Rattle.pool_runs.specs.HostRows.{ByMoves, is_reading, marked_behind, marked, ByMarked, found_in, device_for, ByOnline, OnlineLine, StepLine, ScrubLine, StopLine, WriteLine, ReadLine, FreezeLine, TurnLine, SyncLine, OfflineLine, LogsLine, OnPool, RowOf, ChangesNone, MayRewrite, RunsOut, HostRow}
 use Rattle.pool_runs.specs.Hosts.{Host, named}
 use Rattle.pool_runs.specs.Importing.{read_in, all_shown, OpensBy, FollowsMap, ImportBy, host_behind, ImportFor, ImportUnless}
-use Rattle.pool_runs.specs.Lines.{Asked, Asks_nothing, Asks_write, Asks_read, Asks_freeze, Asks_turn, Asks_sync, Asks_offline, Asks_logs, Asks_import, Asks_create, Reply, To_create, Entry}
+use Rattle.pool_runs.specs.Lines.{Asked, Asks_nothing, Asks_write, Asks_read, Asks_freeze, Asks_turn, Asks_sync, Asks_offline, Asks_online, Asks_logs, Asks_step, Asks_scrub, Asks_stop, Asks_import, Asks_create, Reply, To_create, Entry}
 use Rattle.pool_runs.specs.Taking.{IsTakenBy}
 use Rattle.pool_runs.proofs.GroupMoves.{IsKind, more, all_calls, all_widened, all_reads, all_turn, all_freeze, all_sync, all_found, all_reopen}
 use Rattle.pool_runs.proofs.Creating.{or_first, or_second, none_refused}
@@ -206,19 +209,85 @@ keep_resume (Some top) c size s vs turn row = subst AllKeep (sym row.0) tt
 keep_resume None c size s vs turn row = subst AllKeep (sym row.moves) (keep_more row.first row.rest (all_reopen KeepsMembers kept_kind (λ cells board. tt) c size s row.first turn (λ bad. tt) row.row)
     (keep_resumes turn (steps row.first s) row.rest row.resumes))
 
+-- a leaf that comes back
+keep_search : (result : Result Bool Fault) (leaf : LeafSeen) (e : ℕ) (made : List Noted) (vs : List Move) (reply : OnlineReply) → SearchEnds result leaf e made vs reply → AllKeep vs
+keep_search (Ok true) leaf e made vs reply row = subst AllKeep (sym row.0)
+    (keep_more (as_moves made) (Finds leaf.guid e ∷ (Sets leaf.guid (brought_own (searched_own made leaf.own)) ∷ [])) (keep_calls made) (tt, (tt, tt)))
+keep_search (Ok false) leaf e made vs reply row = subst AllKeep (sym row.0) (keep_more (as_moves made) (Sets leaf.guid (searched_own made leaf.own) ∷ []) (keep_calls made) (tt, tt))
+keep_search (Err fault) leaf e made vs reply row = subst AllKeep (sym row.0) (keep_more (as_moves made) (Sets leaf.guid (searched_own made leaf.own) ∷ []) (keep_calls made) (tt, tt))
+
+keep_scans : (reply : OnlineReply) (s : PoolState) (vs : List Move) → ScansBehind reply s vs → AllKeep vs
+keep_scans (Stands mode) s vs row = keep_resilver s.core vs row
+keep_scans NoLeaf s vs row = subst AllKeep (sym row) tt
+keep_scans IsSpare s vs row = subst AllKeep (sym row) tt
+keep_scans NoDevice s vs row = subst AllKeep (sym row) tt
+keep_scans (InUse by) s vs row = subst AllKeep (sym row) tt
+keep_scans (TooSmall need has) s vs row = subst AllKeep (sym row) tt
+keep_scans FaultOnDevice s vs row = subst AllKeep (sym row) tt
+keep_scans WrongLabel s vs row = subst AllKeep (sym row) tt
+
+keep_roomy : (roomy : Bool) (size : ℕ → ℕ) (s : PoolState) (leaf : LeafSeen) (e : ℕ) (vs : List Move) (reply : OnlineReply) → OnlineRoomy roomy size s leaf e vs reply → AllKeep vs
+keep_roomy false size s leaf e vs reply row = subst AllKeep (sym row.0) tt
+keep_roomy true size s leaf e vs reply row = subst AllKeep (sym row.moves)
+    (keep_more row.first row.rest (keep_search row.result leaf e row.made row.first reply row.ends) (keep_scans reply (steps row.first s) row.rest row.scans))
+
+keep_away : (away : Bool) (size : ℕ → ℕ) (s : PoolState) (leaf : LeafSeen) (e : ℕ) (vs : List Move) (reply : OnlineReply) → OnlineAway away size s leaf e vs reply → AllKeep vs
+keep_away false size s leaf e vs reply row = subst AllKeep (sym row.moves) (tt, keep_resilver (steps (Sets leaf.guid (marked_own leaf.own) ∷ []) s).core row.rest row.scans)
+keep_away true size s leaf e vs reply row = keep_roomy (nat_le (s.core.room leaf.top + 256) (size e)) size s leaf e vs reply row
+
+keep_on : (device : HostDevice) (size : ℕ → ℕ) (s : PoolState) (leaf : LeafSeen) (vs : List Move) (reply : OnlineReply) → OnlineOn device size s leaf vs reply → AllKeep vs
+keep_on NoneFound size s leaf vs reply row = subst AllKeep (sym row.0) tt
+keep_on (HeldBy by) size s leaf vs reply row = subst AllKeep (sym row.0) tt
+keep_on (Handed e) size s leaf vs reply row = keep_away (is_away leaf.own.mode) size s leaf e vs reply row
+
+keep_online : (found : Option LeafSeen) (listed : Bool) (device : HostDevice) (size : ℕ → ℕ) (s : PoolState) (vs : List Move) (reply : OnlineReply)
+    → OnlineBy found listed device size s vs reply → AllKeep vs
+keep_online None listed device size s vs reply row = subst AllKeep (sym row.0) tt
+keep_online (Some leaf) listed device size s vs reply row = keep_on device size s leaf vs reply row
+
+-- scans
+keep_failed : (found : Option LeafSeen) → AllKeep (sets_failed found)
+keep_failed None = tt
+keep_failed (Some leaf) = (tt, tt)
+
+keep_flush : (fault : Option Fault) (s : PoolSeen) (m : Member) (vs : List Move) → FlushEnds fault s m vs → AllKeep vs
+keep_flush None s m vs is = all_widened KeepsMembers kept_kind s (Clear m.dev) vs tt is
+keep_flush (Some fault) s m vs is = subst AllKeep (sym is) (tt, keep_failed (find (has_number m.guid) s.leaves))
+
+keep_flushes : (s : PoolSeen) (ms : List Member) (vs : List Move) → AreFlushed s ms vs → AllKeep vs
+keep_flushes s [] vs row = subst AllKeep (sym row) tt
+keep_flushes s (m ∷ ms) vs (noted, ending, rest, ask, is, ends, later) = subst AllKeep (sym is)
+    (tt, keep_more ending rest (keep_flush (fault_of noted.call) s m ending ends) (keep_flushes (seen_along ending s) ms rest later))
+
+keep_step : (running : Bool) (s : PoolState) (vs : List Move) (reply : StepReply) → StepBy running s vs reply → AllKeep vs
+keep_step false s vs reply row = subst AllKeep (sym row.0) tt
+keep_step true s vs reply (inl row) = let key = row.0 in subst AllKeep (sym key.moves)
+    (keep_more (as_moves key.calls) (count_reads key.sum.sum key.calls (filter (stands_under key.sum.top) s.core.leaves) ++ (Pass key.k key.sum.birth _ ∷ []))
+    (keep_calls key.calls) (keep_more (count_reads key.sum.sum key.calls (filter (stands_under key.sum.top) s.core.leaves)) (Pass key.k key.sum.birth _ ∷ [])
+    (keep_reads key.sum.sum key.calls (filter (stands_under key.sum.top) s.core.leaves)) (tt, tt)))
+keep_step true s vs reply (inr row) = subst AllKeep (sym row.0.moves) (keep_more row.0.part (Rest ∷ []) (keep_flushes s.core (members_where is_eligible s.core.leaves) row.0.part row.0.flushed) (tt, tt))
+
+keep_scrub : (running : Bool) (s : PoolState) (vs : List Move) (reply : ScrubReply) → ScrubBy running s vs reply → AllKeep vs
+keep_scrub true s vs reply row = subst AllKeep (sym row.0) tt
+keep_scrub false s vs reply row = subst AllKeep (sym row.1) (tt, (tt, tt))
+
+keep_stop : (scrubbing : Bool) (vs : List Move) (reply : StopReply) → StopBy scrubbing vs reply → AllKeep vs
+keep_stop true vs reply row = subst AllKeep (sym row.0) (tt, tt)
+keep_stop false vs reply row = subst AllKeep (sym row.0) tt
+
 -- Lines.
 keep_does : (d g : ℕ) (vs : List Move) → AllKeep vs → AllByRecursion (KeepsAt d) (does g vs)
 keep_does d g [] all = tt
 keep_does d g (v ∷ vs) all = (all.0, keep_does d g vs all.1)
 
-keep_marked : (reading : Bool) (d g a : ℕ) (reply : ReadReply) (v : Move) (vs : List Move) (rest : List Act) → AllKeep (v ∷ vs) → AllByRecursion (KeepsAt d) rest
-    → AllByRecursion (KeepsAt d) (marked_behind reading g a reply v vs rest)
-keep_marked true d g a reply v vs rest all more = (all.0, more)
-keep_marked false d g a reply v vs rest all more = (tt, keep_does d g (v ∷ vs) all)
+keep_marked_first : (reading : Bool) (d : ℕ) (mark : Act) (g : ℕ) (v : Move) (vs : List Move) (rest : List Act) → KeepsAt d mark → AllKeep (v ∷ vs)
+    → AllByRecursion (KeepsAt d) rest → AllByRecursion (KeepsAt d) (marked_behind reading mark g v vs rest)
+keep_marked_first true d mark g v vs rest is all more = (all.0, more)
+keep_marked_first false d mark g v vs rest is all more = (is, keep_does d g (v ∷ vs) all)
 
-keep_read_acts : (d g a : ℕ) (reply : ReadReply) (vs : List Move) → AllKeep vs → AllByRecursion (KeepsAt d) (read_acts g a reply vs)
-keep_read_acts d g a reply [] all = (tt, tt)
-keep_read_acts d g a reply (v ∷ vs) all = keep_marked (is_reading v) d g a reply v vs (read_acts g a reply vs) all (keep_read_acts d g a reply vs all.1)
+keep_marked : (d : ℕ) (mark : Act) (g : ℕ) (vs : List Move) → KeepsAt d mark → AllKeep vs → AllByRecursion (KeepsAt d) (marked mark g vs)
+keep_marked d mark g [] is all = (is, tt)
+keep_marked d mark g (v ∷ vs) is all = keep_marked_first (is_reading v) d mark g v vs (marked mark g vs) is all (keep_marked d mark g vs is all.1)
 
 abbrev Keep : (d : ℕ) → List Act → Type 0
 Keep d acts = AllByRecursion (KeepsAt d) acts
@@ -230,14 +299,27 @@ on_keeps d (Some s) Line acts reply line row = line s row
 by_moves : (d : ℕ) (h : Host) (s : PoolState) (Row : List Move → Type 0) (acts : List Act) → ((vs : List Move) → Row vs → AllKeep vs) → ByMoves h s Row acts → Keep d acts
 by_moves d h s Row acts keeps line = subst (Keep d) (sym line.are) (keep_does d s.core.pool.0 line.moves (keeps line.moves line.row))
 
-read_keeps : (d : ℕ) (h : Host) (s : PoolState) (a : ℕ) (reply : ReadReply) (acts : List Act) → ByRead h s a reply acts → Keep d acts
-read_keeps d h s a reply acts line = subst (Keep d) (sym line.are) (keep_read_acts d s.core.pool.0 a reply line.moves (keep_read s a line.moves reply line.row))
+by_marked : (d : ℕ) (h : Host) (s : PoolState) (mark : List Move → Mark) (Row : List Move → Type 0) (acts : List Act) → ((vs : List Move) → Row vs → AllKeep vs)
+    → ByMarked h s mark Row acts → Keep d acts
+by_marked d h s mark Row acts keeps line = subst (Keep d) (sym line.are)
+    (keep_marked d (Marks s.core.pool.0 (mark line.moves)) s.core.pool.0 line.moves tt (keeps line.moves line.row))
 
--- Creates.
 keep_acts : (d : ℕ) (first second : List Act) → Keep d first → Keep d second → Keep d (first ++ second)
 keep_acts d [] second a b = b
 keep_acts d (act ∷ first) second a b = (a.0, keep_acts d first second a.1 b)
 
+keep_shown_all : (d g : ℕ) (known : Known) (devs : List (Option ℕ)) → AllByRecursion (KeepsAt d) (all_shown g known devs)
+keep_shown_all d g known [] = tt
+keep_shown_all d g known (None ∷ devs) = keep_shown_all d g known devs
+keep_shown_all d g known (Some e ∷ devs) = (tt, keep_shown_all d g known devs)
+
+online_keeps : (d : ℕ) (h : Host) (s : PoolState) (device : List ℕ) (reply : OnlineReply) (acts : List Act) → ByOnline h s device reply acts → Keep d acts
+online_keeps d h s device reply acts line = let g = s.core.pool.0 in let vs = line.moves in
+    subst (Keep d) (sym line.are) (tt, keep_acts d (does g vs) (all_shown g (read_in (made_in vs)) (found_in vs))
+    (keep_does d g vs (keep_online (leaf_named device s.core.leaves) (is_listed device s) (device_for (number_in device h.table) h g) (size_in h.table) s vs reply line.row))
+    (keep_shown_all d g (read_in (made_in vs)) (found_in vs)))
+
+-- Creates.
 keep_front : (d : ℕ) (first second : List Act) → Keep d (first ++ second) → Keep d first
 keep_front d [] second all = tt
 keep_front d (act ∷ first) second all = (all.0, keep_front d first second all.1)
@@ -385,7 +467,8 @@ row_keeps : (c : Codec) (h : Host) (asked : Asked) (acts : List Act) (reply : Re
 row_keeps c h Asks_nothing acts reply d other row = subst (Keep d) (sym row.0) tt
 row_keeps c h (Asks_write name a block) acts reply d other row = on_keeps d (named name h.pools) (WriteLine h a block) acts reply
     (λ s line. by_moves d h s (λ vs. RowWrite s a block vs line.0) acts (λ vs is. keep_write s a block vs line.0 is) line.2) row
-row_keeps c h (Asks_read name a) acts reply d other row = on_keeps d (named name h.pools) (ReadLine h a) acts reply (λ s line. read_keeps d h s a line.0 acts line.2) row
+row_keeps c h (Asks_read name a) acts reply d other row = on_keeps d (named name h.pools) (ReadLine h a) acts reply 
+    (λ s line. by_marked d h s (λ vs. Gives_for a line.0) (λ vs. RowRead s a vs line.0) acts (λ vs is. keep_read s a vs line.0 is) line.2) row
 row_keeps c h (Asks_freeze name) acts reply d other row = on_keeps d (named name h.pools) (FreezeLine c h) acts reply
     (λ s line. by_moves d h s (λ vs. RowFreezeLine c s vs line.0) acts (λ vs is. keep_freeze_by s.core.group.frozen c s vs line.0 is) line.2) row
 row_keeps c h (Asks_turn name) acts reply d other row = on_keeps d (named name h.pools) (TurnLine c h) acts reply
@@ -394,6 +477,14 @@ row_keeps c h (Asks_sync name) acts reply d other row = on_keeps d (named name h
     (λ s line. by_moves d h s (λ vs. RowSync c (size_in h.table) s vs line.0) acts (λ vs is. all_sync KeepsMembers kept_kind (λ cells board. tt) s.core.group.frozen c (size_in h.table) s vs line.0 (λ bad. tt) is) line.2) row
 row_keeps c h (Asks_offline name device temporary) acts reply d other row = on_keeps d (named name h.pools) (OfflineLine h device temporary) acts reply
     (λ s line. by_moves d h s (λ vs. RowOffline s device temporary vs line.0) acts (λ vs is. keep_offline (leaf_named device s.core.leaves) s device temporary vs line.0 is) line.2) row
+row_keeps c h (Asks_online name device) acts reply d other row = on_keeps d (named name h.pools) (OnlineLine h device) acts reply
+    (λ s line. online_keeps d h s device line.0 acts line.2) row
+row_keeps c h (Asks_step name) acts reply d other row = on_keeps d (named name h.pools) (StepLine h) acts reply
+    (λ s line. by_marked d h s (λ vs. Steps_by (made_in vs)) (λ vs. RowStep s vs line.0) acts (λ vs is. keep_step s.core.scan.running s vs line.0 is) line.2) row
+row_keeps c h (Asks_scrub name) acts reply d other row = on_keeps d (named name h.pools) (ScrubLine h) acts reply
+    (λ s line. by_moves d h s (λ vs. RowScrub s vs line.0) acts (λ vs is. keep_scrub s.core.scan.running s vs line.0 is) line.2) row
+row_keeps c h (Asks_stop name) acts reply d other row = on_keeps d (named name h.pools) (StopLine h) acts reply
+    (λ s line. by_moves d h s (λ vs. RowStopScrub s vs line.0) acts (λ vs is. keep_stop (s.core.scan.running && s.own.scrubs) vs line.0 is) line.2) row
 row_keeps c h (Asks_logs name) acts reply d other row = on_keeps d (named name h.pools) (LogsLine h) acts reply
     (λ s line. by_moves d h s (λ vs. RowLogs s vs line.0) acts (λ vs is. subst AllKeep (sym is.0) tt) line.2) row
 row_keeps c h (Asks_import name) acts reply d other row = keep_unless (named name h.pools) c h name acts reply d row

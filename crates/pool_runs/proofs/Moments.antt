@@ -9,7 +9,7 @@ use Rattle.txg_history.specs.Pools.{Pool, pool_after}
 use Rattle.txg_history.proofs.Folding.{mays_more, calls_more, calls_are}
 use Rattle.pool_moves.specs.Moves.{Move, Makes, events_of}
 use Rattle.pool_moves.specs.ReadRow.{made_in}
-use Rattle.pool_runs.specs.Acts.{Act, Opening, Hears, Bare, Does, Gave, Looked, Shows, Reads_as, Enters, Names, Takes, Bears, Closes, calls_of_act, calls_along, read_by, events_for, pool_by, pool_along, history}
+use Rattle.pool_runs.specs.Acts.{Act, Opening, Hears, Bare, Does, Marks, Looked, Shows, Reads_as, Enters, Names, Takes, Bears, Closes, calls_of_act, calls_along, read_by, events_for, pool_by, pool_along, history}
 use Rattle.pool_runs.specs.Devices.{Device}
 use Rattle.pool_runs.specs.Fairness.{IsFair, AreFair}
 use Rattle.pool_runs.specs.Headline.{HasMoment}

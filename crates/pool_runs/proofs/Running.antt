@@ -4,36 +4,41 @@ use Rattle.std.specs.List.{AllByRecursion, find}
 use Rattle.std.specs.Str.{bytes_eq}
 use Rattle.std.proofs.lemmas.Bool.Decides.{nat_tests}
 use Rattle.bank_core.specs.Disk.{Call, Read, Write, Flush, Admit, Eject, Noted, AllAnswer}
-use Rattle.txg_history.specs.Events.{Calls, as_events}
+use Rattle.txg_history.specs.Events.{Known, Calls, as_events}
 use Rattle.bank_core.specs.Standing.{touches}
 use Rattle.txg_history.specs.Moves.{IsPlain, Mays}
 use Rattle.txg_history.specs.Pages.{Codec}
-use Rattle.txg_history.specs.Pools.{Pool, pool_after}
+use Rattle.txg_history.specs.Pools.{Pool, after, pool_after}
 use Rattle.txg_history.proofs.Logging.{by_bool}
-use Rattle.pool_moves.specs.AwayRows.{RowWrite, RowOffline}
+use Rattle.pool_moves.specs.AwayRows.{is_listed, RowWrite, RowOffline}
 use Rattle.pool_moves.specs.CommitRows.{RowLogs}
 use Rattle.pool_moves.specs.Keeping.{Kept, Walks}
 use Rattle.pool_moves.specs.LineRows.{IsSized, RowTurn, RowFreezeLine, RowSync}
-use Rattle.pool_moves.specs.Moves.{Move, Makes, events_of, state_step, after_move}
+use Rattle.pool_moves.specs.Moves.{Move, Makes, Finds, events_of, state_step, after_move}
+use Rattle.pool_moves.specs.OnlineRow.{OnlineReply, FindMembers}
 use Rattle.pool_moves.specs.ReadRow.{ReadReply, RowRead, ClashesWith, made_in}
+use Rattle.pool_moves.specs.ScanRows.{FoundClash, RowStep, RowScrub, RowStopScrub}
 use Rattle.pool_moves.specs.States.{PoolState, Side}
 use Rattle.pool_moves.proofs.AwayWalks.{write_walks, offline_walks}
 use Rattle.pool_moves.proofs.CommitWalks.{logs_walks}
 use Rattle.pool_moves.proofs.Keeping.{move_keeps}
 use Rattle.pool_moves.proofs.LineWalks.{turn_walks, freeze_line_walks, sync_walks}
+use Rattle.pool_moves.proofs.OnlineWalks.{online_walks}
 use Rattle.pool_moves.proofs.ReadWalks.{read_walks}
-use Rattle.pool_runs.specs.Acts.{Act, Does, Gave, Hears, does, calls_along, events_for, pool_by, pool_along}
-use Rattle.pool_runs.specs.Devices.{size_in}
-use Rattle.pool_runs.specs.Fairness.{AreFair}
-use Rattle.pool_runs.specs.HostRows.{AreMade, ByMoves, is_read, is_reading, marked_behind, read_acts, ByRead, WriteLine, ReadLine, FreezeLine, TurnLine, SyncLine, OfflineLine, LogsLine, OnPool, RowOf, RunsOut, HostRow, acts_of, acts_in, IsRun}
+use Rattle.pool_moves.proofs.ScanEnds.{step_walks, scrub_walks, stop_walks}
+use Rattle.pool_runs.specs.Acts.{Act, Mark, Gives_for, Steps_by, Seeks_by, Does, Marks, Shows, Hears, does, calls_along, events_for, pool_by, pool_along}
+use Rattle.pool_runs.specs.Devices.{number_in, size_in}
+use Rattle.pool_runs.specs.Fairness.{IsMember, IsFairMark, AreFair}
+use Rattle.pool_runs.specs.HostRows.{AreMade, ByMoves, is_read, is_reading, marked_behind, marked, ByMarked, found_in, device_for, ByOnline, OnlineLine, StepLine, ScrubLine, StopLine, WriteLine, ReadLine, FreezeLine, TurnLine, SyncLine, OfflineLine, LogsLine, OnPool, RowOf, RunsOut, HostRow, acts_of, acts_in, IsRun}
 use Rattle.pool_runs.specs.Hosts.{Host, IsOpen, named, moved, host_by, host_along}
+use Rattle.pool_runs.specs.Importing.{read_in, all_shown}
 use Rattle.pool_runs.specs.Knowing.{HasSeats, Knows, MayActs, IsOwnMove, AreOwnActs}
-use Rattle.pool_runs.specs.Lines.{Asked, Asks_nothing, Asks_write, Asks_read, Asks_freeze, Asks_turn, Asks_sync, Asks_offline, Asks_logs, Asks_import, Asks_create, Reply, Entry}
+use Rattle.pool_runs.specs.Lines.{Asked, Asks_nothing, Asks_write, Asks_read, Asks_freeze, Asks_turn, Asks_sync, Asks_offline, Asks_online, Asks_logs, Asks_step, Asks_scrub, Asks_stop, Asks_import, Asks_create, Reply, Entry}
 use Rattle.pool_runs.proofs.Acting.{same_number, number_of_test, own_events, move_number}
-use Rattle.pool_runs.proofs.Answering.{all_answer, does_calls, read_calls}
+use Rattle.pool_runs.proofs.Answering.{all_answer, does_calls, marked_calls}
 use Rattle.pool_runs.proofs.Creating.{create_may}
-use Rattle.pool_runs.proofs.Importing.{import_may}
-use Rattle.pool_runs.proofs.Knowing.{may_more, moved_own, open_moved, other_may, own_does, walk_may}
+use Rattle.pool_runs.proofs.Importing.{own_shown, import_may}
+use Rattle.pool_runs.proofs.Knowing.{acts_number, may_more, moved_own, open_moved, other_may, own_does, walk_may}
 use Rattle.pool_runs.proofs.Sparing.{untouched_sparing}
 
 -- the open pool of a name is open
@@ -76,45 +81,85 @@ read_untouched : (call : Call) (d s : ℕ) → is_read call ≡ true → touches
 read_untouched (Read dev at bytes fault) d s is = refl
 read_untouched call d s is = absurd (cc)
 
-abbrev MarkedMay : Codec → Host → PoolState → Side → (g a : ℕ) → ReadReply → (vs : List Move) → (acts : List Act) → Type 0
-MarkedMay c h s t g a reply vs acts = Knows c h t.pool → IsOpen s h.pools → t.pool.pool.0 ≡ g → Kept c s t → (¬ (ClashesWith (t.pool.written a) reply) → Walks c t vs)
+abbrev MarkedMay : Codec → Host → PoolState → Side → (g : ℕ) → (mark : Mark) → (vs : List Move) → (acts : List Act) → Type 0
+MarkedMay c h s t g mark vs acts = Knows c h t.pool → IsOpen s h.pools → t.pool.pool.0 ≡ g → Kept c s t → (IsFairMark t.pool mark → Walks c t vs)
     → AreOwnActs g h acts → MayActs c h t.pool acts
 
-marked_may : (reading : Bool) (c : Codec) (h : Host) (s : PoolState) (t : Side) (g a : ℕ) (reply : ReadReply) (v : Move) (vs : List Move) → is_reading v ≡ reading
-    → MarkedMay c (host_by (Does g v) h) (state_step v s) (after_move v t) g a reply vs (read_acts g a reply vs)
-    → MarkedMay c h s t g a reply (v ∷ vs) (marked_behind reading g a reply v vs (read_acts g a reply vs))
-marked_may true c h s t g a reply (Makes noted) vs reads rest knows is number kept walks own = λ fair.
+marked_may : (reading : Bool) (c : Codec) (h : Host) (s : PoolState) (t : Side) (g : ℕ) (mark : Mark) (v : Move) (vs : List Move) → is_reading v ≡ reading
+    → ((noted : Noted) (p : Pool) → IsFairMark (after (Calls noted) p) mark → IsFairMark p mark)
+    → MarkedMay c (host_by (Does g v) h) (state_step v s) (after_move v t) g mark vs (marked (Marks g mark) g vs)
+    → MarkedMay c h s t g mark (v ∷ vs) (marked_behind reading (Marks g mark) g v vs (marked (Marks g mark) g vs))
+marked_may true c h s t g mark (Makes noted) vs reads was rest knows is number kept walks own = λ fair.
     let may : Mays c t.pool (Calls noted ∷ []) = (untouched_sparing t.pool noted.call (read_plain noted.call reads) (λ d x member. read_untouched noted.call d x reads), tt) in
     let events : events_for (Does g (Makes noted)) t.pool ≡ Calls noted ∷ [] = own_events g (Makes noted) t.pool number in
     let pool_is : pool_by (Does g (Makes noted)) t.pool ≡ (after_move (Makes noted) t).pool = ap (λ vs. pool_after vs t.pool) events in
     let behind : Knows c (host_by (Does g (Makes noted)) h) (after_move (Makes noted) t).pool = own_does c h s t g (Makes noted) knows is number kept may tt own.0.1 in
-    let mine : s.core.pool.0 ≡ g = ap (λ core. core.pool.0) kept.core ∙ number in (
-      subst (Mays c t.pool) (sym events) may,
-      subst (Knows c (host_by (Does g (Makes noted)) h)) (sym pool_is) behind,
-      subst (λ q. MayActs c (host_by (Does g (Makes noted)) h) q (read_acts g a reply vs)) (sym pool_is)
-          (rest behind (subst (λ x. IsOpen x (map (moved g (Makes noted)) h.pools)) (moved_own g (Makes noted) s mine) (open_moved g (Makes noted) s h.pools is)) number
-          (move_keeps c (Makes noted) s t may tt kept) (λ none. (walks none).1) own.1),
-    )
-marked_may true c h s t g a reply v vs reads rest knows is number kept walks own = absurd (cc)
-marked_may false c h s t g a reply v vs reads rest knows is number kept walks own = λ fair.
+    let mine : s.core.pool.0 ≡ g = ap (λ core. core.pool.0) kept.core ∙ number in
+    (subst (Mays c t.pool) (sym events) may, subst (Knows c (host_by (Does g (Makes noted)) h)) (sym pool_is) behind,
+    subst (λ q. MayActs c (host_by (Does g (Makes noted)) h) q (marked (Marks g mark) g vs)) (sym pool_is)
+    (rest behind (subst (λ x. IsOpen x (map (moved g (Makes noted)) h.pools)) (moved_own g (Makes noted) s mine) (open_moved g (Makes noted) s h.pools is)) number
+    (move_keeps c (Makes noted) s t may tt kept) (λ ok. (walks (was noted t.pool ok)).1) own.1))
+marked_may true c h s t g mark v vs reads was rest knows is number kept walks own = absurd (cc)
+marked_may false c h s t g mark v vs reads was rest knows is number kept walks own = λ fair.
     (tt, knows, walk_may c h s t g (v ∷ vs) knows is number kept (walks (fair number)) own.1)
 
-read_may : (c : Codec) (h : Host) (s : PoolState) (t : Side) (g a : ℕ) (reply : ReadReply) (vs : List Move) → MarkedMay c h s t g a reply vs (read_acts g a reply vs)
-read_may c h s t g a reply [] = λ knows is number kept walks own fair. (tt, knows, tt)
-read_may c h s t g a reply (v ∷ vs) = marked_may (is_reading v) c h s t g a reply v vs refl (read_may c (host_by (Does g v) h) (state_step v s) (after_move v t) g a reply vs)
+all_marked_may : (c : Codec) (h : Host) (s : PoolState) (t : Side) (g : ℕ) (mark : Mark) (vs : List Move)
+    → ((noted : Noted) (p : Pool) → IsFairMark (after (Calls noted) p) mark → IsFairMark p mark) → MarkedMay c h s t g mark vs (marked (Marks g mark) g vs)
+all_marked_may c h s t g mark [] was = λ knows is number kept walks own fair. (tt, knows, tt)
+all_marked_may c h s t g mark (v ∷ vs) was = marked_may (is_reading v) c h s t g mark v vs refl was
+    (all_marked_may c (host_by (Does g v) h) (state_step v s) (after_move v t) g mark vs was)
 
-read_line_may : (c : Codec) (h : Host) (p : Pool) (s : PoolState) (a : ℕ) (reply : ReadReply) (acts : List Act) → Knows c h p → IsOpen s h.pools → AreMade h (calls_along acts) → ByRead h s a reply acts
-    → MayActs c h p acts
-read_line_may c h p s a reply acts knows is made line = by_bool (s.core.pool.0 == p.pool.0)
+clash_behind : (noted : Noted) (p : Pool) (made : List Noted) → FoundClash p made → FoundClash (after (Calls noted) p) made
+clash_behind noted p made clash = record { k = clash.k; cell = clash.cell; cell_is = clash.cell_is; bytes = clash.bytes; read = clash.read; clash = clash.clash }
+
+marked_line_may : (c : Codec) (h : Host) (p : Pool) (s : PoolState) (mark : List Move → Mark) (Row : List Move → Type 0) (acts : List Act) → Knows c h p → IsOpen s h.pools
+    → AreMade h (calls_along acts) → ((vs : List Move) (noted : Noted) (p : Pool) → IsFairMark (after (Calls noted) p) (mark vs) → IsFairMark p (mark vs))
+    → ((t : Side) (vs : List Move) → Kept c s t → AllAnswer t.pool.sectors (made_in vs) → Row vs → IsFairMark t.pool (mark vs) → Walks c t vs)
+    → ByMarked h s mark Row acts → MayActs c h p acts
+marked_line_may c h p s mark Row acts knows is made was walks line = by_bool (s.core.pool.0 == p.pool.0)
     (λ mine. let number = number_of_test s.core.pool.0 p.pool.0 mine in
     let has = knows.stands s is number in
     let t : Side = record { pool = p; seats = has.0 } in
-    let calls : AreMade h (made_in line.moves) = subst (AreMade h) (ap calls_along line.are ∙ read_calls s.core.pool.0 a reply line.moves) made in
+    let g = s.core.pool.0 in
+    let calls : AreMade h (made_in line.moves) = subst (AreMade h) (ap calls_along line.are ∙ marked_calls (Marks g (mark line.moves)) g line.moves refl) made in
     subst (MayActs c h p) (sym line.are)
-    (read_may c h s t s.core.pool.0 a reply line.moves knows is (sym number) has.1
-    (λ none. ⊎_elim (λ w. w) (λ clash. absurd (none clash)) (read_walks c s t a line.moves reply has.1
-    (all_answer h.table (made_in line.moves) h.disk p.sectors calls.here (λ d x one. sym (knows.disk d x one)) calls.answer) line.row))
-    (subst (AreOwnActs s.core.pool.0 h) line.are line.own)))
+    (all_marked_may c h s t g (mark line.moves) line.moves (was line.moves) knows is (sym number) has.1
+    (λ fair. walks t line.moves has.1 (all_answer h.table (made_in line.moves) h.disk p.sectors calls.here (λ d x one. sym (knows.disk d x one)) calls.answer) line.row fair)
+    (subst (AreOwnActs g h) line.are line.own)))
+    (λ off. other_may c h p s.core.pool.0 acts knows (not_same s.core.pool.0 p.pool.0 off) line.own)
+
+-- A leaf that comes back.
+shown_may : (c : Codec) (h : Host) (p : Pool) (g : ℕ) (known : Known) (devs : List (Option ℕ)) → Knows c h p → p.pool.0 ≡ g → MayActs c h p (all_shown g known devs)
+shown_may c h p g known [] knows number = tt
+shown_may c h p g known (None ∷ devs) knows number = shown_may c h p g known devs knows number
+shown_may c h p g known (Some d ∷ devs) knows number = λ fair. let owned = own_shown c h p g d number knows in
+    (tt, owned, shown_may c (host_by (Shows g d known) h) p g known devs owned number)
+
+found_members : (p : Pool) (vs : List Move) → AllByRecursion (IsMember p) (found_in vs) → FindMembers p vs
+found_members p [] all = tt
+found_members p (Finds m d ∷ vs) all = (all.0, found_members p vs all.1)
+found_members p (v ∷ vs) all = found_members p vs all
+
+own_front : (g : ℕ) (h : Host) (first second : List Act) → AreOwnActs g h (first ++ second) → AreOwnActs g h first
+own_front g h [] second own = tt
+own_front g h (act ∷ first) second own = (own.0, own_front g (host_by act h) first second own.1)
+
+online_may : (c : Codec) (h : Host) (p : Pool) (s : PoolState) (device : List ℕ) (reply : OnlineReply) (acts : List Act) → Knows c h p → IsOpen s h.pools → ByOnline h s device reply acts
+    → MayActs c h p acts
+online_may c h p s device reply acts knows is line = by_bool (s.core.pool.0 == p.pool.0)
+    (λ mine. let number = number_of_test s.core.pool.0 p.pool.0 mine in
+    let has = knows.stands s is number in
+    let t : Side = record { pool = p; seats = has.0 } in
+    let g = s.core.pool.0 in
+    let known = read_in (made_in line.moves) in
+    let own = subst (AreOwnActs g h) line.are line.own in
+    subst (MayActs c h p) (sym line.are) (λ fair. let ok = fair (sym number) in (tt, knows,
+    may_more c h p (does g line.moves) (all_shown g known (found_in line.moves))
+    (walk_may c h s t g line.moves knows is (sym number) has.1
+    (online_walks c (size_in h.table) s t device (is_listed device s) (device_for (number_in device h.table) h g) line.moves reply has.1 knows.sizes line.row ok.0
+    (found_members p line.moves ok.1)) (own_front g h (does g line.moves) (all_shown g known (found_in line.moves)) own.1))
+    (λ fair known_behind. shown_may c (host_along (does g line.moves) h) (pool_along (does g line.moves) p) g known (found_in line.moves) known_behind
+    (ap (λ n. n.0) (acts_number (does g line.moves) p) ∙ sym number)) knows)))
     (λ off. other_may c h p s.core.pool.0 acts knows (not_same s.core.pool.0 p.pool.0 off) line.own)
 
 -- Each line.
@@ -131,7 +176,8 @@ row_may c h p Asks_nothing acts reply knows made row = subst (MayActs c h p) (sy
 row_may c h p (Asks_write name a block) acts reply knows made row = on_pool c h p name (named name h.pools) (WriteLine h a block) acts reply refl
     (λ s is line. line_may c h p s (λ vs. RowWrite s a block vs line.0) acts knows is (λ t vs kept at row. write_walks c s t a block vs line.0 row) line.2) row
 row_may c h p (Asks_read name a) acts reply knows made row = on_pool c h p name (named name h.pools) (ReadLine h a) acts reply refl
-    (λ s is line. read_line_may c h p s a line.0 acts knows is made line.2) row
+    (λ s is line. marked_line_may c h p s (λ vs. Gives_for a line.0) (λ vs. RowRead s a vs line.0) acts knows is made (λ vs noted p fair. fair)
+    (λ t vs kept answers row fair. ⊎_elim (λ w. w) (λ clash. absurd (fair clash)) (read_walks c s t a vs line.0 kept answers row)) line.2) row
 row_may c h p (Asks_freeze name) acts reply knows made row = on_pool c h p name (named name h.pools) (FreezeLine c h) acts reply refl
     (λ s is line. line_may c h p s (λ vs. RowFreezeLine c s vs line.0) acts knows is (λ t vs kept at row. freeze_line_walks c s t vs line.0 kept row) line.2) row
 row_may c h p (Asks_turn name) acts reply knows made row = on_pool c h p name (named name h.pools) (TurnLine c h) acts reply refl
@@ -142,6 +188,15 @@ row_may c h p (Asks_sync name) acts reply knows made row = on_pool c h p name (n
     (λ t vs kept at row. sync_walks c (size_in h.table) s t vs line.0 kept (sized c h p t knows at) row) line.2) row
 row_may c h p (Asks_offline name device temporary) acts reply knows made row = on_pool c h p name (named name h.pools) (OfflineLine h device temporary) acts reply refl
     (λ s is line. line_may c h p s (λ vs. RowOffline s device temporary vs line.0) acts knows is (λ t vs kept at row. offline_walks c s t device temporary vs line.0 kept row) line.2) row
+row_may c h p (Asks_online name device) acts reply knows made row = on_pool c h p name (named name h.pools) (OnlineLine h device) acts reply refl
+    (λ s is line. online_may c h p s device line.0 acts knows is line.2) row
+row_may c h p (Asks_step name) acts reply knows made row = on_pool c h p name (named name h.pools) (StepLine h) acts reply refl
+    (λ s is line. marked_line_may c h p s (λ vs. Steps_by (made_in vs)) (λ vs. RowStep s vs line.0) acts knows is made (λ vs noted p fair clash. fair (clash_behind noted p (made_in vs) clash))
+    (λ t vs kept answers row fair. ⊎_elim (λ w. w) (λ clash. absurd (fair clash)) (step_walks c s t vs line.0 kept answers row)) line.2) row
+row_may c h p (Asks_scrub name) acts reply knows made row = on_pool c h p name (named name h.pools) (ScrubLine h) acts reply refl
+    (λ s is line. line_may c h p s (λ vs. RowScrub s vs line.0) acts knows is (λ t vs kept at row. scrub_walks c s t vs line.0 kept row) line.2) row
+row_may c h p (Asks_stop name) acts reply knows made row = on_pool c h p name (named name h.pools) (StopLine h) acts reply refl
+    (λ s is line. line_may c h p s (λ vs. RowStopScrub s vs line.0) acts knows is (λ t vs kept at row. stop_walks c s t vs line.0 row) line.2) row
 row_may c h p (Asks_logs name) acts reply knows made row = on_pool c h p name (named name h.pools) (LogsLine h) acts reply refl
     (λ s is line. line_may c h p s (λ vs. RowLogs s vs line.0) acts knows is (λ t vs kept at row. logs_walks c s t vs line.0 row) line.2) row
 row_may c h p (Asks_import name) acts reply knows made row = import_may c h p name acts reply knows made row

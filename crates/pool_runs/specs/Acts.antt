@@ -36,6 +36,13 @@ pub record Birth : Type 0 where
   pub home : ℕ → ℕ
   pub state : PoolState
 
+-- What a line marks of what it read: it gives this reply for block a, and may rewrite copies from here on; a step of a scan made these
+-- calls in all, and may write copies from here on; or it looks for identities by these calls, and takes these devices for its leaves.
+pub data Mark : Type 0 where
+  Gives_for : (a : ℕ) (reply : ReadReply) → Mark
+  Steps_by : (made : List Noted) → Mark
+  Seeks_by : (made : List Noted) (found : List (Option ℕ)) → Mark
+
 pub data Act : Type 0 where
   -- the clock gave this second
   Hears : (second : ℕ) → Act
@@ -43,8 +50,8 @@ pub data Act : Type 0 where
   Bare : (noted : Noted) → Act
   -- the open pool of this number makes a move
   Does : (g : ℕ) (v : Move) → Act
-  -- of a read of block a the copies were read, and this is its reply; copies may be rewritten from here on
-  Gave : (g a : ℕ) (reply : ReadReply) → Act
+  -- a line of the open pool of this number marks this
+  Marks : (g : ℕ) (mark : Mark) → Act
   -- an opening by this name has read the labels
   Looked : (name : List ℕ) (known : Known) → Act
   -- by what was read of its rings, this device has an identity of the pool of this number

@@ -1,23 +1,25 @@
 -- Each line of a host as a row: which acts it is made of, by the host before it, and what it answers.
-use Rattle.std.specs.Prelude.{◌≡◌, ◌⊎◌, ℕ, ◌≤◌, Bool, true, false, cond, List, [], ◌∷◌, ◌++◌, Option, Some, None}
-use Rattle.std.specs.List.{AllByRecursion}
+use Rattle.std.specs.Prelude.{◌≡◌, ◌⊎◌, ℕ, ◌≤◌, ◌&&◌, Bool, true, false, not, cond, List, [], ◌∷◌, ◌++◌, Option, Some, None}
+use Rattle.std.specs.List.{AllByRecursion, find}
 use Rattle.bank_core.specs.Calls.{device_of, fault_of}
 use Rattle.bank_core.specs.Disk.{Call, Read, Write, Flush, Admit, Eject, Noted, AllAnswer}
 use Rattle.label_store.specs.Newest.{AreReads}
 use Rattle.txg_history.specs.Pages.{Codec}
-use Rattle.pool_moves.specs.AwayRows.{WriteReply, RowWrite, OfflineReply, RowOffline}
+use Rattle.pool_moves.specs.AwayRows.{WriteReply, RowWrite, OfflineReply, is_listed, RowOffline}
 use Rattle.pool_moves.specs.CommitRows.{NamedLog, RowLogs}
 use Rattle.pool_moves.specs.LineRows.{TurnReply, FreezeReply, SyncReply, RowTurn, RowFreezeLine, RowSync}
-use Rattle.pool_moves.specs.Moves.{Move, Makes}
-use Rattle.pool_moves.specs.ReadRow.{ReadReply, RowRead}
+use Rattle.pool_moves.specs.Moves.{Move, Makes, Finds}
+use Rattle.pool_moves.specs.OnlineRow.{HostDevice, NoneFound, HeldBy, Handed, OnlineReply, RowOnline}
+use Rattle.pool_moves.specs.ReadRow.{ReadReply, RowRead, made_in}
+use Rattle.pool_moves.specs.ScanRows.{StepReply, RowStep, ScrubReply, RowScrub, StopReply, RowStopScrub}
 use Rattle.pool_moves.specs.States.{PoolState}
-use Rattle.pool_runs.specs.Acts.{Act, Hears, Bare, Does, Gave, Looked, Shows, Reads_as, Enters, Names, Takes, Bears, Closes, does, calls_along}
-use Rattle.pool_runs.specs.Creating.{RowCreate}
-use Rattle.pool_runs.specs.Devices.{size_in}
-use Rattle.pool_runs.specs.Hosts.{Host, named, host_by, host_along}
-use Rattle.pool_runs.specs.Importing.{RowImport}
+use Rattle.pool_runs.specs.Acts.{Act, Mark, Gives_for, Steps_by, Seeks_by, Hears, Bare, Does, Marks, Looked, Shows, Reads_as, Enters, Names, Takes, Bears, Closes, does, calls_along}
+use Rattle.pool_runs.specs.Creating.{has_leaf_at, RowCreate}
+use Rattle.pool_runs.specs.Devices.{number_in, size_in}
+use Rattle.pool_runs.specs.Hosts.{Host, is_of, named, host_by, host_along}
+use Rattle.pool_runs.specs.Importing.{read_in, all_shown, RowImport}
 use Rattle.pool_runs.specs.Knowing.{AreOwnActs}
-use Rattle.pool_runs.specs.Lines.{Asked, Asks_nothing, Asks_write, Asks_read, Asks_freeze, Asks_turn, Asks_sync, Asks_offline, Asks_logs, Asks_import, Asks_create, Reply, To_nothing, To_write, To_read, To_freeze, To_turn, To_sync, To_offline, To_logs, No_pool, No_memory, Entry}
+use Rattle.pool_runs.specs.Lines.{Asked, Asks_nothing, Asks_write, Asks_read, Asks_freeze, Asks_turn, Asks_sync, Asks_offline, Asks_online, Asks_logs, Asks_step, Asks_scrub, Asks_stop, Asks_import, Asks_create, Reply, To_nothing, To_write, To_read, To_freeze, To_turn, To_sync, To_offline, To_online, To_logs, To_step, To_scrub, To_stop, No_pool, No_memory, Entry}
 
 -- Device calls that a line made: each on a device that the run has, with an answer by the disk model.
 pub record AreMade (h : Host) (calls : List Noted) : Type 0 where
@@ -40,19 +42,43 @@ abbrev pub is_reading : Move → Bool
 is_reading (Makes noted) = is_read noted.call
 is_reading v = false
 
--- the mark of a reply behind the reads of a read, before the copies are rewritten
-abbrev pub marked_behind : (reading : Bool) → (g a : ℕ) → ReadReply → Move → (vs : List Move) → (rest : List Act) → List Act
-marked_behind true g a reply v vs rest = Does g v ∷ rest
-marked_behind false g a reply v vs rest = Gave g a reply ∷ does g (v ∷ vs)
+-- the acts of these moves, with a mark behind their first reads
+abbrev pub marked_behind : (reading : Bool) → (mark : Act) → (g : ℕ) → Move → (vs : List Move) → (rest : List Act) → List Act
+marked_behind true mark g v vs rest = Does g v ∷ rest
+marked_behind false mark g v vs rest = mark ∷ does g (v ∷ vs)
 
-abbrev pub read_acts : (g a : ℕ) → ReadReply → List Move → List Act
-read_acts g a reply [] = Gave g a reply ∷ []
-read_acts g a reply (v ∷ vs) = marked_behind (is_reading v) g a reply v vs (read_acts g a reply vs)
+abbrev pub marked : (mark : Act) → (g : ℕ) → List Move → List Act
+marked mark g [] = mark ∷ []
+marked mark g (v ∷ vs) = marked_behind (is_reading v) mark g v vs (marked mark g vs)
 
-pub record ByRead (h : Host) (s : PoolState) (a : ℕ) (reply : ReadReply) (acts : List Act) : Type 0 where
+-- So it makes them, and marks what it read.
+pub record ByMarked (h : Host) (s : PoolState) (mark : List Move → Mark) (Row : List Move → Type 0) (acts : List Act) : Type 0 where
   pub moves : List Move
-  pub row : RowRead s a moves reply
-  pub are : acts ≡ read_acts s.core.pool.0 a reply moves
+  pub row : Row moves
+  pub are : acts ≡ marked (Marks s.core.pool.0 (mark moves)) s.core.pool.0 moves
+  pub own : AreOwnActs s.core.pool.0 h acts
+
+-- the devices on which these moves find a leaf
+abbrev pub found_in : List Move → List (Option ℕ)
+found_in [] = []
+found_in (Finds m d ∷ vs) = Some d ∷ found_in vs
+found_in (v ∷ vs) = found_in vs
+
+-- what the host says of the device of this name: whether it was found, and whether another open pool has a leaf there
+abbrev pub held_by : Option PoolState → (d : ℕ) → HostDevice
+held_by None d = Handed d
+held_by (Some s) d = HeldBy s.core.name
+
+abbrev pub device_for : Option ℕ → Host → (g : ℕ) → HostDevice
+device_for None h g = NoneFound
+device_for (Some d) h g = held_by (find (λ s. not (is_of g s) && has_leaf_at d s) h.pools) d
+
+-- It looks for the identity of a leaf that comes back, and a device on which it finds it is the pool's.
+pub record ByOnline (h : Host) (s : PoolState) (device : List ℕ) (reply : OnlineReply) (acts : List Act) : Type 0 where
+  pub moves : List Move
+  pub row : RowOnline (size_in h.table) s device (is_listed device s) (device_for (number_in device h.table) h s.core.pool.0) moves reply
+  pub are : acts ≡ Marks s.core.pool.0 (Seeks_by (made_in moves) (found_in moves))
+      ∷ (does s.core.pool.0 moves ++ all_shown s.core.pool.0 (read_in (made_in moves)) (found_in moves))
   pub own : AreOwnActs s.core.pool.0 h acts
 
 -- Lines of an open pool.
@@ -60,7 +86,7 @@ abbrev pub WriteLine : Host → (a : ℕ) → (block : List ℕ) → PoolState �
 WriteLine h a block s acts reply = (r : WriteReply) × (reply ≡ To_write r) × ByMoves h s (λ vs. RowWrite s a block vs r) acts
 
 abbrev pub ReadLine : Host → (a : ℕ) → PoolState → List Act → Reply → Type 0
-ReadLine h a s acts reply = (r : ReadReply) × (reply ≡ To_read r) × ByRead h s a r acts
+ReadLine h a s acts reply = (r : ReadReply) × (reply ≡ To_read r) × ByMarked h s (λ vs. Gives_for a r) (λ vs. RowRead s a vs r) acts
 
 abbrev pub FreezeLine : Codec → Host → PoolState → List Act → Reply → Type 0
 FreezeLine c h s acts reply = (r : FreezeReply) × (reply ≡ To_freeze r) × ByMoves h s (λ vs. RowFreezeLine c s vs r) acts
@@ -73,6 +99,18 @@ SyncLine c h s acts reply = (r : SyncReply) × (reply ≡ To_sync r) × ByMoves 
 
 abbrev pub OfflineLine : Host → (device : List ℕ) → (temporary : Bool) → PoolState → List Act → Reply → Type 0
 OfflineLine h device temporary s acts reply = (r : OfflineReply) × (reply ≡ To_offline r) × ByMoves h s (λ vs. RowOffline s device temporary vs r) acts
+
+abbrev pub OnlineLine : Host → (device : List ℕ) → PoolState → List Act → Reply → Type 0
+OnlineLine h device s acts reply = (r : OnlineReply) × (reply ≡ To_online r) × ByOnline h s device r acts
+
+abbrev pub StepLine : Host → PoolState → List Act → Reply → Type 0
+StepLine h s acts reply = (r : StepReply) × (reply ≡ To_step r) × ByMarked h s (λ vs. Steps_by (made_in vs)) (λ vs. RowStep s vs r) acts
+
+abbrev pub ScrubLine : Host → PoolState → List Act → Reply → Type 0
+ScrubLine h s acts reply = (r : ScrubReply) × (reply ≡ To_scrub r) × ByMoves h s (λ vs. RowScrub s vs r) acts
+
+abbrev pub StopLine : Host → PoolState → List Act → Reply → Type 0
+StopLine h s acts reply = (r : StopReply) × (reply ≡ To_stop r) × ByMoves h s (λ vs. RowStopScrub s vs r) acts
 
 abbrev pub LogsLine : Host → PoolState → List Act → Reply → Type 0
 LogsLine h s acts reply = (logs : List NamedLog) × (reply ≡ To_logs logs) × ByMoves h s (λ vs. RowLogs s vs logs) acts
@@ -91,6 +129,10 @@ RowOf c h (Asks_freeze name) acts reply = OnPool (named name h.pools) (FreezeLin
 RowOf c h (Asks_turn name) acts reply = OnPool (named name h.pools) (TurnLine c h) acts reply
 RowOf c h (Asks_sync name) acts reply = OnPool (named name h.pools) (SyncLine c h) acts reply
 RowOf c h (Asks_offline name device temporary) acts reply = OnPool (named name h.pools) (OfflineLine h device temporary) acts reply
+RowOf c h (Asks_online name device) acts reply = OnPool (named name h.pools) (OnlineLine h device) acts reply
+RowOf c h (Asks_step name) acts reply = OnPool (named name h.pools) (StepLine h) acts reply
+RowOf c h (Asks_scrub name) acts reply = OnPool (named name h.pools) (ScrubLine h) acts reply
+RowOf c h (Asks_stop name) acts reply = OnPool (named name h.pools) (StopLine h) acts reply
 RowOf c h (Asks_logs name) acts reply = OnPool (named name h.pools) (LogsLine h) acts reply
 RowOf c h (Asks_import name) acts reply = RowImport c h name acts reply
 RowOf c h (Asks_create name blocks tops) acts reply = RowCreate c h name blocks tops acts reply

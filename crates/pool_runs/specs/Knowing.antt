@@ -16,7 +16,7 @@ use Rattle.pool_moves.specs.Leaves.{Seat, LeafSeen}
 use Rattle.pool_moves.specs.Moves.{Move, Makes, Comes}
 use Rattle.pool_moves.specs.Rosters.{IsRoster}
 use Rattle.pool_moves.specs.States.{PoolState}
-use Rattle.pool_runs.specs.Acts.{Act, Hears, Bare, Does, Gave, Looked, Shows, Reads_as, Enters, Names, Takes, Bears, Closes, events_for, pool_by}
+use Rattle.pool_runs.specs.Acts.{Act, Hears, Bare, Does, Marks, Looked, Shows, Reads_as, Enters, Names, Takes, Bears, Closes, events_for, pool_by}
 use Rattle.pool_runs.specs.Devices.{Device, size_in}
 use Rattle.pool_runs.specs.Fairness.{IsFair}
 use Rattle.pool_runs.specs.Hosts.{Host, host_by, IsOpen}
@@ -87,7 +87,7 @@ abbrev pub IsOwnAct : (g : ℕ) → Host → Act → Type 0
 IsOwnAct g h (Hears second) = Unit {0}
 IsOwnAct g h (Bare noted) = IsOwnCall g h.owner noted.call
 IsOwnAct g h (Does k v) = (k ≡ g) × IsOwnMove g h.owner v
-IsOwnAct g h (Gave k a reply) = k ≡ g
+IsOwnAct g h (Marks k mark) = k ≡ g
 IsOwnAct g h (Looked name known) = IsTrueLook h known
 IsOwnAct g h (Shows k d known) = (k ≡ g) × IsShown h.table g d known
 IsOwnAct g h (Reads_as opening) = opening.found.pool.0 ≡ g

@@ -5,8 +5,10 @@ use Rattle.mp_base.specs.declared.place.Key.{Key}
 use Rattle.pool_moves.specs.AwayRows.{WriteReply, OfflineReply}
 use Rattle.pool_moves.specs.CommitRows.{NamedLog}
 use Rattle.pool_moves.specs.LineRows.{TurnReply, FreezeReply, SyncReply}
+use Rattle.pool_moves.specs.OnlineRow.{OnlineReply}
 use Rattle.pool_moves.specs.PageReads.{LeafShown}
 use Rattle.pool_moves.specs.ReadRow.{ReadReply}
+use Rattle.pool_moves.specs.ScanRows.{StepReply, ScrubReply, StopReply}
 use Rattle.pool_moves.specs.StampRow.{CreateReply}
 use Rattle.pool_runs.specs.Acts.{Act}
 
@@ -19,7 +21,11 @@ pub data Asked : Type 0 where
   Asks_turn : (name : List ℕ) → Asked
   Asks_sync : (name : List ℕ) → Asked
   Asks_offline : (name device : List ℕ) (temporary : Bool) → Asked
+  Asks_online : (name device : List ℕ) → Asked
   Asks_logs : (name : List ℕ) → Asked
+  Asks_step : (name : List ℕ) → Asked
+  Asks_scrub : (name : List ℕ) → Asked
+  Asks_stop : (name : List ℕ) → Asked
   Asks_import : (name : List ℕ) → Asked
   -- a pool of so many blocks over these mirrors, each of devices by name
   Asks_create : (name : List ℕ) (blocks : ℕ) (tops : List (List (List ℕ))) → Asked
@@ -54,7 +60,11 @@ pub data Reply : Type 0 where
   To_turn : (reply : TurnReply) → Reply
   To_sync : (reply : SyncReply) → Reply
   To_offline : (reply : OfflineReply) → Reply
+  To_online : (reply : OnlineReply) → Reply
   To_logs : (logs : List NamedLog) → Reply
+  To_step : (reply : StepReply) → Reply
+  To_scrub : (reply : ScrubReply) → Reply
+  To_stop : (reply : StopReply) → Reply
   To_import : (reply : ImportReply) → Reply
   To_create : (reply : CreateReply) → Reply
   -- a create was refused
