@@ -315,9 +315,12 @@ keep_shown_all d g known (Some e ∷ devs) = (tt, keep_shown_all d g known devs)
 
 online_keeps : (d : ℕ) (h : Host) (s : PoolState) (device : List ℕ) (reply : OnlineReply) (acts : List Act) → ByOnline h s device reply acts → Keep d acts
 online_keeps d h s device reply acts line = let g = s.core.pool.0 in let vs = line.moves in
-    subst (Keep d) (sym line.are) (tt, keep_acts d (does g vs) (all_shown g (read_in (made_in vs)) (found_in vs))
-    (keep_does d g vs (keep_online (leaf_named device s.core.leaves) (is_listed device s) (device_for (number_in device h.table) h g) (size_in h.table) s vs reply line.row))
-    (keep_shown_all d g (read_in (made_in vs)) (found_in vs)))
+    subst (Keep d) (sym line.are) (
+      tt,
+      keep_acts d (does g vs) (all_shown g (read_in (made_in vs)) (found_in vs))
+          (keep_does d g vs (keep_online (leaf_named device s.core.leaves) (is_listed device s) (device_for (number_in device h.table) h g) (size_in h.table) s vs reply line.row))
+          (keep_shown_all d g (read_in (made_in vs)) (found_in vs)),
+    )
 
 -- Creates.
 keep_front : (d : ℕ) (first second : List Act) → Keep d (first ++ second) → Keep d first
@@ -342,10 +345,14 @@ keep_stamps : (d : ℕ) (pool : Guid) (size : ℕ → ℕ) (leaves : List NewLea
 keep_stamps d pool size [] [] failed are off = tt
 keep_stamps d pool size [] (stamp ∷ stamps) failed are off = absurd are
 keep_stamps d pool size (leaf ∷ leaves) [] failed are off = absurd are
-keep_stamps d pool size (leaf ∷ leaves) (stamp ∷ stamps) failed (dev, inl whole) off = (subst (λ e. (e == d) ≡ false) (sym dev) off.0,
-    keep_bare d stamp.made (stamp_acts pool.0 stamps) (keep_stamps d pool size leaves stamps failed whole.1 off.1))
-keep_stamps d pool size (leaf ∷ leaves) (stamp ∷ stamps) failed (dev, inr stop) off = (subst (λ e. (e == d) ≡ false) (sym dev) off.0,
-    keep_bare d stamp.made (stamp_acts pool.0 stamps) (subst (λ l. Keep d (stamp_acts pool.0 l)) (sym stop.2) tt))
+keep_stamps d pool size (leaf ∷ leaves) (stamp ∷ stamps) failed (dev, inl whole) off = (
+  subst (λ e. (e == d) ≡ false) (sym dev) off.0,
+  keep_bare d stamp.made (stamp_acts pool.0 stamps) (keep_stamps d pool size leaves stamps failed whole.1 off.1),
+)
+keep_stamps d pool size (leaf ∷ leaves) (stamp ∷ stamps) failed (dev, inr stop) off = (
+  subst (λ e. (e == d) ≡ false) (sym dev) off.0,
+  keep_bare d stamp.made (stamp_acts pool.0 stamps) (subst (λ l. Keep d (stamp_acts pool.0 l)) (sym stop.2) tt),
+)
 
 keep_commit : (answer : CreateReply) (d g : ℕ) (vs : List Move) → AllKeep vs → Keep d (commit_acts answer g vs)
 keep_commit Created d g vs all = keep_does d g vs all
@@ -420,10 +427,15 @@ create_keeps c h e d name blocks tops asked (inr (inl row)) = by_bool (is_leaf_a
     (λ off. inl (subst (Keep d) (sym row.all) (tt, keep_stamps d row.pool (size_in h.table) (leaves_of h.table tops) row.stamps (Some row.leaf) row.are (off_all (leaves_of h.table tops) d off))))
 create_keeps c h e d name blocks tops asked (inr (inr row)) = by_bool (is_leaf_at (leaf_at d (leaves_of h.table tops)))
     (λ is. inr (taken_by h e d name blocks tops row.answer asked row.may.none is row.says))
-    (λ off. inl (subst (Keep d) (sym row.all) (tt, keep_acts d (stamp_acts row.pool.0 row.stamps) (Bears (new_birth name row.pool blocks h.table tops) ∷ commit_acts row.answer row.pool.0 row.moves)
-    (keep_stamps d row.pool (size_in h.table) (leaves_of h.table tops) row.stamps None row.are (off_all (leaves_of h.table tops) d off))
-    (tt, keep_commit row.answer d row.pool.0 row.moves
-    (all_found KeepsMembers kept_kind (λ cells board. tt) c (size_in h.table) (new_state (size_in h.table) name row.pool blocks (tops_of h.table tops)) row.moves row.row.whole row.row.row)))))
+    (λ off. inl (subst (Keep d) (sym row.all) (
+      tt,
+      keep_acts d (stamp_acts row.pool.0 row.stamps) (Bears (new_birth name row.pool blocks h.table tops) ∷ commit_acts row.answer row.pool.0 row.moves)
+          (keep_stamps d row.pool (size_in h.table) (leaves_of h.table tops) row.stamps None row.are (off_all (leaves_of h.table tops) d off)) (
+            tt,
+            keep_commit row.answer d row.pool.0 row.moves
+                (all_found KeepsMembers kept_kind (λ cells board. tt) c (size_in h.table) (new_state (size_in h.table) name row.pool blocks (tops_of h.table tops)) row.moves row.row.whole row.row.row),
+          ),
+    )))
 
 -- Imports.
 keep_shown : (d g : ℕ) (known : Known) (devs : List (Option ℕ)) (rest : List Act) → Keep d rest → Keep d (all_shown g known devs ++ rest)
@@ -467,7 +479,7 @@ row_keeps : (c : Codec) (h : Host) (asked : Asked) (acts : List Act) (reply : Re
 row_keeps c h Asks_nothing acts reply d other row = subst (Keep d) (sym row.0) tt
 row_keeps c h (Asks_write name a block) acts reply d other row = on_keeps d (named name h.pools) (WriteLine h a block) acts reply
     (λ s line. by_moves d h s (λ vs. RowWrite s a block vs line.0) acts (λ vs is. keep_write s a block vs line.0 is) line.2) row
-row_keeps c h (Asks_read name a) acts reply d other row = on_keeps d (named name h.pools) (ReadLine h a) acts reply 
+row_keeps c h (Asks_read name a) acts reply d other row = on_keeps d (named name h.pools) (ReadLine h a) acts reply
     (λ s line. by_marked d h s (λ vs. Gives_for a line.0) (λ vs. RowRead s a vs line.0) acts (λ vs is. keep_read s a vs line.0 is) line.2) row
 row_keeps c h (Asks_freeze name) acts reply d other row = on_keeps d (named name h.pools) (FreezeLine c h) acts reply
     (λ s line. by_moves d h s (λ vs. RowFreezeLine c s vs line.0) acts (λ vs is. keep_freeze_by s.core.group.frozen c s vs line.0 is) line.2) row
