@@ -18,6 +18,7 @@ pub mod Refusing
 pub mod Resilvers
 pub mod Rosters
 pub mod ScanRows
+pub mod Showing
 pub mod StampRow
 pub mod States
 pub mod TreeLeaves

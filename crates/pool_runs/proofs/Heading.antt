@@ -46,6 +46,7 @@ use Rattle.pool_moves.specs.LineRows.{SyncReply, Ended, Committed, RowSync}
 use Rattle.pool_moves.specs.Missing.{AllMissed}
 use Rattle.pool_moves.specs.Moves.{Move, steps, after_moves}
 use Rattle.pool_moves.specs.ReadRow.{ReadReply, Gives, Exhausted, RowRead, made_in}
+use Rattle.pool_moves.specs.Showing.{LeafShown}
 use Rattle.pool_moves.specs.States.{PoolState, Side}
 use Rattle.pool_moves.proofs.Keeping.{walk_keeps}
 use Rattle.pool_moves.proofs.LineWalks.{sync_walks}
@@ -181,9 +182,9 @@ line_reads c h p e name a s bytes met asked at is = of met.row
         (subst (RowRead s a line.2.moves) (read_reply line.0 (Gives bytes) (sym line.1 ∙ is)) line.2.row)
     of (inr out) = read_not_memory (Gives bytes) (sym is ∙ out.says)
 
-line_loses : (c : Codec) (h : Host) (p : Pool) (e : Entry) (name : List ℕ) (a : ℕ) (s : PoolState) → Meets c h p e → e.asked ≡ Asks_read name a → IsOpenAs p h name s
-    → e.reply ≡ To_read Exhausted → AllMissed (s.core.committed (key 0 a)) (calls_along e.acts) (run (calls_along e.acts) p.sectors) s.core.leaves
-line_loses c h p e name a s met asked at is = of met.row
+line_loses : (c : Codec) (h : Host) (p : Pool) (e : Entry) (name : List ℕ) (a : ℕ) (s : PoolState) (shown : List LeafShown) → Meets c h p e → e.asked ≡ Asks_read name a → IsOpenAs p h name s
+    → e.reply ≡ To_read (Exhausted shown) → AllMissed (s.core.committed (key 0 a)) (calls_along e.acts) (run (calls_along e.acts) p.sectors) s.core.leaves
+line_loses c h p e name a s shown met asked at is = of met.row
   where
     of : HostRow c h e → AllMissed (s.core.committed (key 0 a)) (calls_along e.acts) (run (calls_along e.acts) p.sectors) s.core.leaves
     of (inl row) = let line = on_open h name s (ReadLine h a) e.acts e.reply at.named (subst (λ x. RowOf c h x e.acts e.reply) asked row.0) in
@@ -191,10 +192,10 @@ line_loses c h p e name a s met asked at is = of met.row
         let calls : calls_along e.acts ≡ made_in line.2.moves = ap calls_along line.2.are ∙ marked_calls (Marks s.core.pool.0 (Gives_for a line.0)) s.core.pool.0 line.2.moves refl in
         let made : AreMade h (made_in line.2.moves) = subst (AreMade h) calls row.1 in
         subst (λ made. AllMissed (s.core.committed (key 0 a)) made (run made p.sectors) s.core.leaves) (sym calls)
-        (exhausted_missed c s (record { pool = p; seats = has.0 }) a line.2.moves has.1
+        (exhausted_missed c s (record { pool = p; seats = has.0 }) a line.2.moves shown has.1
         (all_answer h.table (made_in line.2.moves) h.disk p.sectors made.here (λ d x one. sym (met.knows.disk d x one)) made.answer)
-        (subst (RowRead s a line.2.moves) (read_reply line.0 Exhausted (sym line.1 ∙ is)) line.2.row))
-    of (inr out) = read_not_memory Exhausted (sym is ∙ out.says)
+        (subst (RowRead s a line.2.moves) (read_reply line.0 (Exhausted shown) (sym line.1 ∙ is)) line.2.row))
+    of (inr out) = read_not_memory (Exhausted shown) (sym is ∙ out.says)
 
 -- An import finds the pool.
 line_opens : (c : Codec) (h : Host) (p : Pool) (e : Entry) → Meets c h p e → e.asked ≡ Asks_import p.name → AreFair c p e.acts → FindsPool p (pool_along e.acts p) e.reply
@@ -283,7 +284,7 @@ headline_from c past h acts entries f = record {
   opens = λ l asked fair. line_opens c (host_before h l) (pool_before l) l.entry (meets c past h acts entries f l) asked fair;
   syncs = λ l name s n asked at is. line_syncs c (host_before h l) (pool_before l) l.entry name s n (meets c past h acts entries f l) asked at is;
   reads = λ l name a s bytes asked at is. line_reads c (host_before h l) (pool_before l) l.entry name a s bytes (meets c past h acts entries f l) asked at is;
-  loses = λ l name a s asked at is. line_loses c (host_before h l) (pool_before l) l.entry name a s (meets c past h acts entries f l) asked at is;
+  loses = λ l name a s shown asked at is. line_loses c (host_before h l) (pool_before l) l.entry name a s shown (meets c past h acts entries f l) asked at is;
   required = λ l name device temporary s leaf group asked at is plain up. line_required c (host_before h l) (pool_before l) l.entry name device temporary s leaf group (meets c past h acts entries f l) asked at is plain up;
   scans = at_scans c past h acts entries f;
   keeps = λ l d is. entry_keeps c (host_before h l) l.entry d (pool_before l) (meets c past h acts entries f l).row is;

@@ -13,6 +13,7 @@ use Rattle.pool_moves.specs.Leaves.{LeafSeen}
 use Rattle.pool_moves.specs.LineRows.{Committed, Ended}
 use Rattle.pool_moves.specs.Missing.{AllMissed}
 use Rattle.pool_moves.specs.ReadRow.{Gives, Exhausted}
+use Rattle.pool_moves.specs.Showing.{LeafShown}
 use Rattle.pool_moves.specs.States.{PoolState}
 use Rattle.pool_runs.specs.Acts.{Act, calls_along, pool_along, history}
 use Rattle.pool_runs.specs.Committing.{CommitsAll, FindsPool}
@@ -63,8 +64,8 @@ pub record Headline (c : Codec) (past : Past) (h : Host) (acts : List Act) (entr
       → IsOpenAs (pool_before l) (host_before h l) name s → l.entry.reply ≡ To_read (Gives bytes)
       → (bytes ≡ (pool_before l).written a) ⊎ IsClash ((pool_before l).written a) bytes
   -- it gives none only where each readable leaf of the block's top missed it in this line
-  pub loses : (l : LineOf c past acts entries) (name : List ℕ) (a : ℕ) (s : PoolState) → l.entry.asked ≡ Asks_read name a
-      → IsOpenAs (pool_before l) (host_before h l) name s → l.entry.reply ≡ To_read Exhausted
+  pub loses : (l : LineOf c past acts entries) (name : List ℕ) (a : ℕ) (s : PoolState) (shown : List LeafShown) → l.entry.asked ≡ Asks_read name a
+      → IsOpenAs (pool_before l) (host_before h l) name s → l.entry.reply ≡ To_read (Exhausted shown)
       → AllMissed (s.core.committed (key 0 a)) (calls_in_line l) (run (calls_in_line l) (pool_before l).sectors) s.core.leaves
   -- a leaf that isn't OFFLINE, nor a spare that stands in, is required just where the outage rule says so
   pub required : (l : LineOf c past acts entries) (name device : List ℕ) (temporary : Bool) (s : PoolState) (leaf : LeafSeen) (group : ℕ)
