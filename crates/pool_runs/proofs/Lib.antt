@@ -13,4 +13,5 @@ pub mod Members
 pub mod Moments
 pub mod Pasting
 pub mod Running
+pub mod SmallRuns
 pub mod Sparing
