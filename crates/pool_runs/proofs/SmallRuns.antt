@@ -16,6 +16,7 @@ use Rattle.label_store.specs.declared.rule.Head.{Head}
 use Rattle.label_store.specs.Layout.{config_sectors}
 use Rattle.label_store.specs.Plans.{stamp_plan}
 use Rattle.mp_base.specs.declared.place.Key.{Key}
+use Rattle.group_set.specs.Ranges.{ranges_upto}
 use Rattle.label_store.specs.Records.{IsRecord}
 use Rattle.label_store.specs.Rounds.{uberblock_of, config_of, first_plan, second_plan, third_plan}
 use Rattle.txg_history.specs.Branches.{Branch, cell_on, branch_cells}
@@ -32,22 +33,23 @@ use Rattle.label_store.proofs.Keeping.{same_member, no_member}
 use Rattle.pool_moves.specs.Boards.{board_of, board_under, emptied}
 use Rattle.pool_moves.specs.CommitRows.{RowFound}
 use Rattle.pool_moves.specs.Drafts.{draft_of}
-use Rattle.pool_moves.specs.FreezeRow.{up_devs, joins, IsBefore, IsPlaceBefore, IsGivenBefore, ArePlacesGiven, AreDirtyKeys, RowFreeze}
+use Rattle.pool_moves.specs.FreezeRow.{up_devs, IsBefore, IsPlaceBefore, IsGivenBefore, ArePlacesGiven, AreDirtyKeys, RowFreeze}
 use Rattle.pool_moves.specs.LineRows.{TurnReply, Write as WriteTurn, Flush as FlushTurn, Committed, EndsBy, IsTurnOf, StartsBy, TurnBy, RowTurn, moves_in, Ended, RowSync}
-use Rattle.pool_moves.specs.Moves.{Draft, Move, Makes, Puts, Comes, Freeze, Wrote_key, Flushed_all, Copies, Copied, sum_over, sums_over, steps}
+use Rattle.pool_moves.specs.Moves.{Draft, Move, Makes, Puts, Comes, Freeze, Wrote_key, Flushed_all, Copies, Copied, Commits, sum_over, sums_over, step, steps}
 use Rattle.pool_moves.specs.ReadRow.{Gives, RowRead}
 use Rattle.pool_moves.specs.Refusing.{IsUsed, CountsOpen}
 use Rattle.pool_moves.specs.StampRow.{NewLeaf, room_or_none, AreStamps, CommitsFirst, Created}
 use Rattle.pool_moves.specs.States.{PoolSeen, PoolState}
-use Rattle.pool_moves.specs.TurnRows.{turn_moves, RowWriteTurn, RowFlushTurn, FitsState, IsThirdMoves, RowRound}
+use Rattle.pool_moves.specs.TurnRows.{RowWriteTurn, RowFlushTurn, FitsState, IsThirdMoves, RowRound}
 use Rattle.pool_moves.specs.Walking.{as_moves}
+use Rattle.pool_moves.specs.Widening.{ranges_together, AreLeaves}
 use Rattle.pool_runs.specs.Acts.{Act, Gives_for, Hears, Bare, Does, Marks, Names, Takes, Bears, does, bare, calls_along}
 use Rattle.pool_runs.specs.Creating.{create_refusal, leaves_of, MayCreate, Creates, RowCreate}
 use Rattle.pool_runs.specs.Devices.{size_in}
 use Rattle.pool_runs.specs.HostRows.{AreMade, HostRow, acts_of, IsRun}
 use Rattle.pool_runs.specs.Hosts.{Host, moved, host_by, host_along}
 use Rattle.pool_runs.specs.Knowing.{IsOwnCall, IsOwnMove, IsOwnAct, AreOwnActs}
-use Rattle.pool_runs.specs.SmallRuns.{small_table, small_host, small_name, small_pool, small_tops, small_birth, small_state, small_member, small_stamp, small_head, small_pointer, small_codec, small_commit, small_draft, small_first, small_round, small_founding, small_made, small_written, small_freeze, small_turn, small_flush, small_flushed, small_last, small_turns, small_sync, small_bytes, small_branch, answered, all_answered, small_create, small_later}
+use Rattle.pool_runs.specs.SmallRuns.{small_table, small_host, small_name, small_pool, small_tops, small_birth, small_state, small_member, small_stamp, small_head, small_pointer, small_codec, small_commit, small_draft, small_first, small_thirds, small_round, small_founding, small_made, small_written, small_freeze, small_turn, small_flush, small_flushed, small_last, small_turns, small_sync, small_bytes, small_branch, answered, all_answered, small_create, small_later}
 
 none_refused : create_refusal small_host small_name 1 small_tops ≡ None
 none_refused = refl
@@ -189,7 +191,7 @@ one_seated (suc i) m is = absurd (no_member m is)
 
 thirds_made : (draft : Draft) → list_all small_ask (third_plan (size_in small_table) draft.commit small_member) ≡ true
     → IsThirdMoves (third_plan (size_in small_table) draft.commit) draft (small_member ∷ []) (true ∷ []) (true ∷ [])
-    (Copies draft 0 ∷ (as_moves (all_answered (third_plan (size_in small_table) draft.commit small_member)) ++ (Copied draft 0 ∷ [])))
+    (small_thirds draft)
 thirds_made draft is = (all_answered (third_plan (size_in small_table) draft.commit small_member), [], refl,
     (None, phase (third_plan (size_in small_table) draft.commit small_member) is, refl), refl)
 
@@ -210,7 +212,7 @@ round_made c s draft frozen flushed fresh boards board leaves fits one two three
   seated = subst (AreSeated (size_in small_table)) (sym board) one_seated;
   first = all_answered (first_plan (size_in small_table) draft.commit small_member);
   second = all_answered (second_plan (size_in small_table) draft.commit small_member);
-  thirds = Copies draft 0 ∷ (as_moves (all_answered (third_plan (size_in small_table) draft.commit small_member)) ++ (Copied draft 0 ∷ []));
+  thirds = small_thirds draft;
   in_first = true ∷ [];
   in_second = true ∷ [];
   results = true ∷ [];
@@ -219,18 +221,25 @@ round_made c s draft frozen flushed fresh boards board leaves fits one two three
       (all_answered (first_plan (size_in small_table) draft.commit small_member))) (sym board) (one_phase (first_plan (size_in small_table) draft.commit) one);
   uberblocks = subst (λ ms. IsPhase (second_plan (size_in small_table) draft.commit) ms (true ∷ []) (true ∷ [])
       (all_answered (second_plan (size_in small_table) draft.commit small_member))) (sym board) (one_phase (second_plan (size_in small_table) draft.commit) two);
-  copies = subst (λ ms. IsThirdMoves (third_plan (size_in small_table) draft.commit) draft ms (true ∷ []) (true ∷ [])
-      (Copies draft 0 ∷ (as_moves (all_answered (third_plan (size_in small_table) draft.commit small_member)) ++ (Copied draft 0 ∷ [])))) (sym board) (thirds_made draft three);
+  copies = subst (λ ms. IsThirdMoves (third_plan (size_in small_table) draft.commit) draft ms (true ∷ []) (true ∷ []) (small_thirds draft)) (sym board)
+      (thirds_made draft three);
+  ending = Commits draft ∷ [];
+  ends = refl;
   moves = refl;
 }
 
+-- No log has a range.
+few_first : ranges_together 1 (step (Freeze (λ k. None) (up_devs small_state.core.leaves)) small_state.core).leaves ≤ 4096
+unfolding ranges_upto
+few_first = omega arith
+
 founded : (block : List ℕ) → RowFound (small_codec block) (size_in small_table) small_state small_founding true
 founded block = record {
-  first = Freeze (λ k. None) (up_devs small_state.core.leaves) ∷ joins small_state.core.leaves;
-  freeze = record { idle = refl; unwritten = λ a. refl; tops = (omega arith, tt); moves = refl };
+  first = Freeze (λ k. None) (up_devs small_state.core.leaves) ∷ [];
+  freeze = record { idle = refl; unwritten = λ a. refl; tops = (omega arith, tt); moves = record { widens = []; are = few_first; moves = refl } };
   round = small_round (small_draft 1 (steps small_first small_state));
   ends = round_made (small_codec block) (steps small_first small_state).core (small_draft 1 (steps small_first small_state)) refl refl refl refl refl refl (fits_first block) refl refl refl;
-  own = record { volume = refl; top_numbers = refl; next = refl };
+  own = record { volume = refl; top_numbers = refl; children_are = refl; spares_are = refl; next = refl };
   moves = refl;
 }
 
@@ -397,6 +406,11 @@ small_places block = record {
     }
     given k cell top sector low one (inr (same, less)) = absurd (omega (arith, less, one))
 
+few_ranges : (block : List ℕ)
+    → ranges_together 2 (step (Freeze (branch_cells (small_branch block)) (up_devs small_made.core.leaves)) (small_written block).core).leaves ≤ 4096
+unfolding ranges_upto
+few_ranges block = omega arith
+
 small_frozen : (block : List ℕ) → length block ≡ 4096 → RowFreeze (small_codec block) (small_written block) (small_freeze block)
 small_frozen block long = record {
   idle = refl;
@@ -405,7 +419,7 @@ small_frozen block long = record {
   cells = branch_cells (small_branch block);
   dirty = small_dirty block long;
   places = small_places block;
-  moves = refl;
+  moves = record { widens = []; are = few_ranges block; moves = refl };
 }
 
 -- A write turn of a key.
@@ -425,8 +439,9 @@ turn_part block level s low frozen unflushed cells undone done board = record {
   results = true ∷ [];
   calls = subst (λ ms. IsPhase (write_plan (cell_on (small_branch block) level)) ms (map (λ m. true) ms) (true ∷ [])
       (all_answered (write_plan (cell_on (small_branch block) level) small_member))) (sym board) (one_phase (write_plan (cell_on (small_branch block) level)) refl);
-  moves = subst (λ ms. small_turn block level ≡ turn_moves (all_answered (write_plan (cell_on (small_branch block) level) small_member)) ms (true ∷ []) (Wrote_key (key level 0)))
-      (sym board) refl;
+  leaving = [];
+  leaves = subst (λ ms. AreLeaves s.core ms (true ∷ []) []) (sym board) refl;
+  moves = refl;
 }
   where
     least : (j : Key) (other : Cell) → branch_cells (small_branch block) j ≡ Some other → s.core.group.done j ≡ false → IsBefore j (key level 0) → ⊥
@@ -445,9 +460,9 @@ small_write_turn block level c s low frozen unflushed cells undone done board so
     (subst (λ top. StartsBy top c (size_in small_table) s (small_turn block level) WriteTurn) (sym some) (inl (record {
       part = small_turn block level;
       row = turn_part block level s low frozen unflushed cells undone done board;
-      turn = subst (λ ms. IsTurnOf s (small_turn block level) ms (true ∷ []) [] WriteTurn (small_turn block level) WriteTurn) (sym board) (record {
+      turn = subst (λ ms. IsTurnOf s (small_turn block level) ms (true ∷ []) WriteTurn (small_turn block level) WriteTurn) (sym board) (record {
         ending = [];
-        ends = subst (λ top. EndsBy top (steps (small_turn block level) s) [] WriteTurn [] WriteTurn) (sym still) (refl, refl);
+        ends = subst (λ top. EndsBy top (steps (small_turn block level) s) false WriteTurn [] WriteTurn) (sym still) (refl, refl);
         moves = refl;
       });
     })))
@@ -468,11 +483,13 @@ small_flush_turn block c s frozen unflushed cells done board some still =
         made = all_answered (flush_plan small_member);
         results = true ∷ [];
         calls = subst (λ ms. IsPhase flush_plan ms (map (λ m. true) ms) (true ∷ []) (all_answered (flush_plan small_member))) (sym board) (one_phase flush_plan refl);
-        moves = subst (λ ms. small_flush ≡ turn_moves (all_answered (flush_plan small_member)) ms (true ∷ []) Flushed_all) (sym board) refl;
+        leaving = [];
+        leaves = subst (λ ms. AreLeaves s.core ms (true ∷ []) []) (sym board) refl;
+        moves = refl;
       };
-      turn = subst (λ ms. IsTurnOf s small_flush ms (true ∷ []) [] FlushTurn small_flush FlushTurn) (sym board) (record {
+      turn = subst (λ ms. IsTurnOf s small_flush ms (true ∷ []) FlushTurn small_flush FlushTurn) (sym board) (record {
         ending = [];
-        ends = subst (λ top. EndsBy top (steps small_flush s) [] FlushTurn [] FlushTurn) (sym still) (refl, refl);
+        ends = subst (λ top. EndsBy top (steps small_flush s) false FlushTurn [] FlushTurn) (sym still) (refl, refl);
         moves = refl;
       });
     }))))
@@ -543,7 +560,7 @@ small_round_turn block = inr (inr (record {
   whole = true;
   row = round_made (small_codec block) (steps small_flush (small_at block 4)).core (small_draft 2 (steps small_flush (small_at block 4))) refl refl refl refl refl refl
       (small_fits block) refl refl refl;
-  own = record { volume = refl; top_numbers = refl; next = refl };
+  own = record { volume = refl; top_numbers = refl; children_are = refl; spares_are = refl; next = refl };
   behind = small_last block;
   counted = refl;
   ending = [];

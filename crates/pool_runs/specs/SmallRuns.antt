@@ -14,12 +14,13 @@ use Rattle.txg_history.specs.Records.{key}
 use Rattle.txg_history.specs.Turns.{write_plan, flush_plan}
 use Rattle.pool_moves.specs.AwayRows.{Taken}
 use Rattle.pool_moves.specs.Drafts.{kept_leaf, draft_of}
-use Rattle.pool_moves.specs.FreezeRow.{up_devs, joins}
+use Rattle.pool_moves.specs.FreezeRow.{up_devs}
 use Rattle.pool_moves.specs.LineRows.{TurnReply, Write as WriteTurn, Flush as FlushTurn, Committed, Ended, moves_in}
-use Rattle.pool_moves.specs.Moves.{Draft, Move, Puts, Freeze, Wrote_key, Flushed_all, Starts, Copies, Copied, Commits, steps}
+use Rattle.pool_moves.specs.Moves.{Draft, Move, Puts, Freeze, Wrote_key, Flushed_all, Copies, Copied, Commits, steps}
 use Rattle.pool_moves.specs.ReadRow.{Gives}
-use Rattle.pool_moves.specs.StampRow.{new_leaves, new_room, new_top_number, next_from, new_leaf_seen, Stamp, new_state, Created}
+use Rattle.pool_moves.specs.StampRow.{new_room, new_top_number, children_under, next_from, new_leaf_seen, Stamp, new_state, Created}
 use Rattle.pool_moves.specs.States.{PoolState}
+use Rattle.pool_moves.specs.TurnRows.{round_moves}
 use Rattle.pool_moves.specs.Walking.{as_moves}
 use Rattle.pool_runs.specs.Acts.{Act, Birth, Gives_for, Marks, Names, Bears, does}
 use Rattle.pool_runs.specs.Creating.{tops_of, leaves_of, new_birth, stamp_acts}
@@ -83,6 +84,8 @@ small_codec block = record {
   room = λ config. new_room (size_in small_table) (leaves_of small_table small_tops);
   top_number = λ config. new_top_number (tops_of small_table small_tops);
   next_member = λ config. next_from 1 (tops_of small_table small_tops);
+  children = λ config. children_under (leaves_of small_table small_tops);
+  spares = λ config. [];
   root = small_root block;
   leaves = λ config. map kept_leaf (map new_leaf_seen (leaves_of small_table small_tops));
   is_page = λ page. true;
@@ -101,14 +104,17 @@ all_answered asks = map answered asks
 abbrev pub small_commit : (number : ℕ) → Commit
 small_commit number = record { pool = small_pool; number = record { 0 = number }; blob = 0 ∷ (0 ∷ replicate 4094 0); length = number }
 
+-- A round in which each call answers Ok, and its third phase.
+abbrev pub small_thirds : (draft : Draft) → List Move
+small_thirds draft = Copies draft 0 ∷ (as_moves (all_answered (third_plan (size_in small_table) draft.commit small_member)) ++ (Copied draft 0 ∷ []))
+
 abbrev pub small_round : (draft : Draft) → List Move
-small_round draft = Starts draft ∷ (as_moves (all_answered (first_plan (size_in small_table) draft.commit small_member))
-    ++ (as_moves (all_answered (second_plan (size_in small_table) draft.commit small_member))
-    ++ ((Copies draft 0 ∷ (as_moves (all_answered (third_plan (size_in small_table) draft.commit small_member)) ++ (Copied draft 0 ∷ []))) ++ (Commits draft ∷ []))))
+small_round draft = round_moves draft (all_answered (first_plan (size_in small_table) draft.commit small_member))
+    (all_answered (second_plan (size_in small_table) draft.commit small_member)) (small_thirds draft) ++ (Commits draft ∷ [])
 
 -- Its creation.
 abbrev pub small_first : List Move
-small_first = (Freeze (λ k. None) (up_devs small_state.core.leaves) ∷ joins small_state.core.leaves) ++ (Flushed_all ∷ [])
+small_first = Freeze (λ k. None) (up_devs small_state.core.leaves) ∷ (Flushed_all ∷ [])
 
 abbrev pub small_draft : (number : ℕ) → PoolState → Draft
 small_draft number s = draft_of (small_commit number) s.core.leaves
@@ -124,7 +130,7 @@ abbrev pub small_written : (block : List ℕ) → PoolState
 small_written block = steps (Puts 0 block ∷ []) small_made
 
 abbrev pub small_freeze : (block : List ℕ) → List Move
-small_freeze block = Freeze (branch_cells (small_branch block)) (up_devs small_made.core.leaves) ∷ joins small_made.core.leaves
+small_freeze block = Freeze (branch_cells (small_branch block)) (up_devs small_made.core.leaves) ∷ []
 
 abbrev pub small_turn : (block : List ℕ) → (level : ℕ) → List Move
 small_turn block level = as_moves (all_answered (write_plan (cell_on (small_branch block) level) small_member)) ++ (Wrote_key (key level 0) ∷ [])
