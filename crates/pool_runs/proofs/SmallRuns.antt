@@ -1,29 +1,26 @@
 -- A small run is one.
-use Rattle.std.proofs.Common.{◌≡◌, ◌≢◌, ◌⊎◌, inl, inr, ℕ, zero, suc, ◌+◌, ◌*◌, ◌≤◌, ◌<◌, ◌^◌, nat_lt, ◌%◌, ◌/◌, ◌==◌, ◌&&◌, Bool, true, false, cond, List, [], ◌∷◌, ◌++◌, map, length, append-nil, Option, Some, None, refl, sym, ap, ◌∙◌, subst, arith}
+use Rattle.std.proofs.Common.{◌≡◌, ◌≢◌, inl, inr, ℕ, zero, suc, ◌+◌, ◌*◌, ◌≤◌, ◌<◌, ◌^◌, nat_lt, ◌%◌, ◌/◌, ◌==◌, ◌&&◌, Bool, true, false, cond, List, [], ◌∷◌, ◌++◌, map, length, append-nil, Option, Some, None, refl, sym, ap, ◌∙◌, subst, arith}
 use Rattle.std.specs.List.{AllByRecursion, list_all}
 use Rattle.std.specs.Option.{option_map}
 use Rattle.std.specs.Prelude.{AllPairs, Contains, slice_index_or}
 use Rattle.std.proofs.lemmas.Bool.Decides.{nat_tests}
 use Rattle.std.proofs.lemmas.Bool.{and_parts}
 use Rattle.std.proofs.lemmas.List.{length-replicate}
-use Rattle.sha2.specs.Sha256.{sha256}
 use Rattle.sha2.proofs.Facts256.{length-sha256}
-use Rattle.bank_core.specs.Asks.{Ask, Reads, Writes, Flushes, Admits, Ejects, ask_of, IsPart}
+use Rattle.bank_core.specs.Asks.{Ask, Writes, Flushes, ask_of, IsPart}
 use Rattle.bank_core.specs.Calls.{device_of, fault_of}
-use Rattle.bank_core.specs.Disk.{Call, Read, Write, Flush, Admit, Eject, Noted, Sectors, AllAnswer, run, sector_size, sectors_in}
+use Rattle.bank_core.specs.Disk.{Call, Write, Flush, Noted, Sectors, AllAnswer, run, sector_size}
 use Rattle.label_store.specs.declared.member.Member.{Member}
 use Rattle.label_store.specs.declared.rule.Head.{Head}
 use Rattle.label_store.specs.Layout.{config_sectors}
-use Rattle.label_store.specs.Plans.{stamp_plan}
 use Rattle.mp_base.specs.declared.place.Key.{Key}
 use Rattle.group_set.specs.Ranges.{ranges_upto}
 use Rattle.label_store.specs.Records.{IsRecord}
 use Rattle.label_store.specs.Rounds.{uberblock_of, config_of, first_plan, second_plan, third_plan}
-use Rattle.txg_history.specs.Branches.{Branch, cell_on, branch_cells}
+use Rattle.txg_history.specs.Branches.{cell_on, branch_cells}
 use Rattle.txg_history.specs.Pages.{Sum, Codec, span, IsOfVolume, sum_of}
 use Rattle.txg_history.specs.Records.{Cell, key}
 use Rattle.txg_history.proofs.Branching.{branch_is, branch_has, keys_one}
-use Rattle.txg_history.specs.Groups.{same_key}
 use Rattle.txg_history.specs.Turns.{write_plan, flush_plan}
 use Rattle.txg_history.proofs.Logging.{by_bool, true_not_false}
 use Rattle.pool_moves.specs.AwayRows.{Taken, RowWrite}
@@ -34,22 +31,21 @@ use Rattle.pool_moves.specs.Boards.{board_of, board_under, emptied}
 use Rattle.pool_moves.specs.CommitRows.{RowFound}
 use Rattle.pool_moves.specs.Drafts.{draft_of}
 use Rattle.pool_moves.specs.FreezeRow.{up_devs, IsBefore, IsPlaceBefore, IsGivenBefore, ArePlacesGiven, AreDirtyKeys, RowFreeze}
-use Rattle.pool_moves.specs.LineRows.{TurnReply, Write as WriteTurn, Flush as FlushTurn, Committed, EndsBy, IsTurnOf, StartsBy, TurnBy, RowTurn, moves_in, Ended, RowSync}
-use Rattle.pool_moves.specs.Moves.{Draft, Move, Makes, Puts, Comes, Freeze, Wrote_key, Flushed_all, Copies, Copied, Commits, sum_over, sums_over, step, steps}
+use Rattle.pool_moves.specs.LineRows.{Write as WriteTurn, Flush as FlushTurn, Committed, EndsBy, IsTurnOf, StartsBy, TurnBy, RowTurn, moves_in, Ended, RowSync}
+use Rattle.pool_moves.specs.Moves.{Draft, Makes, Puts, Comes, Freeze, Commits, sum_over, sums_over, step, steps}
 use Rattle.pool_moves.specs.ReadRow.{Gives, RowRead}
 use Rattle.pool_moves.specs.Refusing.{IsUsed, CountsOpen}
-use Rattle.pool_moves.specs.StampRow.{NewLeaf, room_or_none, AreStamps, CommitsFirst, Created}
+use Rattle.pool_moves.specs.StampRow.{room_or_none, AreStamps, CommitsFirst, Created}
 use Rattle.pool_moves.specs.States.{PoolSeen, PoolState}
-use Rattle.pool_moves.specs.TurnRows.{RowWriteTurn, RowFlushTurn, FitsState, IsThirdMoves, RowRound}
-use Rattle.pool_moves.specs.Walking.{as_moves}
+use Rattle.pool_moves.specs.TurnRows.{RowWriteTurn, FitsState, IsThirdMoves, RowRound}
 use Rattle.pool_moves.specs.Widening.{ranges_together, AreLeaves}
 use Rattle.pool_runs.specs.Acts.{Act, Gives_for, Hears, Bare, Does, Marks, Names, Takes, Bears, does, bare, calls_along}
-use Rattle.pool_runs.specs.Creating.{create_refusal, leaves_of, MayCreate, Creates, RowCreate}
+use Rattle.pool_runs.specs.Creating.{create_refusal, leaves_of}
 use Rattle.pool_runs.specs.Devices.{size_in}
 use Rattle.pool_runs.specs.HostRows.{AreMade, HostRow, acts_of, IsRun}
-use Rattle.pool_runs.specs.Hosts.{Host, moved, host_by, host_along}
-use Rattle.pool_runs.specs.Knowing.{IsOwnCall, IsOwnMove, IsOwnAct, AreOwnActs}
-use Rattle.pool_runs.specs.SmallRuns.{small_table, small_host, small_name, small_pool, small_tops, small_birth, small_state, small_member, small_stamp, small_head, small_pointer, small_codec, small_commit, small_draft, small_first, small_thirds, small_round, small_founding, small_made, small_written, small_freeze, small_turn, small_flush, small_flushed, small_last, small_turns, small_sync, small_bytes, small_branch, answered, all_answered, small_create, small_later}
+use Rattle.pool_runs.specs.Hosts.{Host, host_by, host_along}
+use Rattle.pool_runs.specs.Knowing.{IsOwnCall, IsOwnAct, AreOwnActs}
+use Rattle.pool_runs.specs.SmallRuns.{small_table, small_host, small_name, small_pool, small_tops, small_birth, small_state, small_member, small_stamp, small_head, small_pointer, small_codec, small_commit, small_draft, small_first, small_thirds, small_round, small_founding, small_made, small_written, small_freeze, small_turn, small_flush, small_last, small_turns, small_sync, small_bytes, small_branch, answered, all_answered, small_create, small_later}
 
 none_refused : create_refusal small_host small_name 1 small_tops ≡ None
 none_refused = refl

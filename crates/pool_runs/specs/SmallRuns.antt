@@ -1,5 +1,5 @@
 -- A small run: a pool is made on one device, a block is written, read and synced.
-use Rattle.std.specs.Prelude.{ℕ, zero, suc, ◌==◌, Bool, true, false, cond, List, [], ◌∷◌, ◌++◌, map, replicate, length, Option, Some, None}
+use Rattle.std.specs.Prelude.{ℕ, zero, suc, ◌==◌, true, false, cond, List, [], ◌∷◌, ◌++◌, map, replicate, length, Option, Some, None}
 use Rattle.bank_core.specs.Asks.{Ask, Writes}
 use Rattle.bank_core.specs.Disk.{Write, Flush, Noted, Nothing, sector_size}
 use Rattle.label_store.specs.declared.member.Member.{Member}
@@ -22,7 +22,7 @@ use Rattle.pool_moves.specs.StampRow.{new_room, new_top_number, children_under, 
 use Rattle.pool_moves.specs.States.{PoolState}
 use Rattle.pool_moves.specs.TurnRows.{round_moves}
 use Rattle.pool_moves.specs.Walking.{as_moves}
-use Rattle.pool_runs.specs.Acts.{Act, Birth, Gives_for, Marks, Names, Bears, does}
+use Rattle.pool_runs.specs.Acts.{Birth, Gives_for, Marks, Names, Bears, does}
 use Rattle.pool_runs.specs.Creating.{tops_of, leaves_of, new_birth, stamp_acts}
 use Rattle.pool_runs.specs.Devices.{Device, size_in}
 use Rattle.pool_runs.specs.Hosts.{Host}
