@@ -32,7 +32,7 @@ use Rattle.pool_moves.specs.CommitRows.{RowFound}
 use Rattle.pool_moves.specs.Drafts.{draft_of}
 use Rattle.pool_moves.specs.FreezeRow.{up_devs, IsBefore, IsPlaceBefore, IsGivenBefore, ArePlacesGiven, AreDirtyKeys, RowFreeze}
 use Rattle.pool_moves.specs.LineRows.{Write as WriteTurn, Flush as FlushTurn, Committed, EndsBy, IsTurnOf, StartsBy, TurnBy, RowTurn, moves_in, Ended, RowSync}
-use Rattle.pool_moves.specs.Moves.{Draft, Makes, Puts, Comes, Freeze, Commits, sum_over, sums_over, step, steps}
+use Rattle.pool_moves.specs.Moves.{Draft, Move, Makes, Puts, Comes, Freeze, Commits, sum_over, sums_over, step, state_step, steps}
 use Rattle.pool_moves.specs.ReadRow.{Gives, RowRead}
 use Rattle.pool_moves.specs.Refusing.{IsUsed, CountsOpen}
 use Rattle.pool_moves.specs.StampRow.{room_or_none, AreStamps, CommitsFirst, Created}
@@ -40,12 +40,15 @@ use Rattle.pool_moves.specs.States.{PoolSeen, PoolState}
 use Rattle.pool_moves.specs.TurnRows.{RowWriteTurn, FitsState, IsThirdMoves, RowRound}
 use Rattle.pool_moves.specs.Widening.{ranges_together, AreLeaves}
 use Rattle.pool_runs.specs.Acts.{Act, Gives_for, Hears, Bare, Does, Marks, Names, Takes, Bears, does, bare, calls_along}
-use Rattle.pool_runs.specs.Creating.{create_refusal, leaves_of}
+use Rattle.pool_runs.specs.Creating.{create_refusal, leaves_of, stamp_acts}
 use Rattle.pool_runs.specs.Devices.{size_in}
-use Rattle.pool_runs.specs.HostRows.{AreMade, HostRow, acts_of, IsRun}
-use Rattle.pool_runs.specs.Hosts.{Host, host_by, host_along}
-use Rattle.pool_runs.specs.Knowing.{IsOwnCall, IsOwnAct, AreOwnActs}
+use Rattle.pool_runs.specs.HostRows.{AreMade, WriteLine, ReadLine, SyncLine, OnPool, HostRow, acts_of, IsRun}
+use Rattle.pool_runs.specs.Hosts.{Host, named, moved, host_by, host_along}
+use Rattle.pool_runs.specs.Knowing.{IsOwnCall, IsOwnMove, AreOwnActs}
+use Rattle.pool_runs.specs.Lines.{To_write, To_read, To_sync}
 use Rattle.pool_runs.specs.SmallRuns.{small_table, small_host, small_name, small_pool, small_tops, small_birth, small_state, small_member, small_stamp, small_head, small_pointer, small_codec, small_commit, small_draft, small_first, small_thirds, small_round, small_founding, small_made, small_written, small_freeze, small_turn, small_flush, small_last, small_turns, small_sync, small_bytes, small_branch, answered, all_answered, small_create, small_later}
+use Rattle.pool_runs.proofs.Knowing.{moved_own, moved_number}
+use Rattle.pool_runs.proofs.Numbers.{number_fits}
 
 none_refused : create_refusal small_host small_name 1 small_tops ≡ None
 none_refused = refl
@@ -95,37 +98,50 @@ ask_made (Writes dev at bytes) is = (refl, refl)
 ask_made (Flushes dev) is = (let same : 0 ≡ dev = grind (arith, nat_tests) in ap Flushes same, refl)
 ask_made ask is = absurd (cc)
 
--- Acts of the pool, told by a test.
-abbrev small_act : Act → Bool
-small_act (Bare noted) = small_call noted.call
-small_act (Does g (Makes noted)) = (g == 7) && small_call noted.call
-small_act (Does g (Comes i d m top own)) = false
-small_act (Does g v) = g == 7
-small_act (Marks g mark) = g == 7
-small_act (Bears birth) = birth.state.core.pool.0 == 7
-small_act act = false
+-- Acts of a pool that owns the device, told by a test.
+abbrev small_move : Move → Bool
+small_move (Makes noted) = small_call noted.call
+small_move (Comes i d m top own) = false
+small_move v = true
 
-own_call : (owner : ℕ → Option ℕ) (call : Call) → owner 0 ≡ Some 7 → small_call call ≡ true → IsOwnCall 7 owner call
-own_call owner (Write dev at bytes None) mine is = let same : dev ≡ 0 = grind (arith, nat_tests) in subst (λ d. owner d ≡ Some 7) (sym same) mine
-own_call owner (Flush dev None) mine is = tt
-own_call owner call mine is = absurd (cc)
+own_call : (g : ℕ) (owner : ℕ → Option ℕ) (call : Call) → owner 0 ≡ Some g → small_call call ≡ true → IsOwnCall g owner call
+own_call g owner (Write dev at bytes None) mine is = let same : dev ≡ 0 = grind (arith, nat_tests) in subst (λ d. owner d ≡ Some g) (sym same) mine
+own_call g owner (Flush dev None) mine is = tt
+own_call g owner call mine is = absurd (cc)
 
-same_seven : (g : ℕ) → (g == 7) ≡ true → g ≡ 7
-same_seven g is = grind (arith, nat_tests)
+own_move : (g : ℕ) (owner : ℕ → Option ℕ) (v : Move) → owner 0 ≡ Some g → small_move v ≡ true → IsOwnMove g owner v
+own_move g owner (Makes noted) mine is = own_call g owner noted.call mine is
+own_move g owner (Comes i d m top own) mine is = absurd (cc)
+own_move g owner v mine is = tt
 
-own_act : (h : Host) (act : Act) → h.owner 0 ≡ Some 7 → small_act act ≡ true → IsOwnAct 7 h act × ((host_by act h).owner 0 ≡ Some 7)
-own_act h (Bare noted) mine is = (own_call h.owner noted.call mine is, mine)
-own_act h (Does g (Makes noted)) mine is = let both = and_parts (g == 7) (small_call noted.call) is in ((same_seven g both.0, own_call h.owner noted.call mine both.1), mine)
-own_act h (Does g (Comes i d m top own)) mine is = absurd (cc)
-own_act h (Does g v) mine is = ((same_seven g is, tt), mine)
-own_act h (Marks g mark) mine is = (same_seven g is, mine)
-own_act h (Bears birth) mine is = (same_seven birth.state.core.pool.0 is, mine)
-own_act h act mine is = absurd (cc)
+own_does : (g : ℕ) (h : Host) (vs : List Move) → h.owner 0 ≡ Some g → list_all small_move vs ≡ true → AreOwnActs g h (does g vs)
+own_does g h [] mine is = tt
+own_does g h (v ∷ vs) mine is = let both = and_parts (small_move v) (list_all small_move vs) is in
+    ((refl, own_move g h.owner v mine both.0), own_does g (host_by (Does g v) h) vs mine both.1)
 
-own_acts : (h : Host) (acts : List Act) → h.owner 0 ≡ Some 7 → list_all small_act acts ≡ true → AreOwnActs 7 h acts
-own_acts h [] mine is = tt
-own_acts h (act ∷ acts) mine is = let both = and_parts (small_act act) (list_all small_act acts) is in
-    let one = own_act h act mine both.0 in (one.0, own_acts (host_by act h) acts one.1 both.1)
+own_bare : (g : ℕ) (h : Host) (made : List Noted) (rest : List Act) → h.owner 0 ≡ Some g → list_all (λ noted. small_call noted.call) made ≡ true
+    → ((x : Host) → x.owner 0 ≡ Some g → AreOwnActs g x rest) → AreOwnActs g h (bare made ++ rest)
+own_bare g h [] rest mine is then = then h mine
+own_bare g h (noted ∷ made) rest mine is then = let both = and_parts (small_call noted.call) (list_all (λ noted. small_call noted.call) made) is in
+    (own_call g h.owner noted.call mine both.0, own_bare g (host_by (Bare noted) h) made rest mine both.1 then)
+
+-- The host has the device, which is the pool's, and this open pool alone.
+record HasOpen (h : Host) (s : PoolState) : Type 0 where
+  table : h.table ≡ small_table
+  pools : h.pools ≡ s ∷ []
+  owner : h.owner 0 ≡ Some small_pool.0
+
+heard : (second : ℕ) (h : Host) (s : PoolState) → HasOpen h s → HasOpen (host_by (Hears second) h) s
+heard second h s has = record { table = has.table; pools = has.pools; owner = has.owner }
+
+open_along : (vs : List Move) (h : Host) (s : PoolState) → s.core.pool.0 ≡ small_pool.0 → HasOpen h s → HasOpen (host_along (does small_pool.0 vs) h) (steps vs s)
+open_along [] h s number has = has
+open_along (v ∷ vs) h s number has = open_along vs (host_by (Does small_pool.0 v) h) (state_step v s)
+    (ap (λ u. u.core.pool.0) (sym (moved_own small_pool.0 v s number)) ∙ (ap (λ n. n.0) (moved_number small_pool.0 v s) ∙ number)) (record {
+      table = has.table;
+      pools = ap (map (moved small_pool.0 v)) has.pools ∙ ap (λ u. u ∷ []) (moved_own small_pool.0 v s number);
+      owner = has.owner;
+    })
 
 -- The record of a number is one.
 small_blob : length (small_commit 0).blob ≡ 4096
@@ -136,7 +152,7 @@ small_is : (block : List ℕ) (n : ℕ) (m : Member) → 1 ≤ n → n ≤ 2 →
 unfolding sector_size
 small_is block n m one two long low = record {
   in_range = record {
-    pool = omega arith;
+    pool = number_fits small_name 1;
     member = low;
     number = omega (arith, two);
     config = omega (arith, two);
@@ -247,20 +263,27 @@ first_commit block = record { whole = true; row = founded block; says = refl }
 create_row : (block : List ℕ) → HostRow (small_codec block) (host_by (Hears 1) small_host) small_create
 create_row block = inl (inr (inr (record {
   pool = small_pool;
-  may = record { none = none_refused; in_range = omega arith; some = (omega arith, tt); apart = (tt, tt) };
+  may = record { none = none_refused; number = refl; some = (omega arith, tt); apart = (tt, tt) };
   stamps = small_stamp ∷ [];
   are = stamped;
   moves = small_founding;
   answer = Created;
   row = first_commit block;
   all = refl;
-  own = (refl, ((refl, λ s is. absurd is), own_acts (host_by (Takes 7 0) (host_by (Names 7) (host_by (Hears 1) small_host))) (bare small_stamp.made ++ (Bears small_birth ∷ does 7 small_founding)) refl refl));
+  own = (refl, ((refl, λ s is. absurd is), own_bare small_pool.0 (host_by (Takes small_pool.0 0) (host_by (Names small_pool.0) (host_by (Hears 1) small_host))) small_stamp.made
+      (Bears small_birth ∷ does small_pool.0 small_founding) refl refl (λ x mine. (refl, own_does small_pool.0 (host_by (Bears small_birth) x) small_founding mine refl))));
   says = refl;
 })), all_made (host_by (Hears 1) small_host) (calls_along small_create.acts) refl refl)
 
 -- Behind it the pool is open, and nothing else is.
-pools_made : (host_along (acts_of small_create) small_host).pools ≡ small_made ∷ []
-pools_made = refl
+abbrev host_made : Host
+host_made = host_along (acts_of small_create) small_host
+
+abbrev host_born : Host
+host_born = host_along (Hears 1 ∷ (Names small_pool.0 ∷ (stamp_acts small_pool.0 (small_stamp ∷ []) ++ (Bears small_birth ∷ [])))) small_host
+
+made_open : HasOpen host_made small_made
+made_open = open_along small_founding host_born small_state refl (record { table = refl; pools = refl; owner = refl })
 
 -- The places of its top that are open: the first so many sectors.
 abbrev places_below : (n : ℕ) → List (ℕ × ℕ)
@@ -321,10 +344,7 @@ small_open = record {
       (subst (λ x. sector < small_made.core.room x) (sym at.0) (subst (λ n. sector < n) (sym (small_room 1)) at.1), nothing_used top sector);
 }
 
--- The write and the read are lines.
-abbrev host_made : Host
-host_made = host_along (acts_of small_create) small_host
-
+-- The write, the read and the sync are rows.
 write_row : (block : List ℕ) → RowWrite small_made 0 block (Puts 0 block ∷ []) Taken
 write_row block = inr (omega arith, (64, small_open, (refl, refl)))
 
@@ -582,31 +602,50 @@ sync_row block long = (None, (64, small_open, refl), (Committed 2, record {
   moves = refl;
 }, refl))
 
+-- They are lines of a host that has the pool.
+write_line : (block : List ℕ) (h : Host) → HasOpen h small_made
+    → OnPool (named small_name h.pools) (WriteLine h 0 block) (does small_pool.0 (Puts 0 block ∷ [])) (To_write Taken)
+write_line block h has = subst (λ pools. OnPool (named small_name pools) (WriteLine h 0 block) (does small_pool.0 (Puts 0 block ∷ [])) (To_write Taken)) (sym has.pools)
+    (Taken, refl, record { moves = Puts 0 block ∷ []; row = write_row block; are = refl; own = own_does small_pool.0 h (Puts 0 block ∷ []) has.owner refl })
+
+read_line : (block : List ℕ) (h : Host) → HasOpen h (small_written block)
+    → OnPool (named small_name h.pools) (ReadLine h 0) (Marks small_pool.0 (Gives_for 0 (Gives block)) ∷ []) (To_read (Gives block))
+read_line block h has = subst (λ pools. OnPool (named small_name pools) (ReadLine h 0) (Marks small_pool.0 (Gives_for 0 (Gives block)) ∷ []) (To_read (Gives block))) (sym has.pools)
+    (Gives block, refl, record { moves = []; row = read_row block; are = refl; own = (refl, tt) })
+
+sync_line : (block : List ℕ) (h : Host) → length block ≡ 4096 → HasOpen h (small_written block)
+    → OnPool (named small_name h.pools) (SyncLine (small_codec block) h) (does small_pool.0 (small_sync block)) (To_sync (Ended (Committed 2)))
+sync_line block h long has =
+    subst (λ pools. OnPool (named small_name pools) (SyncLine (small_codec block) h) (does small_pool.0 (small_sync block)) (To_sync (Ended (Committed 2)))) (sym has.pools)
+    (Ended (Committed 2), refl, record {
+      moves = small_sync block;
+      row = subst (λ table. RowSync (small_codec block) (size_in table) (small_written block) (small_sync block) (Ended (Committed 2))) (sym has.table) (sync_row block long);
+      are = refl;
+      own = own_does small_pool.0 h (small_sync block) has.owner refl;
+    })
+
 -- The lines, one after another.
 abbrev host_written : (block : List ℕ) → Host
-host_written block = host_along (Hears 2 ∷ does 7 (Puts 0 block ∷ [])) host_made
+host_written block = host_along (Hears 2 ∷ does small_pool.0 (Puts 0 block ∷ [])) host_made
 
 abbrev host_read : (block : List ℕ) → Host
-host_read block = host_along (Hears 3 ∷ (Marks 7 (Gives_for 0 (Gives block)) ∷ [])) (host_written block)
+host_read block = host_along (Hears 3 ∷ (Marks small_pool.0 (Gives_for 0 (Gives block)) ∷ [])) (host_written block)
+
+written_open : (block : List ℕ) → HasOpen (host_written block) (small_written block)
+written_open block = open_along (Puts 0 block ∷ []) (host_by (Hears 2) host_made) small_made refl (heard 2 host_made small_made made_open)
+
+read_open : (block : List ℕ) → HasOpen (host_read block) (small_written block)
+read_open block = heard 3 (host_written block) (small_written block) (written_open block)
 
 pub small_runs : (block : List ℕ) → length block ≡ 4096 → IsRun (small_codec block) small_host (small_create ∷ small_later block)
 small_runs block long = (create_row block, (
-  inl ((Taken, refl, record { moves = Puts 0 block ∷ []; row = write_row block; are = refl; own = own_acts (host_by (Hears 2) host_made) (does 7 (Puts 0 block ∷ [])) refl refl }),
-      all_made (host_by (Hears 2) host_made) [] refl refl),
+  inl (write_line block (host_by (Hears 2) host_made) (heard 2 host_made small_made made_open), all_made (host_by (Hears 2) host_made) [] made_open.table refl),
   (
-    inl ((Gives block, refl, record {
-      moves = [];
-      row = read_row block;
-      are = refl;
-      own = own_acts (host_by (Hears 3) (host_written block)) (Marks 7 (Gives_for 0 (Gives block)) ∷ []) refl refl;
-    }), all_made (host_by (Hears 3) (host_written block)) [] refl refl),
+    inl (read_line block (host_by (Hears 3) (host_written block)) (heard 3 (host_written block) (small_written block) (written_open block)),
+      all_made (host_by (Hears 3) (host_written block)) [] (written_open block).table refl),
     (
-      inl ((Ended (Committed 2), refl, record {
-        moves = small_sync block;
-        row = sync_row block long;
-        are = refl;
-        own = own_acts (host_by (Hears 4) (host_read block)) (does 7 (small_sync block)) refl refl;
-      }), all_made (host_by (Hears 4) (host_read block)) (calls_along (does 7 (small_sync block))) refl refl),
+      inl (sync_line block (host_by (Hears 4) (host_read block)) long (heard 4 (host_read block) (small_written block) (read_open block)),
+        all_made (host_by (Hears 4) (host_read block)) (calls_along (does small_pool.0 (small_sync block))) (read_open block).table refl),
       tt,
     ),
   ),

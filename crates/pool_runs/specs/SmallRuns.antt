@@ -23,7 +23,7 @@ use Rattle.pool_moves.specs.States.{PoolState}
 use Rattle.pool_moves.specs.TurnRows.{round_moves}
 use Rattle.pool_moves.specs.Walking.{as_moves}
 use Rattle.pool_runs.specs.Acts.{Birth, Gives_for, Marks, Names, Bears, does}
-use Rattle.pool_runs.specs.Creating.{tops_of, leaves_of, new_birth, stamp_acts}
+use Rattle.pool_runs.specs.Creating.{tops_of, leaves_of, new_birth, stamp_acts, pool_number}
 use Rattle.pool_runs.specs.Devices.{Device, size_in}
 use Rattle.pool_runs.specs.Hosts.{Host}
 use Rattle.pool_runs.specs.Lines.{Asks_write, Asks_read, Asks_sync, Asks_create, To_write, To_read, To_sync, To_create, Entry}
@@ -38,12 +38,12 @@ small_table = record { name = small_device; number = Some 0; sectors = 320 } ∷
 abbrev pub small_host : Host
 small_host = record { table = small_table; pools = []; owner = λ d. None; second = 0; disk = λ d s. record { stable = zeros sector_size; pending = Nothing; damaged = false } }
 
--- The pool that it makes: a volume of one block on the device.
+-- The pool that it makes: a volume of one block on the device. Its number is by its name and the second 1.
 abbrev pub small_name : List ℕ
 small_name = 112 ∷ []
 
 abbrev pub small_pool : Guid
-small_pool = record { 0 = 7 }
+small_pool = pool_number small_name 1
 
 abbrev pub small_tops : List (List (List ℕ))
 small_tops = (small_device ∷ []) ∷ []
@@ -159,11 +159,11 @@ abbrev pub small_create : Entry
 small_create = record {
   asked = Asks_create small_name 1 small_tops;
   second = 1;
-  acts = Names 7 ∷ (stamp_acts 7 (small_stamp ∷ []) ++ (Bears small_birth ∷ does 7 small_founding));
+  acts = Names small_pool.0 ∷ (stamp_acts small_pool.0 (small_stamp ∷ []) ++ (Bears small_birth ∷ does small_pool.0 small_founding));
   reply = To_create Created;
 }
 
 abbrev pub small_later : (block : List ℕ) → List Entry
-small_later block = record { asked = Asks_write small_name 0 block; second = 2; acts = does 7 (Puts 0 block ∷ []); reply = To_write Taken }
-    ∷ (record { asked = Asks_read small_name 0; second = 3; acts = Marks 7 (Gives_for 0 (Gives block)) ∷ []; reply = To_read (Gives block) }
-    ∷ (record { asked = Asks_sync small_name; second = 4; acts = does 7 (small_sync block); reply = To_sync (Ended (Committed 2)) } ∷ []))
+small_later block = record { asked = Asks_write small_name 0 block; second = 2; acts = does small_pool.0 (Puts 0 block ∷ []); reply = To_write Taken }
+    ∷ (record { asked = Asks_read small_name 0; second = 3; acts = Marks small_pool.0 (Gives_for 0 (Gives block)) ∷ []; reply = To_read (Gives block) }
+    ∷ (record { asked = Asks_sync small_name; second = 4; acts = does small_pool.0 (small_sync block); reply = To_sync (Ended (Committed 2)) } ∷ []))
