@@ -204,8 +204,13 @@ one_seated (suc i) m is = absurd (no_member m is)
 thirds_made : (draft : Draft) → list_all small_ask (third_plan (size_in small_table) draft.commit small_member) ≡ true
     → IsThirdMoves (third_plan (size_in small_table) draft.commit) draft (small_member ∷ []) (true ∷ []) (true ∷ [])
     (small_thirds draft)
-thirds_made draft is = (all_answered (third_plan (size_in small_table) draft.commit small_member), [], refl,
-    (None, phase (third_plan (size_in small_table) draft.commit small_member) is, refl), refl)
+thirds_made draft is = (
+  all_answered (third_plan (size_in small_table) draft.commit small_member),
+  [],
+  refl,
+  (None, phase (third_plan (size_in small_table) draft.commit small_member) is, refl),
+  refl,
+)
 
 round_made : (c : Codec) (s : PoolSeen) (draft : Draft) → s.group.frozen ≡ true → s.group.flushed ≡ true → s.group.fresh ≡ true → emptied s.leaves ≡ None
     → board_of s.leaves ≡ small_member ∷ [] → draft ≡ draft_of draft.commit s.leaves → FitsState c s draft
@@ -261,19 +266,28 @@ first_commit block = record { whole = true; row = founded block; says = refl }
 
 -- The creation is a line.
 create_row : (block : List ℕ) → HostRow (small_codec block) (host_by (Hears 1) small_host) small_create
-create_row block = inl (inr (inr (record {
-  pool = small_pool;
-  may = record { none = none_refused; number = refl; some = (omega arith, tt); apart = (tt, tt) };
-  stamps = small_stamp ∷ [];
-  are = stamped;
-  moves = small_founding;
-  answer = Created;
-  row = first_commit block;
-  all = refl;
-  own = (refl, ((refl, λ s is. absurd is), own_bare small_pool.0 (host_by (Takes small_pool.0 0) (host_by (Names small_pool.0) (host_by (Hears 1) small_host))) small_stamp.made
-      (Bears small_birth ∷ does small_pool.0 small_founding) refl refl (λ x mine. (refl, own_does small_pool.0 (host_by (Bears small_birth) x) small_founding mine refl))));
-  says = refl;
-})), all_made (host_by (Hears 1) small_host) (calls_along small_create.acts) refl refl)
+create_row block = inl (
+  inr (inr (record {
+    pool = small_pool;
+    may = record { none = none_refused; number = refl; some = (omega arith, tt); apart = (tt, tt) };
+    stamps = small_stamp ∷ [];
+    are = stamped;
+    moves = small_founding;
+    answer = Created;
+    row = first_commit block;
+    all = refl;
+    own = (
+      refl,
+      (
+        (refl, λ s is. absurd is),
+        own_bare small_pool.0 (host_by (Takes small_pool.0 0) (host_by (Names small_pool.0) (host_by (Hears 1) small_host))) small_stamp.made
+            (Bears small_birth ∷ does small_pool.0 small_founding) refl refl (λ x mine. (refl, own_does small_pool.0 (host_by (Bears small_birth) x) small_founding mine refl)),
+      ),
+    );
+    says = refl;
+  })),
+  all_made (host_by (Hears 1) small_host) (calls_along small_create.acts) refl refl,
+)
 
 -- Behind it the pool is open, and nothing else is.
 abbrev host_made : Host
@@ -585,22 +599,45 @@ small_round_turn block = inr (inr (record {
 }))
 
 sync_row : (block : List ℕ) → length block ≡ 4096 → RowSync (small_codec block) (size_in small_table) (small_written block) (small_sync block) (Ended (Committed 2))
-sync_row block long = (None, (64, small_open, refl), (Committed 2, record {
-  first = small_freeze block;
-  freeze = small_frozen block long;
-  rest = moves_in (small_turns block);
-  ends = record {
-    turns = small_turns block;
-    are = (small_write_turn block 0 (small_codec block) (small_at block 0) (omega arith) refl refl refl refl (none_done block) refl refl refl, refl,
-        (small_write_turn block 1 (small_codec block) (small_at block 1) (omega arith) refl refl refl refl (one_done block) refl refl refl, refl,
-        (small_write_turn block 2 (small_codec block) (small_at block 2) (omega arith) refl refl refl refl (two_done block) refl refl refl, refl,
-        (small_write_turn block 3 (small_codec block) (small_at block 3) (omega arith) refl refl refl refl (three_done block) refl refl refl, refl,
-        (small_flush_turn block (small_codec block) (small_at block 4) refl refl refl (all_done block) refl refl refl, refl,
-        (small_round_turn block, refl, refl))))));
-    moves = refl;
-  };
-  moves = refl;
-}, refl))
+sync_row block long = (
+  None,
+  (64, small_open, refl),
+  (
+    Committed 2,
+    record {
+      first = small_freeze block;
+      freeze = small_frozen block long;
+      rest = moves_in (small_turns block);
+      ends = record {
+        turns = small_turns block;
+        are = (
+          small_write_turn block 0 (small_codec block) (small_at block 0) (omega arith) refl refl refl refl (none_done block) refl refl refl,
+          refl,
+          (
+            small_write_turn block 1 (small_codec block) (small_at block 1) (omega arith) refl refl refl refl (one_done block) refl refl refl,
+            refl,
+            (
+              small_write_turn block 2 (small_codec block) (small_at block 2) (omega arith) refl refl refl refl (two_done block) refl refl refl,
+              refl,
+              (
+                small_write_turn block 3 (small_codec block) (small_at block 3) (omega arith) refl refl refl refl (three_done block) refl refl refl,
+                refl,
+                (
+                  small_flush_turn block (small_codec block) (small_at block 4) refl refl refl (all_done block) refl refl refl,
+                  refl,
+                  (small_round_turn block, refl, refl),
+                ),
+              ),
+            ),
+          ),
+        );
+        moves = refl;
+      };
+      moves = refl;
+    },
+    refl,
+  ),
+)
 
 -- They are lines of a host that has the pool.
 write_line : (block : List ℕ) (h : Host) → HasOpen h small_made
@@ -616,13 +653,16 @@ read_line block h has = subst (λ pools. OnPool (named small_name pools) (ReadLi
 sync_line : (block : List ℕ) (h : Host) → length block ≡ 4096 → HasOpen h (small_written block)
     → OnPool (named small_name h.pools) (SyncLine (small_codec block) h) (does small_pool.0 (small_sync block)) (To_sync (Ended (Committed 2)))
 sync_line block h long has =
-    subst (λ pools. OnPool (named small_name pools) (SyncLine (small_codec block) h) (does small_pool.0 (small_sync block)) (To_sync (Ended (Committed 2)))) (sym has.pools)
-    (Ended (Committed 2), refl, record {
-      moves = small_sync block;
-      row = subst (λ table. RowSync (small_codec block) (size_in table) (small_written block) (small_sync block) (Ended (Committed 2))) (sym has.table) (sync_row block long);
-      are = refl;
-      own = own_does small_pool.0 h (small_sync block) has.owner refl;
-    })
+    subst (λ pools. OnPool (named small_name pools) (SyncLine (small_codec block) h) (does small_pool.0 (small_sync block)) (To_sync (Ended (Committed 2)))) (sym has.pools) (
+      Ended (Committed 2),
+      refl,
+      record {
+        moves = small_sync block;
+        row = subst (λ table. RowSync (small_codec block) (size_in table) (small_written block) (small_sync block) (Ended (Committed 2))) (sym has.table) (sync_row block long);
+        are = refl;
+        own = own_does small_pool.0 h (small_sync block) has.owner refl;
+      },
+    )
 
 -- The lines, one after another.
 abbrev host_written : (block : List ℕ) → Host
@@ -638,15 +678,22 @@ read_open : (block : List ℕ) → HasOpen (host_read block) (small_written bloc
 read_open block = heard 3 (host_written block) (small_written block) (written_open block)
 
 pub small_runs : (block : List ℕ) → length block ≡ 4096 → IsRun (small_codec block) small_host (small_create ∷ small_later block)
-small_runs block long = (create_row block, (
-  inl (write_line block (host_by (Hears 2) host_made) (heard 2 host_made small_made made_open), all_made (host_by (Hears 2) host_made) [] made_open.table refl),
+small_runs block long = (
+  create_row block,
   (
-    inl (read_line block (host_by (Hears 3) (host_written block)) (heard 3 (host_written block) (small_written block) (written_open block)),
-      all_made (host_by (Hears 3) (host_written block)) [] (written_open block).table refl),
+    inl (write_line block (host_by (Hears 2) host_made) (heard 2 host_made small_made made_open), all_made (host_by (Hears 2) host_made) [] made_open.table refl),
     (
-      inl (sync_line block (host_by (Hears 4) (host_read block)) long (heard 4 (host_read block) (small_written block) (read_open block)),
-        all_made (host_by (Hears 4) (host_read block)) (calls_along (does small_pool.0 (small_sync block))) (read_open block).table refl),
-      tt,
+      inl (
+        read_line block (host_by (Hears 3) (host_written block)) (heard 3 (host_written block) (small_written block) (written_open block)),
+        all_made (host_by (Hears 3) (host_written block)) [] (written_open block).table refl,
+      ),
+      (
+        inl (
+          sync_line block (host_by (Hears 4) (host_read block)) long (heard 4 (host_read block) (small_written block) (read_open block)),
+          all_made (host_by (Hears 4) (host_read block)) (calls_along (does small_pool.0 (small_sync block))) (read_open block).table refl,
+        ),
+        tt,
+      ),
     ),
   ),
-))
+)
