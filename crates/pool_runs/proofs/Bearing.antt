@@ -1,5 +1,5 @@
 -- Behind the stamps of a create its pool is known, and its commit may be made.
-use Rattle.std.proofs.Common.{◌≡◌, ◌≢◌, ◌⊎◌, inl, inr, ℕ, ◌==◌, Bool, true, false, not, cond, List, [], ◌∷◌, ◌++◌, Option, Some, None, refl, sym, ap, ◌∙◌, subst, arith}
+use Rattle.std.proofs.Common.{◌≡◌, ◌≢◌, ◌⊎◌, inl, inr, ℕ, ◌^◌, ◌<◌, ◌==◌, Bool, true, false, not, cond, List, [], ◌∷◌, ◌++◌, Option, Some, None, refl, sym, ap, ◌∙◌, subst, arith}
 use Rattle.std.specs.List.{AllByRecursion, filter}
 use Rattle.std.proofs.lemmas.Bool.Decides.{nat_tests}
 use Rattle.mp_base.specs.declared.number.Guid.{Guid}
@@ -31,6 +31,7 @@ use Rattle.pool_runs.proofs.Creating.{within}
 use Rattle.pool_runs.proofs.Heading.{headline_from}
 use Rattle.pool_runs.proofs.Knowing.{may_more, open_kept, pools_known, walk_may}
 use Rattle.pool_runs.proofs.Moments.{host_more, acts_table}
+use Rattle.pool_runs.proofs.Numbers.{number_fits}
 
 -- The disk of a host goes on by the calls of its acts.
 run_more : (first second : List Noted) (sectors : Sectors) → run (first ++ second) sectors ≡ run second (run first sectors)
@@ -101,7 +102,8 @@ is_made : (h : Host) (name : List ℕ) (blocks : ℕ) (tops : List (List (List �
 is_made h name blocks tops pool stamps may are =
     subst (λ sectors. IsMade (new_state (size_in h.table) name pool blocks (tops_of h.table tops)) (new_side (size_in h.table) name pool (tops_of h.table tops) sectors))
     (ap (λ made. run made h.disk) (sym (stamp_calls pool.0 stamps)) ∙ sym (acts_disk (stamp_acts pool.0 stamps) h))
-    (stamps_make (size_in h.table) name pool blocks (tops_of h.table tops) stamps h.disk (within h name blocks tops pool may) may.in_range are)
+    (stamps_make (size_in h.table) name pool blocks (tops_of h.table tops) stamps h.disk (within h name blocks tops pool may)
+    (subst (λ g. g.0 < 2 ^ 64) (sym may.number) (number_fits name h.second)) are)
 
 is_stamped : (h : Host) (name : List ℕ) (blocks : ℕ) (tops : List (List (List ℕ))) (pool : Guid) (stamps : List Stamp) → (may : MayCreate h name blocks tops pool)
     → AreStamps (size_in h.table) pool (leaves_of h.table tops) stamps None → (let p = (side_behind h name pool tops stamps).pool in AreStamped p.pool p.member p.guid p.size p.room p.home p.sectors)

@@ -11,6 +11,8 @@ pub mod Importing
 pub mod Knowing
 pub mod Members
 pub mod Moments
+pub mod Numbers
 pub mod Pasting
 pub mod Running
+pub mod SmallRuns
 pub mod Sparing

@@ -4,19 +4,20 @@ use Rattle.std.specs.List.{AllByRecursion, find, filter}
 use Rattle.std.specs.Str.{bytes_eq}
 use Rattle.std.proofs.lemmas.Bool.Decides.{nat_tests}
 use Rattle.mp_base.specs.declared.number.Guid.{Guid}
-use Rattle.bank_core.specs.Asks.{Ask, IsPart}
+use Rattle.bank_core.specs.Asks.{Ask, Writes, ask_of, IsPart}
 use Rattle.bank_core.specs.declared.bank.Fault.{Fault}
 use Rattle.bank_core.specs.Calls.{fault_of}
-use Rattle.bank_core.specs.Disk.{Noted}
+use Rattle.bank_core.specs.Disk.{Call, Read, Write as WriteCall, Flush as FlushCall, Admit, Eject, Noted}
+use Rattle.label_store.specs.Layout.{ring_offset}
 use Rattle.label_store.specs.declared.member.Member.{Member}
-use Rattle.label_store.specs.Plans.{stamp_plan}
+use Rattle.label_store.specs.Plans.{zero_ring, stamp_plan}
 use Rattle.label_store.specs.Rounds.{third_plan}
 use Rattle.txg_history.specs.Events.{Event, Known, Calls, Looks, Opens, Loses, as_events}
 use Rattle.txg_history.specs.Pages.{Codec, Sum}
 use Rattle.txg_history.specs.Pools.{Pool, after, pool_after}
 use Rattle.txg_history.specs.Records.{Cell}
 use Rattle.txg_history.specs.Survival.{IsAmong}
-use Rattle.txg_history.proofs.Logging.{by_bool}
+use Rattle.txg_history.proofs.Logging.{by_bool, same_device}
 use Rattle.pool_moves.specs.AwayRows.{WriteReply, WriteFits, WriteBy, RowWrite, OfflineReply, is_listed, is_offline, is_spare, LeaveIf, drop_if, gone, OfflineLeaf, OfflineHere, OfflineBy, leaf_named, RowOffline}
 use Rattle.pool_moves.specs.Boards.{board_of, board_under, members_where, emptied}
 use Rattle.pool_moves.specs.CommitRows.{NamedLog, RowLogs, RowFound}
@@ -36,14 +37,14 @@ use Rattle.pool_moves.specs.TurnRows.{turn_moves, ended, IsThirdMoves, RowWriteT
 use Rattle.pool_moves.specs.Walking.{as_moves}
 use Rattle.pool_moves.specs.Widening.{seen_along}
 use Rattle.pool_moves.proofs.StampWalks.{all_of, leaf_found, leaf_of}
-use Rattle.pool_runs.specs.Acts.{Act, Mark, Gives_for, Steps_by, Bare, Does, Marks, Looked, Shows, Reads_as, Enters, Names, Takes, Bears, Closes, does, bare, read_by, events_for, pool_by, pool_along}
+use Rattle.pool_runs.specs.Acts.{Act, Mark, Gives_for, Steps_by, Bare, Does, Marks, Looked, Shows, Reads_as, Enters, Names, Takes, Bears, Closes, does, bare, calls_of_act, calls_along, read_by, events_for, pool_by, pool_along}
 use Rattle.pool_runs.specs.Creating.{dev_or_none, members_of, tops_of, leaves_of, new_birth, or_else, all_names, unknown_by, unknown, create_refusal, stamp_acts, commit_acts, RowCreate}
 use Rattle.pool_runs.specs.Devices.{Device, number_in, size_in}
 use Rattle.pool_runs.specs.HostRows.{ByMoves, is_reading, marked_behind, marked, ByMarked, found_in, device_for, ByOnline, OnlineLine, StepLine, ScrubLine, StopLine, WriteLine, ReadLine, FreezeLine, TurnLine, SyncLine, OfflineLine, LogsLine, OnPool, RowOf, ChangesNone, MayRewrite, RunsOut, HostRow}
 use Rattle.pool_runs.specs.Hosts.{Host, named}
 use Rattle.pool_runs.specs.Importing.{read_in, all_shown, OpensBy, FollowsMap, ImportBy, host_behind, ImportFor, ImportUnless}
 use Rattle.pool_runs.specs.Lines.{Asked, Asks_nothing, Asks_write, Asks_read, Asks_freeze, Asks_turn, Asks_sync, Asks_offline, Asks_online, Asks_logs, Asks_step, Asks_scrub, Asks_stop, Asks_import, Asks_create, Reply, To_create, Entry}
-use Rattle.pool_runs.specs.Taking.{IsTakenBy}
+use Rattle.pool_runs.specs.Taking.{IsWriteTo, HasWriteTo, IsTakenBy}
 use Rattle.pool_runs.proofs.GroupMoves.{IsKind, more, all_calls, all_widened, all_reads, all_turn, all_freeze, all_sync, all_found, all_reopen}
 use Rattle.pool_runs.proofs.Creating.{or_first, or_second, none_refused}
 
@@ -331,28 +332,65 @@ keep_bare : (d : ℕ) (made : List Noted) (rest : List Act) → Keep d rest → 
 keep_bare d [] rest all = all
 keep_bare d (noted ∷ made) rest all = (tt, keep_bare d made rest all)
 
-off_all : (leaves : List NewLeaf) (d : ℕ) → is_leaf_at (leaf_at d leaves) ≡ false → AllByRecursion (λ leaf. (leaf.dev == d) ≡ false) leaves
-off_all [] d off = tt
-off_all (l ∷ leaves) d off = by (l.dev == d) refl (λ rest. off_all leaves d rest)
-  where
-    by : (t : Bool) → (l.dev == d) ≡ t → (is_leaf_at (leaf_at d leaves) ≡ false → AllByRecursion (λ leaf. (leaf.dev == d) ≡ false) leaves)
-        → ((l.dev == d) ≡ false) × AllByRecursion (λ leaf. (leaf.dev == d) ≡ false) leaves
-    by true is rest = absurd (let no : true ≡ false = sym (ap (λ t. is_leaf_at (cond t (Some l) (leaf_at d leaves))) is) ∙ off in cc)
-    by false is rest = (is, rest (sym (ap (λ t. is_leaf_at (cond t (Some l) (leaf_at d leaves))) is) ∙ off))
+-- A stamp writes to its device.
+write_asked : (d at : ℕ) (bytes : List ℕ) (call : Call) → ask_of call ≡ Writes d at bytes → IsWriteTo d call
+write_asked d at bytes (WriteCall dev x written fault) is = cc
+write_asked d at bytes (Read dev x read fault) is = absurd (cc)
+write_asked d at bytes (FlushCall dev fault) is = absurd (cc)
+write_asked d at bytes (Admit dev holds) is = absurd (cc)
+write_asked d at bytes (Eject dev) is = absurd (cc)
 
-keep_stamps : (d : ℕ) (pool : Guid) (size : ℕ → ℕ) (leaves : List NewLeaf) (stamps : List Stamp) (failed : Option NewLeaf) → AreStamps size pool leaves stamps failed
-    → AllByRecursion (λ leaf. (leaf.dev == d) ≡ false) leaves → Keep d (stamp_acts pool.0 stamps)
-keep_stamps d pool size [] [] failed are off = tt
-keep_stamps d pool size [] (stamp ∷ stamps) failed are off = absurd are
-keep_stamps d pool size (leaf ∷ leaves) [] failed are off = absurd are
-keep_stamps d pool size (leaf ∷ leaves) (stamp ∷ stamps) failed (dev, inl whole) off = (
-  subst (λ e. (e == d) ≡ false) (sym dev) off.0,
-  keep_bare d stamp.made (stamp_acts pool.0 stamps) (keep_stamps d pool size leaves stamps failed whole.1 off.1),
-)
-keep_stamps d pool size (leaf ∷ leaves) (stamp ∷ stamps) failed (dev, inr stop) off = (
-  subst (λ e. (e == d) ≡ false) (sym dev) off.0,
-  keep_bare d stamp.made (stamp_acts pool.0 stamps) (subst (λ l. Keep d (stamp_acts pool.0 l)) (sym stop.2) tt),
-)
+stamp_wrote : (d size : ℕ) (pool member : Guid) (made : List Noted) (outcome : Option Fault) → IsPart (stamp_plan d size pool member) made outcome → HasWriteTo d made
+stamp_wrote d size pool member [] outcome part = absurd part
+stamp_wrote d size pool member (noted ∷ made) outcome part = inl (write_asked d (0 + ring_offset) zero_ring noted.call part.0)
+
+wrote_bare : (d : ℕ) (made : List Noted) (rest : List Act) → HasWriteTo d made → HasWriteTo d (calls_along (bare made ++ rest))
+wrote_bare d [] rest wrote = absurd wrote
+wrote_bare d (noted ∷ made) rest (inl here) = inl here
+wrote_bare d (noted ∷ made) rest (inr more) = inr (wrote_bare d made rest more)
+
+wrote_behind : (d : ℕ) (made : List Noted) (rest : List Act) → HasWriteTo d (calls_along rest) → HasWriteTo d (calls_along (bare made ++ rest))
+wrote_behind d [] rest wrote = wrote
+wrote_behind d (noted ∷ made) rest wrote = inr (wrote_behind d made rest wrote)
+
+wrote_then : (d : ℕ) (xs ys zs : List Noted) → (HasWriteTo d ys → HasWriteTo d zs) → HasWriteTo d (xs ++ ys) → HasWriteTo d (xs ++ zs)
+wrote_then d [] ys zs then wrote = then wrote
+wrote_then d (x ∷ xs) ys zs then (inl here) = inl here
+wrote_then d (x ∷ xs) ys zs then (inr more) = inr (wrote_then d xs ys zs then more)
+
+wrote_first : (d : ℕ) (first second : List Act) → HasWriteTo d (calls_along first) → HasWriteTo d (calls_along (first ++ second))
+wrote_first d [] second wrote = absurd wrote
+wrote_first d (act ∷ first) second wrote = wrote_then d (calls_of_act act) (calls_along first) (calls_along (first ++ second)) (wrote_first d first second) wrote
+
+-- Stamps keep a device, or one of them is on it.
+record IsStampedOn (P : NewLeaf → Type 0) (d : ℕ) (acts : List Act) : Type 0 where
+  leaf : NewLeaf
+  has : P leaf
+  dev : leaf.dev ≡ d
+  wrote : HasWriteTo d (calls_along acts)
+
+first_stamp : (P : NewLeaf → Type 0) (d size : ℕ) (pool : Guid) (leaf : NewLeaf) (stamp : Stamp) (stamps : List Stamp) (outcome : Option Fault) → stamp.dev ≡ leaf.dev → P leaf
+    → IsPart (stamp_plan leaf.dev size pool leaf.guid) stamp.made outcome → Keep d (stamp_acts pool.0 stamps) ⊎ IsStampedOn P d (stamp_acts pool.0 stamps)
+    → Keep d (stamp_acts pool.0 (stamp ∷ stamps)) ⊎ IsStampedOn P d (stamp_acts pool.0 (stamp ∷ stamps))
+first_stamp P d size pool leaf stamp stamps outcome dev has part rest = by_bool (stamp.dev == d)
+    (λ here. let same : leaf.dev ≡ d = sym dev ∙ same_device stamp.dev d here in inr (record {
+      leaf = leaf;
+      has = has;
+      dev = same;
+      wrote = wrote_bare d stamp.made (stamp_acts pool.0 stamps) (subst (λ e. HasWriteTo e stamp.made) same (stamp_wrote leaf.dev size pool leaf.guid stamp.made outcome part));
+    }))
+    (λ away. ⊎_elim (λ keeps. inl (away, keep_bare d stamp.made (stamp_acts pool.0 stamps) keeps))
+    (λ on. inr (record { leaf = on.leaf; has = on.has; dev = on.dev; wrote = wrote_behind d stamp.made (stamp_acts pool.0 stamps) on.wrote })) rest)
+
+keep_stamps : (P : NewLeaf → Type 0) (d : ℕ) (pool : Guid) (size : ℕ → ℕ) (leaves : List NewLeaf) (stamps : List Stamp) (failed : Option NewLeaf) → AreStamps size pool leaves stamps failed
+    → AllByRecursion P leaves → Keep d (stamp_acts pool.0 stamps) ⊎ IsStampedOn P d (stamp_acts pool.0 stamps)
+keep_stamps P d pool size [] [] failed are all = inl tt
+keep_stamps P d pool size [] (stamp ∷ stamps) failed are all = absurd are
+keep_stamps P d pool size (leaf ∷ leaves) [] failed are all = absurd are
+keep_stamps P d pool size (leaf ∷ leaves) (stamp ∷ stamps) failed (dev, inl whole) all =
+    first_stamp P d (size leaf.dev) pool leaf stamp stamps None dev all.0 whole.0 (keep_stamps P d pool size leaves stamps failed whole.1 all.1)
+keep_stamps P d pool size (leaf ∷ leaves) (stamp ∷ stamps) failed (dev, inr stop) all =
+    first_stamp P d (size leaf.dev) pool leaf stamp stamps (Some stop.0) dev all.0 stop.1 (inl (subst (λ l. Keep d (stamp_acts pool.0 l)) (sym stop.2) tt))
 
 keep_commit : (answer : CreateReply) (d g : ℕ) (vs : List Move) → AllKeep vs → Keep d (commit_acts answer g vs)
 keep_commit Created d g vs all = keep_does d g vs all
@@ -411,31 +449,52 @@ all_named table (names ∷ tops) next top known =
     (leaves_from (suc next + length (members_of table names)) (suc top) (tops_of table tops))
     (all_named table tops (suc next + length (members_of table names)) (suc top) (unknown_right table names (all_names tops) known)))
 
-taken_by : (h : Host) (e : Entry) (d : ℕ) (name : List ℕ) (blocks : ℕ) (tops : List (List (List ℕ))) (answer : CreateReply) → e.asked ≡ Asks_create name blocks tops → create_refusal h name blocks tops ≡ None
-    → is_leaf_at (leaf_at d (leaves_of h.table tops)) ≡ true → e.reply ≡ To_create answer → IsTakenBy h e d
-taken_by h e d name blocks tops answer asked none is reply =
-    let at = leaf_of d (leaves_of h.table tops) is in
-    let found = leaf_found d (leaves_of h.table tops) at.0 at.1 in
-    let has = all_of (HasName h.table (all_names tops)) (leaves_of h.table tops) at.0 (all_named h.table tops 1 1 (none_refused h name blocks tops none).1.1.1.1.1.1.1.0) found.0 in
-    record { name = name; blocks = blocks; tops = tops; asked = asked; device = at.0.name; is_named = has.0; number = has.1 ∙ ap Some found.1; answer = answer; reply = reply }
+-- the device of a stamp was taken by its create
+taken_by : (h : Host) (e : Entry) (d : ℕ) (name : List ℕ) (blocks : ℕ) (tops : List (List (List ℕ))) (answer : CreateReply) → e.asked ≡ Asks_create name blocks tops
+    → IsStampedOn (HasName h.table (all_names tops)) d e.acts → e.reply ≡ To_create answer → IsTakenBy h e d
+taken_by h e d name blocks tops answer asked on reply = record {
+  name = name;
+  blocks = blocks;
+  tops = tops;
+  asked = asked;
+  device = on.leaf.name;
+  is_named = on.has.0;
+  number = on.has.1 ∙ ap Some on.dev;
+  answer = answer;
+  reply = reply;
+  wrote = on.wrote;
+}
+
+all_have : (h : Host) (name : List ℕ) (blocks : ℕ) (tops : List (List (List ℕ))) → create_refusal h name blocks tops ≡ None
+    → AllByRecursion (HasName h.table (all_names tops)) (leaves_of h.table tops)
+all_have h name blocks tops none = all_named h.table tops 1 1 (none_refused h name blocks tops none).1.1.1.1.1.1.1.0
 
 create_keeps : (c : Codec) (h : Host) (e : Entry) (d : ℕ) (name : List ℕ) (blocks : ℕ) (tops : List (List (List ℕ))) → e.asked ≡ Asks_create name blocks tops → RowCreate c h name blocks tops e.acts e.reply
     → Keep d e.acts ⊎ IsTakenBy h e d
 create_keeps c h e d name blocks tops asked (inl row) = inl (subst (Keep d) (sym row.2) tt)
-create_keeps c h e d name blocks tops asked (inr (inl row)) = by_bool (is_leaf_at (leaf_at d (leaves_of h.table tops)))
-    (λ is. inr (taken_by h e d name blocks tops (FaultOn row.leaf.name) asked row.may.none is row.says))
-    (λ off. inl (subst (Keep d) (sym row.all) (tt, keep_stamps d row.pool (size_in h.table) (leaves_of h.table tops) row.stamps (Some row.leaf) row.are (off_all (leaves_of h.table tops) d off))))
-create_keeps c h e d name blocks tops asked (inr (inr row)) = by_bool (is_leaf_at (leaf_at d (leaves_of h.table tops)))
-    (λ is. inr (taken_by h e d name blocks tops row.answer asked row.may.none is row.says))
-    (λ off. inl (subst (Keep d) (sym row.all) (
+create_keeps c h e d name blocks tops asked (inr (inl row)) = ⊎_elim (λ keeps. inl (subst (Keep d) (sym row.all) (tt, keeps)))
+    (λ on. inr (taken_by h e d name blocks tops (FaultOn row.leaf.name) asked
+    (record { leaf = on.leaf; has = on.has; dev = on.dev; wrote = subst (λ acts. HasWriteTo d (calls_along acts)) (sym row.all) on.wrote }) row.says))
+    (keep_stamps (HasName h.table (all_names tops)) d row.pool (size_in h.table) (leaves_of h.table tops) row.stamps (Some row.leaf) row.are (all_have h name blocks tops row.may.none))
+create_keeps c h e d name blocks tops asked (inr (inr row)) =
+    let behind = Bears (new_birth name row.pool blocks h.table tops) ∷ commit_acts row.answer row.pool.0 row.moves in
+    ⊎_elim (λ keeps. inl (subst (Keep d) (sym row.all) (
       tt,
-      keep_acts d (stamp_acts row.pool.0 row.stamps) (Bears (new_birth name row.pool blocks h.table tops) ∷ commit_acts row.answer row.pool.0 row.moves)
-          (keep_stamps d row.pool (size_in h.table) (leaves_of h.table tops) row.stamps None row.are (off_all (leaves_of h.table tops) d off)) (
-            tt,
-            keep_commit row.answer d row.pool.0 row.moves
-                (all_found KeepsMembers kept_kind (λ cells board. tt) c (size_in h.table) (new_state (size_in h.table) name row.pool blocks (tops_of h.table tops)) row.moves row.row.whole row.row.row),
-          ),
+      keep_acts d (stamp_acts row.pool.0 row.stamps) behind keeps (
+        tt,
+        keep_commit row.answer d row.pool.0 row.moves
+            (all_found KeepsMembers kept_kind (λ cells board. tt) c (size_in h.table) (new_state (size_in h.table) name row.pool blocks (tops_of h.table tops)) row.moves row.row.whole row.row.row),
+      ),
     )))
+    (λ on. inr (taken_by h e d name blocks tops row.answer asked
+    (record {
+      leaf = on.leaf;
+      has = on.has;
+      dev = on.dev;
+      wrote = subst (λ acts. HasWriteTo d (calls_along acts)) (sym row.all)
+          (wrote_first d (stamp_acts row.pool.0 row.stamps) behind on.wrote);
+    }) row.says))
+    (keep_stamps (HasName h.table (all_names tops)) d row.pool (size_in h.table) (leaves_of h.table tops) row.stamps None row.are (all_have h name blocks tops row.may.none))
 
 -- Imports.
 keep_shown : (d g : ℕ) (known : Known) (devs : List (Option ℕ)) (rest : List Act) → Keep d rest → Keep d (all_shown g known devs ++ rest)

@@ -2,7 +2,6 @@
 use Rattle.std.proofs.Common.{◌≡◌, ◌≢◌, ◌⊎◌, inl, inr, ⊎_elim, ℕ, ◌≤◌, ◌==◌, nat_le, Bool, true, false, cond, List, [], ◌∷◌, ◌++◌, map, Option, Some, None, refl, sym, ap, ◌∙◌, subst, arith}
 use mathlib.Core.Path.{fun_ext}
 use Rattle.std.proofs.lemmas.Bool.Decides.{nat_tests}
-use Rattle.mp_base.specs.Block.{zero_block}
 use Rattle.bank_core.specs.Disk.{Sector, Sectors, Nothing, IsClean, IsImage, after_crash}
 use Rattle.txg_history.specs.Events.{
   Event,
@@ -34,11 +33,12 @@ use Rattle.txg_history.specs.Moves.{May, Mays, MayStop, AreUnforged}
 use Rattle.txg_history.specs.Numbering.{renumbered}
 use Rattle.txg_history.specs.Pages.{Codec}
 use Rattle.txg_history.specs.Pools.{Pool, after, pool_after}
-use Rattle.txg_history.specs.Records.{Rec, IsIn, block_at}
+use Rattle.txg_history.specs.Records.{Rec, IsIn, block_at, nothing}
 use Rattle.txg_history.specs.Survival.{Survives, IsAmong}
 use Rattle.label_store.specs.Records.{place_at}
 use Rattle.label_store.specs.Uberblock.{IsUberblock}
 use Rattle.txg_history.proofs.Containing.{drawn_contents}
+use Rattle.txg_history.proofs.Folding.{pool_kept}
 use Rattle.txg_history.proofs.Logging.{by_bool, true_not_false}
 use Rattle.txg_history.proofs.Moving.{event_survives}
 use Rattle.txg_history.proofs.Numbering.{renumbered_survives}
@@ -153,11 +153,11 @@ group_frozen c (Then past v) ok f = group_frozen c past ok.0 f
 group_frozen c (Numbered past was called) ok f = group_frozen c past ok.0 f
 
 frozen_more : (past : Past) (v : Event) (r : Rec) → HasFrozen past r → HasFrozen (Then past v) r
-frozen_more past v r (inl none) = inl none
+frozen_more past v r (inl first) = inl (first ∙ ap nothing (sym (pool_kept (v ∷ []) (pool_of past))))
 frozen_more past v r (inr has) = inr (has.0, inr has.1, has.2)
 
 pub live_frozen : (c : Codec) (past : Past) → IsAllowed c past → (r : Rec) → IsIn r (pool_of past).live → HasFrozen past r
-live_frozen c (Born birth sectors) ok r (inl is) = inl (λ a. ap (λ q. block_at q a) is)
+live_frozen c (Born birth sectors) ok r (inl is) = inl is
 live_frozen c (Born birth sectors) ok r (inr none) = absurd none
 live_frozen c (Then past (Begins q)) ok r (inl is) = inr (
   past,
@@ -172,5 +172,5 @@ live_frozen c (Then past v) ok r is = frozen_more past v r (live_frozen c past o
 live_frozen c (Numbered past was called) ok r is = more (live_frozen c past ok.0 r is)
   where
     more : HasFrozen past r → HasFrozen (Numbered past was called) r
-    more (inl none) = inl none
+    more (inl first) = inl first
     more (inr has) = inr (has.0, inr has.1, has.2)

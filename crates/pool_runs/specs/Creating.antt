@@ -1,8 +1,10 @@
 -- `create` as a row: its refusals, its stamps, and the pool that begins behind them.
-use Rattle.std.specs.Prelude.{◌≡◌, ◌≢◌, ◌⊎◌, ℕ, ◌+◌, ◌<◌, ◌≤◌, ◌^◌, ◌==◌, ◌||◌, nat_lt, Bool, true, false, cond, List, [], ◌∷◌, ◌++◌, map, length, Option, Some, None}
+use Rattle.std.specs.Prelude.{◌≡◌, ◌≢◌, ◌⊎◌, ℕ, ◌+◌, ◌≤◌, ◌==◌, ◌||◌, nat_lt, Bool, true, false, cond, List, [], ◌∷◌, ◌++◌, map, length, take, Option, Some, None}
 use Rattle.std.specs.List.{AllByRecursion, list_any, find}
 use Rattle.std.specs.Option.{is_some}
+use Rattle.std.specs.Int.{to_be_bytes, from_be_bytes, w64}
 use Rattle.std.specs.Str.{bytes_eq}
+use Rattle.sha2.specs.Sha256.{sha256}
 use Rattle.mp_base.specs.declared.number.Guid.{Guid}
 use Rattle.txg_history.specs.Pages.{Codec}
 use Rattle.pool_moves.specs.FreezeRow.{is_dev}
@@ -120,11 +122,19 @@ abbrev pub stamp_acts : (g : ℕ) → List Stamp → List Act
 stamp_acts g [] = []
 stamp_acts g (stamp ∷ stamps) = Takes g stamp.dev ∷ (bare stamp.made ++ stamp_acts g stamps)
 
--- What each create has that isn't refused: a pool number, which the clock gave, at least one device for each mirror, and its leaves on
--- devices of their own.
+-- the number of a pool: the first eight bytes of the sum of its name and of the second at which it is made
+unfoldable pub pool_sum : (name : List ℕ) → (second : ℕ) → ℕ
+pool_sum name second = from_be_bytes w64 (take 8 (sha256 (name ++ to_be_bytes w64 second)))
+
+-- but never 0
+abbrev pub pool_number : (name : List ℕ) → (second : ℕ) → Guid
+pool_number name second = record { 0 = cond (pool_sum name second == 0) 1 (pool_sum name second) }
+
+-- What each create has that isn't refused: its pool's number by its name and the last second, at least one device for each mirror, and its leaves
+-- on devices of their own.
 pub record MayCreate (h : Host) (name : List ℕ) (blocks : ℕ) (tops : List (List (List ℕ))) (pool : Guid) : Type 0 where
   pub none : create_refusal h name blocks tops ≡ None
-  pub in_range : pool.0 < 2 ^ 64
+  pub number : pool ≡ pool_number name h.second
   pub some : AllByRecursion (λ names. 1 ≤ length names) tops
   pub apart : AreDevicesApart (leaves_of h.table tops)
 

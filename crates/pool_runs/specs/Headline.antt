@@ -74,7 +74,7 @@ pub record Headline (c : Codec) (past : Past) (h : Host) (acts : List Act) (entr
   -- scans clear only copied groups, and else a group leaves a log only where its number is burned, at an opening, or with its leaf
   pub scans : (m : Moment c past acts entries) (before : List Event) (v : Event) (d g : ℕ) → events_at m ≡ before ++ (v ∷ []) → (pool_after before (pool_of past)).member d ≡ true
       → (pool_after before (pool_of past)).owes d g ≡ true → (pool_at m).owes d g ≡ false → TakesFor (pool_of past) before v d g
-  -- a member stays one, unless this very line is a create that names its device and wasn't refused
+  -- a member stays one, unless this very line is a create that names its device, wasn't refused, and wrote to it
   pub keeps : (l : LineOf c past acts entries) (d : ℕ) → (pool_before l).member d ≡ true → ((pool_behind l).member d ≡ true) ⊎ IsTakenBy (host_before h l) l.entry d
   -- a turn or a sync is refused as suspended only where a device's count rose in that very line, or some top had nobody left on its board before
   pub counts : (l : LineOf c past acts entries) (name : List ℕ) (s : PoolState) (from to : ℕ → ℕ) → (l.entry.asked ≡ Asks_turn name) ⊎ (l.entry.asked ≡ Asks_sync name)

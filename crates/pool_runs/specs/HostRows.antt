@@ -153,9 +153,15 @@ MayRewrite (Asks_read name a) acts = Unit {0}
 MayRewrite (Asks_import name) acts = AllByRecursion ChangesNone acts
 MayRewrite asked acts = ⊥
 
--- A line for which there was no memory: it did what some row of this line begins with. Each call so far answered Ok; none of them wrote or
+-- a line that may want memory: one that makes a turn takes none
+abbrev pub TakesMemory : Asked → Type 0
+TakesMemory (Asks_turn name) = ⊥
+TakesMemory asked = Unit {0}
+
+-- A line for which there was no memory, where it takes any: it did what some row of this line begins with. Each call so far answered Ok; none of them wrote or
 -- flushed, and no pool changed, but where a read rewrote copies and counted, or an import rewrote pages. (A sync that ended a group before is a row of its own.)
 pub record RunsOut (c : Codec) (h : Host) (e : Entry) : Type 0 where
+  pub takes : TakesMemory e.asked
   pub rest : List Act
   pub reply : Reply
   pub goes_on : RowOf c h e.asked (e.acts ++ rest) reply

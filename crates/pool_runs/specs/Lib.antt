@@ -12,4 +12,5 @@ pub mod Knowing
 pub mod Lines
 pub mod Moments
 pub mod Pasts
+pub mod SmallRuns
 pub mod Taking

@@ -12,7 +12,7 @@ use Rattle.pool_moves.specs.ScanRows.{StepReply, ScrubReply, StopReply}
 use Rattle.pool_moves.specs.StampRow.{CreateReply}
 use Rattle.pool_runs.specs.Acts.{Act}
 
--- what a line asks. One that asks nothing is outside of the grammar, or empty
+-- what a line asks. One that asks nothing is outside of the grammar, or empty, or there was no memory to read it
 pub data Asked : Type 0 where
   Asks_nothing : Asked
   Asks_write : (name : List ℕ) (a : ℕ) (block : List ℕ) → Asked
