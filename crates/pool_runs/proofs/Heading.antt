@@ -60,7 +60,7 @@ use Rattle.pool_runs.specs.Headline.{TakesFor, IsRequiredFor, Headline}
 use Rattle.pool_runs.specs.HostRows.{AreMade, ReadLine, TurnLine, SyncLine, OfflineLine, OnPool, RowOf, HostRow, acts_in, IsRun}
 use Rattle.pool_runs.specs.Hosts.{Host, IsOpen, named, host_by, host_along}
 use Rattle.pool_runs.specs.Knowing.{HasSeats, Knows, MayActs}
-use Rattle.pool_runs.specs.Lines.{Asked, Asks_read, Asks_turn, Asks_sync, Asks_offline, Asks_import, Reply, To_read, To_sync, To_import, To_offline, ImportReply, Opened, NothingFound, No_memory, Entry}
+use Rattle.pool_runs.specs.Lines.{Asked, Asks_read, Asks_turn, Asks_sync, Asks_offline, Asks_import, Reply, To_read, To_sync, To_import, To_offline, ImportReply, Opened, NothingFound, PageLost, No_memory, Entry}
 use Rattle.pool_runs.specs.Moments.{Moment, events_at, pool_at, past_at, host_at, LineOf, pool_before, host_before, calls_in_line, IsOpenAs}
 use Rattle.pool_runs.specs.Pasts.{Past, pool_of, then_all, Left, BeginsRun, HasFrozen}
 use Rattle.pool_runs.proofs.Acting.{acts_more, history_pool}
@@ -195,12 +195,16 @@ line_loses c h p e name a s met asked at is = of met.row
     of (inr out) = read_not_memory Exhausted (sym is ∙ out.says)
 
 -- An import finds the pool.
-line_opens : (c : Codec) (h : Host) (p : Pool) (e : Entry) → Meets c h p e → e.asked ≡ Asks_import p.name → AreFair c p e.acts → FindsPool p (pool_along e.acts p) e.reply
+line_opens : (c : Codec) (h : Host) (p : Pool) (e : Entry) → Meets c h p e → e.asked ≡ Asks_import p.name → AreFair c p e.acts → FindsPool c p (pool_along e.acts p) e.acts e.reply
 line_opens c h p e met asked fair = of met.row
   where
-    of : HostRow c h e → FindsPool p (pool_along e.acts p) e.reply
+    of : HostRow c h e → FindsPool c p (pool_along e.acts p) e.acts e.reply
     of (inl row) = import_finds c h p p.name e.acts e.reply met.knows refl row.1 fair (subst (λ x. RowOf c h x e.acts e.reply) asked row.0)
-    of (inr out) = record { some = λ says. import_not_memory NothingFound (sym says ∙ out.says); opened = λ n says. import_not_memory (Opened n) (sym says ∙ out.says) }
+    of (inr out) = record {
+      some = λ says. import_not_memory NothingFound (sym says ∙ out.says);
+      opened = λ n says. import_not_memory (Opened n) (sym says ∙ out.says);
+      loses = λ page shown says. import_not_memory (PageLost page shown) (sym says ∙ out.says);
+    }
 
 -- A sync acknowledges what was written.
 line_syncs : (c : Codec) (h : Host) (p : Pool) (e : Entry) (name : List ℕ) (s : PoolState) (n : ℕ) → Meets c h p e → e.asked ≡ Asks_sync name → IsOpenAs p h name s

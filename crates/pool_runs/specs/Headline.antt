@@ -52,9 +52,9 @@ pub record Headline (c : Codec) (past : Past) (h : Host) (acts : List Act) (entr
   pub sound : (m : Moment c past acts entries) → IsSound (pool_at m)
   -- and each record that an opening may find has the writes that were accepted before a freeze, the last before its round
   pub contents : (m : Moment c past acts entries) (r : Rec) → IsIn r (pool_at m).live → HasFrozen (past_at m) r
-  -- an import of its name, where no pool of the name is open, finds a live record, not below the acknowledged one, and opens it above
+  -- an import of its name finds a live record, not below the acknowledged one, and opens it above, or some page of it has no good leaf
   pub opens : (l : LineOf c past acts entries) → l.entry.asked ≡ Asks_import (pool_before l).name → AreFair c (pool_before l) l.entry.acts
-      → FindsPool (pool_before l) (pool_behind l) l.entry.reply
+      → FindsPool c (pool_before l) (pool_behind l) l.entry.acts l.entry.reply
   -- a sync that answers a number acknowledged that record, and it has each block as it was written last
   pub syncs : (l : LineOf c past acts entries) (name : List ℕ) (s : PoolState) (n : ℕ) → l.entry.asked ≡ Asks_sync name
       → IsOpenAs (pool_before l) (host_before h l) name s → l.entry.reply ≡ To_sync (Ended (Committed n)) → CommitsAll (pool_before l) (pool_behind l) n
