@@ -1,7 +1,9 @@
 -- An import finds its pool, and opens a live record of it.
-use Rattle.std.proofs.Common.{◌≡◌, ◌≢◌, ◌⊎◌, inl, inr, ⊎_elim, ℕ, ◌+◌, ◌≤◌, ◌<◌, ◌==◌, nat_le, Bool, true, false, cond, List, [], ◌∷◌, ◌++◌, length, Option, Some, None, refl, sym, ap, ◌∙◌, subst, append_assoc, arith}
+use Rattle.std.proofs.Common.{◌≡◌, ◌≢◌, ◌⊎◌, inl, inr, ⊎_elim, ℕ, ◌+◌, ◌≤◌, ◌<◌, ◌==◌, ◌&&◌, ◌||◌, nat_le, Bool, true, false, not, cond, List, [], ◌∷◌, ◌++◌, length, Option, Some, None, refl, sym, ap, ◌∙◌, subst, append_assoc, arith}
 use Rattle.std.specs.List.{AllByRecursion}
+use Rattle.std.specs.Option.{is_none}
 use Rattle.std.specs.Str.{bytes_eq}
+use Rattle.bank_core.specs.Calls.{device_of, fault_of}
 use Rattle.bank_core.specs.Disk.{Noted, AllAnswer}
 use Rattle.label_store.specs.declared.found.Found.{Found}
 use Rattle.mp_base.specs.declared.number.Guid.{Guid}
@@ -10,7 +12,7 @@ use Rattle.txg_history.specs.Events.{Known, Calls, Opens, as_events}
 use Rattle.txg_history.specs.Looks.{known_by}
 use Rattle.txg_history.specs.Pages.{Codec}
 use Rattle.txg_history.specs.Pools.{Pool, after, pool_after}
-use Rattle.txg_history.specs.Premises.{Premises}
+use Rattle.txg_history.specs.Premises.{Premises, HasGoodPages}
 use Rattle.txg_history.specs.Records.{Rec, IsIn, number_of, block_at}
 use Rattle.txg_history.proofs.Folding.{with_calls, calls_after, events_more, pool_more}
 use Rattle.pool_moves.specs.CommitRows.{uncounts, RowReopen}
@@ -20,7 +22,8 @@ use Rattle.pool_moves.specs.LineRows.{TurnReply, Idle, Write, Flush, Round, Comm
 use Rattle.pool_moves.specs.Moves.{Move, Freeze, Scan_from, Rest, state_step, steps, after_move, after_moves}
 use Rattle.pool_moves.specs.OpeningRow.{IsLiveOne, SeeksLive, SeekReply, NoRecord, NumbersEnd, TakesRecord, seek_reply, taken_by, last_numbers, OpenReply, Opens_state, NoPage, RowOpen, lacking_of, Resumes, ResumesBy, ResumesUnless, RowResume}
 use Rattle.pool_moves.specs.FreezeRow.{up_devs}
-use Rattle.pool_moves.specs.PageReads.{LeafShown}
+use Rattle.pool_moves.specs.Opened.{opened_leaves}
+use Rattle.pool_moves.specs.PageReads.{LeafShown, failed_on, answers_in}
 use Rattle.pool_moves.specs.Resilvers.{rest_if, Resilvers}
 use Rattle.pool_moves.specs.States.{PoolSeen, PoolState, Side}
 use Rattle.pool_moves.proofs.FreeWalks.{moves_more}
@@ -28,7 +31,7 @@ use Rattle.pool_moves.proofs.Keeping.{walk_keeps}
 use Rattle.pool_moves.proofs.ResilverWalks.{resume_walks}
 use Rattle.pool_moves.proofs.Seeking.{seeks_live}
 use Rattle.pool_runs.specs.Acts.{Act, Opening, Looked, Reads_as, Enters, Closes, does, bare, read_by, record_of, events_for, pool_by, pool_along, calls_along}
-use Rattle.pool_runs.specs.Committing.{OpensLive, FindsPool}
+use Rattle.pool_runs.specs.Committing.{OpensLive, opening_in, LosesPage, FindsPool}
 use Rattle.pool_runs.specs.Devices.{number_in, size_in, handed}
 use Rattle.pool_runs.specs.Fairness.{IsFairOpening, AreFair}
 use Rattle.pool_runs.specs.HostRows.{AreMade}
@@ -40,7 +43,7 @@ use Rattle.pool_runs.proofs.Acting.{same_number, acts_more, calls_number}
 use Rattle.pool_runs.proofs.Committing.{numbers_up, GroupCommits, IsAckedAs, ends_acked, ends_before, group_commits, frozen_writes, written_kind, writes_kind, KeepsWritten, KeepsWrites, written_along, writes_along, kept_blocks, does_pool}
 use Rattle.pool_runs.proofs.GroupMoves.{more, all_group, all_uncounts, all_reopen}
 use Rattle.pool_moves.proofs.CommitWalks.{uncounts_set}
-use Rattle.pool_runs.proofs.Importing.{bare_pool, looks_along, opening_of, OpeningFacts, opening_facts, LookFacts, look_facts, taken_live}
+use Rattle.pool_runs.proofs.Importing.{bare_calls, bare_pool, looks_along, opening_of, OpeningFacts, opening_calls, opening_facts, LookFacts, look_facts, taken_live}
 
 -- The commit of an opening.
 resilver_written : (s : PoolSeen) (vs : List Move) → Resilvers s vs → AllByRecursion KeepsWritten vs × AllByRecursion KeepsWrites vs
@@ -125,6 +128,19 @@ record Looked_live (p before : Pool) (found : Found) : Type 0 where
   not_below : number_of before.acked ≤ number_of one
   same : p.live ≡ before.live
 
+-- the pool behind the calls of an opening
+opens_behind : (c : Codec) (h : Host) (p : Pool) (name : List ℕ) (found : Found) (acts : List Act) (reply : Reply) (opens : OpensFound c h name found acts reply) → p.pool.0 ≡ found.pool.0
+    → pool_along acts p ≡ pool_along opens.rest (pool_after (as_events opens.made) (after (Opens (read_by (opening_of c h name found acts reply opens) p)) p))
+opens_behind c h p name found acts reply opens number = let g = found.pool.0 in let r = read_by (opening_of c h name found acts reply opens) p in
+    ap (λ a. pool_along a p) opens.are
+    ∙ (ap (λ vs. pool_along (bare opens.row.ids ++ (all_shown g (read_in opens.row.ids) opens.row.devs ++ (bare opens.row.pages ++ opens.rest))) (pool_after vs p))
+    (ap (λ t. cond t (Opens r ∷ []) []) (same_number p.pool.0 found.pool.0 number))
+    ∙ (bare_more opens.row.ids (all_shown g (read_in opens.row.ids) opens.row.devs ++ (bare opens.row.pages ++ opens.rest)) (after (Opens r) p)
+    ∙ (shown_more g (read_in opens.row.ids) opens.row.devs (bare opens.row.pages ++ opens.rest) (pool_after (as_events opens.row.ids) (after (Opens r) p))
+    ∙ (bare_more opens.row.pages opens.rest (pool_after (as_events opens.row.ids) (after (Opens r) p))
+    ∙ ap (pool_along opens.rest) (sym (ap (λ vs. pool_after vs (after (Opens r) p)) (ap as_events opens.row.calls ∙ events_more opens.row.ids opens.row.pages)
+    ∙ pool_more (as_events opens.row.ids) (as_events opens.row.pages) (after (Opens r) p)))))))
+
 opens_live : (c : Codec) (h : Host) (p before : Pool) (name : List ℕ) (found : Found) (acts : List Act) (reply : Reply) (n : ℕ) → Knows c h p → Looked_live p before found → p.name ≡ name
     → AreMade h (calls_along acts) → AreFair c p acts → OpensFound c h name found acts reply → reply ≡ To_import (Opened n) → OpensLive before (pool_along acts p) n
 opens_live c h p before name found acts reply n knows live named made fair opens says = follow opens.outcome refl opens.follows
@@ -147,16 +163,8 @@ opens_live c h p before name found acts reply n knows live named made fair opens
     q : Pool
     q = pool_after (as_events opens.made) (after (Opens r) p)
 
-    -- the pool behind the calls
     behind : pool_along acts p ≡ pool_along opens.rest q
-    behind = ap (λ a. pool_along a p) opens.are
-        ∙ (ap (λ vs. pool_along (bare opens.row.ids ++ (all_shown g (read_in opens.row.ids) opens.row.devs ++ (bare opens.row.pages ++ opens.rest))) (pool_after vs p))
-        (ap (λ t. cond t (Opens r ∷ []) []) (same_number p.pool.0 found.pool.0 number))
-        ∙ (bare_more opens.row.ids (all_shown g (read_in opens.row.ids) opens.row.devs ++ (bare opens.row.pages ++ opens.rest)) (after (Opens r) p)
-        ∙ (shown_more g (read_in opens.row.ids) opens.row.devs (bare opens.row.pages ++ opens.rest) (pool_after (as_events opens.row.ids) (after (Opens r) p))
-        ∙ (bare_more opens.row.pages opens.rest (pool_after (as_events opens.row.ids) (after (Opens r) p))
-        ∙ ap (pool_along opens.rest) (sym (ap (λ vs. pool_after vs (after (Opens r) p)) (ap as_events opens.row.calls ∙ events_more opens.row.ids opens.row.pages)
-        ∙ pool_more (as_events opens.row.ids) (as_events opens.row.pages) (after (Opens r) p)))))))
+    behind = opens_behind c h p name found acts reply opens number
 
     q_written : q.written ≡ block_at r
     q_written = ap (λ x. x.written) (calls_after opens.made (after (Opens r) p))
@@ -200,11 +208,107 @@ opens_live c h p before name found acts reply n knows live named made fair opens
     follow (Opens_state s) out row = by_turn row.1 s row.0 out row.2 row.3
     follow (NoPage page shown) out row = absurd (let no = sym row.1 ∙ says in cc)
 
+-- A page that was lost.
+page_same : (a b : Key) (x y : List LeafShown) → To_import (PageLost a x) ≡ To_import (PageLost b y) → a ≡ b
+page_same a b x y e = cc
+
+failed_more : (first second : List Noted) (d : ℕ) → failed_on second d ≡ true → failed_on (first ++ second) d ≡ true
+failed_more [] second d is = is
+failed_more (noted ∷ first) second d is = or_right ((device_of noted.call == d) && not (is_none (fault_of noted.call))) (failed_on (first ++ second) d) (failed_more first second d is)
+  where
+    or_right : (a b : Bool) → b ≡ true → (a || b) ≡ true
+    or_right true b is = refl
+    or_right false b is = is
+
+failed_first : (first second : List Noted) (d : ℕ) → failed_on first d ≡ true → failed_on (first ++ second) d ≡ true
+failed_first [] second d is = absurd (cc)
+failed_first (noted ∷ first) second d is = either ((device_of noted.call == d) && not (is_none (fault_of noted.call))) (failed_on first d) (failed_on (first ++ second) d) (failed_first first second d) is
+  where
+    either : (a b e : Bool) → (b ≡ true → e ≡ true) → (a || b) ≡ true → (a || e) ≡ true
+    either true b e up is = refl
+    either false b e up is = up is
+
+fewer_fail : (a b u : Bool) → (b ≡ true → a ≡ true) → (u && not a) ≡ true → (u && not b) ≡ true
+fewer_fail true b true up is = absurd (cc)
+fewer_fail false true true up is = absurd (let no : false ≡ true = up refl in cc)
+fewer_fail false false true up is = refl
+fewer_fail a b false up is = absurd (cc)
+
+more_good : (p : Pool) (r : Rec) (few many : ℕ → Bool) → ((d : ℕ) → few d ≡ true → many d ≡ true) → HasGoodPages p r (λ k. few) → HasGoodPages p r (λ k. many)
+more_good p r few many up good = λ level index cell low high is. let leaf = good level index cell low high is in record {
+  d = leaf.d;
+  is_member = leaf.is_member;
+  top_is = leaf.top_is;
+  has = leaf.has;
+  unhurt = leaf.unhurt;
+  answers = up leaf.d leaf.answers;
+}
+
+opening_bare : (made : List Noted) (more : List Act) → opening_in (bare made ++ more) ≡ opening_in more
+opening_bare [] more = refl
+opening_bare (noted ∷ made) more = opening_bare made more
+
+opens_loses : (c : Codec) (h : Host) (p before : Pool) (name : List ℕ) (found : Found) (acts : List Act) (reply : Reply) (page : Key) (shown : List LeafShown) → Knows c h p → Looked_live p before found
+    → AreMade h (calls_along acts) → AreFair c p acts → OpensFound c h name found acts reply → reply ≡ To_import (PageLost page shown) → LosesPage c before (pool_along acts p) acts
+opens_loses c h p before name found acts reply page shown knows live made fair opens says = follow opens.outcome refl opens.follows
+  where
+    opening : Opening
+    opening = opening_of c h name found acts reply opens
+
+    r : Rec
+    r = read_by opening p
+
+    number : p.pool.0 ≡ found.pool.0
+    number = sym (ap (λ x. x.0) live.is.pool_is)
+
+    facts : OpeningFacts c h p name found acts reply opens
+    facts = opening_facts c h p name found acts reply live.one opens knows live.is made ((subst (AreFair c p) opens.are fair).0 number)
+
+    q : Pool
+    q = pool_after (as_events opens.made) (after (Opens r) p)
+
+    behind : pool_along acts p ≡ pool_along opens.rest q
+    behind = opens_behind c h p name found acts reply opens number
+
+    leaves : List LeafSeen
+    leaves = opened_leaves (c.leaves found.blob.items) opens.row.devs
+
+    -- each call of the pages is one of the line
+    among : (d : ℕ) → failed_on opens.row.pages d ≡ true → failed_on (calls_along acts) d ≡ true
+    among d is = subst (λ made. failed_on made d ≡ true) (sym (opening_calls c h name found acts reply opens))
+        (failed_first opens.made (calls_along opens.rest) d (subst (λ made. failed_on made d ≡ true) (sym opens.row.calls) (failed_more opens.row.ids opens.row.pages d is)))
+
+    lost : (k : Key) (ks : List LeafShown) → opens.outcome ≡ NoPage k ks → opens.rest ≡ [] → LosesPage c before (pool_along acts p) acts
+    lost k ks out none = record {
+      opening = opening;
+      reads = ap opening_in opens.are;
+      r = r;
+      live = subst (IsIn r) live.same facts.is.is_live;
+      is = facts.is.config_is;
+      none = λ good. facts.pages k ks out (more_good q r (answers_in leaves (calls_along acts)) (answers_in leaves opens.row.pages)
+          (λ d is. fewer_fail (failed_on (calls_along acts) d) (failed_on opens.row.pages d) (up_devs leaves d) (among d) is)
+          (subst (λ x. HasGoodPages x r (λ k. answers_in leaves (calls_along acts))) (behind ∙ ap (λ a. pool_along a q) none) good));
+    }
+
+    by_turn : (turn : TurnReply) (s : PoolState) (vs : List Move) → OpensBy turn found.pool.0 s vs opens.rest reply → LosesPage c before (pool_along acts p) acts
+    by_turn (Committed m) s vs by = absurd (let no = sym by.1 ∙ says in cc)
+    by_turn (Suspended group top faults) s vs by = absurd (let no = sym by.1 ∙ says in cc)
+    by_turn Idle s vs by = absurd by
+    by_turn Write s vs by = absurd by
+    by_turn Flush s vs by = absurd by
+    by_turn (Round m) s vs by = absurd by
+
+    follow : (outcome : OpenReply) → opens.outcome ≡ outcome → FollowsMap outcome c (size_in h.table) found.pool.0 opens.rest reply → LosesPage c before (pool_along acts p) acts
+    follow (Opens_state s) out row = by_turn row.1 s row.0 row.3
+    follow (NoPage k ks) out row = lost k ks out row.0
+
 -- By what the looks found.
-not_opened : (before behind : Pool) (reply : Reply) (other : ImportReply) → reply ≡ To_import other → (other ≡ NothingFound → ⊥) → ((n : ℕ) → other ≡ Opened n → ⊥) → FindsPool before behind reply
-not_opened before behind reply other is some none = record {
+not_opened : (c : Codec) (before behind : Pool) (acts : List Act) (reply : Reply) (other : ImportReply) → reply ≡ To_import other → (other ≡ NothingFound → ⊥) → ((n : ℕ) → other ≡ Opened n → ⊥)
+    → ((page : Key) (shown : List LeafShown) → other ≡ PageLost page shown → ⊥) → FindsPool c before behind acts reply
+not_opened c before behind acts reply other is some none loses = record {
   some = λ says. some (same other NothingFound (sym is ∙ says));
   opened = λ n says. absurd (none n (same other (Opened n) (sym is ∙ says)));
+  loses = λ page shown says. absurd (loses page shown (same other (PageLost page shown) (sym is ∙ says)));
 }
   where
     same : (a b : ImportReply) → To_import a ≡ To_import b → a ≡ b
@@ -230,22 +334,43 @@ never_none true found e = cc
 never_none false found e = cc
 
 found_finds : (seek : SeekReply) (c : Codec) (h : Host) (before p : Pool) (name : List ℕ) (acts : List Act) (reply : Reply) → Knows c h p → p.name ≡ name → AreMade h (calls_along acts) → AreFair c p acts
-    → (seek ≡ NoRecord → ⊥) → ((found : Found) → seek ≡ TakesRecord found → Looked_live p before found) → ImportBy seek c h name acts reply → FindsPool before (pool_along acts p) reply
+    → (seek ≡ NoRecord → ⊥) → ((found : Found) → seek ≡ TakesRecord found → Looked_live p before found) → ImportBy seek c h name acts reply → FindsPool c before (pool_along acts p) acts reply
 found_finds NoRecord c h before p name acts reply knows named made fair some live row = absurd (some refl)
-found_finds (NumbersEnd limit count) c h before p name acts reply knows named made fair some live row = not_opened before (pool_along acts p) reply (LastNumber limit count) row.1 (λ e. cc) (λ n e. cc)
+found_finds (NumbersEnd limit count) c h before p name acts reply knows named made fair some live row = not_opened c before (pool_along acts p) acts reply (LastNumber limit count) row.1 (λ e. cc) (λ n e. cc) (λ page shown e. cc)
 found_finds (TakesRecord found) c h before p name acts reply knows named made fair some live row = record {
   some = opens_some c h name found acts reply row;
   opened = λ n says. opens_live c h p before name found acts reply n knows (live found refl) named made fair row says;
+  loses = λ page shown says. opens_loses c h p before name found acts reply page shown knows (live found refl) made fair row says;
 }
 
 pub import_finds : (c : Codec) (h : Host) (p : Pool) (name : List ℕ) (acts : List Act) (reply : Reply) → Knows c h p → p.name ≡ name → AreMade h (calls_along acts) → AreFair c p acts → RowImport c h name acts reply
-    → FindsPool p (pool_along acts p) reply
+    → FindsPool c p (pool_along acts p) acts reply
 import_finds c h p name acts reply knows titled made fair row = unless (named_in h.pools) row
   where
     named_in : List PoolState → Option PoolState
     named_in pools = named name pools
 
-    imports : Imports c h name acts reply → FindsPool p (pool_along acts p) reply
+    -- what the rest of the line finds, the line does
+    line_finds : (made : List Noted) (known : Known) (rest : List Act) (p1 : Pool) → acts ≡ bare made ++ (Looked name known ∷ rest) → pool_along acts p ≡ pool_along rest p1
+        → FindsPool c p (pool_along rest p1) rest reply → FindsPool c p (pool_along acts p) acts reply
+    line_finds made known rest p1 are same finds = record {
+      some = finds.some;
+      opened = λ n says. subst (λ x. OpensLive p x n) (sym same) (finds.opened n says);
+      loses = λ page shown says. let lost = finds.loses page shown says in record {
+        opening = lost.opening;
+        reads = ap opening_in are ∙ (opening_bare made (Looked name known ∷ rest) ∙ lost.reads);
+        r = lost.r;
+        live = lost.live;
+        is = lost.is;
+        none = λ good. lost.none (more_good (pool_along rest p1) lost.r (answers_in (opened_leaves (c.leaves lost.opening.found.blob.items) lost.opening.devs) (calls_along acts))
+            (answers_in (opened_leaves (c.leaves lost.opening.found.blob.items) lost.opening.devs) (calls_along rest))
+            (λ d is. fewer_fail (failed_on (calls_along acts) d) (failed_on (calls_along rest) d) (up_devs (opened_leaves (c.leaves lost.opening.found.blob.items) lost.opening.devs) d)
+            (λ failed. subst (λ calls. failed_on calls d ≡ true) (sym (ap calls_along are ∙ bare_calls made (Looked name known ∷ rest))) (failed_more made (calls_along rest) d failed)) is)
+            (subst (λ x. HasGoodPages x lost.r (λ k. answers_in (opened_leaves (c.leaves lost.opening.found.blob.items) lost.opening.devs) (calls_along acts))) same good));
+      };
+    }
+
+    imports : Imports c h name acts reply → FindsPool c p (pool_along acts p) acts reply
     imports row =
         let known = known_by (size_in h.table) (handed h.table) row.row.looks in
         let p1 = pool_after (as_events row.made) p in
@@ -256,7 +381,7 @@ import_finds c h p name acts reply knows titled made fair row = unless (named_in
         let rest_fair : AreFair c p1 row.rest = subst (λ x. AreFair c x row.rest) (looks_along (bytes_eq p1.name name) known p1) all.1 in
         let pool_is : pool_along acts p ≡ pool_along row.rest p1 = ap (λ a. pool_along a p) row.are ∙ (bare_more row.made (Looked name known ∷ row.rest) p
         ∙ ap (pool_along row.rest) (looks_along (bytes_eq p1.name name) known p1)) in
-        subst (λ x. FindsPool p x reply) (sym pool_is)
+        line_finds row.made known row.rest p1 row.are pool_is
         (found_finds row.seek c (host_behind row.made h) p p1 name row.rest reply facts.knows named1 facts.made rest_fair
         (λ none. never_none (nat_le last_numbers seeks.found.number.0) seeks.found (sym none ∙ seeks.says))
         (λ found is. let taken = taken_live c p row.made known row.seek found seeks is in record {
@@ -266,10 +391,10 @@ import_finds c h p name acts reply knows titled made fair row = unless (named_in
           same = ap (λ x. x.live) (calls_after row.made p);
         }) row.follows)
 
-    full_by : (full : Bool) → ImportFor full c h name acts reply → FindsPool p (pool_along acts p) reply
-    full_by true row = not_opened p (pool_along acts p) reply (TooManyPools 16 (length h.pools + 1)) row.1 (λ e. cc) (λ n e. cc)
+    full_by : (full : Bool) → ImportFor full c h name acts reply → FindsPool c p (pool_along acts p) acts reply
+    full_by true row = not_opened c p (pool_along acts p) acts reply (TooManyPools 16 (length h.pools + 1)) row.1 (λ e. cc) (λ n e. cc) (λ page shown e. cc)
     full_by false row = imports row
 
-    unless : (found : Option PoolState) → ImportUnless found c h name acts reply → FindsPool p (pool_along acts p) reply
-    unless (Some s) row = not_opened p (pool_along acts p) reply NameOpen row.1 (λ e. cc) (λ n e. cc)
+    unless : (found : Option PoolState) → ImportUnless found c h name acts reply → FindsPool c p (pool_along acts p) acts reply
+    unless (Some s) row = not_opened c p (pool_along acts p) acts reply NameOpen row.1 (λ e. cc) (λ n e. cc) (λ page shown e. cc)
     unless None row = full_by (nat_le 16 (length h.pools)) row

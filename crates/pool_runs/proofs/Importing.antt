@@ -19,7 +19,7 @@ use Rattle.txg_history.specs.Looks.{known_by}
 use Rattle.txg_history.specs.Moves.{Mays}
 use Rattle.txg_history.specs.Pages.{Codec, ClashesAt}
 use Rattle.txg_history.specs.Pools.{Pool, after, pool_after}
-use Rattle.txg_history.specs.Premises.{Premises, HasNoTwin}
+use Rattle.txg_history.specs.Premises.{Premises, HasNoTwin, HasGoodPages}
 use Rattle.txg_history.specs.Records.{Rec, IsIn, number_of}
 use Rattle.txg_history.proofs.LookedParts.{answer_first, answer_second}
 use Rattle.txg_history.proofs.LooksFound.{known_of}
@@ -32,13 +32,14 @@ use Rattle.pool_moves.specs.Keeping.{Kept, Walks}
 use Rattle.pool_moves.specs.LineRows.{IsSized, TurnReply, Idle, Write, Flush, Round, Committed, Suspended}
 use Rattle.pool_moves.specs.Leaves.{Seat}
 use Rattle.pool_moves.specs.Moves.{Move, steps, after_moves}
-use Rattle.pool_moves.specs.Opened.{opened_seats, claims_of}
+use Rattle.pool_moves.specs.Opened.{opened_leaves, opened_seats, claims_of}
 use Rattle.pool_moves.specs.OpeningRow.{IsLiveOne, SeeksLive, SeekReply, NoRecord, NumbersEnd, TakesRecord, seek_reply, taken_by, last_numbers, RowSeek, OpenReply, Opens_state, NoPage, RowOpen, RowResume}
+use Rattle.pool_moves.specs.PageReads.{LeafShown, answers_in}
 use Rattle.pool_moves.specs.States.{PoolState, Side}
 use Rattle.pool_moves.specs.Walking.{as_moves}
 use Rattle.pool_moves.proofs.CommitWalks.{opened_kept}
 use Rattle.pool_moves.proofs.Keeping.{walk_keeps}
-use Rattle.pool_moves.proofs.OpeningWalks.{opening_opens, opening_may}
+use Rattle.pool_moves.proofs.OpeningWalks.{opening_opens, opening_may, opening_finds}
 use Rattle.pool_moves.proofs.ResilverWalks.{resume_walks}
 use Rattle.pool_moves.proofs.Seeking.{reads_may, seeks_live, row_no_twin}
 use Rattle.pool_runs.specs.Acts.{Act, Opening, Looked, Shows, Reads_as, Enters, Closes, does, bare, calls_along, is_record_of, record_of, read_by, events_for, pool_by, pool_along}
@@ -85,7 +86,7 @@ bare_own : (g : ℕ) (h : Host) (made : List Noted) (more : List Act) → AreOwn
 bare_own g h [] more own = own
 bare_own g h (noted ∷ made) more own = bare_own g (record h { disk = run (noted ∷ []) h.disk }) made more own.1
 
-bare_calls : (made : List Noted) (more : List Act) → calls_along (bare made ++ more) ≡ made ++ calls_along more
+pub bare_calls : (made : List Noted) (more : List Act) → calls_along (bare made ++ more) ≡ made ++ calls_along more
 bare_calls [] more = refl
 bare_calls (noted ∷ made) more = ap (λ rest. noted ∷ rest) (bare_calls made more)
 
@@ -288,6 +289,15 @@ opens_seats c h p name found r made (Opens_state x) row knows same is answers tw
     of (inr clash) = absurd (pages clash)
 opens_seats c h p name found r made (NoPage page shown) row knows same is answers twin pages s out = absurd (cc)
 
+-- a page that was lost has no good leaf
+opens_lost : (c : Codec) (h : Host) (p : Pool) (name : List ℕ) (found : Found) (r : Rec) (made : List Noted) (outcome : OpenReply) → (row : RowOpen c (size_in h.table) (λ device. number_in device h.table) name found made outcome)
+    → Knows c h p → p.name ≡ name → IsLiveOne p found r → AllAnswer p.sectors made → HasNoTwin p r (claims_of (c.leaves found.blob.items) row.devs)
+    → (page : Key) (shown : List LeafShown) → outcome ≡ NoPage page shown
+    → HasGoodPages (pool_after (as_events made) (after (Opens r) p)) r (λ k. answers_in (opened_leaves (c.leaves found.blob.items) row.devs) row.pages) → ClashesAt r.cells row.bytes
+opens_lost c h p name found r made (Opens_state x) row knows same is answers twin page shown out good = absurd (cc)
+opens_lost c h p name found r made (NoPage k ks) row knows same is answers twin page shown out good =
+    opening_finds c (size_in h.table) (λ device. number_in device h.table) name p r found made k ks knows.survives same is row answers twin good
+
 -- the calls of an opening, and what follows
 opens_more : (c : Codec) (h : Host) (p : Pool) (name : List ℕ) (found : Found) (acts : List Act) (reply : Reply) (r : Rec) → (opens : OpensFound c h name found acts reply) → p.pool.0 ≡ found.pool.0
     → Knows c h (after (Opens r) p) → Mays c (after (Opens r) p) (as_events opens.made)
@@ -359,8 +369,11 @@ pub record OpeningFacts (c : Codec) (h : Host) (p : Pool) (name : List ℕ) (fou
   pub is : IsLiveOne p found (read_by (opening_of c h name found acts reply opens) p)
   pub mays : Mays c (after (Opens (read_by (opening_of c h name found acts reply opens) p)) p) (as_events opens.made)
   pub seats : (s : PoolState) → opens.outcome ≡ Opens_state s → HasSeats c s (pool_after (as_events opens.made) (after (Opens (read_by (opening_of c h name found acts reply opens) p)) p))
+  pub pages : (page : Key) (shown : List LeafShown) → opens.outcome ≡ NoPage page shown
+      → ¬ (HasGoodPages (pool_after (as_events opens.made) (after (Opens (read_by (opening_of c h name found acts reply opens) p)) p)) (read_by (opening_of c h name found acts reply opens) p)
+      (λ k. answers_in (opened_leaves (c.leaves found.blob.items) opens.row.devs) opens.row.pages))
 
-opening_calls : (c : Codec) (h : Host) (name : List ℕ) (found : Found) (acts : List Act) (reply : Reply) → (opens : OpensFound c h name found acts reply) → calls_along acts ≡ opens.made ++ calls_along opens.rest
+pub opening_calls : (c : Codec) (h : Host) (name : List ℕ) (found : Found) (acts : List Act) (reply : Reply) → (opens : OpensFound c h name found acts reply) → calls_along acts ≡ opens.made ++ calls_along opens.rest
 opening_calls c h name found acts reply opens = ap calls_along opens.are ∙ (bare_calls opens.row.ids (all_shown found.pool.0 (read_in opens.row.ids) opens.row.devs ++ (bare opens.row.pages ++ opens.rest))
     ∙ (ap (λ l. opens.row.ids ++ l) (shown_calls found.pool.0 (read_in opens.row.ids) opens.row.devs (bare opens.row.pages ++ opens.rest) ∙ bare_calls opens.row.pages opens.rest)
     ∙ (sym (append_assoc opens.row.ids opens.row.pages (calls_along opens.rest)) ∙ ap (λ l. l ++ calls_along opens.rest) (sym opens.row.calls))))
@@ -372,6 +385,7 @@ opening_facts c h p name found acts reply one opens knows found_one made fair = 
   mays = ⊎_elim (λ m. m) (λ clash. absurd (fair.pages clash))
       (opening_may c (size_in h.table) (λ device. number_in device h.table) name p r found opens.made opens.outcome knows.survives fair.named is opens.row answers twin);
   seats = opens_seats c h p name found r opens.made opens.outcome opens.row knows fair.named is answers twin fair.pages;
+  pages = λ page shown out good. fair.pages (opens_lost c h p name found r opens.made opens.outcome opens.row knows fair.named is answers twin page shown out good);
 }
   where
     r : Rec

@@ -1,10 +1,12 @@
 -- A small run is one.
-use Rattle.std.proofs.Common.{◌≡◌, ◌≢◌, inl, inr, ℕ, zero, suc, ◌+◌, ◌*◌, ◌≤◌, ◌<◌, ◌^◌, nat_lt, ◌%◌, ◌/◌, ◌==◌, ◌&&◌, Bool, true, false, cond, List, [], ◌∷◌, ◌++◌, map, length, append-nil, Option, Some, None, refl, sym, ap, ◌∙◌, subst, arith}
+use Rattle.std.proofs.Common.{◌≡◌, ◌≢◌, inl, inr, ℕ, zero, suc, ◌+◌, ◌*◌, ◌≤◌, ◌<◌, ◌^◌, nat_lt, ◌%◌, ◌/◌, ◌==◌, ◌&&◌, Bool, true, false, cond, List, [], ◌∷◌, ◌++◌, map, length, take, append-nil, Option, Some, None, refl, sym, ap, ◌∙◌, subst, arith}
 use Rattle.std.specs.List.{AllByRecursion, list_all}
 use Rattle.std.specs.Option.{option_map}
+use Rattle.std.specs.Str.{bytes_eq}
 use Rattle.std.specs.Prelude.{AllPairs, Contains, slice_index_or}
 use Rattle.std.proofs.lemmas.Bool.Decides.{nat_tests}
 use Rattle.std.proofs.lemmas.Bool.{and_parts}
+use Rattle.std.proofs.lemmas.Slice.Eq.{bytes_eq-Decides}
 use Rattle.std.proofs.lemmas.List.{length-replicate}
 use Rattle.sha2.proofs.Facts256.{length-sha256}
 use Rattle.bank_core.specs.Asks.{Ask, Writes, Flushes, ask_of, IsPart}
@@ -19,6 +21,8 @@ use Rattle.label_store.specs.Records.{IsRecord}
 use Rattle.label_store.specs.Rounds.{uberblock_of, config_of, first_plan, second_plan, third_plan}
 use Rattle.txg_history.specs.Branches.{cell_on, branch_cells}
 use Rattle.txg_history.specs.Pages.{Sum, Codec, span, IsOfVolume, sum_of}
+use Rattle.txg_history.specs.Events.{Accepts}
+use Rattle.txg_history.specs.Pools.{Pool, pool_after}
 use Rattle.txg_history.specs.Records.{Cell, key}
 use Rattle.txg_history.proofs.Branching.{branch_is, branch_has, keys_one}
 use Rattle.txg_history.specs.Turns.{write_plan, flush_plan}
@@ -39,15 +43,21 @@ use Rattle.pool_moves.specs.StampRow.{room_or_none, AreStamps, CommitsFirst, Cre
 use Rattle.pool_moves.specs.States.{PoolSeen, PoolState}
 use Rattle.pool_moves.specs.TurnRows.{RowWriteTurn, FitsState, IsThirdMoves, RowRound}
 use Rattle.pool_moves.specs.Widening.{ranges_together, AreLeaves}
-use Rattle.pool_runs.specs.Acts.{Act, Gives_for, Hears, Bare, Does, Marks, Names, Takes, Bears, does, bare, calls_along}
-use Rattle.pool_runs.specs.Creating.{create_refusal, leaves_of, stamp_acts}
-use Rattle.pool_runs.specs.Devices.{size_in}
-use Rattle.pool_runs.specs.HostRows.{AreMade, WriteLine, ReadLine, SyncLine, OnPool, HostRow, acts_of, IsRun}
+use Rattle.pool_runs.specs.Acts.{Act, Gives_for, Hears, Bare, Does, Marks, Names, Takes, Bears, does, bare, calls_along, pool_by, pool_along, history}
+use Rattle.pool_runs.specs.Creating.{create_refusal, leaves_of, stamp_acts, host_stamped, commit_acts, Creates}
+use Rattle.pool_runs.specs.Devices.{number_in, name_in, size_in}
+use Rattle.pool_runs.specs.Fairness.{AreFair}
+use Rattle.pool_runs.specs.Headline.{Headline}
+use Rattle.pool_runs.specs.HostRows.{AreMade, WriteLine, ReadLine, SyncLine, OnPool, HostRow, acts_of, acts_in, IsRun}
 use Rattle.pool_runs.specs.Hosts.{Host, named, moved, host_by, host_along}
+use Rattle.pool_runs.specs.Pasts.{pool_of, then_all, Left, BeginsRun, next_past}
 use Rattle.pool_runs.specs.Knowing.{IsOwnCall, IsOwnMove, AreOwnActs}
 use Rattle.pool_runs.specs.Lines.{To_write, To_read, To_sync}
-use Rattle.pool_runs.specs.SmallRuns.{small_table, small_host, small_name, small_pool, small_tops, small_birth, small_state, small_member, small_stamp, small_head, small_pointer, small_codec, small_commit, small_draft, small_first, small_thirds, small_round, small_founding, small_made, small_written, small_freeze, small_turn, small_flush, small_last, small_turns, small_sync, small_bytes, small_branch, answered, all_answered, small_create, small_later}
-use Rattle.pool_runs.proofs.Knowing.{moved_own, moved_number}
+use Rattle.pool_runs.specs.SmallRuns.{small_table, small_host, small_name, small_pool, small_tops, small_birth, small_state, small_member, small_stamp, small_head, small_pointer, small_codec, small_commit, small_draft, small_first, small_thirds, small_round, small_founding, small_made, small_written, small_freeze, small_turn, small_flush, small_last, small_turns, small_sync, small_bytes, small_branch, answered, all_answered, small_device, small_create, small_later, small_born, small_rest, small_past, small_images, small_next}
+use Rattle.pool_runs.proofs.Acting.{same_number}
+use Rattle.pool_runs.proofs.Bearing.{born_headline}
+use Rattle.pool_runs.proofs.Knowing.{acts_number, moved_own, moved_number}
+use Rattle.pool_runs.proofs.Pasting.{then_called, next_begins}
 use Rattle.pool_runs.proofs.Numbers.{number_fits}
 
 none_refused : create_refusal small_host small_name 1 small_tops ≡ None
@@ -265,29 +275,29 @@ unfolding founded round_made
 first_commit block = record { whole = true; row = founded block; says = refl }
 
 -- The creation is a line.
+creates : (block : List ℕ) → Creates (small_codec block) (host_by (Hears 1) small_host) small_name 1 small_tops small_create.acts small_create.reply
+creates block = record {
+  pool = small_pool;
+  may = record { none = none_refused; number = refl; some = (omega arith, tt); apart = (tt, tt) };
+  stamps = small_stamp ∷ [];
+  are = stamped;
+  moves = small_founding;
+  answer = Created;
+  row = first_commit block;
+  all = refl;
+  own = (
+    refl,
+    (
+      (refl, λ s is. absurd is),
+      own_bare small_pool.0 (host_by (Takes small_pool.0 0) (host_by (Names small_pool.0) (host_by (Hears 1) small_host))) small_stamp.made
+          (Bears small_birth ∷ does small_pool.0 small_founding) refl refl (λ x mine. (refl, own_does small_pool.0 (host_by (Bears small_birth) x) small_founding mine refl)),
+    ),
+  );
+  says = refl;
+}
+
 create_row : (block : List ℕ) → HostRow (small_codec block) (host_by (Hears 1) small_host) small_create
-create_row block = inl (
-  inr (inr (record {
-    pool = small_pool;
-    may = record { none = none_refused; number = refl; some = (omega arith, tt); apart = (tt, tt) };
-    stamps = small_stamp ∷ [];
-    are = stamped;
-    moves = small_founding;
-    answer = Created;
-    row = first_commit block;
-    all = refl;
-    own = (
-      refl,
-      (
-        (refl, λ s is. absurd is),
-        own_bare small_pool.0 (host_by (Takes small_pool.0 0) (host_by (Names small_pool.0) (host_by (Hears 1) small_host))) small_stamp.made
-            (Bears small_birth ∷ does small_pool.0 small_founding) refl refl (λ x mine. (refl, own_does small_pool.0 (host_by (Bears small_birth) x) small_founding mine refl)),
-      ),
-    );
-    says = refl;
-  })),
-  all_made (host_by (Hears 1) small_host) (calls_along small_create.acts) refl refl,
-)
+create_row block = inl (inr (inr (creates block)), all_made (host_by (Hears 1) small_host) (calls_along small_create.acts) refl refl)
 
 -- Behind it the pool is open, and nothing else is.
 abbrev host_made : Host
@@ -697,3 +707,84 @@ small_runs block long = (
     ),
   ),
 )
+
+-- Nothing that is assumed of its acts fails.
+fair_more : (c : Codec) (first second : List Act) (p : Pool) → AreFair c p first → AreFair c (pool_along first p) second → AreFair c p (first ++ second)
+fair_more c [] second p a b = b
+fair_more c (act ∷ first) second p a b = (a.0, fair_more c first second (pool_by act p) a.1 b)
+
+does_fair : (c : Codec) (g : ℕ) (vs : List Move) (p : Pool) → AreFair c p (does g vs)
+does_fair c g [] p = tt
+does_fair c g (v ∷ vs) p = (tt, does_fair c g vs (pool_by (Does g v) p))
+
+-- behind the creation
+abbrev pool_made : Pool
+pool_made = pool_along (commit_acts Created small_pool.0 small_founding) (pool_of small_born)
+
+made_number : pool_made.pool.0 ≡ small_pool.0
+made_number = ap (λ n. n.0) (acts_number (commit_acts Created small_pool.0 small_founding) (pool_of small_born))
+
+put_written : (block : List ℕ) (p : Pool) → p.pool.0 ≡ small_pool.0 → (pool_by (Does small_pool.0 (Puts 0 block)) p).written 0 ≡ block
+put_written block p number = ap (λ t. (pool_after (cond t (Accepts 0 block ∷ []) []) p).written 0) (same_number p.pool.0 small_pool.0 number)
+
+pub small_fair : (block : List ℕ) → AreFair (small_codec block) (pool_of small_born) (small_rest block)
+small_fair block = fair_more (small_codec block) (commit_acts Created small_pool.0 small_founding) (acts_in (small_later block)) (pool_of small_born)
+    (does_fair (small_codec block) small_pool.0 small_founding (pool_of small_born))
+    (tt, (tt, (tt, ((λ number clash. clash.other (sym (put_written block pool_made made_number))),
+    (tt, fair_more (small_codec block) (does small_pool.0 (small_sync block)) [] (pool_by (Does small_pool.0 (Puts 0 block)) pool_made)
+    (does_fair (small_codec block) small_pool.0 (small_sync block) (pool_by (Does small_pool.0 (Puts 0 block)) pool_made)) tt)))))
+
+-- The stop.
+one_name : (name : List ℕ) (d : ℕ) → number_in name small_table ≡ Some d → name_in small_table d ≡ name
+one_name name d is = by (bytes_eq small_device name) refl is
+  where
+    named_so : (t : Bool) → bytes_eq small_device name ≡ t → t ≡ true → small_device ≡ name
+    named_so t same so = (bytes_eq-Decides small_device name).0 (same ∙ so)
+
+    first_one : (d : ℕ) → Some 0 ≡ Some d → name_in small_table d ≡ small_device
+    first_one d same = ap (name_in small_table) (sym (some_same 0 d same))
+      where
+        some_same : (a b : ℕ) → Some a ≡ Some b → a ≡ b
+        some_same a b e = cc
+
+    by : (t : Bool) → bytes_eq small_device name ≡ t → cond t (Some 0) None ≡ Some d → name_in small_table d ≡ name
+    by true same at = first_one d at ∙ named_so true same refl
+    by false same at = absurd (cc)
+
+small_headline : (block : List ℕ) → length block ≡ 4096
+    → Headline (small_codec block) small_born (host_by (Bears small_birth) (host_stamped (host_by (Hears 1) small_host) small_pool.0 (small_stamp ∷ [])))
+    (commit_acts Created small_pool.0 small_founding) (small_later block)
+unfolding creates
+small_headline block long = born_headline (small_codec block) (host_by (Hears 1) small_host) small_name 1 small_tops small_create.acts small_create.reply (small_later block) (creates block)
+    (record { number = λ s is. absurd is; names = one_name }) (small_runs block long).1
+
+take_all : {A : Type 0} (xs : List A) → take (length xs) xs ≡ xs
+take_all [] = refl
+take_all (x ∷ xs) = ap (λ more. x ∷ more) (take_all xs)
+
+small_left : (block : List ℕ) → length block ≡ 4096 → Left (small_codec block) (small_past block)
+    (host_along (small_rest block) (host_by (Bears small_birth) (host_stamped (host_by (Hears 1) small_host) small_pool.0 (small_stamp ∷ []))))
+small_left block long = subst (λ acts. Left (small_codec block) (then_all small_born (history acts (pool_of small_born)))
+    (host_along acts (host_by (Bears small_birth) (host_stamped (host_by (Hears 1) small_host) small_pool.0 (small_stamp ∷ []))))) (take_all (small_rest block))
+    ((small_headline block long).left (record {
+      count = length (small_rest block);
+      fair = subst (AreFair (small_codec block) (pool_of small_born)) (sym (take_all (small_rest block))) (small_fair block);
+    }))
+
+pub small_stops : (block : List ℕ) → length block ≡ 4096
+    → BeginsRun (small_codec block) (next_past (small_past block) (λ d. d) (name_in small_table) (small_images block) (small_next block)) (small_next block)
+small_stops block long = let left = small_left block long in
+    next_begins (small_codec block) (small_past block) (λ d. d) (name_in small_table) (small_images block) (small_next block) left.allowed
+    (record {
+      numbers = (λ d. d, λ d is. refl);
+      kept = λ d is. sym (ap (λ called. called d) (then_called small_born (history (small_rest block) (pool_of small_born))));
+      here = one_name;
+    })
+    (record {
+      crash = λ d is s clean. refl;
+      unforged = λ d place u member inside correct. inl refl;
+      sizes = λ d is one. left.sizes d one;
+      disk = λ d s is one. record { stable = refl; still = refl; damage = λ was. was };
+      closed = refl;
+      unknown = λ d. refl;
+    })

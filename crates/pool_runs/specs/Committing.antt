@@ -1,13 +1,26 @@
 -- What an acknowledged sync and an opening come to.
-use Rattle.std.specs.Prelude.{◌≡◌, ℕ, ◌<◌, ◌≤◌}
+use Rattle.std.specs.Prelude.{◌≡◌, ℕ, ◌<◌, ◌≤◌, List, [], ◌∷◌, Option, Some, None}
+use Rattle.label_store.specs.Rounds.{config_of}
+use Rattle.mp_base.specs.declared.place.Key.{Key}
+use Rattle.txg_history.specs.Pages.{Codec}
 use Rattle.txg_history.specs.Pools.{Pool}
+use Rattle.txg_history.specs.Premises.{HasGoodPages}
 use Rattle.txg_history.specs.Records.{Rec, IsIn, number_of, block_at}
-use Rattle.pool_runs.specs.Lines.{Reply, To_import, Opened, NothingFound}
+use Rattle.pool_moves.specs.LineRows.{Committed, Ended}
+use Rattle.pool_moves.specs.Opened.{opened_leaves}
+use Rattle.pool_moves.specs.PageReads.{LeafShown, answers_in}
+use Rattle.pool_runs.specs.Acts.{Act, Opening, Reads_as, calls_along}
+use Rattle.pool_runs.specs.Lines.{Asks_turn, Asks_sync, Reply, To_turn, To_sync, To_import, Opened, NothingFound, PageLost, Entry}
 
 -- Behind a line record n is acknowledged, and it has each block as it was written last before the line.
 pub record CommitsAll (before behind : Pool) (n : ℕ) : Type 0 where
   pub acked : number_of behind.acked ≡ n
   pub blocks : (a : ℕ) → block_at behind.acked a ≡ before.written a
+
+-- What a line acknowledges of a pool of this name where it answers n: a turn record n, and a sync record n with each block as it was written last.
+pub record AcksAs (before behind : Pool) (name : List ℕ) (e : Entry) (n : ℕ) : Type 0 where
+  pub turns : e.asked ≡ Asks_turn name → e.reply ≡ To_turn (Committed n) → number_of behind.acked ≡ n
+  pub syncs : e.asked ≡ Asks_sync name → e.reply ≡ To_sync (Ended (Committed n)) → CommitsAll before behind n
 
 -- An opening that answers n found a live record, not below the acknowledged one, and acknowledged its blocks again as record n, above it.
 pub record OpensLive (before behind : Pool) (n : ℕ) : Type 0 where
@@ -18,7 +31,24 @@ pub record OpensLive (before behind : Pool) (n : ℕ) : Type 0 where
   pub acked : number_of behind.acked ≡ n
   pub blocks : (a : ℕ) → block_at behind.acked a ≡ block_at r a
 
--- An opening never answers that there is no record, and where it answers a number it opens a live record.
-pub record FindsPool (before behind : Pool) (reply : Reply) : Type 0 where
+-- what these acts open, if anything
+abbrev pub opening_in : List Act → Option Opening
+opening_in [] = None
+opening_in (Reads_as opening ∷ acts) = Some opening
+opening_in (act ∷ acts) = opening_in acts
+
+-- An opening that lost a page of the map read a live record, of which some page has no good leaf: no leaf of the page's top was found, is
+-- readable, has the page by its log, undamaged, and had no failed call in this line.
+pub record LosesPage (c : Codec) (before behind : Pool) (acts : List Act) : Type 0 where
+  pub opening : Opening
+  pub reads : opening_in acts ≡ Some opening
+  pub r : Rec
+  pub live : IsIn r before.live
+  pub is : opening.found.blob.items ≡ config_of r.commit
+  pub none : ¬ (HasGoodPages behind r (λ k. answers_in (opened_leaves (c.leaves opening.found.blob.items) opening.devs) (calls_along acts)))
+
+-- An opening never answers that there is no record; where it answers a number it opens a live record; and it loses no page that has a good leaf.
+pub record FindsPool (c : Codec) (before behind : Pool) (acts : List Act) (reply : Reply) : Type 0 where
   pub some : reply ≡ To_import NothingFound → ⊥
   pub opened : (n : ℕ) → reply ≡ To_import (Opened n) → OpensLive before behind n
+  pub loses : (page : Key) (shown : List LeafShown) → reply ≡ To_import (PageLost page shown) → LosesPage c before behind acts

@@ -10,18 +10,17 @@ use Rattle.txg_history.specs.Records.{Rec, IsIn, key}
 use Rattle.txg_history.specs.Sound.{IsSound}
 use Rattle.pool_moves.specs.AwayRows.{Required, LeastOut, is_offline, is_spare, leaf_named, siblings}
 use Rattle.pool_moves.specs.Leaves.{LeafSeen}
-use Rattle.pool_moves.specs.LineRows.{Committed, Ended}
 use Rattle.pool_moves.specs.Missing.{AllMissed}
 use Rattle.pool_moves.specs.ReadRow.{Gives, Exhausted}
 use Rattle.pool_moves.specs.Showing.{LeafShown}
 use Rattle.pool_moves.specs.States.{PoolState}
 use Rattle.pool_runs.specs.Acts.{Act, calls_along, pool_along, history}
-use Rattle.pool_runs.specs.Committing.{CommitsAll, FindsPool}
+use Rattle.pool_runs.specs.Committing.{AcksAs, FindsPool}
 use Rattle.pool_runs.specs.Counting.{SomeRose, HasLostBoard, Suspends}
 use Rattle.pool_runs.specs.Fairness.{AreFair}
 use Rattle.pool_runs.specs.HostRows.{acts_in}
 use Rattle.pool_runs.specs.Hosts.{Host}
-use Rattle.pool_runs.specs.Lines.{Asks_read, Asks_turn, Asks_sync, Asks_offline, Asks_import, Reply, To_read, To_sync, To_offline, No_memory, Entry}
+use Rattle.pool_runs.specs.Lines.{Asks_read, Asks_turn, Asks_sync, Asks_offline, Asks_import, Reply, To_read, To_offline, No_memory, Entry}
 use Rattle.pool_runs.specs.Moments.{Moment, events_at, pool_at, past_at, host_at, LineOf, pool_before, pool_behind, host_before, calls_in_line, IsOpenAs}
 use Rattle.pool_runs.specs.Pasts.{Past, pool_of, Left, HasFrozen}
 use Rattle.pool_runs.specs.Taking.{IsTakenBy}
@@ -53,12 +52,12 @@ pub record Headline (c : Codec) (past : Past) (h : Host) (acts : List Act) (entr
   pub sound : (m : Moment c past acts entries) → IsSound (pool_at m)
   -- and each record that an opening may find has the writes that were accepted before a freeze, the last before its round
   pub contents : (m : Moment c past acts entries) (r : Rec) → IsIn r (pool_at m).live → HasFrozen (past_at m) r
-  -- an import of its name, where no pool of the name is open, finds a live record, not below the acknowledged one, and opens it above
+  -- an import of its name finds a live record, not below the acknowledged one, and opens it above, or some page of it has no good leaf
   pub opens : (l : LineOf c past acts entries) → l.entry.asked ≡ Asks_import (pool_before l).name → AreFair c (pool_before l) l.entry.acts
-      → FindsPool (pool_before l) (pool_behind l) l.entry.reply
-  -- a sync that answers a number acknowledged that record, and it has each block as it was written last
-  pub syncs : (l : LineOf c past acts entries) (name : List ℕ) (s : PoolState) (n : ℕ) → l.entry.asked ≡ Asks_sync name
-      → IsOpenAs (pool_before l) (host_before h l) name s → l.entry.reply ≡ To_sync (Ended (Committed n)) → CommitsAll (pool_before l) (pool_behind l) n
+      → FindsPool c (pool_before l) (pool_behind l) l.entry.acts l.entry.reply
+  -- a turn or a sync that answers a number acknowledged that record, and a sync's has each block as it was written last
+  pub acks : (l : LineOf c past acts entries) (name : List ℕ) (s : PoolState) (n : ℕ) → IsOpenAs (pool_before l) (host_before h l) name s
+      → AcksAs (pool_before l) (pool_behind l) name l.entry n
   -- a read gives the block that was written last, or that block and the bytes that it gave are two byte strings with one SHA-256 sum
   pub reads : (l : LineOf c past acts entries) (name : List ℕ) (a : ℕ) (s : PoolState) (bytes : List ℕ) → l.entry.asked ≡ Asks_read name a
       → IsOpenAs (pool_before l) (host_before h l) name s → l.entry.reply ≡ To_read (Gives bytes)

@@ -1,7 +1,7 @@
 -- A small run: a pool is made on one device, a block is written, read and synced.
 use Rattle.std.specs.Prelude.{ℕ, zero, suc, ◌==◌, true, false, cond, List, [], ◌∷◌, ◌++◌, map, replicate, length, Option, Some, None}
 use Rattle.bank_core.specs.Asks.{Ask, Writes}
-use Rattle.bank_core.specs.Disk.{Write, Flush, Noted, Nothing, sector_size}
+use Rattle.bank_core.specs.Disk.{Write, Flush, Noted, Nothing, sector_size, after_crash}
 use Rattle.label_store.specs.declared.member.Member.{Member}
 use Rattle.label_store.specs.declared.rule.Head.{Head}
 use Rattle.label_store.specs.Plans.{stamp_plan}
@@ -22,11 +22,13 @@ use Rattle.pool_moves.specs.StampRow.{new_room, new_top_number, children_under, 
 use Rattle.pool_moves.specs.States.{PoolState}
 use Rattle.pool_moves.specs.TurnRows.{round_moves}
 use Rattle.pool_moves.specs.Walking.{as_moves}
-use Rattle.pool_runs.specs.Acts.{Birth, Gives_for, Marks, Names, Bears, does}
-use Rattle.pool_runs.specs.Creating.{tops_of, leaves_of, new_birth, stamp_acts, pool_number}
+use Rattle.pool_runs.specs.Acts.{Act, Birth, Gives_for, Marks, Hears, Names, Bears, does, history}
+use Rattle.pool_runs.specs.Creating.{tops_of, leaves_of, new_birth, stamp_acts, pool_number, host_stamped, commit_acts}
 use Rattle.pool_runs.specs.Devices.{Device, size_in}
-use Rattle.pool_runs.specs.Hosts.{Host}
+use Rattle.pool_runs.specs.Hosts.{Host, host_by}
+use Rattle.pool_runs.specs.HostRows.{acts_in}
 use Rattle.pool_runs.specs.Lines.{Asks_write, Asks_read, Asks_sync, Asks_create, To_write, To_read, To_sync, To_create, Entry}
+use Rattle.pool_runs.specs.Pasts.{Past, Born, pool_of, then_all}
 
 -- One device, of 320 sectors, and a host that begins with it: no pool is open, and nothing was ever written.
 abbrev pub small_device : List ℕ
@@ -167,3 +169,20 @@ abbrev pub small_later : (block : List ℕ) → List Entry
 small_later block = record { asked = Asks_write small_name 0 block; second = 2; acts = does small_pool.0 (Puts 0 block ∷ []); reply = To_write Taken }
     ∷ (record { asked = Asks_read small_name 0; second = 3; acts = Marks small_pool.0 (Gives_for 0 (Gives block)) ∷ []; reply = To_read (Gives block) }
     ∷ (record { asked = Asks_sync small_name; second = 4; acts = does small_pool.0 (small_sync block); reply = To_sync (Ended (Committed 2)) } ∷ []))
+
+-- The pool's past where it begins, what is left of its creation and what follows, and its past behind that.
+abbrev pub small_born : Past
+small_born = Born small_birth (host_stamped (host_by (Hears 1) small_host) small_pool.0 (small_stamp ∷ [])).disk
+
+abbrev pub small_rest : (block : List ℕ) → List Act
+small_rest block = commit_acts Created small_pool.0 small_founding ++ acts_in (small_later block)
+
+abbrev pub small_past : (block : List ℕ) → Past
+small_past block = then_all small_born (history (small_rest block) (pool_of small_born))
+
+-- The machine stops, and a run begins with what was stable on the device.
+abbrev pub small_images : (block : List ℕ) → ℕ → ℕ → List ℕ
+small_images block d s = ((pool_of (small_past block)).sectors d s).stable
+
+abbrev pub small_next : (block : List ℕ) → Host
+small_next block = record small_host { disk = after_crash (pool_of (small_past block)).sectors (small_images block) }

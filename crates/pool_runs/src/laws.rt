@@ -1,10 +1,11 @@
 //! The laws of a host's acts and runs (docs/MODEL.md, "The host and its runs").
-ghost use Rattle.std.specs.Prelude.{ℕ, List, [], take};
+ghost use Rattle.std.specs.Prelude.{◌≡◌, ℕ, List, [], ◌∷◌, length, take};
 ghost use Rattle.txg_history.specs.Numbering.{renumbered};
 ghost use Rattle.txg_history.specs.Pages.{Codec};
 ghost use Rattle.txg_history.specs.Pools.{Pool};
 ghost use Rattle.pool_runs.specs.Acts.{Act, Bears, pool_along};
 ghost use Rattle.pool_runs.specs.Creating.{Creates, IsNew, new_birth, host_stamped, commit_acts};
+ghost use Rattle.pool_runs.specs.Devices.{name_in};
 ghost use Rattle.pool_runs.specs.Fairness.{AreFair};
 ghost use Rattle.pool_runs.specs.Headline.{Headline};
 ghost use Rattle.pool_runs.specs.HostRows.{IsRun};
@@ -12,6 +13,7 @@ ghost use Rattle.pool_runs.specs.Hosts.{Host, host_by, host_along};
 ghost use Rattle.pool_runs.specs.Knowing.{Knows, MayActs};
 ghost use Rattle.pool_runs.specs.Lines.{Reply, Entry};
 ghost use Rattle.pool_runs.specs.Pasts.{Past, Born, pool_of, IsAllowed, BeginsRun, IsNext, AreNamed, next_past};
+ghost use Rattle.pool_runs.specs.SmallRuns.{small_table, small_host, small_codec, small_create, small_later, small_born, small_rest, small_past, small_images, small_next};
 
 /// Behind each front of its acts a host knows a pool, as far as they are fair up to there. It computes nothing: its clause
 /// is the law.
@@ -34,4 +36,17 @@ pub fn runs_keep_each_pool()
         (host_by (Bears (new_birth name k.pool blocks h.table tops)) (host_stamped h k.pool.0 k.stamps)) (commit_acts k.answer k.pool.0 k.moves) entries }
     ensures next { (c : Codec) (past : Past) (was : ℕ → ℕ) (called : ℕ → List ℕ) (images : ℕ → ℕ → List ℕ) (h : Host) → IsAllowed c past
         → AreNamed past was called h → IsNext (renumbered was (pool_of past)) images h → BeginsRun c (next_past past was called images h) h }
+{}
+
+/// A small run is one: a pool is made on one device, a block is written, read and synced. It computes nothing: its clauses
+/// are tests of the rows.
+///
+/// `run`: its four lines are rows. `fair`: nothing that is assumed of its acts fails, for the pool that it makes; so all that
+/// `runs_keep_each_pool` says of that pool holds at each of its moments. `stops`: the machine stops behind it, and a further run may begin.
+pub fn small_runs_are_runs()
+    ensures run { (block : List ℕ) → length block ≡ 4096 → IsRun (small_codec block) small_host (small_create ∷ small_later block) }
+    ensures fair { (block : List ℕ) → AreFair (small_codec block) (pool_of small_born) (small_rest block) }
+    ensures stops { (block : List ℕ) → length block ≡ 4096
+        → BeginsRun (small_codec block) (next_past (small_past block) (λ d. d) (name_in small_table) (small_images block) (small_next block))
+        (small_next block) }
 {}
