@@ -16,3 +16,4 @@ pub mod Numbers
 pub mod Pasting
 pub mod Running
 pub mod Sparing
+pub mod Writing

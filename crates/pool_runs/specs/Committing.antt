@@ -9,7 +9,8 @@ pub record CommitsAll (before behind : Pool) (n : ℕ) : Type 0 where
   pub acked : number_of behind.acked ≡ n
   pub blocks : (a : ℕ) → block_at behind.acked a ≡ before.written a
 
--- An opening that answers n found a live record, not below the acknowledged one, and acknowledged its blocks again as record n, above it.
+-- An opening that answers n found a live record, not below the acknowledged one, and acknowledged its blocks again as record n, above it; and what
+-- was written last is what the record found has.
 pub record OpensLive (before behind : Pool) (n : ℕ) : Type 0 where
   pub r : Rec
   pub live : IsIn r before.live
@@ -17,6 +18,7 @@ pub record OpensLive (before behind : Pool) (n : ℕ) : Type 0 where
   pub above : number_of r < n
   pub acked : number_of behind.acked ≡ n
   pub blocks : (a : ℕ) → block_at behind.acked a ≡ block_at r a
+  pub written : (a : ℕ) → behind.written a ≡ block_at r a
 
 -- An opening never answers that there is no record, and where it answers a number it opens a live record.
 pub record FindsPool (before behind : Pool) (reply : Reply) : Type 0 where

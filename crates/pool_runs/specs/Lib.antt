@@ -13,3 +13,4 @@ pub mod Lines
 pub mod Moments
 pub mod Pasts
 pub mod Taking
+pub mod Writing
