@@ -32,7 +32,7 @@ use Rattle.pool_runs.specs.Committing.{OpensLive, FindsPool}
 use Rattle.pool_runs.specs.Devices.{number_in, size_in, handed}
 use Rattle.pool_runs.specs.Fairness.{IsFairOpening, AreFair}
 use Rattle.pool_runs.specs.HostRows.{AreMade}
-use Rattle.pool_runs.specs.Hosts.{Host, named}
+use Rattle.pool_runs.specs.Hosts.{Host, free_in, named}
 use Rattle.pool_runs.specs.Importing.{read_in, all_shown, OpensBy, FollowsMap, OpensFound, ImportBy, host_behind, Imports, ImportFor, ImportUnless, RowImport}
 use Rattle.pool_runs.specs.Knowing.{Knows}
 use Rattle.pool_runs.specs.Lines.{Reply, To_import, ImportReply, Opened, NameOpen, TooManyPools, NothingFound, LastNumber, PageLost, Unopened}
