@@ -196,7 +196,7 @@ writes_kind = record {
   commits = λ draft. tt;
 }
 
-move_written : (v : Move) (p : Pool) → KeepsWritten v → (pool_after (events_of v p) p).written ≡ p.written
+pub move_written : (v : Move) (p : Pool) → KeepsWritten v → (pool_after (events_of v p) p).written ≡ p.written
 move_written (Puts a block) p keeps = absurd keeps
 move_written v p keeps = refl
 

@@ -74,6 +74,7 @@ use Rattle.pool_runs.proofs.Members.{entry_keeps}
 use Rattle.pool_runs.proofs.Moments.{has_moment, acts_mays, keeps_all, may_take, acts_table, host_more, run_at, run_front}
 use Rattle.pool_runs.proofs.Pasting.{begins_known, then_pool, then_called, then_allowed, live_frozen}
 use Rattle.pool_runs.proofs.Running.{named_open, heard, run_may}
+use Rattle.pool_runs.proofs.Writing.{entry_writes}
 
 -- What a run stands on: the devices are as the past leaves them, the host knows the pool, the acts that are left may be made, and then come the entries.
 pub record Follows (c : Codec) (past : Past) (h : Host) (acts : List Act) (entries : List Entry) : Type 0 where
@@ -310,8 +311,11 @@ headline_from c past h acts entries f = record {
     turns = λ asked is. line_acks c (host_before h l) (pool_before l) l.entry name s n (meets c past h acts entries f l) asked at is;
     syncs = λ asked is. line_syncs c (host_before h l) (pool_before l) l.entry name s n (meets c past h acts entries f l) asked at is;
   };
-  reads = λ l name a s bytes asked at is. line_reads c (host_before h l) (pool_before l) l.entry name a s bytes (meets c past h acts entries f l) asked at is;
-  loses = λ l name a s shown asked at is. line_loses c (host_before h l) (pool_before l) l.entry name a s shown (meets c past h acts entries f l) asked at is;
+  writes = λ l. entry_writes c (host_before h l) (pool_before l) l.entry (meets c past h acts entries f l).row;
+  reads = λ l name a s asked at. record {
+    gives = λ bytes is. line_reads c (host_before h l) (pool_before l) l.entry name a s bytes (meets c past h acts entries f l) asked at is;
+    loses = λ shown is. line_loses c (host_before h l) (pool_before l) l.entry name a s shown (meets c past h acts entries f l) asked at is;
+  };
   required = λ l name device temporary s leaf group asked at is plain up. line_required c (host_before h l) (pool_before l) l.entry name device temporary s leaf group (meets c past h acts entries f l) asked at is plain up;
   scans = at_scans c past h acts entries f;
   keeps = λ l d is. entry_keeps c (host_before h l) l.entry d (pool_before l) (meets c past h acts entries f l).row is;

@@ -46,7 +46,7 @@ use Rattle.pool_runs.specs.Acts.{Act, Opening, Looked, Shows, Reads_as, Enters, 
 use Rattle.pool_runs.specs.Devices.{Device, number_in, size_in, handed}
 use Rattle.pool_runs.specs.Fairness.{IsFair, IsFairOpening, AreFair}
 use Rattle.pool_runs.specs.HostRows.{AreMade}
-use Rattle.pool_runs.specs.Hosts.{Host, IsOpen, named, is_of, host_by, host_along}
+use Rattle.pool_runs.specs.Hosts.{Host, free_in, IsOpen, named, is_of, host_by, host_along}
 use Rattle.pool_runs.specs.Importing.{read_in, all_shown, OpensBy, FollowsMap, OpensFound, ImportBy, host_behind, Imports, ImportFor, ImportUnless, RowImport}
 use Rattle.pool_runs.specs.Knowing.{HasSeats, Knows, MayActs, IsTrueLook, AreOwnActs}
 use Rattle.pool_runs.specs.Lines.{Reply}
@@ -253,7 +253,7 @@ opening_answers : (h : Host) (p : Pool) (made more : List Noted) → AreMade h (
 opening_answers h p made more are same = all_answer h.table made h.disk p.sectors (all_first (λ noted. 1 ≤ size_in h.table (device_of noted.call)) made more are.here)
     (λ d s one. sym (same d s one)) (answer_first made more h.disk are.answer)
 
-follows_may : (outcome : OpenReply) (c : Codec) (h : Host) (p : Pool) (name : List ℕ) (found : Found) (r : Rec) (made : List Noted) (row : RowOpen c (size_in h.table) (λ device. number_in device h.table) name found made outcome)
+follows_may : (outcome : OpenReply) (c : Codec) (h : Host) (p : Pool) (name : List ℕ) (found : Found) (r : Rec) (made : List Noted) (row : RowOpen c (size_in h.table) (free_in h) name found made outcome)
     (h2 : Host) (rest : List Act) (reply : Reply) → h2.table ≡ h.table
     → ((s : PoolState) → outcome ≡ Opens_state s → HasSeats c s (pool_after (as_events made) (after (Opens r) p)))
     → Knows c h2 (pool_after (as_events made) (after (Opens r) p)) → (pool_after (as_events made) (after (Opens r) p)).pool.0 ≡ found.pool.0
@@ -266,7 +266,7 @@ follows_may (Opens_state s) c h p name found r made row h2 rest reply table has 
     (subst (λ t. RowResume c (size_in t) s follows.0 follows.1) (sym table) follows.2) own follows.3
 
 -- the state that an opening comes to is what the pool's history has then
-opens_seats : (c : Codec) (h : Host) (p : Pool) (name : List ℕ) (found : Found) (r : Rec) (made : List Noted) (outcome : OpenReply) → (row : RowOpen c (size_in h.table) (λ device. number_in device h.table) name found made outcome)
+opens_seats : (c : Codec) (h : Host) (p : Pool) (name : List ℕ) (found : Found) (r : Rec) (made : List Noted) (outcome : OpenReply) → (row : RowOpen c (size_in h.table) (free_in h) name found made outcome)
     → Knows c h p → p.name ≡ name → IsLiveOne p found r → AllAnswer p.sectors made → HasNoTwin p r (claims_of (c.leaves found.blob.items) row.devs) → (ClashesAt r.cells row.bytes → ⊥)
     → (s : PoolState) → outcome ≡ Opens_state s → HasSeats c s (pool_after (as_events made) (after (Opens r) p))
 opens_seats c h p name found r made (Opens_state x) row knows same is answers twin pages s out = subst (λ y. HasSeats c y (pool_after (as_events made) (after (Opens r) p))) (one x s out) (of opened)
@@ -278,7 +278,7 @@ opens_seats c h p name found r made (Opens_state x) row knows same is answers tw
     t = record { pool = after (Opens r) p; seats = opened_seats p knows.roster.0 (c.leaves found.blob.items) row.devs }
 
     opened : (IsOpened c x t × Walks c t (as_moves made)) ⊎ ClashesAt r.cells row.bytes
-    opened = opening_opens c (size_in h.table) (λ device. number_in device h.table) name p r knows.roster.0 found made x knows.survives same is knows.roster.1 row answers twin
+    opened = opening_opens c (size_in h.table) (free_in h) name p r knows.roster.0 found made x knows.survives same is knows.roster.1 row answers twin
 
     of : (IsOpened c x t × Walks c t (as_moves made)) ⊎ ClashesAt r.cells row.bytes → HasSeats c x (pool_after (as_events made) (after (Opens r) p))
     of (inl both) = (
@@ -290,13 +290,13 @@ opens_seats c h p name found r made (Opens_state x) row knows same is answers tw
 opens_seats c h p name found r made (NoPage page shown) row knows same is answers twin pages s out = absurd (cc)
 
 -- a page that was lost has no good leaf
-opens_lost : (c : Codec) (h : Host) (p : Pool) (name : List ℕ) (found : Found) (r : Rec) (made : List Noted) (outcome : OpenReply) → (row : RowOpen c (size_in h.table) (λ device. number_in device h.table) name found made outcome)
+opens_lost : (c : Codec) (h : Host) (p : Pool) (name : List ℕ) (found : Found) (r : Rec) (made : List Noted) (outcome : OpenReply) → (row : RowOpen c (size_in h.table) (free_in h) name found made outcome)
     → Knows c h p → p.name ≡ name → IsLiveOne p found r → AllAnswer p.sectors made → HasNoTwin p r (claims_of (c.leaves found.blob.items) row.devs)
     → (page : Key) (shown : List LeafShown) → outcome ≡ NoPage page shown
     → HasGoodPages (pool_after (as_events made) (after (Opens r) p)) r (λ k. answers_in (opened_leaves (c.leaves found.blob.items) row.devs) row.pages) → ClashesAt r.cells row.bytes
 opens_lost c h p name found r made (Opens_state x) row knows same is answers twin page shown out good = absurd (cc)
 opens_lost c h p name found r made (NoPage k ks) row knows same is answers twin page shown out good =
-    opening_finds c (size_in h.table) (λ device. number_in device h.table) name p r found made k ks knows.survives same is row answers twin good
+    opening_finds c (size_in h.table) (free_in h) name p r found made k ks knows.survives same is row answers twin good
 
 -- the calls of an opening, and what follows
 opens_more : (c : Codec) (h : Host) (p : Pool) (name : List ℕ) (found : Found) (acts : List Act) (reply : Reply) (r : Rec) → (opens : OpensFound c h name found acts reply) → p.pool.0 ≡ found.pool.0
@@ -383,7 +383,7 @@ pub opening_facts : (c : Codec) (h : Host) (p : Pool) (name : List ℕ) (found :
 opening_facts c h p name found acts reply one opens knows found_one made fair = record {
   is = is;
   mays = ⊎_elim (λ m. m) (λ clash. absurd (fair.pages clash))
-      (opening_may c (size_in h.table) (λ device. number_in device h.table) name p r found opens.made opens.outcome knows.survives fair.named is opens.row answers twin);
+      (opening_may c (size_in h.table) (free_in h) name p r found opens.made opens.outcome knows.survives fair.named is opens.row answers twin);
   seats = opens_seats c h p name found r opens.made opens.outcome opens.row knows fair.named is answers twin fair.pages;
   pages = λ page shown out good. fair.pages (opens_lost c h p name found r opens.made opens.outcome opens.row knows fair.named is answers twin page shown out good);
 }
@@ -395,7 +395,7 @@ opening_facts c h p name found acts reply one opens knows found_one made fair = 
     is = record_live p found one found_one
 
     twin : HasNoTwin p (read_by (opening_of c h name found acts reply opens) p) (claims_of (c.leaves found.blob.items) opens.row.devs)
-    twin = row_no_twin c (size_in h.table) (λ device. number_in device h.table) name p r found opens.made opens.outcome knows.survives knows.sizes is opens.row fair.whole fair.members
+    twin = row_no_twin c (size_in h.table) (free_in h) name p r found opens.made opens.outcome knows.survives knows.sizes is opens.row fair.whole fair.members
 
     answers : AllAnswer p.sectors opens.made
     answers = opening_answers h p opens.made (calls_along opens.rest) (subst (AreMade h) (opening_calls c h name found acts reply opens) made) knows.disk

@@ -9,6 +9,7 @@ pub mod GroupMoves
 pub mod Heading
 pub mod Importing
 pub mod Knowing
+pub mod LineMoves
 pub mod Members
 pub mod Moments
 pub mod Numbers
@@ -16,3 +17,4 @@ pub mod Pasting
 pub mod Running
 pub mod SmallRuns
 pub mod Sparing
+pub mod Writing

@@ -45,6 +45,7 @@ use Rattle.pool_runs.specs.Hosts.{Host, named}
 use Rattle.pool_runs.specs.Importing.{read_in, all_shown, OpensBy, FollowsMap, ImportBy, host_behind, ImportFor, ImportUnless}
 use Rattle.pool_runs.specs.Lines.{Asked, Asks_nothing, Asks_write, Asks_read, Asks_freeze, Asks_turn, Asks_sync, Asks_offline, Asks_online, Asks_logs, Asks_step, Asks_scrub, Asks_stop, Asks_import, Asks_create, Reply, To_create, Entry}
 use Rattle.pool_runs.specs.Taking.{IsWriteTo, HasWriteTo, IsTakenBy}
+use Rattle.pool_runs.proofs.LineMoves.{IsLineKind, IsActKind, line_resume, line_does, plain_line}
 use Rattle.pool_runs.proofs.GroupMoves.{IsKind, more, all_calls, all_widened, all_reads, all_turn, all_freeze, all_sync, all_found, all_reopen}
 use Rattle.pool_runs.proofs.Creating.{or_first, or_second, none_refused}
 
@@ -102,9 +103,6 @@ acts_members d (act ∷ acts) p keeps is = acts_members d acts (pool_by act p) k
 abbrev AllKeep : List Move → Type 0
 AllKeep vs = AllByRecursion KeepsMembers vs
 
-keep_more : (vs ws : List Move) → AllKeep vs → AllKeep ws → AllKeep (vs ++ ws)
-keep_more vs ws a b = more KeepsMembers vs ws a b
-
 kept_kind : IsKind KeepsMembers
 kept_kind = record {
   calls = λ noted. tt;
@@ -120,11 +118,22 @@ kept_kind = record {
   commits = λ draft. tt;
 }
 
-keep_calls : (made : List Noted) → AllKeep (as_moves made)
-keep_calls made = all_calls KeepsMembers kept_kind made
+kept_line : IsLineKind KeepsMembers
+kept_line = record {
+  kind = kept_kind;
+  freezes = λ cells board. tt;
+  burns = tt;
+  drops = λ d. tt;
+  clears = λ d. tt;
+  passes = λ key birth marks. tt;
+  scans = λ hi eligible. tt;
+  scrubs = tt;
+  rests = tt;
+  finds = λ m d. tt;
+}
 
-keep_reads : (sum : List ℕ) (made : List Noted) (leaves : List LeafSeen) → AllKeep (count_reads sum made leaves)
-keep_reads sum made leaves = all_reads KeepsMembers kept_kind sum made leaves
+kept_acts : (d : ℕ) → IsActKind KeepsMembers (KeepsAt d)
+kept_acts d = record { does = λ g v is. is; marks = λ g mark. tt; shows = λ g e known. tt }
 
 keep_fits : (short : Bool) (need free a : ℕ) (block : List ℕ) (vs : List Move) (reply : WriteReply) → WriteFits short need free a block vs reply → AllKeep vs
 keep_fits true need free a block vs reply row = subst AllKeep (sym row.0) tt
@@ -138,190 +147,16 @@ keep_write : (s : PoolState) (a : ℕ) (block : List ℕ) (vs : List Move) (repl
 keep_write s a block vs reply (inl row) = subst AllKeep (sym row.1) tt
 keep_write s a block vs reply (inr row) = keep_write_by _ s a block vs reply row.1
 
-keep_record : (sum : Option Sum) (s : PoolSeen) (vs : List Move) (reply : ReadReply) → ReadRecord sum s vs reply → AllKeep vs
-keep_record None s vs reply row = subst AllKeep (sym row.0) tt
-keep_record (Some sum) s vs reply row = subst AllKeep (sym row.1.moves) (keep_more (as_moves (row.1.reads ++ row.1.rewrites)) (count_reads sum.sum (row.1.reads ++ row.1.rewrites) (filter (stands_under sum.top) s.leaves))
-    (keep_calls (row.1.reads ++ row.1.rewrites)) (keep_reads sum.sum (row.1.reads ++ row.1.rewrites) (filter (stands_under sum.top) s.leaves)))
-
-keep_read : (s : PoolState) (a : ℕ) (vs : List Move) (reply : ReadReply) → RowRead s a vs reply → AllKeep vs
-keep_read s a vs reply (inl row) = subst AllKeep (sym row.1) tt
-keep_read s a vs reply (inr row) = open_by (s.own.writes a) _ _ row.1
-  where
-    group_by : (cell : Option Cell) (sum : Option Sum) → ReadGroup cell sum s.core vs reply → AllKeep vs
-    group_by (Some cell) sum row = subst AllKeep (sym row.0) tt
-    group_by None sum row = keep_record sum s.core vs reply row
-
-    open_by : (write : Option (List ℕ)) (cell : Option Cell) (sum : Option Sum) → ReadOpen write cell sum s.core vs reply → AllKeep vs
-    open_by (Some block) cell sum row = subst AllKeep (sym row.0) tt
-    open_by None cell sum row = group_by cell sum row
-
-keep_leave_if : (on : Bool) (dev : Option ℕ) (s : PoolSeen) (vs : List Move) → LeaveIf on dev s vs → AllKeep vs
-keep_leave_if true (Some d) s vs is = all_widened KeepsMembers kept_kind s (Leave d) vs tt is
-keep_leave_if true None s vs is = subst AllKeep (sym is) tt
-keep_leave_if false dev s vs is = subst AllKeep (sym is) tt
-
-keep_drop_if : (on : Bool) (dev : Option ℕ) → AllKeep (drop_if on dev)
-keep_drop_if true (Some d) = (tt, tt)
-keep_drop_if true None = tt
-keep_drop_if false dev = tt
-
-keep_offline_leaf : (already : Bool) (s : PoolState) (leaf : LeafSeen) (temporary : Bool) (vs : List Move) (reply : OfflineReply) → OfflineLeaf already s leaf temporary vs reply → AllKeep vs
-keep_offline_leaf true s leaf temporary vs reply row = subst AllKeep (sym row.0) (tt, tt)
-keep_offline_leaf false s leaf temporary vs reply (inl row) = subst AllKeep (sym row.2) tt
-keep_offline_leaf false s leaf temporary vs reply (inr row) = let goes = row.1 in subst AllKeep (sym goes.moves)
-    (keep_more (drop_if leaf.eligible leaf.dev) (goes.leaving ++ (Sets leaf.guid (gone temporary leaf.own) ∷ [])) (keep_drop_if leaf.eligible leaf.dev)
-    (keep_more goes.leaving (Sets leaf.guid (gone temporary leaf.own) ∷ []) (keep_leave_if leaf.on leaf.dev (seen_along (drop_if leaf.eligible leaf.dev) s.core) goes.leaving goes.leaves) (tt, tt)))
-
-keep_offline_here : (spare : Bool) (s : PoolState) (leaf : LeafSeen) (temporary : Bool) (vs : List Move) (reply : OfflineReply) → OfflineHere spare s leaf temporary vs reply → AllKeep vs
-keep_offline_here true s leaf temporary vs reply row = subst AllKeep (sym row.0) tt
-keep_offline_here false s leaf temporary vs reply row = keep_offline_leaf (is_offline leaf.own.mode) s leaf temporary vs reply row
-
-keep_offline : (found : Option LeafSeen) (s : PoolState) (name : List ℕ) (temporary : Bool) (vs : List Move) (reply : OfflineReply) → OfflineBy found s name temporary vs reply → AllKeep vs
-keep_offline None s name temporary vs reply row = subst AllKeep (sym row.0) tt
-keep_offline (Some leaf) s name temporary vs reply row = keep_offline_here (is_spare s leaf) s leaf temporary vs reply row
-
-keep_freeze_for : (refusal : Option FreezeRefusal) (c : Codec) (s : PoolState) (vs : List Move) (reply : FreezeReply) → FreezeFor refusal c s vs reply → AllKeep vs
-keep_freeze_for (Some refusal) c s vs reply row = subst AllKeep (sym row.0) tt
-keep_freeze_for None c s vs reply row = all_freeze KeepsMembers kept_kind (λ cells board. tt) c s vs row.0
-
-keep_freeze_by : (frozen : Bool) (c : Codec) (s : PoolState) (vs : List Move) (reply : FreezeReply) → FreezeBy frozen c s vs reply → AllKeep vs
-keep_freeze_by true c s vs reply row = subst AllKeep (sym row.0) tt
-keep_freeze_by false c s vs reply row = keep_freeze_for row.0 c s vs reply row.2
-
--- an opening's commit
-keep_resilver : (s : PoolSeen) (vs : List Move) → Resilvers s vs → AllKeep vs
-keep_resilver s vs (inl row) = subst AllKeep (sym row.moves) (rests s.scan.running)
-  where
-    rests : (running : Bool) → AllKeep (rest_if running ++ (Scan_from s.read_number (up_devs s.leaves) ∷ []))
-    rests true = (tt, (tt, tt))
-    rests false = (tt, tt)
-keep_resilver s vs (inr row) = subst AllKeep (sym row.1) tt
-
-keep_resumes : (turn : TurnReply) (s : PoolState) (vs : List Move) → ResumesBy turn s vs → AllKeep vs
-keep_resumes (Committed number) s vs row = keep_resilver s.core vs row
-keep_resumes Idle s vs row = subst AllKeep (sym row) tt
-keep_resumes Write s vs row = subst AllKeep (sym row) tt
-keep_resumes Flush s vs row = subst AllKeep (sym row) tt
-keep_resumes (Round number) s vs row = subst AllKeep (sym row) tt
-keep_resumes (Suspended group top faults) s vs row = subst AllKeep (sym row) tt
-
-keep_resume : (top : Option ℕ) (c : Codec) (size : ℕ → ℕ) (s : PoolState) (vs : List Move) (turn : TurnReply) → ResumesUnless top c size s vs turn → AllKeep vs
-keep_resume (Some top) c size s vs turn row = subst AllKeep (sym row.0) tt
-keep_resume None c size s vs turn row = subst AllKeep (sym row.moves) (keep_more row.first row.rest (all_reopen KeepsMembers kept_kind (λ cells board. tt) c size s row.first turn (λ bad. tt) row.row)
-    (keep_resumes turn (steps row.first s) row.rest row.resumes))
-
--- a leaf that comes back
-keep_search : (result : Result Bool Fault) (leaf : LeafSeen) (e : ℕ) (made : List Noted) (vs : List Move) (reply : OnlineReply) → SearchEnds result leaf e made vs reply → AllKeep vs
-keep_search (Ok true) leaf e made vs reply row = subst AllKeep (sym row.0)
-    (keep_more (as_moves made) (Finds leaf.guid e ∷ (Sets leaf.guid (brought_own (searched_own made leaf.own)) ∷ [])) (keep_calls made) (tt, (tt, tt)))
-keep_search (Ok false) leaf e made vs reply row = subst AllKeep (sym row.0) (keep_more (as_moves made) (Sets leaf.guid (searched_own made leaf.own) ∷ []) (keep_calls made) (tt, tt))
-keep_search (Err fault) leaf e made vs reply row = subst AllKeep (sym row.0) (keep_more (as_moves made) (Sets leaf.guid (searched_own made leaf.own) ∷ []) (keep_calls made) (tt, tt))
-
-keep_scans : (reply : OnlineReply) (s : PoolState) (vs : List Move) → ScansBehind reply s vs → AllKeep vs
-keep_scans (Stands mode) s vs row = keep_resilver s.core vs row
-keep_scans NoLeaf s vs row = subst AllKeep (sym row) tt
-keep_scans IsSpare s vs row = subst AllKeep (sym row) tt
-keep_scans NoDevice s vs row = subst AllKeep (sym row) tt
-keep_scans (InUse by) s vs row = subst AllKeep (sym row) tt
-keep_scans (TooSmall need has) s vs row = subst AllKeep (sym row) tt
-keep_scans FaultOnDevice s vs row = subst AllKeep (sym row) tt
-keep_scans WrongLabel s vs row = subst AllKeep (sym row) tt
-
-keep_roomy : (roomy : Bool) (size : ℕ → ℕ) (s : PoolState) (leaf : LeafSeen) (e : ℕ) (vs : List Move) (reply : OnlineReply) → OnlineRoomy roomy size s leaf e vs reply → AllKeep vs
-keep_roomy false size s leaf e vs reply row = subst AllKeep (sym row.0) tt
-keep_roomy true size s leaf e vs reply row = subst AllKeep (sym row.moves)
-    (keep_more row.first row.rest (keep_search row.result leaf e row.made row.first reply row.ends) (keep_scans reply (steps row.first s) row.rest row.scans))
-
-keep_away : (away : Bool) (size : ℕ → ℕ) (s : PoolState) (leaf : LeafSeen) (e : ℕ) (vs : List Move) (reply : OnlineReply) → OnlineAway away size s leaf e vs reply → AllKeep vs
-keep_away false size s leaf e vs reply row = subst AllKeep (sym row.moves) (tt, keep_resilver (steps (Sets leaf.guid (marked_own leaf.own) ∷ []) s).core row.rest row.scans)
-keep_away true size s leaf e vs reply row = keep_roomy (nat_le (s.core.room leaf.top + 256) (size e)) size s leaf e vs reply row
-
-keep_on : (device : HostDevice) (size : ℕ → ℕ) (s : PoolState) (leaf : LeafSeen) (vs : List Move) (reply : OnlineReply) → OnlineOn device size s leaf vs reply → AllKeep vs
-keep_on NoneFound size s leaf vs reply row = subst AllKeep (sym row.0) tt
-keep_on (HeldBy by) size s leaf vs reply row = subst AllKeep (sym row.0) tt
-keep_on (Handed e) size s leaf vs reply row = keep_away (is_away leaf.own.mode) size s leaf e vs reply row
-
-keep_online : (found : Option LeafSeen) (listed : Bool) (device : HostDevice) (size : ℕ → ℕ) (s : PoolState) (vs : List Move) (reply : OnlineReply)
-    → OnlineBy found listed device size s vs reply → AllKeep vs
-keep_online None listed device size s vs reply row = subst AllKeep (sym row.0) tt
-keep_online (Some leaf) listed device size s vs reply row = keep_on device size s leaf vs reply row
-
--- scans
-keep_failed : (found : Option LeafSeen) → AllKeep (sets_failed found)
-keep_failed None = tt
-keep_failed (Some leaf) = (tt, tt)
-
-keep_flush : (fault : Option Fault) (s : PoolSeen) (m : Member) (vs : List Move) → FlushEnds fault s m vs → AllKeep vs
-keep_flush None s m vs is = all_widened KeepsMembers kept_kind s (Clear m.dev) vs tt is
-keep_flush (Some fault) s m vs is = subst AllKeep (sym is) (tt, keep_failed (find (has_number m.guid) s.leaves))
-
-keep_flushes : (s : PoolSeen) (ms : List Member) (vs : List Move) → AreFlushed s ms vs → AllKeep vs
-keep_flushes s [] vs row = subst AllKeep (sym row) tt
-keep_flushes s (m ∷ ms) vs (noted, ending, rest, ask, is, ends, later) = subst AllKeep (sym is)
-    (tt, keep_more ending rest (keep_flush (fault_of noted.call) s m ending ends) (keep_flushes (seen_along ending s) ms rest later))
-
-keep_step : (running : Bool) (s : PoolState) (vs : List Move) (reply : StepReply) → StepBy running s vs reply → AllKeep vs
-keep_step false s vs reply row = subst AllKeep (sym row.0) tt
-keep_step true s vs reply (inl row) = let key = row.0 in subst AllKeep (sym key.moves)
-    (keep_more (as_moves key.calls) (count_reads key.sum.sum key.calls (filter (stands_under key.sum.top) s.core.leaves) ++ (Pass key.k key.sum.birth _ ∷ []))
-    (keep_calls key.calls) (keep_more (count_reads key.sum.sum key.calls (filter (stands_under key.sum.top) s.core.leaves)) (Pass key.k key.sum.birth _ ∷ [])
-    (keep_reads key.sum.sum key.calls (filter (stands_under key.sum.top) s.core.leaves)) (tt, tt)))
-keep_step true s vs reply (inr row) = subst AllKeep (sym row.0.moves) (keep_more row.0.part (Rest ∷ []) (keep_flushes s.core (members_where is_eligible s.core.leaves) row.0.part row.0.flushed) (tt, tt))
-
-keep_scrub : (running : Bool) (s : PoolState) (vs : List Move) (reply : ScrubReply) → ScrubBy running s vs reply → AllKeep vs
-keep_scrub true s vs reply row = subst AllKeep (sym row.0) tt
-keep_scrub false s vs reply row = subst AllKeep (sym row.1) (tt, (tt, tt))
-
-keep_stop : (scrubbing : Bool) (vs : List Move) (reply : StopReply) → StopBy scrubbing vs reply → AllKeep vs
-keep_stop true vs reply row = subst AllKeep (sym row.0) (tt, tt)
-keep_stop false vs reply row = subst AllKeep (sym row.0) tt
-
--- Lines.
+-- Acts.
 keep_does : (d g : ℕ) (vs : List Move) → AllKeep vs → AllByRecursion (KeepsAt d) (does g vs)
-keep_does d g [] all = tt
-keep_does d g (v ∷ vs) all = (all.0, keep_does d g vs all.1)
-
-keep_marked_first : (reading : Bool) (d : ℕ) (mark : Act) (g : ℕ) (v : Move) (vs : List Move) (rest : List Act) → KeepsAt d mark → AllKeep (v ∷ vs)
-    → AllByRecursion (KeepsAt d) rest → AllByRecursion (KeepsAt d) (marked_behind reading mark g v vs rest)
-keep_marked_first true d mark g v vs rest is all more = (all.0, more)
-keep_marked_first false d mark g v vs rest is all more = (is, keep_does d g (v ∷ vs) all)
-
-keep_marked : (d : ℕ) (mark : Act) (g : ℕ) (vs : List Move) → KeepsAt d mark → AllKeep vs → AllByRecursion (KeepsAt d) (marked mark g vs)
-keep_marked d mark g [] is all = (is, tt)
-keep_marked d mark g (v ∷ vs) is all = keep_marked_first (is_reading v) d mark g v vs (marked mark g vs) is all (keep_marked d mark g vs is all.1)
+keep_does d g vs all = line_does KeepsMembers kept_line (KeepsAt d) (kept_acts d) g vs all
 
 abbrev Keep : (d : ℕ) → List Act → Type 0
 Keep d acts = AllByRecursion (KeepsAt d) acts
 
-on_keeps : (d : ℕ) (found : Option PoolState) (Line : PoolState → List Act → Reply → Type 0) (acts : List Act) (reply : Reply) → ((s : PoolState) → Line s acts reply → Keep d acts) → OnPool found Line acts reply → Keep d acts
-on_keeps d None Line acts reply line row = subst (Keep d) (sym row.0) tt
-on_keeps d (Some s) Line acts reply line row = line s row
-
-by_moves : (d : ℕ) (h : Host) (s : PoolState) (Row : List Move → Type 0) (acts : List Act) → ((vs : List Move) → Row vs → AllKeep vs) → ByMoves h s Row acts → Keep d acts
-by_moves d h s Row acts keeps line = subst (Keep d) (sym line.are) (keep_does d s.core.pool.0 line.moves (keeps line.moves line.row))
-
-by_marked : (d : ℕ) (h : Host) (s : PoolState) (mark : List Move → Mark) (Row : List Move → Type 0) (acts : List Act) → ((vs : List Move) → Row vs → AllKeep vs)
-    → ByMarked h s mark Row acts → Keep d acts
-by_marked d h s mark Row acts keeps line = subst (Keep d) (sym line.are)
-    (keep_marked d (Marks s.core.pool.0 (mark line.moves)) s.core.pool.0 line.moves tt (keeps line.moves line.row))
-
 keep_acts : (d : ℕ) (first second : List Act) → Keep d first → Keep d second → Keep d (first ++ second)
 keep_acts d [] second a b = b
 keep_acts d (act ∷ first) second a b = (a.0, keep_acts d first second a.1 b)
-
-keep_shown_all : (d g : ℕ) (known : Known) (devs : List (Option ℕ)) → AllByRecursion (KeepsAt d) (all_shown g known devs)
-keep_shown_all d g known [] = tt
-keep_shown_all d g known (None ∷ devs) = keep_shown_all d g known devs
-keep_shown_all d g known (Some e ∷ devs) = (tt, keep_shown_all d g known devs)
-
-online_keeps : (d : ℕ) (h : Host) (s : PoolState) (device : List ℕ) (reply : OnlineReply) (acts : List Act) → ByOnline h s device reply acts → Keep d acts
-online_keeps d h s device reply acts line = let g = s.core.pool.0 in let vs = line.moves in
-    subst (Keep d) (sym line.are) (
-      tt,
-      keep_acts d (does g vs) (all_shown g (read_in (made_in vs)) (found_in vs))
-          (keep_does d g vs (keep_online (leaf_named device s.core.leaves) (is_listed device s) (device_for (number_in device h.table) h g) (size_in h.table) s vs reply line.row))
-          (keep_shown_all d g (read_in (made_in vs)) (found_in vs)),
-    )
 
 -- Creates.
 keep_front : (d : ℕ) (first second : List Act) → Keep d (first ++ second) → Keep d first
@@ -512,7 +347,7 @@ keep_opens (Round number) d g s vs acts reply all by = absurd by
 
 keep_follows : (outcome : OpenReply) (c : Codec) (size : ℕ → ℕ) (d g : ℕ) (acts : List Act) (reply : Reply) → FollowsMap outcome c size g acts reply → Keep d acts
 keep_follows (NoPage page shown) c size d g acts reply row = subst (Keep d) (sym row.0) tt
-keep_follows (Opens_state s) c size d g acts reply row = keep_opens row.1 d g s row.0 acts reply (keep_resume (lacking_of s.core.leaves s.core.leaves) c size s row.0 row.1 row.2) row.3
+keep_follows (Opens_state s) c size d g acts reply row = keep_opens row.1 d g s row.0 acts reply (line_resume KeepsMembers kept_line (lacking_of s.core.leaves s.core.leaves) c size s row.0 row.1 row.2) row.3
 
 keep_import_by : (seek : SeekReply) (c : Codec) (h : Host) (name : List ℕ) (acts : List Act) (reply : Reply) (d : ℕ) → ImportBy seek c h name acts reply → Keep d acts
 keep_import_by NoRecord c h name acts reply d row = subst (Keep d) (sym row.0) tt
@@ -533,33 +368,16 @@ keep_unless (Some s) c h name acts reply d row = subst (Keep d) (sym row.0) tt
 keep_unless None c h name acts reply d row = keep_for (nat_le 16 (length h.pools)) c h name acts reply d row
 
 -- a row's acts keep the device, but those of a create that takes it
+keep_written : (d : ℕ) (h : Host) (a : ℕ) (block : List ℕ) (found : Option PoolState) (acts : List Act) (reply : Reply) → OnPool found (WriteLine h a block) acts reply → Keep d acts
+keep_written d h a block None acts reply row = subst (Keep d) (sym row.0) tt
+keep_written d h a block (Some s) acts reply row = subst (Keep d) (sym row.2.are) (keep_does d s.core.pool.0 row.2.moves (keep_write s a block row.2.moves row.0 row.2.row))
+
 row_keeps : (c : Codec) (h : Host) (asked : Asked) (acts : List Act) (reply : Reply) (d : ℕ) → ((name : List ℕ) (blocks : ℕ) (tops : List (List (List ℕ))) → asked ≡ Asks_create name blocks tops → ⊥)
     → RowOf c h asked acts reply → Keep d acts
-row_keeps c h Asks_nothing acts reply d other row = subst (Keep d) (sym row.0) tt
-row_keeps c h (Asks_write name a block) acts reply d other row = on_keeps d (named name h.pools) (WriteLine h a block) acts reply
-    (λ s line. by_moves d h s (λ vs. RowWrite s a block vs line.0) acts (λ vs is. keep_write s a block vs line.0 is) line.2) row
-row_keeps c h (Asks_read name a) acts reply d other row = on_keeps d (named name h.pools) (ReadLine h a) acts reply
-    (λ s line. by_marked d h s (λ vs. Gives_for a line.0) (λ vs. RowRead s a vs line.0) acts (λ vs is. keep_read s a vs line.0 is) line.2) row
-row_keeps c h (Asks_freeze name) acts reply d other row = on_keeps d (named name h.pools) (FreezeLine c h) acts reply
-    (λ s line. by_moves d h s (λ vs. RowFreezeLine c s vs line.0) acts (λ vs is. keep_freeze_by s.core.group.frozen c s vs line.0 is) line.2) row
-row_keeps c h (Asks_turn name) acts reply d other row = on_keeps d (named name h.pools) (TurnLine c h) acts reply
-    (λ s line. by_moves d h s (λ vs. RowTurn c (size_in h.table) s vs line.0) acts (λ vs is. all_turn KeepsMembers kept_kind c (size_in h.table) s vs line.0 (λ bad. tt) is) line.2) row
-row_keeps c h (Asks_sync name) acts reply d other row = on_keeps d (named name h.pools) (SyncLine c h) acts reply
-    (λ s line. by_moves d h s (λ vs. RowSync c (size_in h.table) s vs line.0) acts (λ vs is. all_sync KeepsMembers kept_kind (λ cells board. tt) s.core.group.frozen c (size_in h.table) s vs line.0 (λ bad. tt) is) line.2) row
-row_keeps c h (Asks_offline name device temporary) acts reply d other row = on_keeps d (named name h.pools) (OfflineLine h device temporary) acts reply
-    (λ s line. by_moves d h s (λ vs. RowOffline s device temporary vs line.0) acts (λ vs is. keep_offline (leaf_named device s.core.leaves) s device temporary vs line.0 is) line.2) row
-row_keeps c h (Asks_online name device) acts reply d other row = on_keeps d (named name h.pools) (OnlineLine h device) acts reply
-    (λ s line. online_keeps d h s device line.0 acts line.2) row
-row_keeps c h (Asks_step name) acts reply d other row = on_keeps d (named name h.pools) (StepLine h) acts reply
-    (λ s line. by_marked d h s (λ vs. Steps_by (made_in vs)) (λ vs. RowStep s vs line.0) acts (λ vs is. keep_step s.core.scan.running s vs line.0 is) line.2) row
-row_keeps c h (Asks_scrub name) acts reply d other row = on_keeps d (named name h.pools) (ScrubLine h) acts reply
-    (λ s line. by_moves d h s (λ vs. RowScrub s vs line.0) acts (λ vs is. keep_scrub s.core.scan.running s vs line.0 is) line.2) row
-row_keeps c h (Asks_stop name) acts reply d other row = on_keeps d (named name h.pools) (StopLine h) acts reply
-    (λ s line. by_moves d h s (λ vs. RowStopScrub s vs line.0) acts (λ vs is. keep_stop (s.core.scan.running && s.own.scrubs) vs line.0 is) line.2) row
-row_keeps c h (Asks_logs name) acts reply d other row = on_keeps d (named name h.pools) (LogsLine h) acts reply
-    (λ s line. by_moves d h s (λ vs. RowLogs s vs line.0) acts (λ vs is. subst AllKeep (sym is.0) tt) line.2) row
+row_keeps c h (Asks_write name a block) acts reply d other row = keep_written d h a block (named name h.pools) acts reply row
 row_keeps c h (Asks_import name) acts reply d other row = keep_unless (named name h.pools) c h name acts reply d row
 row_keeps c h (Asks_create name blocks tops) acts reply d other row = absurd (other name blocks tops refl)
+row_keeps c h asked acts reply d other row = plain_line KeepsMembers kept_line (KeepsAt d) (kept_acts d) c h asked acts reply tt row
 
 none_keeps : (d : ℕ) (acts : List Act) → AllByRecursion ChangesNone acts → Keep d acts
 none_keeps d [] all = tt

@@ -160,7 +160,7 @@ online_may c h p s device reply acts knows is line = by_bool (s.core.pool.0 == p
       knows,
       may_more c h p (does g line.moves) (all_shown g known (found_in line.moves))
           (walk_may c h s t g line.moves knows is (sym number) has.1
-          (online_walks c (size_in h.table) s t device (is_listed device s) (device_for (number_in device h.table) h g) line.moves reply has.1 knows.sizes line.row ok.0
+          (online_walks c (size_in h.table) s t device (is_listed device s) (device_for device (number_in device h.table) h g) line.moves reply has.1 knows.sizes line.row ok.0
           (found_members p line.moves ok.1)) (own_front g h (does g line.moves) (all_shown g known (found_in line.moves)) own.1))
           (λ fair known_behind. shown_may c (host_along (does g line.moves) h) (pool_along (does g line.moves) p) g known (found_in line.moves) known_behind
           (ap (λ n. n.0) (acts_number (does g line.moves) p) ∙ sym number)) knows,

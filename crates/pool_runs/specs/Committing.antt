@@ -22,7 +22,8 @@ pub record AcksAs (before behind : Pool) (name : List ℕ) (e : Entry) (n : ℕ)
   pub turns : e.asked ≡ Asks_turn name → e.reply ≡ To_turn (Committed n) → number_of behind.acked ≡ n
   pub syncs : e.asked ≡ Asks_sync name → e.reply ≡ To_sync (Ended (Committed n)) → CommitsAll before behind n
 
--- An opening that answers n found a live record, not below the acknowledged one, and acknowledged its blocks again as record n, above it.
+-- An opening that answers n found a live record, not below the acknowledged one, and acknowledged its blocks again as record n, above it; and what
+-- was written last is what the record found has.
 pub record OpensLive (before behind : Pool) (n : ℕ) : Type 0 where
   pub r : Rec
   pub live : IsIn r before.live
@@ -30,6 +31,7 @@ pub record OpensLive (before behind : Pool) (n : ℕ) : Type 0 where
   pub above : number_of r < n
   pub acked : number_of behind.acked ≡ n
   pub blocks : (a : ℕ) → block_at behind.acked a ≡ block_at r a
+  pub written : (a : ℕ) → behind.written a ≡ block_at r a
 
 -- what these acts open, if anything
 abbrev pub opening_in : List Act → Option Opening

@@ -1,19 +1,18 @@
 -- `create` as a row: its refusals, its stamps, and the pool that begins behind them.
 use Rattle.std.specs.Prelude.{◌≡◌, ◌≢◌, ◌⊎◌, ℕ, ◌+◌, ◌≤◌, ◌==◌, ◌||◌, nat_lt, Bool, true, false, cond, List, [], ◌∷◌, ◌++◌, map, length, take, Option, Some, None}
-use Rattle.std.specs.List.{AllByRecursion, list_any, find}
+use Rattle.std.specs.List.{AllByRecursion, list_any}
 use Rattle.std.specs.Option.{is_some}
 use Rattle.std.specs.Int.{to_be_bytes, from_be_bytes, w64}
 use Rattle.std.specs.Str.{bytes_eq}
 use Rattle.sha2.specs.Sha256.{sha256}
 use Rattle.mp_base.specs.declared.number.Guid.{Guid}
 use Rattle.txg_history.specs.Pages.{Codec}
-use Rattle.pool_moves.specs.FreezeRow.{is_dev}
 use Rattle.pool_moves.specs.Moves.{Move}
 use Rattle.pool_moves.specs.StampRow.{NewMember, NewLeaf, new_leaves, new_room, leaf_at, is_leaf_at, guid_of, top_of, AreDevicesApart, Stamp, AreStamps, new_state, CreateReply, Created, FaultOn, CommitsFirst}
 use Rattle.pool_moves.specs.States.{PoolState}
 use Rattle.pool_runs.specs.Acts.{Act, Birth, Names, Takes, Bears, Closes, does, bare}
 use Rattle.pool_runs.specs.Devices.{Device, number_in, name_in, size_in}
-use Rattle.pool_runs.specs.Hosts.{Host, IsOpen, named, host_along}
+use Rattle.pool_runs.specs.Hosts.{Host, IsOpen, named, holder, host_along}
 use Rattle.pool_runs.specs.Knowing.{AreOwnActs}
 use Rattle.pool_runs.specs.Lines.{Reply, To_create, To_uncreated, CreateRefusal, NameTaken, TooMany, BadBlocks, NameTwice, UnknownDevice, InUse, TooSmall}
 
@@ -76,17 +75,14 @@ abbrev pub unknown : List Device → List (List ℕ) → Option CreateRefusal
 unknown table [] = None
 unknown table (name ∷ names) = or_else (unknown_by (number_in name table) name) (unknown table names)
 
--- the open pool that has a leaf on the device is named
+-- the open pool whose the device is is named
 abbrev pub used_by : Option PoolState → Option CreateRefusal
 used_by None = None
 used_by (Some s) = Some (InUse s.core.name)
 
-abbrev pub has_leaf_at : (d : ℕ) → PoolState → Bool
-has_leaf_at d s = list_any (λ leaf. is_dev d leaf.dev) s.core.leaves
-
 abbrev pub used : List PoolState → List NewLeaf → Option CreateRefusal
 used pools [] = None
-used pools (leaf ∷ leaves) = or_else (used_by (find (has_leaf_at leaf.dev) pools)) (used pools leaves)
+used pools (leaf ∷ leaves) = or_else (used_by (holder leaf.name leaf.dev pools)) (used pools leaves)
 
 abbrev pub too_small : List Device → List NewLeaf → Option CreateRefusal
 too_small table [] = None

@@ -1,18 +1,14 @@
 -- The headline: what a run is to a pool that the devices had when it began, or that it made.
 use Rattle.std.specs.Prelude.{◌≡◌, ◌≢◌, ◌⊎◌, ℕ, Bool, true, false, List, [], ◌∷◌, ◌++◌, Some, take}
 use Rattle.bank_core.specs.Calls.{AllCaused}
-use Rattle.bank_core.specs.Disk.{run}
 use Rattle.txg_history.specs.Copies.{IsCopiedGroup, MayTakeGroup}
 use Rattle.txg_history.specs.Events.{Event, Clears, calls_of}
-use Rattle.txg_history.specs.Pages.{Codec, IsClash}
+use Rattle.txg_history.specs.Pages.{Codec}
 use Rattle.txg_history.specs.Pools.{Pool, pool_after}
-use Rattle.txg_history.specs.Records.{Rec, IsIn, key}
+use Rattle.txg_history.specs.Records.{Rec, IsIn}
 use Rattle.txg_history.specs.Sound.{IsSound}
 use Rattle.pool_moves.specs.AwayRows.{Required, LeastOut, is_offline, is_spare, leaf_named, siblings}
 use Rattle.pool_moves.specs.Leaves.{LeafSeen}
-use Rattle.pool_moves.specs.Missing.{AllMissed}
-use Rattle.pool_moves.specs.ReadRow.{Gives, Exhausted}
-use Rattle.pool_moves.specs.Showing.{LeafShown}
 use Rattle.pool_moves.specs.States.{PoolState}
 use Rattle.pool_runs.specs.Acts.{Act, calls_along, pool_along, history}
 use Rattle.pool_runs.specs.Committing.{AcksAs, FindsPool}
@@ -20,10 +16,11 @@ use Rattle.pool_runs.specs.Counting.{SomeRose, HasLostBoard, Suspends}
 use Rattle.pool_runs.specs.Fairness.{AreFair}
 use Rattle.pool_runs.specs.HostRows.{acts_in}
 use Rattle.pool_runs.specs.Hosts.{Host}
-use Rattle.pool_runs.specs.Lines.{Asks_read, Asks_turn, Asks_sync, Asks_offline, Asks_import, Reply, To_read, To_offline, No_memory, Entry}
+use Rattle.pool_runs.specs.Lines.{Asks_read, Asks_turn, Asks_sync, Asks_offline, Asks_import, Reply, To_offline, No_memory, Entry}
 use Rattle.pool_runs.specs.Moments.{Moment, events_at, pool_at, past_at, host_at, LineOf, pool_before, pool_behind, host_before, calls_in_line, IsOpenAs}
 use Rattle.pool_runs.specs.Pasts.{Past, pool_of, Left, HasFrozen}
 use Rattle.pool_runs.specs.Taking.{IsTakenBy}
+use Rattle.pool_runs.specs.Writing.{KeepsWrites, ReadsWritten}
 
 -- Behind so many of the run's device calls there is a moment, and the pool's history has just these calls then.
 pub record HasMoment (past : Past) (acts : List Act) (entries : List Entry) (k : ℕ) : Type 0 where
@@ -58,14 +55,11 @@ pub record Headline (c : Codec) (past : Past) (h : Host) (acts : List Act) (entr
   -- a turn or a sync that answers a number acknowledged that record, and a sync's has each block as it was written last
   pub acks : (l : LineOf c past acts entries) (name : List ℕ) (s : PoolState) (n : ℕ) → IsOpenAs (pool_before l) (host_before h l) name s
       → AcksAs (pool_before l) (pool_behind l) name l.entry n
-  -- a read gives the block that was written last, or that block and the bytes that it gave are two byte strings with one SHA-256 sum
-  pub reads : (l : LineOf c past acts entries) (name : List ℕ) (a : ℕ) (s : PoolState) (bytes : List ℕ) → l.entry.asked ≡ Asks_read name a
-      → IsOpenAs (pool_before l) (host_before h l) name s → l.entry.reply ≡ To_read (Gives bytes)
-      → (bytes ≡ (pool_before l).written a) ⊎ IsClash ((pool_before l).written a) bytes
-  -- it gives none only where each readable leaf of the block's top missed it in this line
-  pub loses : (l : LineOf c past acts entries) (name : List ℕ) (a : ℕ) (s : PoolState) (shown : List LeafShown) → l.entry.asked ≡ Asks_read name a
-      → IsOpenAs (pool_before l) (host_before h l) name s → l.entry.reply ≡ To_read (Exhausted shown)
-      → AllMissed (s.core.committed (key 0 a)) (calls_in_line l) (run (calls_in_line l) (pool_before l).sectors) s.core.leaves
+  -- a write that is taken puts its block where it says, and nothing else but an import changes what was written last
+  pub writes : (l : LineOf c past acts entries) → KeepsWrites (host_before h l) (pool_before l) (pool_behind l) l.entry
+  -- a read gives the block that was written last, up to a clash, and none only where each readable leaf of the block's top missed it in this line
+  pub reads : (l : LineOf c past acts entries) (name : List ℕ) (a : ℕ) (s : PoolState) → l.entry.asked ≡ Asks_read name a
+      → IsOpenAs (pool_before l) (host_before h l) name s → ReadsWritten (pool_before l) s a (calls_in_line l) l.entry.reply
   -- a leaf that isn't OFFLINE, nor a spare that stands in, is required just where the outage rule says so
   pub required : (l : LineOf c past acts entries) (name device : List ℕ) (temporary : Bool) (s : PoolState) (leaf : LeafSeen) (group : ℕ)
       → l.entry.asked ≡ Asks_offline name device temporary → IsOpenAs (pool_before l) (host_before h l) name s

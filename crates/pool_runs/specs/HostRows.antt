@@ -1,6 +1,6 @@
 -- Each line of a host as a row: which acts it is made of, by the host before it, and what it answers.
 use Rattle.std.specs.Prelude.{◌≡◌, ◌⊎◌, ℕ, ◌≤◌, ◌&&◌, Bool, true, false, not, cond, List, [], ◌∷◌, ◌++◌, Option, Some, None}
-use Rattle.std.specs.List.{AllByRecursion, find}
+use Rattle.std.specs.List.{AllByRecursion}
 use Rattle.bank_core.specs.Calls.{device_of, fault_of}
 use Rattle.bank_core.specs.Disk.{Call, Read, Write, Flush, Admit, Eject, Noted, AllAnswer}
 use Rattle.label_store.specs.Newest.{AreReads}
@@ -14,9 +14,9 @@ use Rattle.pool_moves.specs.ReadRow.{ReadReply, RowRead, made_in}
 use Rattle.pool_moves.specs.ScanRows.{StepReply, RowStep, ScrubReply, RowScrub, StopReply, RowStopScrub}
 use Rattle.pool_moves.specs.States.{PoolState}
 use Rattle.pool_runs.specs.Acts.{Act, Mark, Gives_for, Steps_by, Seeks_by, Hears, Bare, Does, Marks, Looked, Shows, Reads_as, Enters, Names, Takes, Bears, Closes, does, calls_along}
-use Rattle.pool_runs.specs.Creating.{has_leaf_at, RowCreate}
+use Rattle.pool_runs.specs.Creating.{RowCreate}
 use Rattle.pool_runs.specs.Devices.{number_in, size_in}
-use Rattle.pool_runs.specs.Hosts.{Host, is_of, named, host_by, host_along}
+use Rattle.pool_runs.specs.Hosts.{Host, is_of, holder, named, host_by, host_along}
 use Rattle.pool_runs.specs.Importing.{read_in, all_shown, RowImport}
 use Rattle.pool_runs.specs.Knowing.{AreOwnActs}
 use Rattle.pool_runs.specs.Lines.{Asked, Asks_nothing, Asks_write, Asks_read, Asks_freeze, Asks_turn, Asks_sync, Asks_offline, Asks_online, Asks_logs, Asks_step, Asks_scrub, Asks_stop, Asks_import, Asks_create, Reply, To_nothing, To_write, To_read, To_freeze, To_turn, To_sync, To_offline, To_online, To_logs, To_step, To_scrub, To_stop, No_pool, No_memory, Entry}
@@ -64,19 +64,19 @@ found_in [] = []
 found_in (Finds m d ∷ vs) = Some d ∷ found_in vs
 found_in (v ∷ vs) = found_in vs
 
--- what the host says of the device of this name: whether it was found, and whether another open pool has a leaf there
-abbrev pub held_by : Option PoolState → (d : ℕ) → HostDevice
-held_by None d = Handed d
-held_by (Some s) d = HeldBy s.core.name
+-- what the host says of the device of this name: whether it was found, and whether it is another open pool's
+abbrev pub held_by : Option PoolState → (g d : ℕ) → HostDevice
+held_by None g d = Handed d
+held_by (Some s) g d = cond (is_of g s) (Handed d) (HeldBy s.core.name)
 
-abbrev pub device_for : Option ℕ → Host → (g : ℕ) → HostDevice
-device_for None h g = NoneFound
-device_for (Some d) h g = held_by (find (λ s. not (is_of g s) && has_leaf_at d s) h.pools) d
+abbrev pub device_for : (name : List ℕ) → Option ℕ → Host → (g : ℕ) → HostDevice
+device_for name None h g = NoneFound
+device_for name (Some d) h g = held_by (holder name d h.pools) g d
 
 -- It looks for the identity of a leaf that comes back, and a device on which it finds it is the pool's.
 pub record ByOnline (h : Host) (s : PoolState) (device : List ℕ) (reply : OnlineReply) (acts : List Act) : Type 0 where
   pub moves : List Move
-  pub row : RowOnline (size_in h.table) s device (is_listed device s) (device_for (number_in device h.table) h s.core.pool.0) moves reply
+  pub row : RowOnline (size_in h.table) s device (is_listed device s) (device_for device (number_in device h.table) h s.core.pool.0) moves reply
   pub are : acts ≡ Marks s.core.pool.0 (Seeks_by (made_in moves) (found_in moves))
       ∷ (does s.core.pool.0 moves ++ all_shown s.core.pool.0 (read_in (made_in moves)) (found_in moves))
   pub own : AreOwnActs s.core.pool.0 h acts

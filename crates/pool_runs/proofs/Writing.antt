@@ -1,0 +1,222 @@
+-- Which lines leave what was written last.
+use Rattle.std.proofs.Common.{◌≡◌, ◌⊎◌, inl, inr, ⊎_elim, ℕ, ◌==◌, nat_lt, Bool, true, false, cond, List, [], ◌∷◌, ◌++◌, Option, Some, None, refl, sym, ap, ◌∙◌, subst}
+use Rattle.std.specs.List.{AllByRecursion}
+use Rattle.std.specs.Str.{bytes_eq}
+use Rattle.bank_core.specs.Disk.{Noted}
+use Rattle.label_store.specs.Newest.{AreReads}
+use Rattle.txg_history.specs.Events.{Calls, Looks, Opens, Loses, as_events}
+use Rattle.txg_history.specs.Pages.{Codec}
+use Rattle.txg_history.specs.Pools.{Pool, after, pool_after}
+use Rattle.txg_history.proofs.Logging.{by_bool}
+use Rattle.pool_moves.specs.AwayRows.{WriteReply, Taken, BadAddress, Full, NoSpace, WriteFits, WriteBy, RowWrite}
+use Rattle.pool_moves.specs.Moves.{Move, Makes, Puts, events_of}
+use Rattle.pool_moves.specs.ReadRow.{made_in}
+use Rattle.pool_moves.specs.StampRow.{Stamp, CreateReply, Created, FaultOn, new_state}
+use Rattle.pool_moves.specs.States.{PoolState}
+use Rattle.pool_runs.specs.Acts.{Act, Bare, Does, Looked, Reads_as, Takes, Bears, Closes, does, bare, calls_along, events_for, pool_by, pool_along}
+use Rattle.pool_runs.specs.Creating.{tops_of, stamp_acts, new_birth, commit_acts, RowCreate}
+use Rattle.pool_runs.specs.Devices.{size_in}
+use Rattle.pool_runs.specs.HostRows.{WriteLine, OnPool, RowOf, ChangesNone, MayRewrite, HostRow}
+use Rattle.pool_runs.specs.Hosts.{Host, named}
+use Rattle.pool_runs.specs.Lines.{Asked, Asks_write, Asks_import, Asks_create, Reply, To_write, No_memory, Entry}
+use Rattle.pool_runs.specs.Moments.{IsOpenAs}
+use Rattle.pool_runs.specs.Writing.{IsTakenWrite, IsImport, KeepsWrites}
+use Rattle.pool_runs.proofs.Acting.{number_of_test, own_events}
+use Rattle.pool_runs.proofs.Committing.{KeepsWritten, written_kind, move_written}
+use Rattle.pool_runs.proofs.GroupMoves.{all_found}
+use Rattle.pool_runs.proofs.LineMoves.{IsLineKind, IsActKind, line_does, both_acts, plain_line}
+
+-- Acts that leave what was written.
+calls_written : (made : List Noted) (p : Pool) → (pool_after (as_events made) p).written ≡ p.written
+calls_written [] p = refl
+calls_written (noted ∷ made) p = calls_written made (after (Calls noted) p)
+
+abbrev StillAt : Act → Type 0
+StillAt (Does g v) = KeepsWritten v
+StillAt (Reads_as opening) = ⊥
+StillAt act = Unit {0}
+
+abbrev AllStill : List Act → Type 0
+AllStill acts = AllByRecursion StillAt acts
+
+act_still : (act : Act) (p : Pool) → StillAt act → (pool_by act p).written ≡ p.written
+act_still (Bare noted) p still = refl
+act_still (Does g v) p still = by (p.pool.0 == g)
+  where
+    by : (t : Bool) → (pool_after (cond t (events_of v p) (as_events (made_in (v ∷ [])))) p).written ≡ p.written
+    by true = move_written v p still
+    by false = calls_written (made_in (v ∷ [])) p
+act_still (Looked name known) p still = by (bytes_eq p.name name)
+  where
+    by : (t : Bool) → (pool_after (cond t (Looks known ∷ []) []) p).written ≡ p.written
+    by true = refl
+    by false = refl
+act_still (Reads_as opening) p still = absurd still
+act_still (Takes g e) p still = by (p.pool.0 == g)
+  where
+    by : (t : Bool) → (pool_after (cond t [] (Loses e ∷ [])) p).written ≡ p.written
+    by true = refl
+    by false = refl
+act_still act p still = refl
+
+acts_still : (acts : List Act) (p : Pool) → AllStill acts → (pool_along acts p).written ≡ p.written
+acts_still [] p still = refl
+acts_still (act ∷ acts) p still = acts_still acts (pool_by act p) still.1 ∙ act_still act p still.0
+
+still_front : (first second : List Act) → AllStill (first ++ second) → AllStill first
+still_front [] second all = tt
+still_front (act ∷ first) second all = (all.0, still_front first second all.1)
+
+-- Lines that make such acts.
+written_line : IsLineKind KeepsWritten
+written_line = record {
+  kind = written_kind;
+  freezes = λ cells board. tt;
+  burns = tt;
+  drops = λ d. tt;
+  clears = λ d. tt;
+  passes = λ key birth marks. tt;
+  scans = λ hi eligible. tt;
+  scrubs = tt;
+  rests = tt;
+  finds = λ m d. tt;
+}
+
+still_acts : IsActKind KeepsWritten StillAt
+still_acts = record { does = λ g v is. is; marks = λ g mark. tt; shows = λ g e known. tt }
+
+still_bare : (made : List Noted) (rest : List Act) → AllStill rest → AllStill (bare made ++ rest)
+still_bare [] rest all = all
+still_bare (noted ∷ made) rest all = (tt, still_bare made rest all)
+
+still_stamps : (g : ℕ) (stamps : List Stamp) → AllStill (stamp_acts g stamps)
+still_stamps g [] = tt
+still_stamps g (stamp ∷ stamps) = (tt, still_bare stamp.made (stamp_acts g stamps) (still_stamps g stamps))
+
+still_commit : (answer : CreateReply) (g : ℕ) (vs : List Move) → AllByRecursion KeepsWritten vs → AllStill (commit_acts answer g vs)
+still_commit Created g vs all = line_does KeepsWritten written_line StillAt still_acts g vs all
+still_commit (FaultOn device) g vs all = both_acts KeepsWritten written_line StillAt still_acts (does g vs) (Closes g ∷ []) (line_does KeepsWritten written_line StillAt still_acts g vs all) (tt, tt)
+
+still_create : (c : Codec) (h : Host) (name : List ℕ) (blocks : ℕ) (tops : List (List (List ℕ))) (acts : List Act) (reply : Reply) → RowCreate c h name blocks tops acts reply → AllStill acts
+still_create c h name blocks tops acts reply (inl row) = subst AllStill (sym row.2) tt
+still_create c h name blocks tops acts reply (inr (inl row)) = subst AllStill (sym row.all) (tt, still_stamps row.pool.0 row.stamps)
+still_create c h name blocks tops acts reply (inr (inr row)) =
+    let behind = Bears (new_birth name row.pool blocks h.table tops) ∷ commit_acts row.answer row.pool.0 row.moves in
+    subst AllStill (sym row.all) (tt, both_acts KeepsWritten written_line StillAt still_acts (stamp_acts row.pool.0 row.stamps) behind (still_stamps row.pool.0 row.stamps)
+    (tt, still_commit row.answer row.pool.0 row.moves
+    (all_found KeepsWritten written_kind (λ cells board. tt) c (size_in h.table) (new_state (size_in h.table) name row.pool blocks (tops_of h.table tops)) row.moves row.row.whole row.row.row)))
+
+-- A write.
+puts_one : (short : Bool) (need free a : ℕ) (block : List ℕ) (vs : List Move) (reply : WriteReply) → WriteFits short need free a block vs reply → ((vs ≡ Puts a block ∷ []) × (reply ≡ Taken)) ⊎ (vs ≡ [])
+puts_one true need free a block vs reply row = inr row.0
+puts_one false need free a block vs reply row = inl row
+
+puts_by : (full : Bool) (s : PoolState) (a : ℕ) (block : List ℕ) (vs : List Move) (reply : WriteReply) → WriteBy full s a block vs reply → ((vs ≡ Puts a block ∷ []) × (reply ≡ Taken)) ⊎ (vs ≡ [])
+puts_by true s a block vs reply row = inr row.0
+puts_by false s a block vs reply row = puts_one _ _ row.0 a block vs reply row.2
+
+puts_or : (s : PoolState) (a : ℕ) (block : List ℕ) (vs : List Move) (reply : WriteReply) → RowWrite s a block vs reply → ((vs ≡ Puts a block ∷ []) × (reply ≡ Taken)) ⊎ (vs ≡ [])
+puts_or s a block vs reply (inl row) = inr row.1
+puts_or s a block vs reply (inr row) = puts_by _ s a block vs reply row.1
+
+taken_reply : (r : WriteReply) → To_write r ≡ To_write Taken → r ≡ Taken
+taken_reply r e = cc
+
+taken_moves : (s : PoolState) (a : ℕ) (block : List ℕ) (vs : List Move) → RowWrite s a block vs Taken → vs ≡ Puts a block ∷ []
+taken_moves s a block vs (inl row) = absurd (let no : Taken ≡ BadAddress s.own.blocks = row.2 in cc)
+taken_moves s a block vs (inr row) = full _ row.1
+  where
+    fits : (short : Bool) (need free : ℕ) → WriteFits short need free a block vs Taken → vs ≡ Puts a block ∷ []
+    fits true need free row = absurd (let no : Taken ≡ NoSpace need free = row.1 in cc)
+    fits false need free row = row.0
+
+    full : (t : Bool) → WriteBy t s a block vs Taken → vs ≡ Puts a block ∷ []
+    full true row = absurd (let no : Taken ≡ Full = row.1 in cc)
+    full false row = fits _ _ row.0 row.2
+
+put_written : (g a : ℕ) (block : List ℕ) (p : Pool) → p.pool.0 ≡ g → (x : ℕ) → (pool_along (does g (Puts a block ∷ [])) p).written x ≡ cond (a == x) block (p.written x)
+put_written g a block p is x = ap (λ vs. (pool_after vs p).written x) (own_events g (Puts a block) p is)
+
+write_puts : (c : Codec) (h : Host) (p : Pool) (e : Entry) (a : ℕ) (block : List ℕ) → HostRow c h e → IsTakenWrite h p e a block → (x : ℕ)
+    → (pool_along e.acts p).written x ≡ cond (a == x) block (p.written x)
+write_puts c h p e a block (inr out) w x = absurd (let no : To_write Taken ≡ No_memory = sym w.reply ∙ out.says in cc)
+write_puts c h p e a block (inl row) w x =
+    let line : WriteLine h a block w.s e.acts e.reply = subst (λ found. OnPool found (WriteLine h a block) e.acts e.reply) w.at.named (subst (λ asked. RowOf c h asked e.acts e.reply) w.asked row.0) in
+    let done : RowWrite w.s a block line.2.moves Taken = subst (RowWrite w.s a block line.2.moves) (taken_reply line.0 (sym line.1 ∙ w.reply)) line.2.row in
+    let acts : e.acts ≡ does w.s.core.pool.0 (Puts a block ∷ []) = line.2.are ∙ ap (does w.s.core.pool.0) (taken_moves w.s a block line.2.moves done) in
+    ap (λ acts. (pool_along acts p).written x) acts ∙ put_written w.s.core.pool.0 a block p (sym w.at.ours) x
+
+-- what each line leaves
+abbrev Leaves : Host → Pool → Entry → Type 0
+Leaves h p e = (((a : ℕ) × (block : List ℕ) × IsTakenWrite h p e a block) ⊎ IsImport e) ⊎ ((x : ℕ) → (pool_along e.acts p).written x ≡ p.written x)
+
+leaves_still : (h : Host) (p : Pool) (e : Entry) → AllStill e.acts → Leaves h p e
+leaves_still h p e all = inr (λ x. ap (λ f. f x) (acts_still e.acts p all))
+
+other_put : (g a : ℕ) (block : List ℕ) (p : Pool) → (p.pool.0 == g) ≡ false → (pool_along (does g (Puts a block ∷ [])) p).written ≡ p.written
+other_put g a block p off = ap (λ t. (pool_after (cond t (events_of (Puts a block) p) []) p).written) off
+
+write_leaves : (h : Host) (p : Pool) (e : Entry) (name : List ℕ) (a : ℕ) (block : List ℕ) (found : Option PoolState) → named name h.pools ≡ found → e.asked ≡ Asks_write name a block
+    → OnPool found (WriteLine h a block) e.acts e.reply → Leaves h p e
+write_leaves h p e name a block None at asked row = leaves_still h p e (subst AllStill (sym row.0) tt)
+write_leaves h p e name a block (Some s) at asked line = ⊎_elim
+    (λ put. let acts : e.acts ≡ does s.core.pool.0 (Puts a block ∷ []) = line.2.are ∙ ap (does s.core.pool.0) put.0 in by_bool (p.pool.0 == s.core.pool.0)
+        (λ ours. inl (inl (a, block, record {
+            name = name;
+            s = s;
+            asked = asked;
+            at = record { named = at; ours = sym (number_of_test p.pool.0 s.core.pool.0 ours) };
+            reply = line.1 ∙ ap To_write put.1;
+        })))
+        (λ off. inr (λ x. ap (λ acts. (pool_along acts p).written x) acts ∙ ap (λ f. f x) (other_put s.core.pool.0 a block p off))))
+    (λ none. leaves_still h p e (subst AllStill (sym (line.2.are ∙ ap (does s.core.pool.0) none)) tt))
+    (puts_or s a block line.2.moves line.0 line.2.row)
+
+row_leaves : (c : Codec) (h : Host) (p : Pool) (e : Entry) (asked : Asked) → e.asked ≡ asked → RowOf c h asked e.acts e.reply → Leaves h p e
+row_leaves c h p e (Asks_write name a block) is row = write_leaves h p e name a block (named name h.pools) refl is row
+row_leaves c h p e (Asks_import name) is row = inl (inr (record { name = name; asked = is }))
+row_leaves c h p e (Asks_create name blocks tops) is row = leaves_still h p e (still_create c h name blocks tops e.acts e.reply row)
+row_leaves c h p e asked is row = leaves_still h p e (plain_line KeepsWritten written_line StillAt still_acts c h asked e.acts e.reply tt row)
+
+-- Where there was no memory.
+abbrev NoReading : Act → Type 0
+NoReading (Reads_as opening) = ⊥
+NoReading act = Unit {0}
+
+moves_none : (g : ℕ) (vs : List Move) → AllByRecursion NoReading (does g vs)
+moves_none g [] = tt
+moves_none g (v ∷ vs) = (tt, moves_none g vs)
+
+none_front : (first second : List Act) → AllByRecursion NoReading (first ++ second) → AllByRecursion NoReading first
+none_front [] second all = tt
+none_front (act ∷ first) second all = (all.0, none_front first second all.1)
+
+none_still : (act : Act) → ChangesNone act → NoReading act → StillAt act
+none_still (Does g (Makes noted)) none off = tt
+none_still (Does g v) none off = absurd none
+none_still (Reads_as opening) none off = absurd off
+none_still act none off = tt
+
+all_still : (acts : List Act) → AllByRecursion ChangesNone acts → AllByRecursion NoReading acts → AllStill acts
+all_still [] none off = tt
+all_still (act ∷ acts) none off = (none_still act none.0 off.0, all_still acts none.1 off.1)
+
+write_none : (h : Host) (a : ℕ) (block : List ℕ) (found : Option PoolState) (acts : List Act) (reply : Reply) → OnPool found (WriteLine h a block) acts reply → AllByRecursion NoReading acts
+write_none h a block None acts reply row = subst (AllByRecursion NoReading) (sym row.0) tt
+write_none h a block (Some s) acts reply row = subst (AllByRecursion NoReading) (sym row.2.are) (moves_none s.core.pool.0 row.2.moves)
+
+short_leaves : (c : Codec) (h : Host) (p : Pool) (e : Entry) (rest : List Act) (reply : Reply) (asked : Asked) → e.asked ≡ asked → RowOf c h asked (e.acts ++ rest) reply
+    → (AllByRecursion ChangesNone e.acts × AreReads (calls_along e.acts)) ⊎ MayRewrite asked e.acts → Leaves h p e
+short_leaves c h p e rest reply (Asks_write name a block) is row (inl early) =
+    leaves_still h p e (all_still e.acts early.0 (none_front e.acts rest (write_none h a block (named name h.pools) (e.acts ++ rest) reply row)))
+short_leaves c h p e rest reply (Asks_write name a block) is row (inr none) = absurd none
+short_leaves c h p e rest reply (Asks_import name) is row early = inl (inr (record { name = name; asked = is }))
+short_leaves c h p e rest reply (Asks_create name blocks tops) is row early = leaves_still h p e (still_front e.acts rest (still_create c h name blocks tops (e.acts ++ rest) reply row))
+short_leaves c h p e rest reply asked is row early = leaves_still h p e (still_front e.acts rest (plain_line KeepsWritten written_line StillAt still_acts c h asked (e.acts ++ rest) reply tt row))
+
+entry_leaves : (c : Codec) (h : Host) (p : Pool) (e : Entry) → HostRow c h e → Leaves h p e
+entry_leaves c h p e (inl row) = row_leaves c h p e e.asked refl row.0
+entry_leaves c h p e (inr out) = short_leaves c h p e out.rest out.reply e.asked refl out.goes_on out.early
+
+pub entry_writes : (c : Codec) (h : Host) (p : Pool) (e : Entry) → HostRow c h e → KeepsWrites h p (pool_along e.acts p) e
+entry_writes c h p e row = record { puts = λ a block w x. write_puts c h p e a block row w x; leaves = entry_leaves c h p e row }
