@@ -729,10 +729,23 @@ put_written block p number = ap (λ t. (pool_after (cond t (Accepts 0 block ∷ 
 
 pub small_fair : (block : List ℕ) → AreFair (small_codec block) (pool_of small_born) (small_rest block)
 small_fair block = fair_more (small_codec block) (commit_acts Created small_pool.0 small_founding) (acts_in (small_later block)) (pool_of small_born)
-    (does_fair (small_codec block) small_pool.0 small_founding (pool_of small_born))
-    (tt, (tt, (tt, ((λ number clash. clash.other (sym (put_written block pool_made made_number))),
-    (tt, fair_more (small_codec block) (does small_pool.0 (small_sync block)) [] (pool_by (Does small_pool.0 (Puts 0 block)) pool_made)
-    (does_fair (small_codec block) small_pool.0 (small_sync block) (pool_by (Does small_pool.0 (Puts 0 block)) pool_made)) tt)))))
+    (does_fair (small_codec block) small_pool.0 small_founding (pool_of small_born)) (
+      tt,
+      (
+        tt,
+        (
+          tt,
+          (
+            (λ number clash. clash.other (sym (put_written block pool_made made_number))),
+            (
+              tt,
+              fair_more (small_codec block) (does small_pool.0 (small_sync block)) [] (pool_by (Does small_pool.0 (Puts 0 block)) pool_made)
+                  (does_fair (small_codec block) small_pool.0 (small_sync block) (pool_by (Does small_pool.0 (Puts 0 block)) pool_made)) tt,
+            ),
+          ),
+        ),
+      ),
+    )
 
 -- The stop.
 one_name : (name : List ℕ) (d : ℕ) → number_in name small_table ≡ Some d → name_in small_table d ≡ name
