@@ -1,5 +1,5 @@
 -- Behind the stamps of a create its pool is known, and its commit may be made.
-use Rattle.std.proofs.Common.{◌≡◌, ◌≢◌, ◌⊎◌, inl, inr, ℕ, ◌^◌, ◌<◌, ◌==◌, Bool, true, false, not, cond, List, [], ◌∷◌, ◌++◌, Option, Some, None, refl, sym, ap, ◌∙◌, subst, arith}
+use Rattle.std.proofs.Common.{◌≡◌, ◌≢◌, inl, inr, ℕ, ◌^◌, ◌<◌, ◌==◌, Bool, true, false, not, cond, List, [], ◌∷◌, ◌++◌, Some, None, refl, sym, ap, ◌∙◌, subst, arith}
 use Rattle.std.specs.List.{AllByRecursion, filter}
 use Rattle.std.proofs.lemmas.Bool.Decides.{nat_tests}
 use Rattle.mp_base.specs.declared.number.Guid.{Guid}
@@ -26,7 +26,7 @@ use Rattle.pool_runs.specs.HostRows.{IsRun}
 use Rattle.pool_runs.specs.Hosts.{Host, IsOpen, is_of, host_by, host_along}
 use Rattle.pool_runs.specs.Knowing.{Knows, MayActs, AreOwnActs}
 use Rattle.pool_runs.specs.Lines.{Reply, Entry}
-use Rattle.pool_runs.specs.Pasts.{Past, Born, Left}
+use Rattle.pool_runs.specs.Pasts.{Born}
 use Rattle.pool_runs.proofs.Creating.{within}
 use Rattle.pool_runs.proofs.Heading.{headline_from}
 use Rattle.pool_runs.proofs.Knowing.{may_more, open_kept, pools_known, walk_may}

@@ -1,30 +1,24 @@
 -- What is acknowledged where a group ends so.
-use Rattle.std.proofs.Common.{◌≡◌, ◌≢◌, ◌⊎◌, inl, inr, ⊎_elim, ℕ, ◌+◌, ◌≤◌, ◌<◌, ◌==◌, Bool, true, false, cond, List, [], ◌∷◌, ◌++◌, Option, Some, None, refl, sym, ap, ◌∙◌, subst, append-nil, append_assoc, arith}
+use Rattle.std.proofs.Common.{◌≡◌, inl, inr, ℕ, ◌≤◌, Bool, true, false, cond, List, [], ◌∷◌, ◌++◌, Option, Some, None, refl, sym, ap, ◌∙◌, subst, append-nil, append_assoc, arith}
 use Rattle.std.specs.List.{AllByRecursion}
-use Rattle.mp_base.specs.declared.place.Key.{Key}
-use Rattle.bank_core.specs.Disk.{Noted}
-use Rattle.label_store.specs.Rounds.{third_plan}
-use Rattle.txg_history.specs.Events.{Event, as_events}
 use Rattle.txg_history.specs.Pages.{Codec}
 use Rattle.txg_history.specs.Pools.{Pool, pool_after}
 use Rattle.txg_history.specs.Records.{Cells, number_of, block_at, block_in}
 use Rattle.pool_moves.specs.Boards.{board_of, board_under, emptied}
-use Rattle.pool_moves.specs.FreezeRow.{up_devs, RowFreeze, RowEmptyFreeze}
+use Rattle.pool_moves.specs.FreezeRow.{up_devs}
 use Rattle.pool_moves.specs.Keeping.{over, Kept}
-use Rattle.pool_moves.specs.LineRows.{TurnReply, Idle, Write, Flush, Round, Committed, Suspended, count_moves, EndsBy, EndsTurn, IsTurnOf, IsWritePart, IsFlushPart, IsRoundPart, StartsBy, TurnBy, RowTurn, AreTurns, moves_in, EndsGroup, CommitsOpen, SyncReply, Ended, Refused, NoMemory, CommitsFor, SyncOpen, SyncBehind, EndsFirst, SyncBy, RowSync}
-use Rattle.pool_moves.specs.Moves.{Draft, Move, Makes, Puts, Freeze, Wrote_key, Flushed_all, Draw, Leave, Burn, Starts, Copies, Copied, Commits, Sets, events_of, step, state_step, steps, after_move, after_moves}
-use Rattle.pool_moves.specs.Refusing.{FreezeRefusal, IsRefused}
-use Rattle.pool_moves.specs.States.{PoolSeen, PoolState, Side}
-use Rattle.pool_moves.specs.TurnRows.{turn_moves, round_moves, RowRound}
-use Rattle.pool_moves.specs.Walking.{as_moves}
+use Rattle.pool_moves.specs.LineRows.{TurnReply, Idle, Write, Flush, Round, Committed, Suspended, count_moves, EndsBy, EndsTurn, IsTurnOf, IsRoundPart, StartsBy, TurnBy, RowTurn, AreTurns, moves_in, EndsGroup, CommitsOpen, Ended, CommitsFor, SyncBehind, SyncBy, RowSync}
+use Rattle.pool_moves.specs.Moves.{Draft, Move, Makes, Puts, Freeze, Draw, Burn, Commits, Sets, events_of, step, state_step, steps, after_move, after_moves}
+use Rattle.pool_moves.specs.Refusing.{FreezeRefusal}
+use Rattle.pool_moves.specs.States.{PoolState, Side}
+use Rattle.pool_moves.specs.TurnRows.{round_moves, RowRound}
 use Rattle.pool_moves.specs.Widening.{IsWidened}
 use Rattle.pool_moves.proofs.FreeWalks.{moves_more}
 use Rattle.pool_moves.proofs.LineWalks.{IsSet, counts_set}
-use Rattle.pool_runs.specs.Acts.{Act, Does, does, events_for, pool_by, pool_along}
+use Rattle.pool_runs.specs.Acts.{does, pool_along}
 use Rattle.pool_runs.specs.Committing.{CommitsAll}
-use Rattle.pool_runs.specs.Counting.{IsSuspended, SuspendsSync}
 use Rattle.pool_runs.proofs.Acting.{own_events, move_number}
-use Rattle.pool_runs.proofs.GroupMoves.{IsKind, more, all_group, all_freeze, all_sync, all_widens}
+use Rattle.pool_runs.proofs.GroupMoves.{IsKind, more, all_group, all_sync, all_widens}
 
 -- Moves that end in an acknowledgement of record n.
 pub record EndsIn (vs : List Move) (n : ℕ) : Type 0 where

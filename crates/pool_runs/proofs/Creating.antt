@@ -1,5 +1,5 @@
 -- A create may be made, as far as other pools go; and what it takes that none of its refusals came.
-use Rattle.std.proofs.Common.{◌≡◌, ◌≢◌, ◌⊎◌, inl, inr, ℕ, suc, ◌+◌, ◌≤◌, ◌==◌, ◌||◌, nat_lt, Bool, true, false, cond, List, [], ◌∷◌, ◌++◌, map, length, Option, Some, None, refl, sym, ap, ◌∙◌, subst, arith}
+use Rattle.std.proofs.Common.{◌≡◌, inl, inr, ℕ, suc, ◌+◌, ◌≤◌, ◌==◌, ◌||◌, nat_lt, Bool, true, false, cond, List, [], ◌∷◌, ◌++◌, length, Option, Some, None, refl, sym, ap, ◌∙◌, subst, arith}
 use Rattle.std.specs.List.{AllByRecursion}
 use Rattle.std.proofs.lemmas.Bool.Decides.{nat_tests}
 use Rattle.std.proofs.lemmas.List.{length-append}
@@ -7,11 +7,11 @@ use Rattle.mp_base.specs.declared.number.Guid.{Guid}
 use Rattle.txg_history.specs.Pages.{Codec}
 use Rattle.txg_history.specs.Pools.{Pool}
 use Rattle.txg_history.proofs.Logging.{by_bool}
-use Rattle.pool_moves.specs.StampRow.{NewMember, NewLeaf, top_leaves, leaves_from, new_leaves, IsNew as FitsLimits}
+use Rattle.pool_moves.specs.StampRow.{NewMember, NewLeaf, top_leaves, leaves_from, IsNew as FitsLimits}
 use Rattle.pool_runs.specs.Acts.{Act, Names, Bears}
 use Rattle.pool_runs.specs.Creating.{members_of, tops_of, leaves_of, new_birth, or_else, first_some, too_many, too_wide, all_names, refused_if, too_small, refusals_of, create_refusal, stamp_acts, MayCreate, commit_acts, RowCreate}
 use Rattle.pool_runs.specs.Devices.{Device, size_in}
-use Rattle.pool_runs.specs.Hosts.{Host, host_by, host_along}
+use Rattle.pool_runs.specs.Hosts.{Host}
 use Rattle.pool_runs.specs.Knowing.{Knows, MayActs, AreOwnActs}
 use Rattle.pool_runs.specs.Lines.{CreateRefusal, TooMany, BadBlocks, TooSmall, Reply}
 use Rattle.pool_runs.proofs.Knowing.{other_may}

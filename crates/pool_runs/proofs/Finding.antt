@@ -1,26 +1,25 @@
 -- An import finds its pool, and opens a live record of it.
-use Rattle.std.proofs.Common.{◌≡◌, ◌≢◌, ◌⊎◌, inl, inr, ⊎_elim, ℕ, ◌+◌, ◌≤◌, ◌<◌, ◌==◌, ◌&&◌, ◌||◌, nat_le, Bool, true, false, not, cond, List, [], ◌∷◌, ◌++◌, length, Option, Some, None, refl, sym, ap, ◌∙◌, subst, append_assoc, arith}
+use Rattle.std.proofs.Common.{◌≡◌, inl, inr, ℕ, ◌+◌, ◌≤◌, ◌<◌, ◌==◌, ◌&&◌, ◌||◌, nat_le, Bool, true, false, not, cond, List, [], ◌∷◌, ◌++◌, length, Option, Some, None, refl, sym, ap, ◌∙◌, subst, arith}
 use Rattle.std.specs.List.{AllByRecursion}
 use Rattle.std.specs.Option.{is_none}
 use Rattle.std.specs.Str.{bytes_eq}
 use Rattle.bank_core.specs.Calls.{device_of, fault_of}
-use Rattle.bank_core.specs.Disk.{Noted, AllAnswer}
+use Rattle.bank_core.specs.Disk.{Noted}
 use Rattle.label_store.specs.declared.found.Found.{Found}
-use Rattle.mp_base.specs.declared.number.Guid.{Guid}
 use Rattle.mp_base.specs.declared.place.Key.{Key}
 use Rattle.txg_history.specs.Events.{Known, Calls, Opens, as_events}
 use Rattle.txg_history.specs.Looks.{known_by}
 use Rattle.txg_history.specs.Pages.{Codec}
 use Rattle.txg_history.specs.Pools.{Pool, after, pool_after}
-use Rattle.txg_history.specs.Premises.{Premises, HasGoodPages}
+use Rattle.txg_history.specs.Premises.{HasGoodPages}
 use Rattle.txg_history.specs.Records.{Rec, IsIn, number_of, block_at}
-use Rattle.txg_history.proofs.Folding.{with_calls, calls_after, events_more, pool_more}
-use Rattle.pool_moves.specs.CommitRows.{uncounts, RowReopen}
+use Rattle.txg_history.proofs.Folding.{calls_after, events_more, pool_more}
+use Rattle.pool_moves.specs.CommitRows.{uncounts}
 use Rattle.pool_moves.specs.Keeping.{Kept}
 use Rattle.pool_moves.specs.Leaves.{LeafSeen}
 use Rattle.pool_moves.specs.LineRows.{TurnReply, Idle, Write, Flush, Round, Committed, Suspended}
-use Rattle.pool_moves.specs.Moves.{Move, Freeze, Scan_from, Rest, state_step, steps, after_move, after_moves}
-use Rattle.pool_moves.specs.OpeningRow.{IsLiveOne, SeeksLive, SeekReply, NoRecord, NumbersEnd, TakesRecord, seek_reply, taken_by, last_numbers, OpenReply, Opens_state, NoPage, RowOpen, lacking_of, Resumes, ResumesBy, ResumesUnless, RowResume}
+use Rattle.pool_moves.specs.Moves.{Move, Freeze, Scan_from, state_step, steps, after_moves}
+use Rattle.pool_moves.specs.OpeningRow.{IsLiveOne, SeekReply, NoRecord, NumbersEnd, TakesRecord, taken_by, last_numbers, OpenReply, Opens_state, NoPage, lacking_of, Resumes, ResumesUnless, RowResume}
 use Rattle.pool_moves.specs.FreezeRow.{up_devs}
 use Rattle.pool_moves.specs.Opened.{opened_leaves}
 use Rattle.pool_moves.specs.PageReads.{LeafShown, failed_on, answers_in}
@@ -29,21 +28,20 @@ use Rattle.pool_moves.specs.States.{PoolSeen, PoolState, Side}
 use Rattle.pool_moves.proofs.FreeWalks.{moves_more}
 use Rattle.pool_moves.proofs.Keeping.{walk_keeps}
 use Rattle.pool_moves.proofs.ResilverWalks.{resume_walks}
-use Rattle.pool_moves.proofs.Seeking.{seeks_live}
-use Rattle.pool_runs.specs.Acts.{Act, Opening, Looked, Reads_as, Enters, Closes, does, bare, read_by, record_of, events_for, pool_by, pool_along, calls_along}
+use Rattle.pool_runs.specs.Acts.{Act, Opening, Looked, Enters, does, bare, read_by, pool_along, calls_along}
 use Rattle.pool_runs.specs.Committing.{OpensLive, opening_in, LosesPage, FindsPool}
-use Rattle.pool_runs.specs.Devices.{number_in, size_in, handed}
-use Rattle.pool_runs.specs.Fairness.{IsFairOpening, AreFair}
+use Rattle.pool_runs.specs.Devices.{size_in, handed}
+use Rattle.pool_runs.specs.Fairness.{AreFair}
 use Rattle.pool_runs.specs.HostRows.{AreMade}
-use Rattle.pool_runs.specs.Hosts.{Host, free_in, named}
+use Rattle.pool_runs.specs.Hosts.{Host, named}
 use Rattle.pool_runs.specs.Importing.{read_in, all_shown, OpensBy, FollowsMap, OpensFound, ImportBy, host_behind, Imports, ImportFor, ImportUnless, RowImport}
 use Rattle.pool_runs.specs.Knowing.{Knows}
-use Rattle.pool_runs.specs.Lines.{Reply, To_import, ImportReply, Opened, NameOpen, TooManyPools, NothingFound, LastNumber, PageLost, Unopened}
-use Rattle.pool_runs.proofs.Acting.{same_number, acts_more, calls_number}
-use Rattle.pool_runs.proofs.Committing.{numbers_up, GroupCommits, IsAckedAs, ends_acked, ends_before, group_commits, frozen_writes, written_kind, writes_kind, KeepsWritten, KeepsWrites, written_along, writes_along, kept_blocks, does_pool}
+use Rattle.pool_runs.specs.Lines.{Reply, To_import, ImportReply, Opened, NameOpen, TooManyPools, NothingFound, LastNumber, PageLost}
+use Rattle.pool_runs.proofs.Acting.{same_number, calls_number}
+use Rattle.pool_runs.proofs.Committing.{numbers_up, IsAckedAs, ends_acked, ends_before, group_commits, frozen_writes, written_kind, writes_kind, KeepsWritten, KeepsWrites, written_along, writes_along, kept_blocks, does_pool}
 use Rattle.pool_runs.proofs.GroupMoves.{more, all_group, all_uncounts, all_reopen}
 use Rattle.pool_moves.proofs.CommitWalks.{uncounts_set}
-use Rattle.pool_runs.proofs.Importing.{bare_calls, bare_pool, looks_along, opening_of, OpeningFacts, opening_calls, opening_facts, LookFacts, look_facts, taken_live}
+use Rattle.pool_runs.proofs.Importing.{bare_calls, looks_along, opening_of, OpeningFacts, opening_calls, opening_facts, look_facts, taken_live}
 
 -- The commit of an opening.
 resilver_written : (s : PoolSeen) (vs : List Move) → Resilvers s vs → AllByRecursion KeepsWritten vs × AllByRecursion KeepsWrites vs

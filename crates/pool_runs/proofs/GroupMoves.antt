@@ -1,5 +1,5 @@
 -- Lists of moves of a group's rows, of which each move is of one kind.
-use Rattle.std.proofs.Common.{◌≡◌, ◌⊎◌, inl, inr, ⊎_elim, ℕ, Bool, true, false, cond, List, [], ◌∷◌, ◌++◌, map, Option, Some, None, refl, sym, ap, ◌∙◌, subst}
+use Rattle.std.proofs.Common.{◌≡◌, inl, inr, ℕ, Bool, true, false, cond, List, [], ◌∷◌, ◌++◌, Option, Some, None, sym, subst}
 use Rattle.std.specs.List.{AllByRecursion, find}
 use Rattle.mp_base.specs.declared.number.Guid.{Guid}
 use Rattle.mp_base.specs.declared.place.Key.{Key}
@@ -13,7 +13,7 @@ use Rattle.pool_moves.specs.Boards.{board_of, board_under, emptied}
 use Rattle.pool_moves.specs.CommitRows.{RowFound, uncounts, RowReopen}
 use Rattle.pool_moves.specs.FreezeRow.{up_devs, RowFreeze, RowEmptyFreeze}
 use Rattle.pool_moves.specs.Leaves.{OwnLeaf, LeafSeen}
-use Rattle.pool_moves.specs.LineRows.{TurnReply, sets_failed, has_number, count_moves, Draws, EndsBy, EndsTurn, IsTurnOf, IsWritePart, IsFlushPart, IsRoundPart, StartsBy, TurnBy, RowTurn, Committed, Suspended, Idle, Write, Flush, Round, Ends, AreTurns, moves_in, EndsGroup, CommitsOpen, SyncReply, Ended, CommitsFor, SyncOpen, SyncBehind, EndsFirst, SyncBy}
+use Rattle.pool_moves.specs.LineRows.{TurnReply, sets_failed, has_number, count_moves, Draws, EndsBy, EndsTurn, IsTurnOf, IsRoundPart, StartsBy, TurnBy, RowTurn, Committed, Suspended, Idle, Write, Flush, Round, Ends, AreTurns, moves_in, EndsGroup, CommitsOpen, SyncReply, CommitsFor, SyncOpen, SyncBehind, SyncBy}
 use Rattle.pool_moves.specs.Moves.{Draft, Move, Makes, Freeze, Wrote_key, Flushed_all, Draw, Leave, Widen, Burn, Starts, Copies, Copied, Commits, Sets, step, steps}
 use Rattle.pool_moves.specs.ReadRow.{count_reads}
 use Rattle.pool_moves.specs.Refusing.{FreezeRefusal}

@@ -1,45 +1,18 @@
 -- The headline, from what a host knows of a pool and from the rows of a run.
-use Rattle.std.proofs.Common.{◌≡◌, ◌≢◌, ◌⊎◌, inl, inr, ⊎_elim, ℕ, ◌≤◌, ◌<◌, ◌==◌, Bool, true, false, cond, List, [], ◌∷◌, ◌++◌, take, Option, Some, None, refl, sym, ap, ◌∙◌, subst, arith}
+use Rattle.std.proofs.Common.{◌≡◌, ◌⊎◌, inl, inr, ⊎_elim, ℕ, ◌<◌, Bool, true, false, List, [], ◌∷◌, ◌++◌, take, Some, refl, sym, ap, ◌∙◌, subst, arith}
 use Rattle.std.specs.List.{AllByRecursion}
-use Rattle.std.specs.Str.{bytes_eq}
 use Rattle.bank_core.specs.Calls.{AllCaused}
-use Rattle.bank_core.specs.Disk.{Noted, run}
-use Rattle.txg_history.specs.Copies.{IsCopiedGroup, MayTakeGroup}
-use Rattle.txg_history.specs.Events.{
-  Event,
-  Calls,
-  Accepts,
-  Freezes,
-  Wrote,
-  Flushed,
-  Draws,
-  Leaves,
-  Grows,
-  Burns,
-  Begins,
-  Third,
-  Ends,
-  Acks,
-  Looks,
-  Opens,
-  Joins,
-  Loses,
-  Scans,
-  Passes,
-  Drops,
-  Clears,
-  Rests,
-  Stops,
-}
-use Rattle.txg_history.specs.Moves.{May, Mays}
+use Rattle.bank_core.specs.Disk.{run}
+use Rattle.txg_history.specs.Events.{Event, Clears}
+use Rattle.txg_history.specs.Moves.{Mays}
 use Rattle.txg_history.specs.Pages.{Codec, IsClash}
 use Rattle.txg_history.specs.Pools.{Pool, pool_after}
 use Rattle.txg_history.specs.Records.{Rec, IsIn, key, number_of}
 use Rattle.txg_history.specs.Survival.{Survives}
-use Rattle.txg_history.proofs.Folding.{mays_first, mays_second, pool_more}
+use Rattle.txg_history.proofs.Folding.{mays_second, pool_more}
 use Rattle.txg_history.proofs.ScansBring.{cleared_copied, groups_leave}
 use Rattle.txg_history.proofs.Surviving.{survives_sound}
-use Rattle.pool_moves.specs.AwayRows.{OfflineReply, Gone, Required, LeastOut, IsRequired, is_offline, is_spare, leaf_named, siblings, OfflineLeaf, OfflineHere, OfflineBy}
+use Rattle.pool_moves.specs.AwayRows.{OfflineReply, Gone, Required, LeastOut, is_offline, is_spare, leaf_named, siblings, OfflineLeaf, OfflineHere, OfflineBy}
 use Rattle.pool_moves.specs.Keeping.{Kept}
 use Rattle.pool_moves.specs.Leaves.{LeafSeen}
 use Rattle.pool_moves.specs.LineRows.{TurnReply, SyncReply, Ended, Committed, RowTurn, RowSync}
@@ -52,24 +25,24 @@ use Rattle.pool_moves.proofs.Keeping.{walk_keeps}
 use Rattle.pool_moves.proofs.LineWalks.{sync_walks}
 use Rattle.pool_moves.proofs.Missing.{exhausted_missed}
 use Rattle.pool_moves.proofs.ReadWalks.{read_right}
-use Rattle.pool_runs.specs.Acts.{Act, Gives_for, Marks, Hears, calls_along, pool_along, history}
+use Rattle.pool_runs.specs.Acts.{Act, Gives_for, Marks, Hears, calls_along, pool_along}
 use Rattle.pool_runs.specs.Committing.{CommitsAll, FindsPool}
 use Rattle.pool_runs.specs.Counting.{SomeRose, HasLostBoard, Suspends}
 use Rattle.pool_runs.specs.Devices.{number_in, size_in}
 use Rattle.pool_runs.specs.Fairness.{AreFair}
 use Rattle.pool_runs.specs.Headline.{TakesFor, IsRequiredFor, Headline}
 use Rattle.pool_runs.specs.HostRows.{AreMade, ReadLine, TurnLine, SyncLine, OfflineLine, OnPool, RowOf, HostRow, acts_in, IsRun}
-use Rattle.pool_runs.specs.Hosts.{Host, IsOpen, named, host_by, host_along}
+use Rattle.pool_runs.specs.Hosts.{Host, named, host_by, host_along}
 use Rattle.pool_runs.specs.Knowing.{HasSeats, Knows, MayActs}
-use Rattle.pool_runs.specs.Lines.{Asked, Asks_read, Asks_turn, Asks_sync, Asks_offline, Asks_import, Reply, To_read, To_turn, To_sync, To_import, To_offline, ImportReply, Opened, NothingFound, PageLost, No_memory, Entry}
-use Rattle.pool_runs.specs.Moments.{Moment, events_at, pool_at, past_at, host_at, LineOf, pool_before, host_before, calls_in_line, IsOpenAs}
-use Rattle.pool_runs.specs.Pasts.{Past, pool_of, then_all, Left, BeginsRun, HasFrozen}
-use Rattle.pool_runs.proofs.Acting.{acts_more, history_pool}
+use Rattle.pool_runs.specs.Lines.{Asks_read, Asks_turn, Asks_sync, Asks_offline, Asks_import, Reply, To_read, To_turn, To_sync, To_import, To_offline, ImportReply, Opened, NothingFound, PageLost, No_memory, Entry}
+use Rattle.pool_runs.specs.Moments.{Moment, events_at, pool_at, past_at, host_at, LineOf, pool_before, host_before, IsOpenAs}
+use Rattle.pool_runs.specs.Pasts.{Past, pool_of, Left, BeginsRun, HasFrozen}
+use Rattle.pool_runs.proofs.Acting.{history_pool}
 use Rattle.pool_runs.proofs.Answering.{all_answer, does_calls, marked_calls}
 use Rattle.pool_runs.proofs.Committing.{turn_commits, ends_acked, sync_all, does_pool}
 use Rattle.pool_runs.proofs.Counting.{NoFault, fault_or, turn_suspends, sync_suspends, line_answered}
 use Rattle.pool_runs.proofs.Finding.{import_finds}
-use Rattle.pool_runs.proofs.Knowing.{may_more, acts_keep, acts_number}
+use Rattle.pool_runs.proofs.Knowing.{may_more, acts_keep}
 use Rattle.pool_runs.proofs.Members.{entry_keeps}
 use Rattle.pool_runs.proofs.Moments.{has_moment, acts_mays, keeps_all, may_take, acts_table, host_more, run_at, run_front}
 use Rattle.pool_runs.proofs.Pasting.{begins_known, then_pool, then_called, then_allowed, live_frozen}

@@ -1,19 +1,17 @@
 -- An import may be made.
-use Rattle.std.proofs.Common.{◌≡◌, ◌≢◌, ◌⊎◌, inl, inr, ⊎_elim, ℕ, ◌≤◌, ◌==◌, ◌&&◌, nat_le, Bool, true, false, not, cond, List, [], ◌∷◌, ◌++◌, map, length, Option, Some, None, refl, sym, ap, ◌∙◌, subst, append_assoc, arith}
+use Rattle.std.proofs.Common.{◌≡◌, ◌≢◌, ◌⊎◌, inl, inr, ⊎_elim, ℕ, ◌≤◌, ◌==◌, ◌&&◌, nat_le, Bool, true, false, not, cond, List, [], ◌∷◌, ◌++◌, length, Option, Some, None, refl, sym, ap, ◌∙◌, subst, append_assoc, arith}
 use Rattle.std.specs.List.{AllByRecursion, filter}
 use Rattle.std.specs.Str.{bytes_eq}
 use Rattle.std.proofs.lemmas.Bool.{and_parts}
-use Rattle.std.proofs.lemmas.Bool.Decides.{nat_tests}
 use Rattle.std.proofs.lemmas.Slice.Eq.{bytes_eq-Decides}
 use Rattle.mp_base.specs.declared.number.Group.{Group}
-use Rattle.mp_base.specs.declared.number.Guid.{Guid}
 use Rattle.mp_base.specs.declared.place.Key.{Key}
 use Rattle.bank_core.specs.Calls.{device_of}
-use Rattle.bank_core.specs.Disk.{Noted, Sectors, AllAnswer, run}
+use Rattle.bank_core.specs.Disk.{Noted, AllAnswer, run}
 use Rattle.label_store.proofs.Reading.{look_reads}
 use Rattle.label_store.specs.declared.found.Found.{Found}
 use Rattle.label_store.specs.Rounds.{config_of}
-use Rattle.txg_history.specs.Events.{Event, Known, Calls, Looks, Opens, as_events}
+use Rattle.txg_history.specs.Events.{Known, Calls, Looks, Opens, as_events}
 use Rattle.txg_history.specs.Groups.{at_device}
 use Rattle.txg_history.specs.Looks.{known_by}
 use Rattle.txg_history.specs.Moves.{Mays}
@@ -25,15 +23,14 @@ use Rattle.txg_history.proofs.LookedParts.{answer_first, answer_second}
 use Rattle.txg_history.proofs.LooksFound.{known_of}
 use Rattle.txg_history.proofs.LooksShow.{looks_true}
 use Rattle.txg_history.proofs.Folding.{calls_after, events_more, pool_more, mays_first, mays_second}
-use Rattle.txg_history.proofs.Logging.{by_bool, same_device, true_not_false}
+use Rattle.txg_history.proofs.Logging.{by_bool, true_not_false}
 use Rattle.txg_history.proofs.Moving.{event_survives}
 use Rattle.pool_moves.specs.CommitRows.{IsOpened}
 use Rattle.pool_moves.specs.Keeping.{Kept, Walks}
-use Rattle.pool_moves.specs.LineRows.{IsSized, TurnReply, Idle, Write, Flush, Round, Committed, Suspended}
-use Rattle.pool_moves.specs.Leaves.{Seat}
+use Rattle.pool_moves.specs.LineRows.{TurnReply, Idle, Write, Flush, Round, Committed, Suspended}
 use Rattle.pool_moves.specs.Moves.{Move, steps, after_moves}
 use Rattle.pool_moves.specs.Opened.{opened_leaves, opened_seats, claims_of}
-use Rattle.pool_moves.specs.OpeningRow.{IsLiveOne, SeeksLive, SeekReply, NoRecord, NumbersEnd, TakesRecord, seek_reply, taken_by, last_numbers, RowSeek, OpenReply, Opens_state, NoPage, RowOpen, RowResume}
+use Rattle.pool_moves.specs.OpeningRow.{IsLiveOne, SeeksLive, SeekReply, NoRecord, NumbersEnd, TakesRecord, taken_by, last_numbers, RowSeek, OpenReply, Opens_state, NoPage, RowOpen, RowResume}
 use Rattle.pool_moves.specs.PageReads.{LeafShown, answers_in}
 use Rattle.pool_moves.specs.States.{PoolState, Side}
 use Rattle.pool_moves.specs.Walking.{as_moves}
@@ -42,9 +39,9 @@ use Rattle.pool_moves.proofs.Keeping.{walk_keeps}
 use Rattle.pool_moves.proofs.OpeningWalks.{opening_opens, opening_may, opening_finds}
 use Rattle.pool_moves.proofs.ResilverWalks.{resume_walks}
 use Rattle.pool_moves.proofs.Seeking.{reads_may, seeks_live, row_no_twin}
-use Rattle.pool_runs.specs.Acts.{Act, Opening, Looked, Shows, Reads_as, Enters, Closes, does, bare, calls_along, is_record_of, record_of, read_by, events_for, pool_by, pool_along}
-use Rattle.pool_runs.specs.Devices.{Device, number_in, size_in, handed}
-use Rattle.pool_runs.specs.Fairness.{IsFair, IsFairOpening, AreFair}
+use Rattle.pool_runs.specs.Acts.{Act, Opening, Looked, Reads_as, Closes, does, bare, calls_along, is_record_of, record_of, read_by, events_for, pool_by, pool_along}
+use Rattle.pool_runs.specs.Devices.{size_in, handed}
+use Rattle.pool_runs.specs.Fairness.{IsFairOpening, AreFair}
 use Rattle.pool_runs.specs.HostRows.{AreMade}
 use Rattle.pool_runs.specs.Hosts.{Host, free_in, IsOpen, named, is_of, host_by, host_along}
 use Rattle.pool_runs.specs.Importing.{read_in, all_shown, OpensBy, FollowsMap, OpensFound, ImportBy, host_behind, Imports, ImportFor, ImportUnless, RowImport}

@@ -1,10 +1,9 @@
 -- A host goes on knowing a pool behind acts of other pools, and behind walks of its own.
-use Rattle.std.proofs.Common.{◌≡◌, ◌≢◌, ◌⊎◌, inl, inr, ⊎_elim, ℕ, ◌≤◌, ◌<◌, ◌==◌, Bool, true, false, not, cond, List, [], ◌∷◌, ◌++◌, map, take, zero, suc, Option, Some, None, refl, sym, ap, ◌∙◌, subst, arith}
+use Rattle.std.proofs.Common.{◌≡◌, ◌≢◌, ◌⊎◌, inl, inr, ℕ, ◌<◌, ◌==◌, Bool, true, false, not, cond, List, [], ◌∷◌, ◌++◌, map, take, zero, suc, Some, None, refl, sym, ap, ◌∙◌, subst}
 use Rattle.std.specs.List.{AllByRecursion, filter}
 use Rattle.std.specs.Str.{bytes_eq}
-use Rattle.std.proofs.lemmas.Bool.Decides.{nat_tests}
 use Rattle.mp_base.specs.declared.number.Guid.{Guid}
-use Rattle.bank_core.specs.Disk.{Noted, Sectors, IsClean, replay, run}
+use Rattle.bank_core.specs.Disk.{Noted, IsClean, replay, run}
 use Rattle.label_store.specs.declared.uberblock.Uberblock.{Uberblock}
 use Rattle.label_store.specs.Plans.{blank_uberblock}
 use Rattle.label_store.specs.Records.{place_at}
@@ -12,7 +11,7 @@ use Rattle.label_store.specs.Rounds.{uberblock_of}
 use Rattle.label_store.specs.Uberblock.{IsUberblock}
 use Rattle.txg_history.specs.Events.{Event, Known, Calls, Looks, Opens, Loses, as_events}
 use Rattle.txg_history.specs.Groups.{at_device}
-use Rattle.txg_history.specs.Moves.{Mays, ReadsTrue}
+use Rattle.txg_history.specs.Moves.{Mays}
 use Rattle.txg_history.specs.Pages.{Codec}
 use Rattle.txg_history.specs.Pools.{Pool, after, pool_after, other_than, drawn, seat}
 use Rattle.txg_history.specs.Premises.{AreNotTorn}
@@ -24,18 +23,17 @@ use Rattle.txg_history.proofs.Yields.{ring_known}
 use Rattle.pool_moves.specs.FreezeRow.{is_dev}
 use Rattle.pool_moves.specs.Keeping.{Kept, Admits, Walks, IsNotFoundAt}
 use Rattle.pool_moves.specs.Leaves.{LeafSeen, Seat, At, Adrift, told, leaf_seen}
-use Rattle.pool_moves.specs.Moves.{Move, Makes, Lose, Comes, events_of, leaf_step, leaves_step, step, state_step, after_move}
+use Rattle.pool_moves.specs.Moves.{Move, Makes, Lose, Comes, events_of, leaf_step, state_step, after_move}
 use Rattle.pool_moves.specs.ReadRow.{made_in}
-use Rattle.pool_moves.specs.Rosters.{IsRoster, roster_after}
-use Rattle.pool_moves.specs.States.{PoolSeen, PoolState, Side, seen}
+use Rattle.pool_moves.specs.Rosters.{roster_after}
+use Rattle.pool_moves.specs.States.{PoolState, Side}
 use Rattle.pool_moves.proofs.Keeping.{move_keeps}
 use Rattle.pool_moves.proofs.Rosters.{roster_goes_on}
-use Rattle.pool_runs.specs.Acts.{Act, Opening, Birth, Hears, Bare, Does, Marks, Looked, Shows, Reads_as, Enters, Names, Takes, Bears, Closes, does, read_by, events_for, pool_by, pool_along}
-use Rattle.pool_runs.specs.Devices.{Device, size_in}
+use Rattle.pool_runs.specs.Acts.{Act, Hears, Bare, Does, Marks, Looked, Shows, Reads_as, Enters, Names, Takes, Bears, Closes, does, read_by, events_for, pool_by, pool_along}
 use Rattle.pool_runs.specs.Fairness.{IsFair, AreFair}
 use Rattle.pool_runs.specs.Hosts.{Host, IsOpen, is_of, moved, host_by, host_along}
-use Rattle.pool_runs.specs.Knowing.{HasSeats, HasRoster, Knows, MayActs, IsOwnCall, IsOwnMove, IsShown, IsTrueLook, HasNoLeafAt, IsOwnAct, AreOwnActs}
-use Rattle.pool_runs.proofs.Acting.{same_number, other_number, number_of_test, own_events, other_events, move_sectors, move_size, move_number, calls_number}
+use Rattle.pool_runs.specs.Knowing.{HasSeats, HasRoster, Knows, MayActs, IsOwnMove, IsShown, IsTrueLook, HasNoLeafAt, IsOwnAct, AreOwnActs}
+use Rattle.pool_runs.proofs.Acting.{same_number, other_number, own_events, other_events, move_sectors, move_size, move_number, calls_number}
 use Rattle.pool_runs.proofs.Sparing.{other_call}
 
 -- Fronts.

@@ -1,52 +1,35 @@
 -- Which lines leave a pool's members.
-use Rattle.std.proofs.Common.{◌≡◌, ◌≢◌, ◌⊎◌, inl, inr, ⊎_elim, ℕ, suc, ◌+◌, ◌==◌, ◌&&◌, ◌||◌, nat_le, Bool, true, false, cond, List, [], ◌∷◌, ◌++◌, map, length, Option, Some, None, Result, Ok, Err, refl, sym, ap, ◌∙◌, subst, arith}
-use Rattle.std.specs.List.{AllByRecursion, find, filter}
+use Rattle.std.proofs.Common.{◌≡◌, ◌⊎◌, inl, inr, ⊎_elim, ℕ, suc, ◌+◌, ◌==◌, nat_le, Bool, true, false, cond, List, [], ◌∷◌, ◌++◌, length, Option, Some, None, refl, sym, ap, ◌∙◌, subst}
+use Rattle.std.specs.List.{AllByRecursion}
 use Rattle.std.specs.Str.{bytes_eq}
-use Rattle.std.proofs.lemmas.Bool.Decides.{nat_tests}
 use Rattle.mp_base.specs.declared.number.Guid.{Guid}
-use Rattle.bank_core.specs.Asks.{Ask, Writes, ask_of, IsPart}
+use Rattle.bank_core.specs.Asks.{Writes, ask_of, IsPart}
 use Rattle.bank_core.specs.declared.bank.Fault.{Fault}
-use Rattle.bank_core.specs.Calls.{fault_of}
 use Rattle.bank_core.specs.Disk.{Call, Read, Write as WriteCall, Flush as FlushCall, Admit, Eject, Noted}
 use Rattle.label_store.specs.Layout.{ring_offset}
-use Rattle.label_store.specs.declared.member.Member.{Member}
 use Rattle.label_store.specs.Plans.{zero_ring, stamp_plan}
-use Rattle.label_store.specs.Rounds.{third_plan}
-use Rattle.txg_history.specs.Events.{Event, Known, Calls, Looks, Opens, Loses, as_events}
-use Rattle.txg_history.specs.Pages.{Codec, Sum}
+use Rattle.txg_history.specs.Events.{Known, Calls, Looks, Opens, Loses, as_events}
+use Rattle.txg_history.specs.Pages.{Codec}
 use Rattle.txg_history.specs.Pools.{Pool, after, pool_after}
-use Rattle.txg_history.specs.Records.{Cell}
 use Rattle.txg_history.specs.Survival.{IsAmong}
 use Rattle.txg_history.proofs.Logging.{by_bool, same_device}
-use Rattle.pool_moves.specs.AwayRows.{WriteReply, WriteFits, WriteBy, RowWrite, OfflineReply, is_listed, is_offline, is_spare, LeaveIf, drop_if, gone, OfflineLeaf, OfflineHere, OfflineBy, leaf_named, RowOffline}
-use Rattle.pool_moves.specs.Boards.{board_of, board_under, members_where, emptied}
-use Rattle.pool_moves.specs.CommitRows.{NamedLog, RowLogs, RowFound}
-use Rattle.pool_moves.specs.FreezeRow.{up_devs}
-use Rattle.pool_moves.specs.Leaves.{LeafSeen}
-use Rattle.pool_moves.specs.LineRows.{TurnReply, sets_failed, has_number, count_moves, EndsBy, EndsTurn, IsTurnOf, IsWritePart, IsFlushPart, IsRoundPart, StartsBy, TurnBy, RowTurn, Committed, Suspended, Idle, Write, Flush, Round, AreTurns, moves_in, EndsGroup, CommitsOpen, FreezeReply, FreezeFor, FreezeBy, RowFreezeLine, SyncReply, CommitsFor, SyncOpen, SyncBehind, EndsFirst, SyncBy, RowSync}
-use Rattle.pool_moves.specs.Moves.{Draft, Move, Makes, Puts, Freeze, Wrote_key, Flushed_all, Draw, Leave, Burn, Starts, Copies, Copied, Commits, Sets, Lose, Comes, Finds, Drop, Clear, Pass, Scan_from, Rest, events_of, steps}
-use Rattle.pool_moves.specs.OnlineRow.{HostDevice, NoneFound, HeldBy, Handed, OnlineReply, Stands, NoLeaf, IsSpare, NoDevice, InUse, TooSmall, FaultOnDevice, WrongLabel, is_away, marked_own, brought_own, searched_own, SearchEnds, ScansBehind, OnlineRoomy, OnlineAway, OnlineOn, OnlineBy}
-use Rattle.pool_moves.specs.OpeningRow.{SeekReply, NoRecord, NumbersEnd, TakesRecord, OpenReply, Opens_state, NoPage, lacking_of, ResumesBy, ResumesUnless}
-use Rattle.pool_moves.specs.ReadRow.{ReadReply, count_reads, RowCopies, stands_under, ReadRecord, ReadGroup, ReadOpen, RowRead, made_in}
-use Rattle.pool_moves.specs.Refusing.{FreezeRefusal, IsRefused}
-use Rattle.pool_moves.specs.Resilvers.{rest_if, Resilvers}
-use Rattle.pool_moves.specs.ScanRows.{FlushEnds, AreFlushed, is_eligible, StepReply, StepBy, RowStep, ScrubReply, ScrubBy, RowScrub, StopReply, StopBy, RowStopScrub}
-use Rattle.pool_moves.specs.StampRow.{NewLeaf, top_leaves, leaves_from, leaf_at, is_leaf_at, Stamp, AreStamps, new_state, CreateReply, Created, FaultOn}
-use Rattle.pool_moves.specs.States.{PoolSeen, PoolState}
-use Rattle.pool_moves.specs.TurnRows.{turn_moves, ended, IsThirdMoves, RowWriteTurn, RowFlushTurn, RowRound}
-use Rattle.pool_moves.specs.Walking.{as_moves}
-use Rattle.pool_moves.specs.Widening.{seen_along}
-use Rattle.pool_moves.proofs.StampWalks.{all_of, leaf_found, leaf_of}
-use Rattle.pool_runs.specs.Acts.{Act, Mark, Gives_for, Steps_by, Bare, Does, Marks, Looked, Shows, Reads_as, Enters, Names, Takes, Bears, Closes, does, bare, calls_of_act, calls_along, read_by, events_for, pool_by, pool_along}
+use Rattle.pool_moves.specs.AwayRows.{WriteReply, WriteFits, WriteBy, RowWrite}
+use Rattle.pool_moves.specs.LineRows.{TurnReply, Committed, Suspended, Idle, Write, Flush, Round}
+use Rattle.pool_moves.specs.Moves.{Move, Makes, Lose, Comes, events_of}
+use Rattle.pool_moves.specs.OpeningRow.{SeekReply, NoRecord, NumbersEnd, TakesRecord, OpenReply, Opens_state, NoPage, lacking_of}
+use Rattle.pool_moves.specs.ReadRow.{made_in}
+use Rattle.pool_moves.specs.StampRow.{NewLeaf, top_leaves, leaves_from, Stamp, AreStamps, new_state, CreateReply, Created, FaultOn}
+use Rattle.pool_moves.specs.States.{PoolState}
+use Rattle.pool_runs.specs.Acts.{Act, Bare, Does, Looked, Reads_as, Takes, Bears, Closes, does, bare, calls_of_act, calls_along, read_by, pool_by, pool_along}
 use Rattle.pool_runs.specs.Creating.{dev_or_none, members_of, tops_of, leaves_of, new_birth, or_else, all_names, unknown_by, unknown, create_refusal, stamp_acts, commit_acts, RowCreate}
 use Rattle.pool_runs.specs.Devices.{Device, number_in, size_in}
-use Rattle.pool_runs.specs.HostRows.{ByMoves, is_reading, marked_behind, marked, ByMarked, found_in, device_for, ByOnline, OnlineLine, StepLine, ScrubLine, StopLine, WriteLine, ReadLine, FreezeLine, TurnLine, SyncLine, OfflineLine, LogsLine, OnPool, RowOf, ChangesNone, MayRewrite, RunsOut, HostRow}
+use Rattle.pool_runs.specs.HostRows.{WriteLine, OnPool, RowOf, ChangesNone, MayRewrite, HostRow}
 use Rattle.pool_runs.specs.Hosts.{Host, named}
 use Rattle.pool_runs.specs.Importing.{read_in, all_shown, OpensBy, FollowsMap, ImportBy, host_behind, ImportFor, ImportUnless}
-use Rattle.pool_runs.specs.Lines.{Asked, Asks_nothing, Asks_write, Asks_read, Asks_freeze, Asks_turn, Asks_sync, Asks_offline, Asks_online, Asks_logs, Asks_step, Asks_scrub, Asks_stop, Asks_import, Asks_create, Reply, To_create, Entry}
+use Rattle.pool_runs.specs.Lines.{Asked, Asks_write, Asks_read, Asks_import, Asks_create, Reply, To_create, Entry}
 use Rattle.pool_runs.specs.Taking.{IsWriteTo, HasWriteTo, IsTakenBy}
 use Rattle.pool_runs.proofs.LineMoves.{IsLineKind, IsActKind, line_resume, line_does, plain_line}
-use Rattle.pool_runs.proofs.GroupMoves.{IsKind, more, all_calls, all_widened, all_reads, all_turn, all_freeze, all_sync, all_found, all_reopen}
+use Rattle.pool_runs.proofs.GroupMoves.{IsKind, more, all_found}
 use Rattle.pool_runs.proofs.Creating.{or_first, or_second, none_refused}
 
 -- Moves that leave the members.

@@ -1,17 +1,16 @@
 -- The device calls of acts are those of each pool's history, and each is behind a moment; and what a line of a run meets.
-use Rattle.std.proofs.Common.{◌≡◌, ◌⊎◌, inl, inr, ⊎_elim, ℕ, ◌==◌, Bool, true, false, cond, List, [], ◌∷◌, ◌++◌, take, zero, suc, refl, sym, ap, ◌∙◌, subst, append_assoc}
+use Rattle.std.proofs.Common.{◌≡◌, ◌⊎◌, inl, inr, ℕ, ◌==◌, Bool, true, false, cond, List, [], ◌∷◌, ◌++◌, take, zero, suc, refl, sym, ap, ◌∙◌, subst}
 use Rattle.std.specs.Str.{bytes_eq}
 use Rattle.bank_core.specs.Disk.{Noted}
-use Rattle.txg_history.specs.Events.{Event, Calls, Looks, Opens, Loses, calls_of, as_events}
+use Rattle.txg_history.specs.Events.{Looks, Opens, Loses, calls_of, as_events}
 use Rattle.txg_history.specs.Moves.{Mays}
 use Rattle.txg_history.specs.Pages.{Codec}
-use Rattle.txg_history.specs.Pools.{Pool, pool_after}
+use Rattle.txg_history.specs.Pools.{Pool}
 use Rattle.txg_history.proofs.Folding.{mays_more, calls_more, calls_are}
 use Rattle.pool_moves.specs.Moves.{Move, Makes, events_of}
 use Rattle.pool_moves.specs.ReadRow.{made_in}
-use Rattle.pool_runs.specs.Acts.{Act, Opening, Hears, Bare, Does, Marks, Looked, Shows, Reads_as, Enters, Names, Takes, Bears, Closes, calls_of_act, calls_along, read_by, events_for, pool_by, pool_along, history}
-use Rattle.pool_runs.specs.Devices.{Device}
-use Rattle.pool_runs.specs.Fairness.{IsFair, AreFair}
+use Rattle.pool_runs.specs.Acts.{Act, Hears, Bare, Does, Looked, Reads_as, Takes, calls_of_act, calls_along, read_by, events_for, pool_by, pool_along, history}
+use Rattle.pool_runs.specs.Fairness.{AreFair}
 use Rattle.pool_runs.specs.Headline.{HasMoment}
 use Rattle.pool_runs.specs.HostRows.{HostRow, acts_of, acts_in, IsRun}
 use Rattle.pool_runs.specs.Hosts.{Host, host_by, host_along}

@@ -1,45 +1,20 @@
 -- Pasts: the invariant, the next run, and what live records contain.
-use Rattle.std.proofs.Common.{◌≡◌, ◌≢◌, ◌⊎◌, inl, inr, ⊎_elim, ℕ, ◌≤◌, ◌==◌, nat_le, Bool, true, false, cond, List, [], ◌∷◌, ◌++◌, map, Option, Some, None, refl, sym, ap, ◌∙◌, subst, arith}
+use Rattle.std.proofs.Common.{◌≡◌, ◌⊎◌, inl, inr, ℕ, ◌≤◌, nat_le, true, cond, List, [], ◌∷◌, map, Some, None, refl, sym, ap, ◌∙◌, subst, arith}
 use mathlib.Core.Path.{fun_ext}
 use Rattle.std.proofs.lemmas.Bool.Decides.{nat_tests}
-use Rattle.bank_core.specs.Disk.{Sector, Sectors, Nothing, IsClean, IsImage, after_crash}
-use Rattle.txg_history.specs.Events.{
-  Event,
-  Calls,
-  Accepts,
-  Freezes,
-  Wrote,
-  Flushed,
-  Draws,
-  Leaves,
-  Grows,
-  Burns,
-  Begins,
-  Third,
-  Ends,
-  Acks,
-  Looks,
-  Opens,
-  Joins,
-  Loses,
-  Scans,
-  Passes,
-  Drops,
-  Clears,
-  Rests,
-  Stops,
-}
-use Rattle.txg_history.specs.Moves.{May, Mays, MayStop, AreUnforged}
+use Rattle.bank_core.specs.Disk.{after_crash}
+use Rattle.txg_history.specs.Events.{Event, Freezes, Burns, Begins, Acks, Opens, Stops}
+use Rattle.txg_history.specs.Moves.{Mays, MayStop, AreUnforged}
 use Rattle.txg_history.specs.Numbering.{renumbered}
 use Rattle.txg_history.specs.Pages.{Codec}
-use Rattle.txg_history.specs.Pools.{Pool, after, pool_after}
+use Rattle.txg_history.specs.Pools.{Pool, pool_after}
 use Rattle.txg_history.specs.Records.{Rec, IsIn, block_at, nothing}
 use Rattle.txg_history.specs.Survival.{Survives, IsAmong}
 use Rattle.label_store.specs.Records.{place_at}
 use Rattle.label_store.specs.Uberblock.{IsUberblock}
 use Rattle.txg_history.proofs.Containing.{drawn_contents}
 use Rattle.txg_history.proofs.Folding.{pool_kept}
-use Rattle.txg_history.proofs.Logging.{by_bool, true_not_false}
+use Rattle.txg_history.proofs.Logging.{by_bool}
 use Rattle.txg_history.proofs.Moving.{event_survives}
 use Rattle.txg_history.proofs.Numbering.{renumbered_survives}
 use Rattle.txg_history.proofs.Stamping.{stamped_survives}
@@ -48,7 +23,7 @@ use Rattle.pool_runs.specs.Devices.{size_in}
 use Rattle.pool_runs.specs.Hosts.{Host, IsOpen}
 use Rattle.pool_runs.specs.Knowing.{HasRoster, Knows}
 use Rattle.pool_runs.proofs.Knowing.{roster_by_events}
-use Rattle.pool_runs.specs.Pasts.{Past, Born, Then, Numbered, pool_of, called_in, IsAllowed, then_all, Left, BeginsRun, IsFoundAs, IsNext, AreNamed, met, next_past, IsFront, frozen_by, WasFrozen, HasFrozen}
+use Rattle.pool_runs.specs.Pasts.{Past, Born, Then, Numbered, pool_of, called_in, IsAllowed, then_all, BeginsRun, IsFoundAs, IsNext, AreNamed, met, next_past, WasFrozen, HasFrozen}
 
 -- A pool has its invariant behind its past.
 pub past_survives : (c : Codec) (past : Past) → IsAllowed c past → Survives c (pool_of past)

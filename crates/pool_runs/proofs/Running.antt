@@ -1,10 +1,9 @@
 -- The lines of a run may be made.
-use Rattle.std.proofs.Common.{◌≡◌, ◌≢◌, ◌⊎◌, inl, inr, ⊎_elim, ℕ, ◌≤◌, ◌==◌, Bool, true, false, cond, List, [], ◌∷◌, ◌++◌, map, Option, Some, None, refl, sym, ap, ◌∙◌, subst, arith}
-use Rattle.std.specs.List.{AllByRecursion, find}
+use Rattle.std.proofs.Common.{◌≡◌, ◌≢◌, ◌⊎◌, inl, inr, ⊎_elim, ℕ, ◌==◌, Bool, true, false, cond, List, [], ◌∷◌, ◌++◌, map, Option, Some, None, refl, sym, ap, ◌∙◌, subst}
+use Rattle.std.specs.List.{AllByRecursion}
 use Rattle.std.specs.Str.{bytes_eq}
-use Rattle.std.proofs.lemmas.Bool.Decides.{nat_tests}
-use Rattle.bank_core.specs.Disk.{Call, Read, Write, Flush, Admit, Eject, Noted, AllAnswer}
-use Rattle.txg_history.specs.Events.{Known, Calls, as_events}
+use Rattle.bank_core.specs.Disk.{Call, Read, Noted, AllAnswer}
+use Rattle.txg_history.specs.Events.{Known, Calls}
 use Rattle.bank_core.specs.Standing.{touches}
 use Rattle.txg_history.specs.Moves.{IsPlain, Mays}
 use Rattle.txg_history.specs.Pages.{Codec}
@@ -14,9 +13,9 @@ use Rattle.pool_moves.specs.AwayRows.{is_listed, RowWrite, RowOffline}
 use Rattle.pool_moves.specs.CommitRows.{RowLogs}
 use Rattle.pool_moves.specs.Keeping.{Kept, Walks}
 use Rattle.pool_moves.specs.LineRows.{IsSized, RowTurn, RowFreezeLine, RowSync}
-use Rattle.pool_moves.specs.Moves.{Move, Makes, Finds, events_of, state_step, after_move}
+use Rattle.pool_moves.specs.Moves.{Move, Makes, Finds, state_step, after_move}
 use Rattle.pool_moves.specs.OnlineRow.{OnlineReply, FindMembers}
-use Rattle.pool_moves.specs.ReadRow.{ReadReply, RowRead, ClashesWith, made_in}
+use Rattle.pool_moves.specs.ReadRow.{RowRead, made_in}
 use Rattle.pool_moves.specs.ScanRows.{FoundClash, RowStep, RowScrub, RowStopScrub}
 use Rattle.pool_moves.specs.States.{PoolState, Side}
 use Rattle.pool_moves.proofs.AwayWalks.{write_walks, offline_walks}
@@ -26,16 +25,16 @@ use Rattle.pool_moves.proofs.LineWalks.{turn_walks, freeze_line_walks, sync_walk
 use Rattle.pool_moves.proofs.OnlineWalks.{online_walks}
 use Rattle.pool_moves.proofs.ReadWalks.{read_walks}
 use Rattle.pool_moves.proofs.ScanEnds.{step_walks, scrub_walks, stop_walks}
-use Rattle.pool_runs.specs.Acts.{Act, Mark, Gives_for, Steps_by, Seeks_by, Does, Marks, Shows, Hears, does, calls_along, events_for, pool_by, pool_along}
+use Rattle.pool_runs.specs.Acts.{Act, Mark, Gives_for, Steps_by, Does, Marks, Shows, Hears, does, calls_along, events_for, pool_by, pool_along}
 use Rattle.pool_runs.specs.Devices.{number_in, size_in}
-use Rattle.pool_runs.specs.Fairness.{IsMember, IsFairMark, AreFair}
-use Rattle.pool_runs.specs.HostRows.{AreMade, ByMoves, is_read, is_reading, marked_behind, marked, ByMarked, found_in, device_for, ByOnline, OnlineLine, StepLine, ScrubLine, StopLine, WriteLine, ReadLine, FreezeLine, TurnLine, SyncLine, OfflineLine, LogsLine, OnPool, RowOf, RunsOut, HostRow, acts_of, acts_in, IsRun}
+use Rattle.pool_runs.specs.Fairness.{IsMember, IsFairMark}
+use Rattle.pool_runs.specs.HostRows.{AreMade, ByMoves, is_read, is_reading, marked_behind, marked, ByMarked, found_in, device_for, ByOnline, OnlineLine, StepLine, ScrubLine, StopLine, WriteLine, ReadLine, FreezeLine, TurnLine, SyncLine, OfflineLine, LogsLine, OnPool, RowOf, HostRow, acts_of, acts_in, IsRun}
 use Rattle.pool_runs.specs.Hosts.{Host, IsOpen, named, moved, host_by, host_along}
 use Rattle.pool_runs.specs.Importing.{read_in, all_shown}
-use Rattle.pool_runs.specs.Knowing.{HasSeats, Knows, MayActs, IsOwnMove, AreOwnActs}
+use Rattle.pool_runs.specs.Knowing.{Knows, MayActs, AreOwnActs}
 use Rattle.pool_runs.specs.Lines.{Asked, Asks_nothing, Asks_write, Asks_read, Asks_freeze, Asks_turn, Asks_sync, Asks_offline, Asks_online, Asks_logs, Asks_step, Asks_scrub, Asks_stop, Asks_import, Asks_create, Reply, Entry}
-use Rattle.pool_runs.proofs.Acting.{same_number, number_of_test, own_events, move_number}
-use Rattle.pool_runs.proofs.Answering.{all_answer, does_calls, marked_calls}
+use Rattle.pool_runs.proofs.Acting.{same_number, number_of_test, own_events}
+use Rattle.pool_runs.proofs.Answering.{all_answer, marked_calls}
 use Rattle.pool_runs.proofs.Creating.{create_may}
 use Rattle.pool_runs.proofs.Importing.{own_shown, import_may}
 use Rattle.pool_runs.proofs.Knowing.{acts_number, may_more, moved_own, open_moved, other_may, own_does, walk_may}

@@ -1,8 +1,8 @@
 -- Calls on other pools' devices spare a pool.
-use Rattle.std.proofs.Common.{◌≡◌, ◌≢◌, ◌⊎◌, inl, inr, ℕ, ◌==◌, ◌&&◌, Bool, true, false, cond, List, [], ◌∷◌, Option, Some, refl, sym, ap, ◌∙◌, subst}
+use Rattle.std.proofs.Common.{◌≡◌, ◌≢◌, inl, ℕ, ◌==◌, ◌&&◌, true, false, [], ◌∷◌, Option, Some, refl, ap, subst}
 use Rattle.bank_core.specs.Disk.{Call, Read, Write, Flush, Admit, Eject, Noted, covers, sectors_in}
 use Rattle.bank_core.specs.Standing.{touches}
-use Rattle.txg_history.specs.Events.{Calls, as_events}
+use Rattle.txg_history.specs.Events.{Calls}
 use Rattle.txg_history.specs.Moves.{IsPlain, IsSparing, Mays}
 use Rattle.txg_history.specs.Pages.{Codec}
 use Rattle.txg_history.specs.Pools.{Pool}

@@ -1,10 +1,10 @@
 -- Which lines leave what was written last.
-use Rattle.std.proofs.Common.{◌≡◌, ◌⊎◌, inl, inr, ⊎_elim, ℕ, ◌==◌, nat_lt, Bool, true, false, cond, List, [], ◌∷◌, ◌++◌, Option, Some, None, refl, sym, ap, ◌∙◌, subst}
+use Rattle.std.proofs.Common.{◌≡◌, ◌⊎◌, inl, inr, ⊎_elim, ℕ, ◌==◌, Bool, true, false, cond, List, [], ◌∷◌, ◌++◌, Option, Some, None, refl, sym, ap, ◌∙◌, subst}
 use Rattle.std.specs.List.{AllByRecursion}
 use Rattle.std.specs.Str.{bytes_eq}
 use Rattle.bank_core.specs.Disk.{Noted}
 use Rattle.label_store.specs.Newest.{AreReads}
-use Rattle.txg_history.specs.Events.{Calls, Looks, Opens, Loses, as_events}
+use Rattle.txg_history.specs.Events.{Calls, Looks, Loses, as_events}
 use Rattle.txg_history.specs.Pages.{Codec}
 use Rattle.txg_history.specs.Pools.{Pool, after, pool_after}
 use Rattle.txg_history.proofs.Logging.{by_bool}
@@ -13,13 +13,12 @@ use Rattle.pool_moves.specs.Moves.{Move, Makes, Puts, events_of}
 use Rattle.pool_moves.specs.ReadRow.{made_in}
 use Rattle.pool_moves.specs.StampRow.{Stamp, CreateReply, Created, FaultOn, new_state}
 use Rattle.pool_moves.specs.States.{PoolState}
-use Rattle.pool_runs.specs.Acts.{Act, Bare, Does, Looked, Reads_as, Takes, Bears, Closes, does, bare, calls_along, events_for, pool_by, pool_along}
+use Rattle.pool_runs.specs.Acts.{Act, Bare, Does, Looked, Reads_as, Takes, Bears, Closes, does, bare, calls_along, pool_by, pool_along}
 use Rattle.pool_runs.specs.Creating.{tops_of, stamp_acts, new_birth, commit_acts, RowCreate}
 use Rattle.pool_runs.specs.Devices.{size_in}
 use Rattle.pool_runs.specs.HostRows.{WriteLine, OnPool, RowOf, ChangesNone, MayRewrite, HostRow}
 use Rattle.pool_runs.specs.Hosts.{Host, named}
 use Rattle.pool_runs.specs.Lines.{Asked, Asks_write, Asks_import, Asks_create, Reply, To_write, No_memory, Entry}
-use Rattle.pool_runs.specs.Moments.{IsOpenAs}
 use Rattle.pool_runs.specs.Writing.{IsTakenWrite, IsImport, KeepsWrites}
 use Rattle.pool_runs.proofs.Acting.{number_of_test, own_events}
 use Rattle.pool_runs.proofs.Committing.{KeepsWritten, written_kind, move_written}

@@ -1,5 +1,5 @@
 -- How lines end by the counts of failed calls.
-use Rattle.std.specs.Prelude.{◌≡◌, ◌⊎◌, ℕ, true, Some}
+use Rattle.std.specs.Prelude.{◌≡◌, ℕ, true, Some}
 use Rattle.mp_base.specs.Outside.{Rose}
 use Rattle.pool_moves.specs.Boards.{emptied}
 use Rattle.pool_moves.specs.LineRows.{TurnReply, Suspended, SyncReply, Ended}

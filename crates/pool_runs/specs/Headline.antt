@@ -1,5 +1,5 @@
 -- The headline: what a run is to a pool that the devices had when it began, or that it made.
-use Rattle.std.specs.Prelude.{◌≡◌, ◌≢◌, ◌⊎◌, ℕ, Bool, true, false, List, [], ◌∷◌, ◌++◌, Some, take}
+use Rattle.std.specs.Prelude.{◌≡◌, ◌⊎◌, ℕ, Bool, true, false, List, [], ◌∷◌, ◌++◌, Some, take}
 use Rattle.bank_core.specs.Calls.{AllCaused}
 use Rattle.txg_history.specs.Copies.{IsCopiedGroup, MayTakeGroup}
 use Rattle.txg_history.specs.Events.{Event, Clears, calls_of}
@@ -10,7 +10,7 @@ use Rattle.txg_history.specs.Sound.{IsSound}
 use Rattle.pool_moves.specs.AwayRows.{Required, LeastOut, is_offline, is_spare, leaf_named, siblings}
 use Rattle.pool_moves.specs.Leaves.{LeafSeen}
 use Rattle.pool_moves.specs.States.{PoolState}
-use Rattle.pool_runs.specs.Acts.{Act, calls_along, pool_along, history}
+use Rattle.pool_runs.specs.Acts.{Act, calls_along, history}
 use Rattle.pool_runs.specs.Committing.{AcksAs, FindsPool}
 use Rattle.pool_runs.specs.Counting.{SomeRose, HasLostBoard, Suspends}
 use Rattle.pool_runs.specs.Fairness.{AreFair}

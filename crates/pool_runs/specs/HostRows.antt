@@ -1,8 +1,8 @@
 -- Each line of a host as a row: which acts it is made of, by the host before it, and what it answers.
-use Rattle.std.specs.Prelude.{◌≡◌, ◌⊎◌, ℕ, ◌≤◌, ◌&&◌, Bool, true, false, not, cond, List, [], ◌∷◌, ◌++◌, Option, Some, None}
+use Rattle.std.specs.Prelude.{◌≡◌, ◌⊎◌, ℕ, ◌≤◌, Bool, true, false, cond, List, [], ◌∷◌, ◌++◌, Option, Some, None}
 use Rattle.std.specs.List.{AllByRecursion}
 use Rattle.bank_core.specs.Calls.{device_of, fault_of}
-use Rattle.bank_core.specs.Disk.{Call, Read, Write, Flush, Admit, Eject, Noted, AllAnswer}
+use Rattle.bank_core.specs.Disk.{Call, Read, Noted, AllAnswer}
 use Rattle.label_store.specs.Newest.{AreReads}
 use Rattle.txg_history.specs.Pages.{Codec}
 use Rattle.pool_moves.specs.AwayRows.{WriteReply, RowWrite, OfflineReply, is_listed, RowOffline}
@@ -13,7 +13,7 @@ use Rattle.pool_moves.specs.OnlineRow.{HostDevice, NoneFound, HeldBy, Handed, On
 use Rattle.pool_moves.specs.ReadRow.{ReadReply, RowRead, made_in}
 use Rattle.pool_moves.specs.ScanRows.{StepReply, RowStep, ScrubReply, RowScrub, StopReply, RowStopScrub}
 use Rattle.pool_moves.specs.States.{PoolState}
-use Rattle.pool_runs.specs.Acts.{Act, Mark, Gives_for, Steps_by, Seeks_by, Hears, Bare, Does, Marks, Looked, Shows, Reads_as, Enters, Names, Takes, Bears, Closes, does, calls_along}
+use Rattle.pool_runs.specs.Acts.{Act, Mark, Gives_for, Steps_by, Seeks_by, Hears, Does, Marks, Enters, Takes, Bears, Closes, does, calls_along}
 use Rattle.pool_runs.specs.Creating.{RowCreate}
 use Rattle.pool_runs.specs.Devices.{number_in, size_in}
 use Rattle.pool_runs.specs.Hosts.{Host, is_of, holder, named, host_by, host_along}

@@ -3,7 +3,7 @@ use Rattle.std.specs.Prelude.{◌≡◌, ◌⊎◌, ℕ, ◌==◌, ◌||◌, Boo
 use Rattle.std.specs.List.{filter, find, list_any}
 use Rattle.std.specs.Option.{is_some}
 use Rattle.std.specs.Str.{bytes_eq}
-use Rattle.bank_core.specs.Disk.{Noted, Sectors, run}
+use Rattle.bank_core.specs.Disk.{Sectors, run}
 use Rattle.txg_history.specs.Groups.{at_device}
 use Rattle.pool_moves.specs.FreezeRow.{is_dev}
 use Rattle.pool_moves.specs.Moves.{Move, state_step}

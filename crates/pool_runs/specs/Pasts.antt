@@ -1,7 +1,7 @@
 -- The past of a pool, over any number of runs.
-use Rattle.std.specs.Prelude.{◌≡◌, ◌⊎◌, ℕ, ◌≤◌, nat_le, Bool, true, false, cond, List, [], ◌∷◌, Option, Some, None}
-use Rattle.bank_core.specs.Disk.{Sector, Sectors, Pending, Nothing, IsImage, after_crash}
-use Rattle.txg_history.specs.Events.{Event, Accepts, Freezes, Begins, Stops}
+use Rattle.std.specs.Prelude.{◌≡◌, ◌⊎◌, ℕ, ◌≤◌, nat_le, Bool, true, false, cond, List, [], ◌∷◌, Some, None}
+use Rattle.bank_core.specs.Disk.{Sector, Sectors, Nothing, IsImage, after_crash}
+use Rattle.txg_history.specs.Events.{Event, Freezes, Begins, Stops}
 use Rattle.txg_history.specs.Moves.{May, AreUnforged}
 use Rattle.txg_history.specs.Numbering.{renumbered}
 use Rattle.txg_history.specs.Pages.{Codec}
@@ -9,7 +9,7 @@ use Rattle.txg_history.specs.Pools.{Pool, after}
 use Rattle.txg_history.specs.Records.{Rec, block_at, nothing}
 use Rattle.txg_history.specs.Stamps.{AreStamped}
 use Rattle.pool_runs.specs.Acts.{Birth, born}
-use Rattle.pool_runs.specs.Devices.{Device, number_in, size_in}
+use Rattle.pool_runs.specs.Devices.{number_in, size_in}
 use Rattle.pool_moves.specs.States.{PoolState}
 use Rattle.pool_runs.specs.Hosts.{Host, IsOpen}
 use Rattle.pool_runs.specs.Knowing.{HasSeats, HasRoster}
