@@ -15,3 +15,5 @@ pub mod Pasting
 pub mod Running
 pub mod SmallRuns
 pub mod Sparing
+pub mod Stamps
+pub mod Suspending
