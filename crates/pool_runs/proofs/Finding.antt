@@ -245,7 +245,7 @@ more_good p r few many up good = λ level index cell low high is. let leaf = goo
   answers = up leaf.d leaf.answers;
 }
 
-opening_bare : (made : List Noted) (more : List Act) → opening_in (bare made ++ more) ≡ opening_in more
+pub opening_bare : (made : List Noted) (more : List Act) → opening_in (bare made ++ more) ≡ opening_in more
 opening_bare [] more = refl
 opening_bare (noted ∷ made) more = opening_bare made more
 

@@ -20,27 +20,30 @@ use Rattle.pool_moves.specs.Missing.{AllMissed}
 use Rattle.pool_moves.specs.Moves.{Move, steps, after_moves}
 use Rattle.pool_moves.specs.ReadRow.{ReadReply, Gives, Exhausted, RowRead, made_in}
 use Rattle.pool_moves.specs.Showing.{LeafShown}
+use Rattle.pool_moves.specs.StampRow.{leaf_at, is_leaf_at, FaultOn}
 use Rattle.pool_moves.specs.States.{PoolState, Side}
+use Rattle.mp_base.specs.declared.number.Guid.{Guid}
 use Rattle.pool_moves.proofs.Keeping.{walk_keeps}
 use Rattle.pool_moves.proofs.LineWalks.{sync_walks}
 use Rattle.pool_moves.proofs.Missing.{exhausted_missed}
 use Rattle.pool_moves.proofs.ReadWalks.{read_right}
 use Rattle.pool_runs.specs.Acts.{Act, Gives_for, Marks, Hears, calls_along, pool_along}
 use Rattle.pool_runs.specs.Committing.{CommitsAll, FindsPool}
-use Rattle.pool_runs.specs.Counting.{SomeRose, HasLostBoard, Suspends}
+use Rattle.pool_runs.specs.Counting.{has_leaf_at, RoseAt, HasLostBoard, Suspends, FailsOpening, IsCounted}
+use Rattle.pool_runs.specs.Creating.{leaves_of}
 use Rattle.pool_runs.specs.Devices.{number_in, size_in}
 use Rattle.pool_runs.specs.Fairness.{AreFair}
 use Rattle.pool_runs.specs.Headline.{TakesFor, IsRequiredFor, Headline}
 use Rattle.pool_runs.specs.HostRows.{AreMade, ReadLine, TurnLine, SyncLine, OfflineLine, OnPool, RowOf, HostRow, acts_in, IsRun}
 use Rattle.pool_runs.specs.Hosts.{Host, named, host_by, host_along}
 use Rattle.pool_runs.specs.Knowing.{HasSeats, Knows, MayActs}
-use Rattle.pool_runs.specs.Lines.{Asks_read, Asks_turn, Asks_sync, Asks_offline, Asks_import, Reply, To_read, To_turn, To_sync, To_import, To_offline, ImportReply, Opened, NothingFound, PageLost, No_memory, Entry}
+use Rattle.pool_runs.specs.Lines.{Asks_read, Asks_turn, Asks_sync, Asks_offline, Asks_import, Asks_create, Reply, To_read, To_turn, To_sync, To_import, To_offline, To_create, ImportReply, Opened, NothingFound, PageLost, Unopened, No_memory, Entry}
 use Rattle.pool_runs.specs.Moments.{Moment, events_at, pool_at, past_at, host_at, LineOf, pool_before, host_before, IsOpenAs}
 use Rattle.pool_runs.specs.Pasts.{Past, pool_of, Left, BeginsRun, HasFrozen}
 use Rattle.pool_runs.proofs.Acting.{history_pool}
 use Rattle.pool_runs.proofs.Answering.{all_answer, does_calls, marked_calls}
 use Rattle.pool_runs.proofs.Committing.{turn_commits, ends_acked, sync_all, does_pool}
-use Rattle.pool_runs.proofs.Counting.{NoFault, fault_or, turn_suspends, sync_suspends, line_answered}
+use Rattle.pool_runs.proofs.Suspending.{turn_counts, sync_counts, import_counts, create_counts}
 use Rattle.pool_runs.proofs.Finding.{import_finds}
 use Rattle.pool_runs.proofs.Knowing.{may_more, acts_keep}
 use Rattle.pool_runs.proofs.Members.{entry_keeps}
@@ -260,18 +263,31 @@ line_required c h p e name device temporary s leaf group met asked at is plain u
     of (inr out) = record { only = λ is. offline_not_memory (Required group) (sym is ∙ out.says); always = λ least. inr out.says }
 
 -- Counts.
-line_counts : (c : Codec) (h : Host) (p : Pool) (e : Entry) (name : List ℕ) (s : PoolState) (from to : ℕ → ℕ) → Meets c h p e → (e.asked ≡ Asks_turn name) ⊎ (e.asked ≡ Asks_sync name)
-    → IsOpenAs p h name s → AllCaused (calls_along e.acts) from to → Suspends e.reply → SomeRose from to ⊎ HasLostBoard s
-line_counts c h p e name s from to met asked at caused bad = ⊎_elim (λ none. inr (of none met.row asked)) (λ rose. inl rose) (fault_or (calls_along e.acts) from to caused)
+line_counts : (c : Codec) (h : Host) (p : Pool) (e : Entry) (from to : ℕ → ℕ) → Meets c h p e → AllCaused (calls_along e.acts) from to → IsCounted c h e from to
+line_counts c h p e from to met caused = record {
+  turns = λ name s asked found bad. turns name s asked found bad met.row asked;
+  imports = λ name group top faults asked says. imports name group top faults asked says met.row;
+  creates = λ name blocks tops device asked says. creates name blocks tops device asked says met.row;
+}
   where
-    of : AllByRecursion NoFault (calls_along e.acts) → HostRow c h e → (e.asked ≡ Asks_turn name) ⊎ (e.asked ≡ Asks_sync name) → HasLostBoard s
-    of none (inl row) (inl asked) = let line = on_open h name s (TurnLine c h) e.acts e.reply at.named (subst (λ x. RowOf c h x e.acts e.reply) asked row.0) in
-        turn_suspends c (size_in h.table) s line.2.moves line.0 (line_answered line.2.moves (calls_along e.acts) (ap calls_along line.2.are ∙ does_calls s.core.pool.0 line.2.moves) none)
-        line.2.row (subst Suspends line.1 bad)
-    of none (inl row) (inr asked) = let line = on_open h name s (SyncLine c h) e.acts e.reply at.named (subst (λ x. RowOf c h x e.acts e.reply) asked row.0) in
-        sync_suspends c (size_in h.table) s line.2.moves line.0 (line_answered line.2.moves (calls_along e.acts) (ap calls_along line.2.are ∙ does_calls s.core.pool.0 line.2.moves) none)
-        line.2.row (subst Suspends line.1 bad)
-    of none (inr out) asked = absurd (subst Suspends out.says bad)
+    turns : (name : List ℕ) (s : PoolState) → (e.asked ≡ Asks_turn name) ⊎ (e.asked ≡ Asks_sync name) → named name h.pools ≡ Some s → Suspends e.reply → HostRow c h e
+        → (e.asked ≡ Asks_turn name) ⊎ (e.asked ≡ Asks_sync name) → RoseAt (λ d. has_leaf_at d s) from to ⊎ HasLostBoard s
+    turns name s asks found bad (inl row) (inl asked) = let line = on_open h name s (TurnLine c h) e.acts e.reply found (subst (λ x. RowOf c h x e.acts e.reply) asked row.0) in
+        turn_counts c h s line.2.moves line.0 from to line.2.row
+        (subst (λ calls. AllCaused calls from to) (ap calls_along line.2.are ∙ does_calls s.core.pool.0 line.2.moves) caused) (subst Suspends line.1 bad)
+    turns name s asks found bad (inl row) (inr asked) = let line = on_open h name s (SyncLine c h) e.acts e.reply found (subst (λ x. RowOf c h x e.acts e.reply) asked row.0) in
+        sync_counts c h s line.2.moves line.0 from to line.2.row
+        (subst (λ calls. AllCaused calls from to) (ap calls_along line.2.are ∙ does_calls s.core.pool.0 line.2.moves) caused) (subst Suspends line.1 bad)
+    turns name s asks found bad (inr out) asked = absurd (subst Suspends out.says bad)
+
+    imports : (name : List ℕ) (group : ℕ) (top : Guid) (faults : ℕ) → e.asked ≡ Asks_import name → e.reply ≡ To_import (Unopened group top faults) → HostRow c h e → FailsOpening c e.acts from to
+    imports name group top faults asked says (inl row) = import_counts c h name e.acts e.reply from to group top faults (subst (λ x. RowOf c h x e.acts e.reply) asked row.0) caused says
+    imports name group top faults asked says (inr out) = import_not_memory (Unopened group top faults) (sym says ∙ out.says)
+
+    creates : (name : List ℕ) (blocks : ℕ) (tops : List (List (List ℕ))) (device : List ℕ) → e.asked ≡ Asks_create name blocks tops → e.reply ≡ To_create (FaultOn device) → HostRow c h e
+        → RoseAt (λ d. is_leaf_at (leaf_at d (leaves_of h.table tops))) from to
+    creates name blocks tops device asked says (inl row) = create_counts c h name blocks tops e.acts e.reply device from to (subst (λ x. RowOf c h x e.acts e.reply) asked row.0) caused says
+    creates name blocks tops device asked says (inr out) = absurd (let no = sym says ∙ out.says in cc)
 
 pub headline_from : (c : Codec) (past : Past) (h : Host) (acts : List Act) (entries : List Entry) → Follows c past h acts entries → Headline c past h acts entries
 headline_from c past h acts entries f = record {
@@ -292,7 +308,7 @@ headline_from c past h acts entries f = record {
   required = λ l name device temporary s leaf group asked at is plain up. line_required c (host_before h l) (pool_before l) l.entry name device temporary s leaf group (meets c past h acts entries f l) asked at is plain up;
   scans = at_scans c past h acts entries f;
   keeps = λ l d is. entry_keeps c (host_before h l) l.entry d (pool_before l) (meets c past h acts entries f l).row is;
-  counts = λ l name s from to asked at caused bad. line_counts c (host_before h l) (pool_before l) l.entry name s from to (meets c past h acts entries f l) asked at caused bad;
+  counts = λ l from to caused. line_counts c (host_before h l) (pool_before l) l.entry from to (meets c past h acts entries f l) caused;
 }
 
 pub first_headline : (c : Codec) (past : Past) (h : Host) (entries : List Entry) → BeginsRun c past h → IsRun c h entries → Headline c past h [] entries

@@ -17,4 +17,6 @@ pub mod Pasting
 pub mod Running
 pub mod SmallRuns
 pub mod Sparing
+pub mod Stamps
+pub mod Suspending
 pub mod Writing
