@@ -12,7 +12,7 @@ use Rattle.pool_moves.specs.Keeping.{Kept, Walks}
 use Rattle.pool_moves.specs.Making.{IsMade}
 use Rattle.pool_moves.specs.Moves.{Move}
 use Rattle.pool_moves.specs.Rosters.{devices_of}
-use Rattle.pool_moves.specs.StampRow.{NewLeaf, leaf_at, is_leaf_at, Stamp, calls_of_stamps, AreStamps, new_state, new_side, CreateReply, Created, FaultOn}
+use Rattle.pool_moves.specs.StampRow.{NewLeaf, leaf_at, is_leaf_at, Stamp, AreStamps, new_state, new_side, CreateReply, Created, FaultOn}
 use Rattle.pool_moves.specs.States.{PoolState, Side}
 use Rattle.pool_moves.proofs.CommitWalks.{found_walks}
 use Rattle.pool_moves.proofs.Making.{made_kept}

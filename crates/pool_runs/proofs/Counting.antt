@@ -1,6 +1,6 @@
 -- A group is suspended only where a call failed, or where a top had nobody left on its board before.
-use Rattle.std.proofs.Common.{◌≡◌, ◌≢◌, ◌⊎◌, inl, inr, ⊎_elim, ℕ, ◌+◌, ◌-◌, ◌^◌, ◌≤◌, ◌<◌, ◌==◌, ◌&&◌, ◌||◌, nat_le, min, Bool, true, false, cond, List, [], ◌∷◌, ◌++◌, map, Option, Some, None, refl, sym, ap, ◌∙◌, subst, append-nil, arith}
-use Rattle.std.specs.List.{AllByRecursion, list_any, list_all, find}
+use Rattle.std.proofs.Common.{◌≡◌, ◌⊎◌, inl, inr, ℕ, ◌+◌, ◌≤◌, ◌==◌, ◌&&◌, ◌||◌, nat_le, Bool, true, false, cond, List, [], ◌∷◌, ◌++◌, map, Option, Some, None, refl, sym, ap, ◌∙◌, subst, append-nil, arith}
+use Rattle.std.specs.List.{AllByRecursion, list_any}
 use Rattle.std.specs.Option.{is_none, is_some}
 use Rattle.std.proofs.lemmas.Bool.{and_parts}
 use Rattle.std.proofs.lemmas.Bool.Decides.{nat_tests}
@@ -8,7 +8,7 @@ use Rattle.mp_base.specs.Outside.{Rose}
 use Rattle.mp_base.specs.declared.number.Guid.{Guid}
 use Rattle.bank_core.specs.declared.bank.Fault.{Fault}
 use Rattle.bank_core.specs.Asks.{Ask, Reads, Writes, Flushes, Admits, Ejects, ask_of, IsPart}
-use Rattle.bank_core.specs.Calls.{device_of, fault_of, IsCaused, AllCaused}
+use Rattle.bank_core.specs.Calls.{device_of, fault_of, AllCaused}
 use Rattle.bank_core.specs.Disk.{Call, Read, Write as WriteCall, Flush as FlushCall, Admit, Eject, Noted}
 use Rattle.label_store.specs.declared.member.Member.{Member}
 use Rattle.label_store.specs.Layout.{labels_of, even_labels, odd_labels, config_offset, ring_offset, slot_of}
@@ -25,14 +25,14 @@ use Rattle.txg_history.proofs.Logging.{by_bool, same_device, true_not_false}
 use Rattle.pool_moves.specs.Boards.{member_before, members_where, is_on, is_on_under, board_of, board_under, has_on, emptied_of, emptied}
 use Rattle.pool_moves.specs.FreezeRow.{is_dev, up_devs, RowFreeze}
 use Rattle.pool_moves.specs.Leaves.{LeafSeen}
-use Rattle.pool_moves.specs.LineRows.{TurnReply, Idle, Write, Flush, Round, Committed, Suspended, sets_failed, has_number, count_moves, EndsBy, EndsTurn, IsTurnOf, IsWritePart, IsFlushPart, IsRoundPart, StartsBy, TurnBy, RowTurn, Ends, AreTurns, moves_in, EndsGroup, CommitsOpen, SyncReply, Ended, Refused, NoMemory, CommitsFor, SyncOpen, SyncBehind, EndsFirst, SyncBy, RowSync}
-use Rattle.pool_moves.specs.Moves.{Draft, Move, Makes, Freeze, Wrote_key, Flushed_all, Widen, Starts, Copies, Copied, Commits, Sets, Finds, Comes, Goes, Returns, Clear, Puts, Scrubs, Shapes, on_dev, leaf_cleared, leaf_step, step, state_step, steps}
+use Rattle.pool_moves.specs.LineRows.{TurnReply, Idle, Write, Flush, Round, Committed, Suspended, count_moves, EndsBy, EndsTurn, IsTurnOf, IsWritePart, IsFlushPart, IsRoundPart, StartsBy, TurnBy, RowTurn, Ends, AreTurns, moves_in, EndsGroup, CommitsOpen, SyncReply, CommitsFor, SyncOpen, SyncBehind, EndsFirst, SyncBy, RowSync}
+use Rattle.pool_moves.specs.Moves.{Draft, Move, Makes, Freeze, Wrote_key, Flushed_all, Widen, Starts, Copies, Copied, Sets, Finds, Comes, Goes, Returns, Clear, Puts, Scrubs, Shapes, on_dev, leaf_cleared, leaf_step, step, state_step, steps}
 use Rattle.pool_moves.specs.ReadRow.{made_in}
 use Rattle.pool_moves.specs.Refusing.{FreezeRefusal, is_writable, is_writable_under, unwritable_of, unwritable, last_number, RefusedBy, IsRefused}
 use Rattle.pool_moves.specs.CommitRows.{uncounts, RowReopen, RowFound}
 use Rattle.pool_moves.specs.OpeningRow.{lacking_of, Resumes, ResumesUnless, RowResume}
 use Rattle.pool_moves.specs.States.{PoolSeen, PoolState}
-use Rattle.pool_moves.specs.TurnRows.{turn_moves, ended, round_moves, IsThirdMoves, RowRound}
+use Rattle.pool_moves.specs.TurnRows.{turn_moves, ended, round_moves, IsThirdMoves}
 use Rattle.pool_moves.specs.Walking.{as_moves}
 use Rattle.pool_moves.specs.Widening.{AreWidens, IsWidened, AreLeaves}
 use Rattle.pool_runs.specs.Counting.{RoseAt, HasLostBoard, IsSuspended, SuspendsSync}
@@ -76,8 +76,12 @@ module _ (own : ℕ → Bool) where
     where
       of : (fault : Option Fault) → fault_of noted.call ≡ fault → (t : Bool) → own (device_of noted.call) ≡ t → AllByRecursion NoFault made ⊎ RoseAt own caused.0 to
           → (NoFault noted × AllByRecursion NoFault made) ⊎ RoseAt own from to
-      of (Some fault) is true mine rest = inr (device_of noted.call, mine, rose_more (from (device_of noted.call)) (caused.0 (device_of noted.call)) (to (device_of noted.call))
-          (caused.1.cause fault is) (caused_up made caused.0 to caused.2 (device_of noted.call)))
+      of (Some fault) is true mine rest = inr (
+        device_of noted.call,
+        mine,
+        rose_more (from (device_of noted.call)) (caused.0 (device_of noted.call)) (to (device_of noted.call))
+            (caused.1.cause fault is) (caused_up made caused.0 to caused.2 (device_of noted.call)),
+      )
       of (Some fault) is false off (inl none) = inl ((λ mine. true_not_false (own (device_of noted.call)) mine off), none)
       of (Some fault) is false off (inr rose) = inr (rose.0, rose.1, other (rose.0 == device_of noted.call) refl)
         where
@@ -337,8 +341,11 @@ module _ (own : ℕ → Bool) where
   still_step (Starts draft) is s = (refl, refl)
   still_step (Copies draft d) is s = (refl, refl)
   still_step (Copied draft d) is s = (refl, refl)
-  still_step (Sets m own) is s = (empty_same (leaf_step (Sets m own) s.core.number s.core.group.first s.core.scan.hi)
-      (λ leaf. set_same (leaf.guid.0 == m.0) leaf (record leaf { own = own }) (refl, refl)) s.core.leaves s.core.leaves, refl)
+  still_step (Sets m own) is s = (
+    empty_same (leaf_step (Sets m own) s.core.number s.core.group.first s.core.scan.hi)
+        (λ leaf. set_same (leaf.guid.0 == m.0) leaf (record leaf { own = own }) (refl, refl)) s.core.leaves s.core.leaves,
+    refl,
+  )
   still_step (Widen m low high) is s =
       (empty_same (leaf_step (Widen m low high) s.core.number s.core.group.first s.core.scan.hi) (λ leaf. (refl, refl)) s.core.leaves s.core.leaves, refl)
   still_step v is s = absurd is
@@ -390,20 +397,20 @@ module _ (own : ℕ → Bool) where
   goes_on s part ms results going vs reply stays never is still turn =
       let behind : IsGoing (steps (part ++ count_moves s.core.leaves ms results) s) = still_going (part ++ count_moves s.core.leaves ms results) s still is in
       let end : EndsBy None (steps (part ++ count_moves s.core.leaves ms results) s) false going turn.ending reply =
-          subst (λ found. EndsBy found (steps (part ++ count_moves s.core.leaves ms results) s) false going turn.ending reply) behind.full turn.ends in
+      subst (λ found. EndsBy found (steps (part ++ count_moves s.core.leaves ms results) s) false going turn.ending reply) behind.full turn.ends in
       let whole : vs ≡ part ++ count_moves s.core.leaves ms results = turn.moves ∙ (ap (λ l. (part ++ count_moves s.core.leaves ms results) ++ l) end.0 ∙ append-nil (part ++ count_moves s.core.leaves ms results)) in record {
-    ends = λ bad. never (subst IsSuspended end.1 bad);
-    goes = λ more. subst (λ l. IsGoing (steps l s)) (sym whole) behind;
-  }
+        ends = λ bad. never (subst IsSuspended end.1 bad);
+        goes = λ more. subst (λ l. IsGoing (steps l s)) (sym whole) behind;
+      }
 
   write_fine : (s : PoolState) (vs : List Move) (reply : TurnReply) → IsGoing s → AllByRecursion Answered vs → IsWritePart s vs reply → IsFine s vs reply
   write_fine s vs reply is all w =
       let ms = board_under w.row.cell.top s.core.leaves in
       let part : AllByRecursion Answered w.part = answered_first w.part (count_moves s.core.leaves ms w.row.results)
-          (answered_first (w.part ++ count_moves s.core.leaves ms w.row.results) w.turn.ending (subst (AllByRecursion Answered) w.turn.moves all)) in
+      (answered_first (w.part ++ count_moves s.core.leaves ms w.row.results) w.turn.ending (subst (AllByRecursion Answered) w.turn.moves all)) in
       let made : AllByRecursion NoFault w.row.made = answered_calls w.row.made (answered_first (as_moves w.row.made) (w.row.leaving ++ (Wrote_key w.row.key ∷ [])) (subst (AllByRecursion Answered) w.row.moves part)) in
       let on : all_true w.row.results ≡ true = phase_true (write_plan w.row.cell) (write_asks w.row.cell) ms (map (λ m. true) ms) w.row.results w.row.made w.row.calls
-          (own_where (is_on_under w.row.cell.top) s.core.leaves is.mine) (start_true ms) made in
+      (own_where (is_on_under w.row.cell.top) s.core.leaves is.mine) (start_true ms) made in
       goes_on s w.part ms w.row.results Write vs reply refl (λ bad. bad) is
       (subst (λ p. AllByRecursion IsStill (p ++ count_moves s.core.leaves ms w.row.results)) (sym w.row.moves)
       (turn_still s.core w.row.made ms w.row.results w.row.leaving (Wrote_key w.row.key) s.core.leaves tt on w.row.leaves)) w.turn
@@ -412,10 +419,10 @@ module _ (own : ℕ → Bool) where
   flush_fine s vs reply is all w =
       let ms = board_of s.core.leaves in
       let part : AllByRecursion Answered w.part = answered_first w.part (count_moves s.core.leaves ms w.row.results)
-          (answered_first (w.part ++ count_moves s.core.leaves ms w.row.results) w.turn.ending (subst (AllByRecursion Answered) w.turn.moves all)) in
+      (answered_first (w.part ++ count_moves s.core.leaves ms w.row.results) w.turn.ending (subst (AllByRecursion Answered) w.turn.moves all)) in
       let made : AllByRecursion NoFault w.row.made = answered_calls w.row.made (answered_first (as_moves w.row.made) (w.row.leaving ++ (Flushed_all ∷ [])) (subst (AllByRecursion Answered) w.row.moves part)) in
       let on : all_true w.row.results ≡ true = phase_true flush_plan flush_asks ms (map (λ m. true) ms) w.row.results w.row.made w.row.calls
-          (own_where is_on s.core.leaves is.mine) (start_true ms) made in
+      (own_where is_on s.core.leaves is.mine) (start_true ms) made in
       goes_on s w.part ms w.row.results Flush vs reply refl (λ bad. bad) is
       (subst (λ p. AllByRecursion IsStill (p ++ count_moves s.core.leaves ms w.row.results)) (sym w.row.moves)
       (turn_still s.core w.row.made ms w.row.results w.row.leaving Flushed_all s.core.leaves tt on w.row.leaves)) w.turn
@@ -426,20 +433,20 @@ module _ (own : ℕ → Bool) where
       let mine = own_where is_on s.core.leaves is.mine in
       let behind : AllByRecursion Answered (w.part ++ count_moves s.core.leaves ms w.row.results) = subst (AllByRecursion Answered) w.counted (answered_first w.behind w.ending (subst (AllByRecursion Answered) w.moves all)) in
       let part : AllByRecursion Answered (as_moves w.row.first ++ (as_moves w.row.second ++ w.row.thirds)) =
-          (answered_first (round_moves w.row.draft w.row.first w.row.second w.row.thirds) w.row.ending
-          (subst (AllByRecursion Answered) w.row.moves (answered_first w.part (count_moves s.core.leaves ms w.row.results) behind))).1 in
+      (answered_first (round_moves w.row.draft w.row.first w.row.second w.row.thirds) w.row.ending
+      (subst (AllByRecursion Answered) w.row.moves (answered_first w.part (count_moves s.core.leaves ms w.row.results) behind))).1 in
       let more = answered_second (as_moves w.row.first) (as_moves w.row.second ++ w.row.thirds) part in
       let last = answered_second (as_moves w.row.second) w.row.thirds more in
       let one : all_true w.row.in_first ≡ true = phase_true (first_plan size w.row.draft.commit) (first_asks size w.row.draft.commit) ms (map (λ m. true) ms) w.row.in_first w.row.first w.row.configs mine (start_true ms)
-          (answered_calls w.row.first (answered_first (as_moves w.row.first) (as_moves w.row.second ++ w.row.thirds) part)) in
+      (answered_calls w.row.first (answered_first (as_moves w.row.first) (as_moves w.row.second ++ w.row.thirds) part)) in
       let two : all_true w.row.in_second ≡ true = phase_true (second_plan size w.row.draft.commit) (second_asks size w.row.draft.commit) ms w.row.in_first w.row.in_second w.row.second w.row.uberblocks mine one
-          (answered_calls w.row.second (answered_first (as_moves w.row.second) w.row.thirds more)) in
+      (answered_calls w.row.second (answered_first (as_moves w.row.second) w.row.thirds more)) in
       let three : all_true w.row.results ≡ true = third_true (third_plan size w.row.draft.commit) (third_asks size w.row.draft.commit) w.row.draft ms w.row.in_second w.row.results w.row.thirds w.row.copies mine two last in
       let end : (w.ending ≡ []) × (reply ≡ Committed s.core.number) = subst (λ t. cond t ((w.ending ≡ []) × (reply ≡ Committed s.core.number)) (EndsTurn (steps w.behind s) true (Round s.core.number) w.ending reply))
-          (w.row.whole_is ∙ three) w.ends in record {
-    ends = λ bad. subst IsSuspended end.1 bad;
-    goes = λ more. absurd (let no : true ≡ false = sym (ap Ends end.1) ∙ more in cc);
-  }
+      (w.row.whole_is ∙ three) w.ends in record {
+        ends = λ bad. subst IsSuspended end.1 bad;
+        goes = λ more. absurd (let no : true ≡ false = sym (ap Ends end.1) ∙ more in cc);
+      }
 
   pub turn_fine : (c : Codec) (size : ℕ → ℕ) (s : PoolState) (vs : List Move) (reply : TurnReply) → IsGoing s → AllByRecursion Answered vs → RowTurn c size s vs reply → IsFine s vs reply
   turn_fine c size s vs reply is all row = of (subst (λ found. StartsBy found c size s vs reply) is.full (subst (λ t. TurnBy t c size s vs reply) is.frozen row))
@@ -615,12 +622,12 @@ module _ (own : ℕ → Bool) where
       let w = row.ends in
       let round : AllByRecursion Answered row.round = answered_second first row.round (subst (AllByRecursion Answered) row.moves all) in
       let part : AllByRecursion Answered (as_moves w.first ++ (as_moves w.second ++ w.thirds)) =
-          (answered_first (round_moves w.draft w.first w.second w.thirds) w.ending (subst (AllByRecursion Answered) w.moves round)).1 in
+      (answered_first (round_moves w.draft w.first w.second w.thirds) w.ending (subst (AllByRecursion Answered) w.moves round)).1 in
       let rest = answered_second (as_moves w.first) (as_moves w.second ++ w.thirds) part in
       let one : all_true w.in_first ≡ true = phase_true (first_plan size w.draft.commit) (first_asks size w.draft.commit) ms (map (λ m. true) ms) w.in_first w.first w.configs at (start_true ms)
-          (answered_calls w.first (answered_first (as_moves w.first) (as_moves w.second ++ w.thirds) part)) in
+      (answered_calls w.first (answered_first (as_moves w.first) (as_moves w.second ++ w.thirds) part)) in
       let two : all_true w.in_second ≡ true = phase_true (second_plan size w.draft.commit) (second_asks size w.draft.commit) ms w.in_first w.in_second w.second w.uberblocks at one
-          (answered_calls w.second (answered_first (as_moves w.second) w.thirds rest)) in
+      (answered_calls w.second (answered_first (as_moves w.second) w.thirds rest)) in
       third_true (third_plan size w.draft.commit) (third_asks size w.draft.commit) w.draft ms w.in_second w.results w.thirds w.copies at two
       (answered_second (as_moves w.second) w.thirds rest)
 

@@ -1,16 +1,14 @@
 -- What counts tell of lines that are suspended, or told a device that failed.
-use Rattle.std.proofs.Common.{◌≡◌, ◌⊎◌, inl, inr, ⊎_elim, ℕ, ◌+◌, ◌==◌, ◌&&◌, ◌||◌, nat_le, Bool, true, false, cond, List, [], ◌∷◌, ◌++◌, map, length, Option, Some, None, refl, sym, ap, ◌∙◌, subst, append-nil, append_assoc, arith}
+use Rattle.std.proofs.Common.{◌≡◌, ◌⊎◌, inl, inr, ⊎_elim, ℕ, ◌==◌, ◌&&◌, ◌||◌, nat_le, Bool, true, false, cond, List, [], ◌∷◌, ◌++◌, map, length, Option, Some, None, refl, sym, ap, ◌∙◌, subst, append-nil, append_assoc, arith}
 use Rattle.std.specs.List.{AllByRecursion, list_any}
 use Rattle.std.specs.Option.{is_some}
 use Rattle.std.proofs.lemmas.Bool.Decides.{nat_tests}
-use Rattle.mp_base.specs.Outside.{Rose}
 use Rattle.mp_base.specs.declared.number.Guid.{Guid}
 use Rattle.bank_core.specs.Calls.{AllCaused}
 use Rattle.bank_core.specs.Disk.{Noted}
 use Rattle.label_store.specs.declared.found.Found.{Found}
 use Rattle.label_store.specs.declared.member.Member.{Member}
 use Rattle.vdev_tree.specs.Leaf.{is_up}
-use Rattle.vdev_tree.specs.declared.vdev.State.{State}
 use Rattle.txg_history.specs.Pages.{LeafKept, Codec}
 use Rattle.txg_history.specs.Rounds.{all_true}
 use Rattle.pool_moves.specs.Boards.{board_of}
@@ -18,21 +16,20 @@ use Rattle.pool_moves.specs.FreezeRow.{is_dev}
 use Rattle.pool_moves.specs.Leaves.{LeafSeen}
 use Rattle.pool_moves.specs.LineRows.{TurnReply, Idle, Write, Flush, Round, Committed, Suspended, SyncReply, RowTurn, RowSync}
 use Rattle.pool_moves.specs.Moves.{Move, Flushed_all, steps}
-use Rattle.pool_moves.specs.Opened.{found_mode, opened_leaf, opened_leaves, opened_state}
+use Rattle.pool_moves.specs.Opened.{opened_leaves}
 use Rattle.pool_moves.specs.OpeningRow.{SeekReply, NoRecord, NumbersEnd, TakesRecord, OpenReply, Opens_state, NoPage, RowOpen, RowResume, is_up_under, lacking_of}
-use Rattle.pool_moves.specs.PageReads.{LeafShown}
 use Rattle.pool_moves.specs.ReadRow.{made_in}
 use Rattle.pool_moves.specs.Refusing.{is_writable_under, unwritable_of, unwritable}
 use Rattle.pool_moves.specs.StampRow.{NewLeaf, leaf_at, is_leaf_at, Stamp, calls_of_stamps, AreStamps, new_leaf_seen, new_state, CreateReply, Created, FaultOn, first_failed, found_reply}
 use Rattle.pool_moves.specs.States.{PoolState}
-use Rattle.pool_runs.specs.Acts.{Act, Opening, Looked, Enters, Bears, Closes, does, bare, calls_of_act, calls_along}
+use Rattle.pool_runs.specs.Acts.{Act, Looked, Enters, Bears, Closes, does, calls_of_act, calls_along}
 use Rattle.pool_runs.specs.Committing.{opening_in}
 use Rattle.pool_runs.specs.Counting.{has_leaf_at, RoseAt, HasLostBoard, IsSuspended, SuspendsSync, LacksTop, FailsOpening}
 use Rattle.pool_runs.specs.Creating.{tops_of, leaves_of, new_birth, stamp_acts, commit_acts, RowCreate}
-use Rattle.pool_runs.specs.Devices.{number_in, size_in}
+use Rattle.pool_runs.specs.Devices.{size_in}
 use Rattle.pool_runs.specs.Hosts.{Host, free_in, named}
 use Rattle.pool_runs.specs.Importing.{OpensBy, FollowsMap, OpensFound, ImportBy, host_behind, Imports, ImportFor, ImportUnless, RowImport}
-use Rattle.pool_runs.specs.Lines.{Reply, To_import, To_create, ImportReply, Opened, NameOpen, TooManyPools, NothingFound, LastNumber, PageLost, Unopened}
+use Rattle.pool_runs.specs.Lines.{Reply, To_import, To_create, Unopened}
 use Rattle.pool_runs.proofs.Answering.{does_calls}
 use Rattle.pool_runs.proofs.Counting.{NoFault, fault_or, OwnDev, AreOwnLeaves, turn_suspends, sync_suspends, resume_fine, stamp_fine, found_fine, line_answered}
 use Rattle.pool_runs.proofs.Stamps.{stamp_calls}
@@ -171,10 +168,10 @@ import_counts c h name acts reply from to group top faults row caused says = unl
     imports : Imports c h name acts reply → FailsOpening c acts from to
     imports row = let fails = import_by row.seek c (host_behind row.made h) name row.rest reply row.made from to group top faults row.follows
         (subst (λ calls. AllCaused calls from to) (ap calls_along row.are ∙ bare_calls row.made (Looked name _ ∷ row.rest)) caused) says in record {
-      opening = fails.opening;
-      reads = ap opening_in row.are ∙ (opening_bare row.made (Looked name _ ∷ row.rest) ∙ fails.reads);
-      why = fails.why;
-    }
+          opening = fails.opening;
+          reads = ap opening_in row.are ∙ (opening_bare row.made (Looked name _ ∷ row.rest) ∙ fails.reads);
+          why = fails.why;
+        }
 
     full_by : (full : Bool) → ImportFor full c h name acts reply → FailsOpening c acts from to
     full_by true row = absurd (let no = sym row.1 ∙ says in cc)
