@@ -30,7 +30,7 @@ use Rattle.pool_runs.specs.Pasts.{Past, Born, Left}
 use Rattle.pool_runs.proofs.Creating.{within}
 use Rattle.pool_runs.proofs.Heading.{headline_from}
 use Rattle.pool_runs.proofs.Knowing.{may_more, open_kept, pools_known, walk_may}
-use Rattle.pool_runs.proofs.Moments.{host_more, acts_table}
+use Rattle.pool_runs.proofs.Moments.{host_more, bare_host, acts_table}
 use Rattle.pool_runs.proofs.Numbers.{number_fits}
 
 -- The disk of a host goes on by the calls of its acts.
@@ -49,10 +49,6 @@ acts_disk (act ∷ acts) h = acts_disk acts (host_by act h) ∙ (ap (run (calls_
 bare_calls : (made : List Noted) (rest : List Act) → calls_along (bare made ++ rest) ≡ made ++ calls_along rest
 bare_calls [] rest = refl
 bare_calls (noted ∷ made) rest = ap (λ more. noted ∷ more) (bare_calls made rest)
-
-bare_host : (made : List Noted) (rest : List Act) (h : Host) → host_along (bare made ++ rest) h ≡ host_along rest (record h { disk = run made h.disk })
-bare_host [] rest h = refl
-bare_host (noted ∷ made) rest h = bare_host made rest (record h { disk = run (noted ∷ []) h.disk })
 
 -- Stamps, one after another: whose the devices are behind them, and that no pool came or went.
 stamp_calls : (g : ℕ) (stamps : List Stamp) → calls_along (stamp_acts g stamps) ≡ calls_of_stamps stamps

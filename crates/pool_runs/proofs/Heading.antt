@@ -42,17 +42,17 @@ use Rattle.txg_history.proofs.Surviving.{survives_sound}
 use Rattle.pool_moves.specs.AwayRows.{OfflineReply, Gone, Required, LeastOut, IsRequired, is_offline, is_spare, leaf_named, siblings, OfflineLeaf, OfflineHere, OfflineBy}
 use Rattle.pool_moves.specs.Keeping.{Kept}
 use Rattle.pool_moves.specs.Leaves.{LeafSeen}
-use Rattle.pool_moves.specs.LineRows.{SyncReply, Ended, Committed, RowSync}
+use Rattle.pool_moves.specs.LineRows.{TurnReply, SyncReply, Ended, Committed, RowTurn, RowSync}
 use Rattle.pool_moves.specs.Missing.{AllMissed}
 use Rattle.pool_moves.specs.Moves.{Move, steps, after_moves}
 use Rattle.pool_moves.specs.ReadRow.{ReadReply, Gives, Exhausted, RowRead, made_in}
 use Rattle.pool_moves.specs.States.{PoolState, Side}
 use Rattle.pool_moves.proofs.Keeping.{walk_keeps}
-use Rattle.pool_moves.proofs.LineWalks.{sync_walks}
+use Rattle.pool_moves.proofs.LineWalks.{turn_walks, sync_walks}
 use Rattle.pool_moves.proofs.Missing.{exhausted_missed}
 use Rattle.pool_moves.proofs.ReadWalks.{read_right}
 use Rattle.pool_runs.specs.Acts.{Act, Gives_for, Marks, Hears, calls_along, pool_along, history}
-use Rattle.pool_runs.specs.Committing.{CommitsAll, FindsPool}
+use Rattle.pool_runs.specs.Committing.{CommitsAll, CommitsGroup, FindsPool}
 use Rattle.pool_runs.specs.Counting.{SomeRose, HasLostBoard, Suspends}
 use Rattle.pool_runs.specs.Devices.{number_in, size_in}
 use Rattle.pool_runs.specs.Fairness.{AreFair}
@@ -60,17 +60,17 @@ use Rattle.pool_runs.specs.Headline.{TakesFor, IsRequiredFor, Headline}
 use Rattle.pool_runs.specs.HostRows.{AreMade, ReadLine, TurnLine, SyncLine, OfflineLine, OnPool, RowOf, HostRow, acts_in, IsRun}
 use Rattle.pool_runs.specs.Hosts.{Host, IsOpen, named, host_by, host_along}
 use Rattle.pool_runs.specs.Knowing.{HasSeats, Knows, MayActs}
-use Rattle.pool_runs.specs.Lines.{Asked, Asks_read, Asks_turn, Asks_sync, Asks_offline, Asks_import, Reply, To_read, To_sync, To_import, To_offline, ImportReply, Opened, NothingFound, No_memory, Entry}
+use Rattle.pool_runs.specs.Lines.{Asked, Asks_read, Asks_turn, Asks_sync, Asks_offline, Asks_import, Reply, To_read, To_turn, To_sync, To_import, To_offline, ImportReply, Opened, NothingFound, No_memory, Entry}
 use Rattle.pool_runs.specs.Moments.{Moment, events_at, pool_at, past_at, host_at, LineOf, pool_before, host_before, calls_in_line, IsOpenAs}
 use Rattle.pool_runs.specs.Pasts.{Past, pool_of, then_all, Left, BeginsRun, HasFrozen}
 use Rattle.pool_runs.proofs.Acting.{acts_more, history_pool}
 use Rattle.pool_runs.proofs.Answering.{all_answer, does_calls, marked_calls}
-use Rattle.pool_runs.proofs.Committing.{sync_all, does_pool}
+use Rattle.pool_runs.proofs.Committing.{sync_all, turn_all, does_pool}
 use Rattle.pool_runs.proofs.Counting.{NoFault, fault_or, turn_suspends, sync_suspends, line_answered}
 use Rattle.pool_runs.proofs.Finding.{import_finds}
 use Rattle.pool_runs.proofs.Knowing.{may_more, acts_keep, acts_number}
 use Rattle.pool_runs.proofs.Members.{entry_keeps}
-use Rattle.pool_runs.proofs.Moments.{has_moment, acts_mays, keeps_all, may_take, acts_table, host_more, run_at, run_front}
+use Rattle.pool_runs.proofs.Moments.{has_moments, acts_mays, keeps_all, may_take, acts_table, host_more, run_at, run_front}
 use Rattle.pool_runs.proofs.Pasting.{begins_known, then_pool, then_called, then_allowed, live_frozen}
 use Rattle.pool_runs.proofs.Running.{named_open, heard, run_may}
 use Rattle.pool_runs.proofs.Writing.{entry_writes}
@@ -159,6 +159,12 @@ offline_reply a b e = cc
 sync_reply : (a b : SyncReply) → To_sync a ≡ To_sync b → a ≡ b
 sync_reply a b e = cc
 
+turn_reply : (a b : TurnReply) → To_turn a ≡ To_turn b → a ≡ b
+turn_reply a b e = cc
+
+turn_not_memory : {A : Type 0} (a : TurnReply) → To_turn a ≡ No_memory → A
+turn_not_memory a e = absurd (cc)
+
 import_not_memory : {A : Type 0} (a : ImportReply) → To_import a ≡ No_memory → A
 import_not_memory a e = absurd (cc)
 
@@ -198,12 +204,16 @@ line_loses c h p e name a s met asked at is = of met.row
     of (inr out) = read_not_memory Exhausted (sym is ∙ out.says)
 
 -- An import finds the pool.
-line_opens : (c : Codec) (h : Host) (p : Pool) (e : Entry) → Meets c h p e → e.asked ≡ Asks_import p.name → AreFair c p e.acts → FindsPool p (pool_along e.acts p) e.reply
+line_opens : (c : Codec) (h : Host) (p : Pool) (e : Entry) → Meets c h p e → e.asked ≡ Asks_import p.name → AreFair c p e.acts → FindsPool p (pool_along e.acts p) (host_along e.acts h) e.reply
 line_opens c h p e met asked fair = of met.row
   where
-    of : HostRow c h e → FindsPool p (pool_along e.acts p) e.reply
+    of : HostRow c h e → FindsPool p (pool_along e.acts p) (host_along e.acts h) e.reply
     of (inl row) = import_finds c h p p.name e.acts e.reply met.knows refl row.1 fair (subst (λ x. RowOf c h x e.acts e.reply) asked row.0)
-    of (inr out) = record { some = λ says. import_not_memory NothingFound (sym says ∙ out.says); opened = λ n says. import_not_memory (Opened n) (sym says ∙ out.says) }
+    of (inr out) = record {
+      some = λ says. import_not_memory NothingFound (sym says ∙ out.says);
+      opened = λ n says. import_not_memory (Opened n) (sym says ∙ out.says);
+      is_open = λ n says. import_not_memory (Opened n) (sym says ∙ out.says);
+    }
 
 -- A sync acknowledges what was written.
 line_syncs : (c : Codec) (h : Host) (p : Pool) (e : Entry) (name : List ℕ) (s : PoolState) (n : ℕ) → Meets c h p e → e.asked ≡ Asks_sync name → IsOpenAs p h name s
@@ -220,6 +230,21 @@ line_syncs c h p e name s n met asked at is = of met.row
         subst (λ q. CommitsAll p q n) (sym (ap (λ a. pool_along a p) line.2.are ∙ does_pool s.core.pool.0 vs t (sym at.ours)))
         (sync_all c (size_in h.table) s t vs n kept done)
     of (inr out) = sync_not_memory (Ended (Committed n)) (sym is ∙ out.says)
+
+-- A turn acknowledges its group.
+line_turns : (c : Codec) (h : Host) (p : Pool) (e : Entry) (name : List ℕ) (s : PoolState) (n : ℕ) → Meets c h p e → e.asked ≡ Asks_turn name → IsOpenAs p h name s
+    → e.reply ≡ To_turn (Committed n) → CommitsGroup p (pool_along e.acts p) n
+line_turns c h p e name s n met asked at is = of met.row
+  where
+    of : HostRow c h e → CommitsGroup p (pool_along e.acts p) n
+    of (inl row) = let line = on_open h name s (TurnLine c h) e.acts e.reply at.named (subst (λ x. RowOf c h x e.acts e.reply) asked row.0) in
+        let has = met.knows.stands s (named_open name s h.pools at.named) at.ours in
+        let t : Side = record { pool = p; seats = has.0 } in
+        let vs = line.2.moves in
+        let done : RowTurn c (size_in h.table) s vs (Committed n) = subst (RowTurn c (size_in h.table) s vs) (turn_reply line.0 (Committed n) (sym line.1 ∙ is)) line.2.row in
+        subst (λ q. CommitsGroup p q n) (sym (ap (λ a. pool_along a p) line.2.are ∙ does_pool s.core.pool.0 vs t (sym at.ours)))
+        (turn_all c (size_in h.table) s t vs n has.1 (turn_walks c (size_in h.table) s t vs (Committed n) has.1 met.knows.sizes done) done)
+    of (inr out) = turn_not_memory (Committed n) (sym is ∙ out.says)
 
 -- The outage rule.
 least_one : (leaves : List LeafSeen) (g k : ℕ) → LeastOut leaves g → LeastOut leaves k → g ≡ k
@@ -277,12 +302,15 @@ line_counts c h p e name s from to met asked at caused bad = ⊎_elim (λ none. 
 
 pub headline_from : (c : Codec) (past : Past) (h : Host) (acts : List Act) (entries : List Entry) → Follows c past h acts entries → Headline c past h acts entries
 headline_from c past h acts entries f = record {
-  moments = has_moment past acts entries;
+  moments = has_moments past acts entries;
   left = at_left c past h acts entries f;
   sound = λ m. survives_sound c (pool_at m) (at_known c past h acts entries f m).survives;
   contents = at_contents c past h acts entries f;
   opens = λ l asked fair. line_opens c (host_before h l) (pool_before l) l.entry (meets c past h acts entries f l) asked fair;
-  syncs = λ l name s n asked at is. line_syncs c (host_before h l) (pool_before l) l.entry name s n (meets c past h acts entries f l) asked at is;
+  commits = λ l. record {
+    syncs = λ name s n asked at is. line_syncs c (host_before h l) (pool_before l) l.entry name s n (meets c past h acts entries f l) asked at is;
+    turns = λ name s n asked at is. line_turns c (host_before h l) (pool_before l) l.entry name s n (meets c past h acts entries f l) asked at is;
+  };
   writes = λ l. entry_writes c (host_before h l) (pool_before l) l.entry (meets c past h acts entries f l).row;
   reads = λ l name a s asked at. record {
     gives = λ bytes is. line_reads c (host_before h l) (pool_before l) l.entry name a s bytes (meets c past h acts entries f l) asked at is;

@@ -54,7 +54,7 @@ may_more c h p (act ∷ first) second may more knows = λ fair. let now = may fa
     (now.0, now.1, may_more c (host_by act h) (pool_by act p) first second now.2 (λ rest known. more (fair, rest) known) now.1)
 
 -- Open pools.
-step_number : (v : Move) (s : PoolState) → (state_step v s).core.pool ≡ s.core.pool
+pub step_number : (v : Move) (s : PoolState) → (state_step v s).core.pool ≡ s.core.pool
 step_number (Makes noted) s = refl
 step_number v s = refl
 
