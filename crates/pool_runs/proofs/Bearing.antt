@@ -24,7 +24,8 @@ use Rattle.pool_runs.specs.Devices.{number_in, size_in}
 use Rattle.pool_runs.specs.Headline.{Headline}
 use Rattle.pool_runs.specs.HostRows.{IsRun}
 use Rattle.pool_runs.specs.Hosts.{Host, IsOpen, is_of, host_by, host_along}
-use Rattle.pool_runs.specs.Knowing.{Knows, MayActs, AreOwnActs}
+use Rattle.pool_runs.specs.Knowing.{AreOwnActs}
+use Rattle.pool_runs.proofs.Known.{Knows, MayActs}
 use Rattle.pool_runs.specs.Lines.{Reply, Entry}
 use Rattle.pool_runs.specs.Pasts.{Past, Born, Left}
 use Rattle.pool_runs.proofs.Creating.{within}

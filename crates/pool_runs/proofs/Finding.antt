@@ -34,7 +34,7 @@ use Rattle.pool_runs.specs.Fairness.{IsFairOpening, AreFair}
 use Rattle.pool_runs.specs.HostRows.{AreMade}
 use Rattle.pool_runs.specs.Hosts.{Host, free_in, host_by, host_along, moved, named}
 use Rattle.pool_runs.specs.Importing.{read_in, all_shown, OpensBy, FollowsMap, OpensFound, ImportBy, host_behind, Imports, ImportFor, ImportUnless, RowImport}
-use Rattle.pool_runs.specs.Knowing.{Knows}
+use Rattle.pool_runs.proofs.Known.{Knows}
 use Rattle.pool_runs.specs.Moments.{IsOpenAs}
 use Rattle.pool_runs.specs.Lines.{Reply, To_import, ImportReply, Opened, NameOpen, TooManyPools, NothingFound, LastNumber, PageLost, Unopened}
 use Rattle.pool_runs.proofs.Acting.{same_number, acts_more, calls_number}

@@ -59,7 +59,8 @@ use Rattle.pool_runs.specs.Fairness.{AreFair}
 use Rattle.pool_runs.specs.Headline.{TakesFor, IsRequiredFor, Headline}
 use Rattle.pool_runs.specs.HostRows.{AreMade, ReadLine, TurnLine, SyncLine, OfflineLine, OnPool, RowOf, HostRow, acts_in, IsRun}
 use Rattle.pool_runs.specs.Hosts.{Host, IsOpen, named, host_by, host_along}
-use Rattle.pool_runs.specs.Knowing.{HasSeats, Knows, MayActs}
+use Rattle.pool_runs.specs.Knowing.{HasSeats}
+use Rattle.pool_runs.proofs.Known.{Knows, MayActs}
 use Rattle.pool_runs.specs.Lines.{Asked, Asks_read, Asks_turn, Asks_sync, Asks_offline, Asks_import, Reply, To_read, To_turn, To_sync, To_import, To_offline, ImportReply, Opened, NothingFound, No_memory, Entry}
 use Rattle.pool_runs.specs.Moments.{Moment, events_at, pool_at, past_at, host_at, LineOf, pool_before, host_before, calls_in_line, IsOpenAs}
 use Rattle.pool_runs.specs.Pasts.{Past, pool_of, then_all, Left, BeginsRun, HasFrozen}

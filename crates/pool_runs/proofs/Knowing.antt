@@ -34,7 +34,8 @@ use Rattle.pool_runs.specs.Acts.{Act, Opening, Birth, Hears, Bare, Does, Marks, 
 use Rattle.pool_runs.specs.Devices.{Device, size_in}
 use Rattle.pool_runs.specs.Fairness.{IsFair, AreFair}
 use Rattle.pool_runs.specs.Hosts.{Host, IsOpen, is_of, moved, host_by, host_along}
-use Rattle.pool_runs.specs.Knowing.{HasSeats, HasRoster, Knows, MayActs, IsOwnCall, IsOwnMove, IsShown, IsTrueLook, HasNoLeafAt, IsOwnAct, AreOwnActs}
+use Rattle.pool_runs.specs.Knowing.{HasSeats, HasRoster, IsOwnCall, IsOwnMove, IsShown, IsTrueLook, HasNoLeafAt, IsOwnAct, AreOwnActs}
+use Rattle.pool_runs.proofs.Known.{Knows, MayActs}
 use Rattle.pool_runs.proofs.Acting.{same_number, other_number, number_of_test, own_events, other_events, move_sectors, move_size, move_number, calls_number}
 use Rattle.pool_runs.proofs.Sparing.{other_call}
 

@@ -15,7 +15,7 @@ use Rattle.pool_runs.specs.Fairness.{IsFair, AreFair}
 use Rattle.pool_runs.specs.Headline.{HasMoment, HasMoments}
 use Rattle.pool_runs.specs.HostRows.{HostRow, acts_of, acts_in, IsRun}
 use Rattle.pool_runs.specs.Hosts.{Host, host_by, host_along}
-use Rattle.pool_runs.specs.Knowing.{Knows, MayActs}
+use Rattle.pool_runs.proofs.Known.{Knows, MayActs}
 use Rattle.pool_runs.specs.Lines.{Entry}
 use Rattle.pool_runs.specs.Pasts.{Past, pool_of}
 
