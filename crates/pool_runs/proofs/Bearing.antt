@@ -24,14 +24,15 @@ use Rattle.pool_runs.specs.Devices.{number_in, size_in}
 use Rattle.pool_runs.specs.Headline.{Headline}
 use Rattle.pool_runs.specs.HostRows.{IsRun}
 use Rattle.pool_runs.specs.Hosts.{Host, IsOpen, is_of, host_by, host_along}
-use Rattle.pool_runs.specs.Knowing.{Knows, MayActs, AreOwnActs}
+use Rattle.pool_runs.specs.Knowing.{AreOwnActs}
+use Rattle.pool_runs.proofs.Known.{Knows, MayActs}
 use Rattle.pool_runs.specs.Lines.{Reply, Entry}
 use Rattle.pool_runs.specs.Pasts.{Born}
 use Rattle.pool_runs.proofs.Creating.{within}
 use Rattle.pool_runs.proofs.Stamps.{stamp_calls}
 use Rattle.pool_runs.proofs.Heading.{headline_from}
 use Rattle.pool_runs.proofs.Knowing.{may_more, open_kept, pools_known, walk_may}
-use Rattle.pool_runs.proofs.Moments.{host_more, acts_table}
+use Rattle.pool_runs.proofs.Moments.{host_more, bare_host, acts_table}
 use Rattle.pool_runs.proofs.Numbers.{number_fits}
 
 -- The disk of a host goes on by the calls of its acts.
@@ -47,9 +48,6 @@ pub acts_disk : (acts : List Act) (h : Host) → (host_along acts h).disk ≡ ru
 acts_disk [] h = refl
 acts_disk (act ∷ acts) h = acts_disk acts (host_by act h) ∙ (ap (run (calls_along acts)) (act_disk act h) ∙ sym (run_more (calls_of_act act) (calls_along acts) h.disk))
 
-bare_host : (made : List Noted) (rest : List Act) (h : Host) → host_along (bare made ++ rest) h ≡ host_along rest (record h { disk = run made h.disk })
-bare_host [] rest h = refl
-bare_host (noted ∷ made) rest h = bare_host made rest (record h { disk = run (noted ∷ []) h.disk })
 
 -- Stamps, one after another: whose the devices are behind them, and that no pool came or went.
 stamps_pools : (g : ℕ) (stamps : List Stamp) (h : Host) → (host_stamped h g stamps).pools ≡ h.pools

@@ -23,30 +23,31 @@ use Rattle.pool_moves.specs.StampRow.{leaf_at, is_leaf_at, FaultOn}
 use Rattle.pool_moves.specs.States.{PoolState, Side}
 use Rattle.mp_base.specs.declared.number.Guid.{Guid}
 use Rattle.pool_moves.proofs.Keeping.{walk_keeps}
-use Rattle.pool_moves.proofs.LineWalks.{sync_walks}
+use Rattle.pool_moves.proofs.LineWalks.{turn_walks, sync_walks}
 use Rattle.pool_moves.proofs.Missing.{exhausted_missed}
 use Rattle.pool_moves.proofs.ReadWalks.{read_right}
-use Rattle.pool_runs.specs.Acts.{Act, Gives_for, Marks, Hears, calls_along, pool_along}
-use Rattle.pool_runs.specs.Committing.{CommitsAll, FindsPool}
+use Rattle.pool_runs.specs.Acts.{Act, Gives_for, Marks, Hears, calls_along, pool_along, history}
+use Rattle.pool_runs.specs.Committing.{CommitsAll, FindsPool, CommitsGroup}
 use Rattle.pool_runs.specs.Counting.{has_leaf_at, RoseAt, HasLostBoard, Suspends, FailsOpening, IsCounted}
 use Rattle.pool_runs.specs.Creating.{leaves_of}
 use Rattle.pool_runs.specs.Devices.{number_in, size_in}
 use Rattle.pool_runs.specs.Fairness.{AreFair}
 use Rattle.pool_runs.specs.Headline.{TakesFor, IsRequiredFor, Headline}
 use Rattle.pool_runs.specs.HostRows.{AreMade, ReadLine, TurnLine, SyncLine, OfflineLine, OnPool, RowOf, HostRow, acts_in, IsRun}
-use Rattle.pool_runs.specs.Hosts.{Host, named, host_by, host_along}
-use Rattle.pool_runs.specs.Knowing.{HasSeats, Knows, MayActs}
-use Rattle.pool_runs.specs.Lines.{Asks_read, Asks_turn, Asks_sync, Asks_offline, Asks_import, Asks_create, Reply, To_read, To_turn, To_sync, To_import, To_offline, To_create, ImportReply, Opened, NothingFound, PageLost, Unopened, No_memory, Entry}
-use Rattle.pool_runs.specs.Moments.{Moment, events_at, pool_at, past_at, host_at, LineOf, pool_before, host_before, IsOpenAs}
-use Rattle.pool_runs.specs.Pasts.{Past, pool_of, Left, BeginsRun, HasFrozen}
-use Rattle.pool_runs.proofs.Acting.{history_pool}
+use Rattle.pool_runs.specs.Hosts.{Host, named, host_by, host_along, IsOpen}
+use Rattle.pool_runs.specs.Knowing.{HasSeats}
+use Rattle.pool_runs.specs.Lines.{Asks_read, Asks_turn, Asks_sync, Asks_offline, Asks_import, Asks_create, Reply, To_read, To_turn, To_sync, To_import, To_offline, To_create, ImportReply, Opened, NothingFound, PageLost, Unopened, No_memory, Entry, Asked}
+use Rattle.pool_runs.specs.Moments.{Moment, events_at, pool_at, past_at, host_at, LineOf, pool_before, host_before, IsOpenAs, calls_in_line}
+use Rattle.pool_runs.specs.Pasts.{Past, pool_of, Left, BeginsRun, HasFrozen, then_all}
+use Rattle.pool_runs.proofs.Acting.{history_pool, acts_more}
 use Rattle.pool_runs.proofs.Answering.{all_answer, does_calls, marked_calls}
-use Rattle.pool_runs.proofs.Committing.{turn_commits, ends_acked, sync_all, does_pool}
+use Rattle.pool_runs.proofs.Committing.{turn_commits, ends_acked, sync_all, does_pool, turn_all}
 use Rattle.pool_runs.proofs.Suspending.{turn_counts, sync_counts, import_counts, create_counts}
+use Rattle.pool_runs.proofs.Known.{Knows, MayActs}
 use Rattle.pool_runs.proofs.Finding.{import_finds}
 use Rattle.pool_runs.proofs.Knowing.{may_more, acts_keep}
 use Rattle.pool_runs.proofs.Members.{entry_keeps}
-use Rattle.pool_runs.proofs.Moments.{has_moment, acts_mays, keeps_all, may_take, acts_table, host_more, run_at, run_front}
+use Rattle.pool_runs.proofs.Moments.{has_moments, acts_mays, keeps_all, may_take, acts_table, host_more, run_at, run_front}
 use Rattle.pool_runs.proofs.Pasting.{begins_known, then_pool, then_called, then_allowed, live_frozen}
 use Rattle.pool_runs.proofs.Running.{named_open, heard, run_may}
 use Rattle.pool_runs.proofs.Writing.{entry_writes}
@@ -180,14 +181,15 @@ line_loses c h p e name a s shown met asked at is = of met.row
     of (inr out) = read_not_memory (Exhausted shown) (sym is ∙ out.says)
 
 -- An import finds the pool.
-line_opens : (c : Codec) (h : Host) (p : Pool) (e : Entry) → Meets c h p e → e.asked ≡ Asks_import p.name → AreFair c p e.acts → FindsPool c p (pool_along e.acts p) e.acts e.reply
+line_opens : (c : Codec) (h : Host) (p : Pool) (e : Entry) → Meets c h p e → e.asked ≡ Asks_import p.name → AreFair c p e.acts → FindsPool c p (pool_along e.acts p) (host_along e.acts h) e.acts e.reply
 line_opens c h p e met asked fair = of met.row
   where
-    of : HostRow c h e → FindsPool c p (pool_along e.acts p) e.acts e.reply
+    of : HostRow c h e → FindsPool c p (pool_along e.acts p) (host_along e.acts h) e.acts e.reply
     of (inl row) = import_finds c h p p.name e.acts e.reply met.knows refl row.1 fair (subst (λ x. RowOf c h x e.acts e.reply) asked row.0)
     of (inr out) = record {
       some = λ says. import_not_memory NothingFound (sym says ∙ out.says);
       opened = λ n says. import_not_memory (Opened n) (sym says ∙ out.says);
+      is_open = λ n says. import_not_memory (Opened n) (sym says ∙ out.says);
       loses = λ page shown says. import_not_memory (PageLost page shown) (sym says ∙ out.says);
     }
 
@@ -207,18 +209,19 @@ line_syncs c h p e name s n met asked at is = of met.row
         (sync_all c (size_in h.table) s t vs n kept done)
     of (inr out) = sync_not_memory (Ended (Committed n)) (sym is ∙ out.says)
 
-line_acks : (c : Codec) (h : Host) (p : Pool) (e : Entry) (name : List ℕ) (s : PoolState) (n : ℕ) → Meets c h p e → e.asked ≡ Asks_turn name → IsOpenAs p h name s
-    → e.reply ≡ To_turn (Committed n) → number_of (pool_along e.acts p).acked ≡ n
-line_acks c h p e name s n met asked at is = of met.row
+-- A turn acknowledges its group.
+line_turns : (c : Codec) (h : Host) (p : Pool) (e : Entry) (name : List ℕ) (s : PoolState) (n : ℕ) → Meets c h p e → e.asked ≡ Asks_turn name → IsOpenAs p h name s
+    → e.reply ≡ To_turn (Committed n) → CommitsGroup p (pool_along e.acts p) n
+line_turns c h p e name s n met asked at is = of met.row
   where
-    of : HostRow c h e → number_of (pool_along e.acts p).acked ≡ n
+    of : HostRow c h e → CommitsGroup p (pool_along e.acts p) n
     of (inl row) = let line = on_open h name s (TurnLine c h) e.acts e.reply at.named (subst (λ x. RowOf c h x e.acts e.reply) asked row.0) in
         let has = met.knows.stands s (named_open name s h.pools at.named) at.ours in
         let t : Side = record { pool = p; seats = has.0 } in
         let vs = line.2.moves in
         let done : RowTurn c (size_in h.table) s vs (Committed n) = subst (RowTurn c (size_in h.table) s vs) (turn_reply line.0 (Committed n) (sym line.1 ∙ is)) line.2.row in
-        ap (λ q. number_of q.acked) (ap (λ a. pool_along a p) line.2.are ∙ does_pool s.core.pool.0 vs t (sym at.ours))
-        ∙ (ends_acked vs n t (turn_commits c (size_in h.table) s vs n done).ends).number
+        subst (λ q. CommitsGroup p q n) (sym (ap (λ a. pool_along a p) line.2.are ∙ does_pool s.core.pool.0 vs t (sym at.ours)))
+        (turn_all c (size_in h.table) s t vs n has.1 (turn_walks c (size_in h.table) s t vs (Committed n) has.1 met.knows.sizes done) done)
     of (inr out) = turn_not_memory (Committed n) (sym is ∙ out.says)
 
 -- The outage rule.
@@ -290,14 +293,14 @@ line_counts c h p e from to met caused = record {
 
 pub headline_from : (c : Codec) (past : Past) (h : Host) (acts : List Act) (entries : List Entry) → Follows c past h acts entries → Headline c past h acts entries
 headline_from c past h acts entries f = record {
-  moments = has_moment past acts entries;
+  moments = has_moments past acts entries;
   left = at_left c past h acts entries f;
   sound = λ m. survives_sound c (pool_at m) (at_known c past h acts entries f m).survives;
   contents = at_contents c past h acts entries f;
   opens = λ l asked fair. line_opens c (host_before h l) (pool_before l) l.entry (meets c past h acts entries f l) asked fair;
-  acks = λ l name s n at. record {
-    turns = λ asked is. line_acks c (host_before h l) (pool_before l) l.entry name s n (meets c past h acts entries f l) asked at is;
-    syncs = λ asked is. line_syncs c (host_before h l) (pool_before l) l.entry name s n (meets c past h acts entries f l) asked at is;
+  commits = λ l. record {
+    syncs = λ name s n asked at is. line_syncs c (host_before h l) (pool_before l) l.entry name s n (meets c past h acts entries f l) asked at is;
+    turns = λ name s n asked at is. line_turns c (host_before h l) (pool_before l) l.entry name s n (meets c past h acts entries f l) asked at is;
   };
   writes = λ l. entry_writes c (host_before h l) (pool_before l) l.entry (meets c past h acts entries f l).row;
   reads = λ l name a s asked at. record {

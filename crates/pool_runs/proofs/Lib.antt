@@ -9,6 +9,7 @@ pub mod GroupMoves
 pub mod Heading
 pub mod Importing
 pub mod Knowing
+pub mod Known
 pub mod LineMoves
 pub mod Members
 pub mod Moments
