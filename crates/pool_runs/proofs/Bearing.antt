@@ -18,7 +18,7 @@ use Rattle.pool_moves.proofs.CommitWalks.{found_walks}
 use Rattle.pool_moves.proofs.Making.{made_kept}
 use Rattle.pool_moves.proofs.Rosters.{made_roster}
 use Rattle.pool_moves.proofs.StampWalks.{all_of, leaf_found, leaf_of, stamps_make}
-use Rattle.pool_runs.specs.Acts.{Act, Bare, Takes, Bears, Closes, does, bare, born, calls_of_act, calls_along, pool_along}
+use Rattle.pool_runs.specs.Acts.{Act, Bare, Takes, Bears, Closes, does, born, calls_of_act, calls_along, pool_along}
 use Rattle.pool_runs.specs.Creating.{tops_of, leaves_of, new_birth, stamp_acts, MayCreate, commit_acts, Creates, host_stamped, IsNew}
 use Rattle.pool_runs.specs.Devices.{number_in, size_in}
 use Rattle.pool_runs.specs.Headline.{Headline}
@@ -47,7 +47,6 @@ act_disk act h = refl
 pub acts_disk : (acts : List Act) (h : Host) → (host_along acts h).disk ≡ run (calls_along acts) h.disk
 acts_disk [] h = refl
 acts_disk (act ∷ acts) h = acts_disk acts (host_by act h) ∙ (ap (run (calls_along acts)) (act_disk act h) ∙ sym (run_more (calls_of_act act) (calls_along acts) h.disk))
-
 
 -- Stamps, one after another: whose the devices are behind them, and that no pool came or went.
 stamps_pools : (g : ℕ) (stamps : List Stamp) (h : Host) → (host_stamped h g stamps).pools ≡ h.pools

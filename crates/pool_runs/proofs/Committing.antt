@@ -5,23 +5,21 @@ use Rattle.txg_history.specs.Pages.{Codec}
 use Rattle.txg_history.specs.Pools.{Pool, pool_after}
 use Rattle.txg_history.specs.Records.{Cells, number_of, block_at, block_in}
 use Rattle.pool_moves.specs.Boards.{board_of, board_under, emptied}
-use Rattle.pool_moves.specs.FreezeRow.{up_devs, RowFreeze, RowEmptyFreeze}
+use Rattle.pool_moves.specs.FreezeRow.{up_devs}
 use Rattle.pool_moves.specs.Keeping.{over, Kept, Walks}
-use Rattle.pool_moves.specs.LineRows.{TurnReply, Idle, Write, Flush, Round, Committed, Suspended, count_moves, EndsBy, EndsTurn, IsTurnOf, IsRoundPart, StartsBy, TurnBy, RowTurn, AreTurns, moves_in, EndsGroup, CommitsOpen, Ended, CommitsFor, SyncBehind, SyncBy, RowSync, IsWritePart, IsFlushPart, SyncReply, Refused, NoMemory, SyncOpen, EndsFirst}
-use Rattle.pool_moves.specs.Moves.{Draft, Move, Makes, Puts, Freeze, Draw, Burn, Commits, Sets, events_of, step, state_step, steps, after_move, after_moves, Wrote_key, Flushed_all, Leave, Starts, Copies, Copied}
-use Rattle.pool_moves.specs.Refusing.{FreezeRefusal, IsRefused}
-use Rattle.pool_moves.specs.States.{PoolState, Side, PoolSeen}
-use Rattle.pool_moves.specs.TurnRows.{round_moves, RowRound, turn_moves}
-use Rattle.pool_moves.specs.Walking.{as_moves}
+use Rattle.pool_moves.specs.LineRows.{TurnReply, Idle, Write, Flush, Round, Committed, Suspended, count_moves, EndsBy, EndsTurn, IsTurnOf, IsRoundPart, StartsBy, TurnBy, RowTurn, AreTurns, moves_in, EndsGroup, CommitsOpen, Ended, CommitsFor, SyncBehind, SyncBy, RowSync}
+use Rattle.pool_moves.specs.Moves.{Draft, Move, Makes, Puts, Freeze, Draw, Burn, Commits, Sets, events_of, step, state_step, steps, after_move, after_moves}
+use Rattle.pool_moves.specs.Refusing.{FreezeRefusal}
+use Rattle.pool_moves.specs.States.{PoolState, Side}
+use Rattle.pool_moves.specs.TurnRows.{round_moves, RowRound}
 use Rattle.pool_moves.specs.Widening.{IsWidened}
 use Rattle.pool_moves.proofs.FreeWalks.{moves_more}
 use Rattle.pool_moves.proofs.Keeping.{walk_keeps}
 use Rattle.pool_moves.proofs.LineWalks.{IsSet, counts_set}
-use Rattle.pool_runs.specs.Acts.{does, pool_along, Act, Does, events_for, pool_by}
+use Rattle.pool_runs.specs.Acts.{does, pool_along}
 use Rattle.pool_runs.specs.Committing.{CommitsAll, CommitsGroup}
 use Rattle.pool_runs.proofs.Acting.{own_events, move_number}
-use Rattle.pool_runs.proofs.GroupMoves.{IsKind, more, all_group, all_sync, all_widens, all_turn, all_freeze}
-use Rattle.pool_runs.specs.Counting.{IsSuspended, SuspendsSync}
+use Rattle.pool_runs.proofs.GroupMoves.{IsKind, more, all_group, all_sync, all_widens, all_turn}
 
 -- Moves that end in an acknowledgement of record n.
 pub record EndsIn (vs : List Move) (n : ℕ) : Type 0 where
@@ -312,9 +310,9 @@ turn_all c size s t vs n kept walks row =
     let now = walk_second c e.body ending t all in
     let before = walk_keeps c e.body s t (walk_first c e.body ending t all) kept in
     let keeps : AllByRecursion KeepsContent (e.body ++ ending) = subst (AllByRecursion KeepsContent) e.moves (all_turn KeepsContent content_kind c size s vs (Committed n) (λ bad. tt) row) in record {
-  acked = (ends_acked vs n t e).number;
-  blocks = λ a. ap (λ p. block_at p.acked a) (ends_pool vs n t e) ∙ (before.survives.come_to.contents now.0.0.0.frozen a ∙ ap (λ f. f a) (content_along e.body ending t keeps));
-}
+      acked = (ends_acked vs n t e).number;
+      blocks = λ a. ap (λ p. block_at p.acked a) (ends_pool vs n t e) ∙ (before.survives.come_to.contents now.0.0.0.frozen a ∙ ap (λ f. f a) (content_along e.body ending t keeps));
+    }
 
 -- the pool behind its own moves
 pub does_pool : (g : ℕ) (vs : List Move) (t : Side) → t.pool.pool.0 ≡ g → pool_along (does g vs) t.pool ≡ (after_moves vs t).pool

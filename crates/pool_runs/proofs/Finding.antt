@@ -1,5 +1,5 @@
 -- An import finds its pool, and opens a live record of it.
-use Rattle.std.proofs.Common.{◌≡◌, inl, inr, ℕ, ◌+◌, ◌≤◌, ◌<◌, ◌==◌, ◌&&◌, ◌||◌, nat_le, Bool, true, false, not, cond, List, [], ◌∷◌, ◌++◌, length, Option, Some, None, refl, sym, ap, ◌∙◌, subst, arith, ◌≢◌, ◌⊎◌, ⊎_elim, append_assoc, map}
+use Rattle.std.proofs.Common.{◌≡◌, inl, inr, ℕ, ◌+◌, ◌≤◌, ◌<◌, ◌==◌, ◌&&◌, ◌||◌, nat_le, Bool, true, false, not, cond, List, [], ◌∷◌, ◌++◌, length, Option, Some, None, refl, sym, ap, ◌∙◌, subst, arith, append_assoc, map}
 use Rattle.std.specs.List.{AllByRecursion}
 use Rattle.std.specs.Option.{is_none}
 use Rattle.std.specs.Str.{bytes_eq}
@@ -28,17 +28,16 @@ use Rattle.pool_moves.specs.States.{PoolSeen, PoolState, Side}
 use Rattle.pool_moves.proofs.FreeWalks.{moves_more}
 use Rattle.pool_moves.proofs.Keeping.{walk_keeps}
 use Rattle.pool_moves.proofs.ResilverWalks.{resume_walks}
-use Rattle.pool_runs.specs.Acts.{Act, Opening, Looked, Enters, does, bare, read_by, pool_along, calls_along, Does, Reads_as, Closes, record_of, events_for, pool_by}
+use Rattle.pool_runs.specs.Acts.{Act, Opening, Looked, Enters, does, bare, read_by, pool_along, calls_along, Does, Reads_as}
 use Rattle.pool_runs.specs.Committing.{OpensLive, opening_in, LosesPage, FindsPool}
-use Rattle.pool_runs.specs.Devices.{size_in, handed, number_in}
-use Rattle.pool_runs.specs.Fairness.{AreFair, IsFairOpening}
+use Rattle.pool_runs.specs.Devices.{size_in, handed}
+use Rattle.pool_runs.specs.Fairness.{AreFair}
 use Rattle.pool_runs.specs.HostRows.{AreMade}
-use Rattle.pool_runs.specs.Hosts.{Host, named, free_in, host_by, host_along, moved}
+use Rattle.pool_runs.specs.Hosts.{Host, named, host_by, host_along, moved}
 use Rattle.pool_runs.specs.Importing.{read_in, all_shown, OpensBy, FollowsMap, OpensFound, ImportBy, host_behind, Imports, ImportFor, ImportUnless, RowImport}
-use Rattle.pool_runs.specs.Lines.{Reply, To_import, ImportReply, Opened, NameOpen, TooManyPools, NothingFound, LastNumber, PageLost, Unopened}
-use Rattle.pool_runs.proofs.Acting.{same_number, calls_number, acts_more}
-use Rattle.pool_runs.proofs.Committing.{numbers_up, IsAckedAs, ends_acked, ends_before, group_commits, frozen_writes, written_kind, writes_kind, KeepsWritten, KeepsWrites, written_along, writes_along, kept_blocks, does_pool, GroupCommits}
-use Rattle.pool_moves.proofs.Seeking.{seeks_live}
+use Rattle.pool_runs.specs.Lines.{Reply, To_import, ImportReply, Opened, NameOpen, TooManyPools, NothingFound, LastNumber, PageLost}
+use Rattle.pool_runs.proofs.Acting.{same_number, calls_number}
+use Rattle.pool_runs.proofs.Committing.{numbers_up, IsAckedAs, ends_acked, ends_before, group_commits, frozen_writes, written_kind, writes_kind, KeepsWritten, KeepsWrites, written_along, writes_along, kept_blocks, does_pool}
 use Rattle.pool_runs.proofs.Known.{Knows}
 use Rattle.pool_runs.specs.Moments.{IsOpenAs}
 use Rattle.pool_runs.proofs.Knowing.{step_number, step_name, moved_own}
@@ -232,21 +231,21 @@ opens_live c h p before name found acts reply n knows live titled made fair open
         let s_number : s.core.number ≡ number_of r = ap (λ core. core.number) has.1.core ∙ q_highest in
         let mine : s.core.pool.0 ≡ g = ap (λ core. core.pool.0) has.1.core ∙ q_number in
         let called : s.core.name ≡ name = ap (λ core. core.name) has.1.core ∙ (ap (λ x. x.name) (calls_after opens.made (after (Opens r) p)) ∙ titled) in record {
-      live = record {
-        r = r;
-        live = subst (IsIn r) live.same facts.is.is_live;
-        not_below = subst (λ k. number_of before.acked ≤ k) (sym (ap (λ x. x.0) live.is.number_is) ∙ ap (λ x. x.0) facts.is.number_is) live.not_below;
-        above = subst (λ k. number_of r < k) same (subst (λ k. k < m) s_number end.up);
-        acked = ap (λ x. number_of x.acked) pool_is ∙ (end.acked ∙ same);
-        blocks = λ a. ap (λ x. block_at x.acked a) pool_is ∙ (end.blocks a ∙ ap (λ w. w a) q_written);
-        written = λ a. ap (λ x. x.written a) pool_is ∙ (ap (λ w. w a) end.written ∙ ap (λ w. w a) q_written);
-      };
-      state = steps vs s;
-      at = record {
-        named = enters_named name g early acts s vs h (acts_are ∙ ap (λ l. early ++ l) rest) mine called;
-        ours = ap (λ core. core.pool.0) kept.core ∙ sym (ap (λ x. x.pool.0) pool_is);
-      };
-    }
+          live = record {
+            r = r;
+            live = subst (IsIn r) live.same facts.is.is_live;
+            not_below = subst (λ k. number_of before.acked ≤ k) (sym (ap (λ x. x.0) live.is.number_is) ∙ ap (λ x. x.0) facts.is.number_is) live.not_below;
+            above = subst (λ k. number_of r < k) same (subst (λ k. k < m) s_number end.up);
+            acked = ap (λ x. number_of x.acked) pool_is ∙ (end.acked ∙ same);
+            blocks = λ a. ap (λ x. block_at x.acked a) pool_is ∙ (end.blocks a ∙ ap (λ w. w a) q_written);
+            written = λ a. ap (λ x. x.written a) pool_is ∙ (ap (λ w. w a) end.written ∙ ap (λ w. w a) q_written);
+          };
+          state = steps vs s;
+          at = record {
+            named = enters_named name g early acts s vs h (acts_are ∙ ap (λ l. early ++ l) rest) mine called;
+            ours = ap (λ core. core.pool.0) kept.core ∙ sym (ap (λ x. x.pool.0) pool_is);
+          };
+        }
 
     by_turn : (turn : TurnReply) (s : PoolState) (vs : List Move) → opens.outcome ≡ Opens_state s → RowResume c (size_in h.table) s vs turn → OpensBy turn g s vs opens.rest reply → OpensAs before (pool_along acts p) (host_along acts h) name n
     by_turn (Committed m) s vs out row by = committed s vs m out row by.0 by.1

@@ -2,17 +2,16 @@
 use Rattle.std.proofs.Common.{◌≡◌, ◌⊎◌, inl, inr, ℕ, ◌==◌, Bool, true, false, cond, List, [], ◌∷◌, ◌++◌, take, zero, suc, refl, sym, ap, ◌∙◌, subst}
 use Rattle.std.specs.Str.{bytes_eq}
 use Rattle.bank_core.specs.Disk.{Noted, run}
-use Rattle.txg_history.specs.Events.{Looks, Opens, Loses, calls_of, as_events, Event, Calls}
+use Rattle.txg_history.specs.Events.{Looks, Opens, Loses, calls_of, as_events}
 use Rattle.txg_history.specs.Moves.{Mays}
 use Rattle.txg_history.specs.Pages.{Codec}
 use Rattle.txg_history.specs.Pools.{Pool}
 use Rattle.txg_history.proofs.Folding.{mays_more, calls_more, calls_are}
 use Rattle.pool_moves.specs.Moves.{Move, Makes, events_of}
 use Rattle.pool_moves.specs.ReadRow.{made_in}
-use Rattle.pool_runs.specs.Acts.{Act, Hears, Bare, Does, Looked, Reads_as, Takes, calls_of_act, calls_along, read_by, events_for, pool_by, pool_along, history, Opening, Marks, Shows, Enters, Names, Bears, Closes, bare}
-use Rattle.pool_runs.specs.Fairness.{AreFair, IsFair}
-use Rattle.pool_runs.specs.Headline.{HasMoment, HasMoments}
-use Rattle.pool_runs.specs.Devices.{Device}
+use Rattle.pool_runs.specs.Acts.{Act, Hears, Bare, Does, Looked, Reads_as, Takes, calls_of_act, calls_along, read_by, events_for, pool_by, pool_along, history, bare}
+use Rattle.pool_runs.specs.Fairness.{AreFair}
+use Rattle.pool_runs.specs.Headline.{HasMoments}
 use Rattle.pool_runs.specs.HostRows.{HostRow, acts_of, acts_in, IsRun}
 use Rattle.pool_runs.specs.Hosts.{Host, host_by, host_along}
 use Rattle.pool_runs.proofs.Known.{Knows, MayActs}
