@@ -12,25 +12,27 @@ use Rattle.pool_moves.specs.Keeping.{Kept, Walks}
 use Rattle.pool_moves.specs.Making.{IsMade}
 use Rattle.pool_moves.specs.Moves.{Move}
 use Rattle.pool_moves.specs.Rosters.{devices_of}
-use Rattle.pool_moves.specs.StampRow.{NewLeaf, leaf_at, is_leaf_at, Stamp, calls_of_stamps, AreStamps, new_state, new_side, CreateReply, Created, FaultOn}
+use Rattle.pool_moves.specs.StampRow.{NewLeaf, leaf_at, is_leaf_at, Stamp, AreStamps, new_state, new_side, CreateReply, Created, FaultOn}
 use Rattle.pool_moves.specs.States.{PoolState, Side}
 use Rattle.pool_moves.proofs.CommitWalks.{found_walks}
 use Rattle.pool_moves.proofs.Making.{made_kept}
 use Rattle.pool_moves.proofs.Rosters.{made_roster}
 use Rattle.pool_moves.proofs.StampWalks.{all_of, leaf_found, leaf_of, stamps_make}
-use Rattle.pool_runs.specs.Acts.{Act, Bare, Takes, Bears, Closes, does, bare, born, calls_of_act, calls_along, pool_along}
+use Rattle.pool_runs.specs.Acts.{Act, Bare, Takes, Bears, Closes, does, born, calls_of_act, calls_along, pool_along}
 use Rattle.pool_runs.specs.Creating.{tops_of, leaves_of, new_birth, stamp_acts, MayCreate, commit_acts, Creates, host_stamped, IsNew}
 use Rattle.pool_runs.specs.Devices.{number_in, size_in}
 use Rattle.pool_runs.specs.Headline.{Headline}
 use Rattle.pool_runs.specs.HostRows.{IsRun}
 use Rattle.pool_runs.specs.Hosts.{Host, IsOpen, is_of, host_by, host_along}
-use Rattle.pool_runs.specs.Knowing.{Knows, MayActs, AreOwnActs}
+use Rattle.pool_runs.specs.Knowing.{AreOwnActs}
+use Rattle.pool_runs.proofs.Known.{Knows, MayActs}
 use Rattle.pool_runs.specs.Lines.{Reply, Entry}
 use Rattle.pool_runs.specs.Pasts.{Born}
 use Rattle.pool_runs.proofs.Creating.{within}
+use Rattle.pool_runs.proofs.Stamps.{stamp_calls}
 use Rattle.pool_runs.proofs.Heading.{headline_from}
 use Rattle.pool_runs.proofs.Knowing.{may_more, open_kept, pools_known, walk_may}
-use Rattle.pool_runs.proofs.Moments.{host_more, acts_table}
+use Rattle.pool_runs.proofs.Moments.{host_more, bare_host, acts_table}
 use Rattle.pool_runs.proofs.Numbers.{number_fits}
 
 -- The disk of a host goes on by the calls of its acts.
@@ -46,19 +48,7 @@ pub acts_disk : (acts : List Act) (h : Host) → (host_along acts h).disk ≡ ru
 acts_disk [] h = refl
 acts_disk (act ∷ acts) h = acts_disk acts (host_by act h) ∙ (ap (run (calls_along acts)) (act_disk act h) ∙ sym (run_more (calls_of_act act) (calls_along acts) h.disk))
 
-bare_calls : (made : List Noted) (rest : List Act) → calls_along (bare made ++ rest) ≡ made ++ calls_along rest
-bare_calls [] rest = refl
-bare_calls (noted ∷ made) rest = ap (λ more. noted ∷ more) (bare_calls made rest)
-
-bare_host : (made : List Noted) (rest : List Act) (h : Host) → host_along (bare made ++ rest) h ≡ host_along rest (record h { disk = run made h.disk })
-bare_host [] rest h = refl
-bare_host (noted ∷ made) rest h = bare_host made rest (record h { disk = run (noted ∷ []) h.disk })
-
 -- Stamps, one after another: whose the devices are behind them, and that no pool came or went.
-stamp_calls : (g : ℕ) (stamps : List Stamp) → calls_along (stamp_acts g stamps) ≡ calls_of_stamps stamps
-stamp_calls g [] = refl
-stamp_calls g (stamp ∷ stamps) = bare_calls stamp.made (stamp_acts g stamps) ∙ ap (λ more. stamp.made ++ more) (stamp_calls g stamps)
-
 stamps_pools : (g : ℕ) (stamps : List Stamp) (h : Host) → (host_stamped h g stamps).pools ≡ h.pools
 stamps_pools g [] h = refl
 stamps_pools g (stamp ∷ stamps) h = ap (λ x. x.pools) (bare_host stamp.made (stamp_acts g stamps) (host_by (Takes g stamp.dev) h))

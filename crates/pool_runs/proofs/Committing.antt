@@ -6,7 +6,7 @@ use Rattle.txg_history.specs.Pools.{Pool, pool_after}
 use Rattle.txg_history.specs.Records.{Cells, number_of, block_at, block_in}
 use Rattle.pool_moves.specs.Boards.{board_of, board_under, emptied}
 use Rattle.pool_moves.specs.FreezeRow.{up_devs}
-use Rattle.pool_moves.specs.Keeping.{over, Kept}
+use Rattle.pool_moves.specs.Keeping.{over, Kept, Walks}
 use Rattle.pool_moves.specs.LineRows.{TurnReply, Idle, Write, Flush, Round, Committed, Suspended, count_moves, EndsBy, EndsTurn, IsTurnOf, IsRoundPart, StartsBy, TurnBy, RowTurn, AreTurns, moves_in, EndsGroup, CommitsOpen, Ended, CommitsFor, SyncBehind, SyncBy, RowSync}
 use Rattle.pool_moves.specs.Moves.{Draft, Move, Makes, Puts, Freeze, Draw, Burn, Commits, Sets, events_of, step, state_step, steps, after_move, after_moves}
 use Rattle.pool_moves.specs.Refusing.{FreezeRefusal}
@@ -14,11 +14,12 @@ use Rattle.pool_moves.specs.States.{PoolState, Side}
 use Rattle.pool_moves.specs.TurnRows.{round_moves, RowRound}
 use Rattle.pool_moves.specs.Widening.{IsWidened}
 use Rattle.pool_moves.proofs.FreeWalks.{moves_more}
+use Rattle.pool_moves.proofs.Keeping.{walk_keeps}
 use Rattle.pool_moves.proofs.LineWalks.{IsSet, counts_set}
 use Rattle.pool_runs.specs.Acts.{does, pool_along}
-use Rattle.pool_runs.specs.Committing.{CommitsAll}
+use Rattle.pool_runs.specs.Committing.{CommitsAll, CommitsGroup}
 use Rattle.pool_runs.proofs.Acting.{own_events, move_number}
-use Rattle.pool_runs.proofs.GroupMoves.{IsKind, more, all_group, all_sync, all_widens}
+use Rattle.pool_runs.proofs.GroupMoves.{IsKind, more, all_group, all_sync, all_widens, all_turn}
 
 -- Moves that end in an acknowledgement of record n.
 pub record EndsIn (vs : List Move) (n : ℕ) : Type 0 where
@@ -140,14 +141,12 @@ pub record IsAckedAs (p : Pool) (n : ℕ) : Type 0 where
   pub number : number_of p.acked ≡ n
   pub idle : p.group.frozen ≡ false
 
-pub ends_acked : (vs : List Move) (n : ℕ) (t : Side) → EndsIn vs n → IsAckedAs (after_moves vs t).pool n
-ends_acked vs n t e = subst (λ p. IsAckedAs p n) (sym pool_is) (record { reads = refl; number = e.number; idle = refl })
-  where
-    at : Side
-    at = after_move (Commits e.draft) (after_moves e.body t)
+ends_pool : (vs : List Move) (n : ℕ) (t : Side) → (e : EndsIn vs n) → (after_moves vs t).pool ≡ (after_move (Commits e.draft) (after_moves e.body t)).pool
+ends_pool vs n t e = ap (λ l. (after_moves l t).pool) e.moves
+    ∙ (ap (λ x. x.pool) (moves_more e.body (Commits e.draft ∷ e.sets) t) ∙ sets_pool e.sets (after_move (Commits e.draft) (after_moves e.body t)) e.all_set)
 
-    pool_is : (after_moves vs t).pool ≡ at.pool
-    pool_is = ap (λ l. (after_moves l t).pool) e.moves ∙ (ap (λ x. x.pool) (moves_more e.body (Commits e.draft ∷ e.sets) t) ∙ sets_pool e.sets at e.all_set)
+pub ends_acked : (vs : List Move) (n : ℕ) (t : Side) → EndsIn vs n → IsAckedAs (after_moves vs t).pool n
+ends_acked vs n t e = subst (λ p. IsAckedAs p n) (sym (ends_pool vs n t e)) (record { reads = refl; number = e.number; idle = refl })
 
 -- Moves that leave what was written, and those that leave the open writes.
 abbrev pub KeepsWritten : Move → Type 0
@@ -264,6 +263,55 @@ sync_all c size s t vs n kept row =
       acked = acked.number;
       blocks = λ a. kept_blocks c (steps vs s) (after_moves vs t) n kept acked commits.none a
           ∙ ap (λ w. w a) (written_along vs t (all_sync KeepsWritten written_kind (λ cells board. tt) s.core.group.frozen c size s vs (Ended (Committed n)) (λ bad. tt) row));
+    }
+
+-- A turn acknowledges what was written before its group's freeze.
+abbrev KeepsContent : Move → Type 0
+KeepsContent (Freeze cells board) = ⊥
+KeepsContent v = Unit {0}
+
+content_kind : IsKind KeepsContent
+content_kind = record {
+  calls = λ noted. tt;
+  leave = λ d. tt;
+  set = λ m own. tt;
+  wrote = λ k. tt;
+  flushed = tt;
+  draw = tt;
+  widen = λ m low high. tt;
+  starts = λ draft. tt;
+  copies = λ draft d. tt;
+  copied = λ draft d. tt;
+  commits = λ draft. tt;
+}
+
+move_content : (v : Move) (p : Pool) → KeepsContent v → (pool_after (events_of v p) p).group.content ≡ p.group.content
+move_content (Makes noted) p keeps = refl
+move_content (Freeze cells board) p keeps = absurd keeps
+move_content v p keeps = refl
+
+content_along : (vs more : List Move) (t : Side) → AllByRecursion KeepsContent (vs ++ more) → (after_moves vs t).pool.group.content ≡ t.pool.group.content
+content_along [] more t all = refl
+content_along (v ∷ vs) more t all = content_along vs more (after_move v t) all.1 ∙ move_content v t.pool all.0
+
+walk_first : (c : Codec) (vs ws : List Move) (t : Side) → Walks c t (vs ++ ws) → Walks c t vs
+walk_first c [] ws t walks = tt
+walk_first c (v ∷ vs) ws t walks = (walks.0, walk_first c vs ws (after_move v t) walks.1)
+
+walk_second : (c : Codec) (vs ws : List Move) (t : Side) → Walks c t (vs ++ ws) → Walks c (after_moves vs t) ws
+walk_second c [] ws t walks = walks
+walk_second c (v ∷ vs) ws t walks = walk_second c vs ws (after_move v t) walks.1
+
+pub turn_all : (c : Codec) (size : ℕ → ℕ) (s : PoolState) (t : Side) (vs : List Move) (n : ℕ) → Kept c s t → Walks c t vs → RowTurn c size s vs (Committed n) → CommitsGroup t.pool (after_moves vs t).pool n
+turn_all c size s t vs n kept walks row =
+    let e = (turn_commits c size s vs n row).ends in
+    let ending = Commits e.draft ∷ e.sets in
+    let all : Walks c t (e.body ++ ending) = subst (Walks c t) e.moves walks in
+    let now = walk_second c e.body ending t all in
+    let before = walk_keeps c e.body s t (walk_first c e.body ending t all) kept in
+    let keeps : AllByRecursion KeepsContent (e.body ++ ending) = subst (AllByRecursion KeepsContent) e.moves (all_turn KeepsContent content_kind c size s vs (Committed n) (λ bad. tt) row) in record {
+      acked = (ends_acked vs n t e).number;
+      blocks = λ a. ap (λ p. block_at p.acked a) (ends_pool vs n t e) ∙ (before.survives.come_to.contents now.0.0.0.frozen a ∙ ap (λ f. f a) (content_along e.body ending t keeps));
     }
 
 -- the pool behind its own moves

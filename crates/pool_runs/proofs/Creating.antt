@@ -12,7 +12,8 @@ use Rattle.pool_runs.specs.Acts.{Act, Names, Bears}
 use Rattle.pool_runs.specs.Creating.{members_of, tops_of, leaves_of, new_birth, or_else, first_some, too_many, too_wide, all_names, refused_if, too_small, refusals_of, create_refusal, stamp_acts, MayCreate, commit_acts, RowCreate}
 use Rattle.pool_runs.specs.Devices.{Device, size_in}
 use Rattle.pool_runs.specs.Hosts.{Host}
-use Rattle.pool_runs.specs.Knowing.{Knows, MayActs, AreOwnActs}
+use Rattle.pool_runs.specs.Knowing.{AreOwnActs}
+use Rattle.pool_runs.proofs.Known.{Knows, MayActs}
 use Rattle.pool_runs.specs.Lines.{CreateRefusal, TooMany, BadBlocks, TooSmall, Reply}
 use Rattle.pool_runs.proofs.Knowing.{other_may}
 

@@ -1,5 +1,5 @@
 -- An import finds its pool, and opens a live record of it.
-use Rattle.std.proofs.Common.{◌≡◌, inl, inr, ℕ, ◌+◌, ◌≤◌, ◌<◌, ◌==◌, ◌&&◌, ◌||◌, nat_le, Bool, true, false, not, cond, List, [], ◌∷◌, ◌++◌, length, Option, Some, None, refl, sym, ap, ◌∙◌, subst, arith}
+use Rattle.std.proofs.Common.{◌≡◌, inl, inr, ℕ, ◌+◌, ◌≤◌, ◌<◌, ◌==◌, ◌&&◌, ◌||◌, nat_le, Bool, true, false, not, cond, List, [], ◌∷◌, ◌++◌, length, Option, Some, None, refl, sym, ap, ◌∙◌, subst, arith, append_assoc, map}
 use Rattle.std.specs.List.{AllByRecursion}
 use Rattle.std.specs.Option.{is_none}
 use Rattle.std.specs.Str.{bytes_eq}
@@ -28,17 +28,21 @@ use Rattle.pool_moves.specs.States.{PoolSeen, PoolState, Side}
 use Rattle.pool_moves.proofs.FreeWalks.{moves_more}
 use Rattle.pool_moves.proofs.Keeping.{walk_keeps}
 use Rattle.pool_moves.proofs.ResilverWalks.{resume_walks}
-use Rattle.pool_runs.specs.Acts.{Act, Opening, Looked, Enters, does, bare, read_by, pool_along, calls_along}
+use Rattle.pool_runs.specs.Acts.{Act, Opening, Looked, Enters, does, bare, read_by, pool_along, calls_along, Does, Reads_as}
 use Rattle.pool_runs.specs.Committing.{OpensLive, opening_in, LosesPage, FindsPool}
 use Rattle.pool_runs.specs.Devices.{size_in, handed}
 use Rattle.pool_runs.specs.Fairness.{AreFair}
 use Rattle.pool_runs.specs.HostRows.{AreMade}
-use Rattle.pool_runs.specs.Hosts.{Host, named}
+use Rattle.pool_runs.specs.Hosts.{Host, named, host_by, host_along, moved}
 use Rattle.pool_runs.specs.Importing.{read_in, all_shown, OpensBy, FollowsMap, OpensFound, ImportBy, host_behind, Imports, ImportFor, ImportUnless, RowImport}
-use Rattle.pool_runs.specs.Knowing.{Knows}
 use Rattle.pool_runs.specs.Lines.{Reply, To_import, ImportReply, Opened, NameOpen, TooManyPools, NothingFound, LastNumber, PageLost}
 use Rattle.pool_runs.proofs.Acting.{same_number, calls_number}
 use Rattle.pool_runs.proofs.Committing.{numbers_up, IsAckedAs, ends_acked, ends_before, group_commits, frozen_writes, written_kind, writes_kind, KeepsWritten, KeepsWrites, written_along, writes_along, kept_blocks, does_pool}
+use Rattle.pool_runs.proofs.Known.{Knows}
+use Rattle.pool_runs.specs.Moments.{IsOpenAs}
+use Rattle.pool_runs.proofs.Knowing.{step_number, step_name, moved_own}
+use Rattle.pool_runs.proofs.Moments.{host_more, bare_host}
+use Rattle.std.proofs.lemmas.Slice.Eq.{bytes_eq-Decides}
 use Rattle.pool_runs.proofs.GroupMoves.{more, all_group, all_uncounts, all_reopen}
 use Rattle.pool_moves.proofs.CommitWalks.{uncounts_set}
 use Rattle.pool_runs.proofs.Importing.{bare_calls, looks_along, opening_of, OpeningFacts, opening_calls, opening_facts, look_facts, taken_live}
@@ -141,9 +145,35 @@ opens_behind c h p name found acts reply opens number = let g = found.pool.0 in 
     ∙ ap (pool_along opens.rest) (sym (ap (λ vs. pool_after vs (after (Opens r) p)) (ap as_events opens.row.calls ∙ events_more opens.row.ids opens.row.pages)
     ∙ pool_more (as_events opens.row.ids) (as_events opens.row.pages) (after (Opens r) p)))))))
 
+-- the pool that enters and makes its moves is the open one of its name
+does_head : (g : ℕ) (vs : List Move) (s : PoolState) (pools : List PoolState) (h : Host) → h.pools ≡ s ∷ pools → s.core.pool.0 ≡ g
+    → (others : List PoolState) × ((host_along (does g vs) h).pools ≡ steps vs s ∷ others)
+does_head g [] s pools h is number = (pools, is)
+does_head g (v ∷ vs) s pools h is number = does_head g vs (state_step v s) (map (moved g v) pools) (host_by (Does g v) h)
+    (ap (map (moved g v)) is ∙ ap (λ x. x ∷ map (moved g v) pools) (moved_own g v s number)) (ap (λ n. n.0) (step_number v s) ∙ number)
+
+steps_name : (vs : List Move) (s : PoolState) → (steps vs s).core.name ≡ s.core.name
+steps_name [] s = refl
+steps_name (v ∷ vs) s = steps_name vs (state_step v s) ∙ step_name v s
+
+enters_named : (name : List ℕ) (g : ℕ) (first acts : List Act) (s : PoolState) (vs : List Move) (h : Host) → acts ≡ first ++ (Enters s ∷ does g vs) → s.core.pool.0 ≡ g → s.core.name ≡ name
+    → named name (host_along acts h).pools ≡ Some (steps vs s)
+enters_named name g first acts s vs h is number called =
+    let at = host_along first h in
+    let head = does_head g vs s at.pools (host_by (Enters s) at) refl number in
+    let same : bytes_eq (steps vs s).core.name name ≡ true = (bytes_eq-Decides (steps vs s).core.name name).1 (steps_name vs s ∙ called) in
+    ap (λ l. named name (host_along l h).pools) is ∙ (ap (λ x. named name x.pools) (host_more first (Enters s ∷ does g vs) h)
+    ∙ (ap (named name) head.1 ∙ ap (λ t. cond t (Some (steps vs s)) (named name head.0)) same))
+
+-- What an opening that answers a number leaves.
+record OpensAs (before behind : Pool) (after : Host) (name : List ℕ) (n : ℕ) : Type 0 where
+  live : OpensLive before behind n
+  state : PoolState
+  at : IsOpenAs behind after name state
+
 opens_live : (c : Codec) (h : Host) (p before : Pool) (name : List ℕ) (found : Found) (acts : List Act) (reply : Reply) (n : ℕ) → Knows c h p → Looked_live p before found → p.name ≡ name
-    → AreMade h (calls_along acts) → AreFair c p acts → OpensFound c h name found acts reply → reply ≡ To_import (Opened n) → OpensLive before (pool_along acts p) n
-opens_live c h p before name found acts reply n knows live named made fair opens says = follow opens.outcome refl opens.follows
+    → AreMade h (calls_along acts) → AreFair c p acts → OpensFound c h name found acts reply → reply ≡ To_import (Opened n) → OpensAs before (pool_along acts p) (host_along acts h) name n
+opens_live c h p before name found acts reply n knows live titled made fair opens says = follow opens.outcome refl opens.follows
   where
     opening : Opening
     opening = opening_of c h name found acts reply opens
@@ -166,6 +196,17 @@ opens_live c h p before name found acts reply n knows live named made fair opens
     behind : pool_along acts p ≡ pool_along opens.rest q
     behind = opens_behind c h p name found acts reply opens number
 
+    -- the acts before it enters
+    shown : List Act
+    shown = all_shown g (read_in opens.row.ids) opens.row.devs
+
+    early : List Act
+    early = Reads_as opening ∷ (bare opens.row.ids ++ (shown ++ bare opens.row.pages))
+
+    acts_are : acts ≡ early ++ opens.rest
+    acts_are = opens.are ∙ ap (λ l. Reads_as opening ∷ l) (ap (λ l. bare opens.row.ids ++ l) (sym (append_assoc shown (bare opens.row.pages) opens.rest))
+        ∙ sym (append_assoc (bare opens.row.ids) (shown ++ bare opens.row.pages) opens.rest))
+
     q_written : q.written ≡ block_at r
     q_written = ap (λ x. x.written) (calls_after opens.made (after (Opens r) p))
 
@@ -179,7 +220,7 @@ opens_live c h p before name found acts reply n knows live named made fair opens
     q_sized d one = ap (λ x. x.size d) (calls_after opens.made (after (Opens r) p)) ∙ knows.sizes d one
 
     committed : (s : PoolState) (vs : List Move) (m : ℕ) → opens.outcome ≡ Opens_state s → RowResume c (size_in h.table) s vs (Committed m) → opens.rest ≡ Enters s ∷ does g vs
-        → reply ≡ To_import (Opened m) → OpensLive before (pool_along acts p) n
+        → reply ≡ To_import (Opened m) → OpensAs before (pool_along acts p) (host_along acts h) name n
     committed s vs m out row rest answers =
         let has = facts.seats s out in
         let t : Side = record { pool = q; seats = has.0 } in
@@ -187,17 +228,26 @@ opens_live c h p before name found acts reply n knows live named made fair opens
         let end = resumed_by (lacking_of s.core.leaves s.core.leaves) c (size_in h.table) s t vs m kept row in
         let same : m ≡ n = opened_number m n (sym answers ∙ says) in
         let pool_is : pool_along acts p ≡ (after_moves vs t).pool = behind ∙ (ap (λ a. pool_along a q) rest ∙ does_pool g vs t q_number) in
-        let s_number : s.core.number ≡ number_of r = ap (λ core. core.number) has.1.core ∙ q_highest in record {
-          r = r;
-          live = subst (IsIn r) live.same facts.is.is_live;
-          not_below = subst (λ k. number_of before.acked ≤ k) (sym (ap (λ x. x.0) live.is.number_is) ∙ ap (λ x. x.0) facts.is.number_is) live.not_below;
-          above = subst (λ k. number_of r < k) same (subst (λ k. k < m) s_number end.up);
-          acked = ap (λ x. number_of x.acked) pool_is ∙ (end.acked ∙ same);
-          blocks = λ a. ap (λ x. block_at x.acked a) pool_is ∙ (end.blocks a ∙ ap (λ w. w a) q_written);
-          written = λ a. ap (λ x. x.written a) pool_is ∙ (ap (λ w. w a) end.written ∙ ap (λ w. w a) q_written);
+        let s_number : s.core.number ≡ number_of r = ap (λ core. core.number) has.1.core ∙ q_highest in
+        let mine : s.core.pool.0 ≡ g = ap (λ core. core.pool.0) has.1.core ∙ q_number in
+        let called : s.core.name ≡ name = ap (λ core. core.name) has.1.core ∙ (ap (λ x. x.name) (calls_after opens.made (after (Opens r) p)) ∙ titled) in record {
+          live = record {
+            r = r;
+            live = subst (IsIn r) live.same facts.is.is_live;
+            not_below = subst (λ k. number_of before.acked ≤ k) (sym (ap (λ x. x.0) live.is.number_is) ∙ ap (λ x. x.0) facts.is.number_is) live.not_below;
+            above = subst (λ k. number_of r < k) same (subst (λ k. k < m) s_number end.up);
+            acked = ap (λ x. number_of x.acked) pool_is ∙ (end.acked ∙ same);
+            blocks = λ a. ap (λ x. block_at x.acked a) pool_is ∙ (end.blocks a ∙ ap (λ w. w a) q_written);
+            written = λ a. ap (λ x. x.written a) pool_is ∙ (ap (λ w. w a) end.written ∙ ap (λ w. w a) q_written);
+          };
+          state = steps vs s;
+          at = record {
+            named = enters_named name g early acts s vs h (acts_are ∙ ap (λ l. early ++ l) rest) mine called;
+            ours = ap (λ core. core.pool.0) kept.core ∙ sym (ap (λ x. x.pool.0) pool_is);
+          };
         }
 
-    by_turn : (turn : TurnReply) (s : PoolState) (vs : List Move) → opens.outcome ≡ Opens_state s → RowResume c (size_in h.table) s vs turn → OpensBy turn g s vs opens.rest reply → OpensLive before (pool_along acts p) n
+    by_turn : (turn : TurnReply) (s : PoolState) (vs : List Move) → opens.outcome ≡ Opens_state s → RowResume c (size_in h.table) s vs turn → OpensBy turn g s vs opens.rest reply → OpensAs before (pool_along acts p) (host_along acts h) name n
     by_turn (Committed m) s vs out row by = committed s vs m out row by.0 by.1
     by_turn (Suspended group top faults) s vs out row by = absurd (let no = sym by.1 ∙ says in cc)
     by_turn Idle s vs out row by = absurd by
@@ -205,7 +255,7 @@ opens_live c h p before name found acts reply n knows live named made fair opens
     by_turn Flush s vs out row by = absurd by
     by_turn (Round m) s vs out row by = absurd by
 
-    follow : (outcome : OpenReply) → opens.outcome ≡ outcome → FollowsMap outcome c (size_in h.table) g opens.rest reply → OpensLive before (pool_along acts p) n
+    follow : (outcome : OpenReply) → opens.outcome ≡ outcome → FollowsMap outcome c (size_in h.table) g opens.rest reply → OpensAs before (pool_along acts p) (host_along acts h) name n
     follow (Opens_state s) out row = by_turn row.1 s row.0 out row.2 row.3
     follow (NoPage page shown) out row = absurd (let no = sym row.1 ∙ says in cc)
 
@@ -245,7 +295,7 @@ more_good p r few many up good = λ level index cell low high is. let leaf = goo
   answers = up leaf.d leaf.answers;
 }
 
-opening_bare : (made : List Noted) (more : List Act) → opening_in (bare made ++ more) ≡ opening_in more
+pub opening_bare : (made : List Noted) (more : List Act) → opening_in (bare made ++ more) ≡ opening_in more
 opening_bare [] more = refl
 opening_bare (noted ∷ made) more = opening_bare made more
 
@@ -304,11 +354,12 @@ opens_loses c h p before name found acts reply page shown knows live made fair o
     follow (NoPage k ks) out row = lost k ks out row.0
 
 -- By what the looks found.
-not_opened : (c : Codec) (before behind : Pool) (acts : List Act) (reply : Reply) (other : ImportReply) → reply ≡ To_import other → (other ≡ NothingFound → ⊥) → ((n : ℕ) → other ≡ Opened n → ⊥)
-    → ((page : Key) (shown : List LeafShown) → other ≡ PageLost page shown → ⊥) → FindsPool c before behind acts reply
-not_opened c before behind acts reply other is some none loses = record {
+not_opened : (c : Codec) (before behind : Pool) (after : Host) (acts : List Act) (reply : Reply) (other : ImportReply) → reply ≡ To_import other → (other ≡ NothingFound → ⊥) → ((n : ℕ) → other ≡ Opened n → ⊥)
+    → ((page : Key) (shown : List LeafShown) → other ≡ PageLost page shown → ⊥) → FindsPool c before behind after acts reply
+not_opened c before behind after acts reply other is some none loses = record {
   some = λ says. some (same other NothingFound (sym is ∙ says));
   opened = λ n says. absurd (none n (same other (Opened n) (sym is ∙ says)));
+  is_open = λ n says. absurd (none n (same other (Opened n) (sym is ∙ says)));
   loses = λ page shown says. absurd (loses page shown (same other (PageLost page shown) (sym is ∙ says)));
 }
   where
@@ -334,18 +385,22 @@ never_none : (ended : Bool) (found : Found) → NoRecord ≡ taken_by ended foun
 never_none true found e = cc
 never_none false found e = cc
 
-found_finds : (seek : SeekReply) (c : Codec) (h : Host) (before p : Pool) (name : List ℕ) (acts : List Act) (reply : Reply) → Knows c h p → p.name ≡ name → AreMade h (calls_along acts) → AreFair c p acts
-    → (seek ≡ NoRecord → ⊥) → ((found : Found) → seek ≡ TakesRecord found → Looked_live p before found) → ImportBy seek c h name acts reply → FindsPool c before (pool_along acts p) acts reply
-found_finds NoRecord c h before p name acts reply knows named made fair some live row = absurd (some refl)
-found_finds (NumbersEnd limit count) c h before p name acts reply knows named made fair some live row = not_opened c before (pool_along acts p) acts reply (LastNumber limit count) row.1 (λ e. cc) (λ n e. cc) (λ page shown e. cc)
-found_finds (TakesRecord found) c h before p name acts reply knows named made fair some live row = record {
+found_finds : (seek : SeekReply) (c : Codec) (h : Host) (before p : Pool) (name : List ℕ) (acts : List Act) (reply : Reply) → Knows c h p → p.name ≡ name → before.name ≡ name → AreMade h (calls_along acts)
+    → AreFair c p acts → (seek ≡ NoRecord → ⊥) → ((found : Found) → seek ≡ TakesRecord found → Looked_live p before found) → ImportBy seek c h name acts reply
+    → FindsPool c before (pool_along acts p) (host_along acts h) acts reply
+found_finds NoRecord c h before p name acts reply knows titled called made fair some live row = absurd (some refl)
+found_finds (NumbersEnd limit count) c h before p name acts reply knows titled called made fair some live row =
+    not_opened c before (pool_along acts p) (host_along acts h) acts reply (LastNumber limit count) row.1 (λ e. cc) (λ n e. cc) (λ page shown e. cc)
+found_finds (TakesRecord found) c h before p name acts reply knows titled called made fair some live row = record {
   some = opens_some c h name found acts reply row;
-  opened = λ n says. opens_live c h p before name found acts reply n knows (live found refl) named made fair row says;
+  opened = λ n says. (opens_live c h p before name found acts reply n knows (live found refl) titled made fair row says).live;
+  is_open = λ n says. let opens = opens_live c h p before name found acts reply n knows (live found refl) titled made fair row says in
+      (opens.state, subst (λ name. IsOpenAs (pool_along acts p) (host_along acts h) name opens.state) (sym called) opens.at);
   loses = λ page shown says. opens_loses c h p before name found acts reply page shown knows (live found refl) made fair row says;
 }
 
 pub import_finds : (c : Codec) (h : Host) (p : Pool) (name : List ℕ) (acts : List Act) (reply : Reply) → Knows c h p → p.name ≡ name → AreMade h (calls_along acts) → AreFair c p acts → RowImport c h name acts reply
-    → FindsPool c p (pool_along acts p) acts reply
+    → FindsPool c p (pool_along acts p) (host_along acts h) acts reply
 import_finds c h p name acts reply knows titled made fair row = unless (named_in h.pools) row
   where
     named_in : List PoolState → Option PoolState
@@ -353,10 +408,15 @@ import_finds c h p name acts reply knows titled made fair row = unless (named_in
 
     -- what the rest of the line finds, the line does
     line_finds : (made : List Noted) (known : Known) (rest : List Act) (p1 : Pool) → acts ≡ bare made ++ (Looked name known ∷ rest) → pool_along acts p ≡ pool_along rest p1
-        → FindsPool c p (pool_along rest p1) rest reply → FindsPool c p (pool_along acts p) acts reply
+        → FindsPool c p (pool_along rest p1) (host_along rest (host_behind made h)) rest reply → FindsPool c p (pool_along acts p) (host_along acts h) acts reply
     line_finds made known rest p1 are same finds = record {
       some = finds.some;
       opened = λ n says. subst (λ x. OpensLive p x n) (sym same) (finds.opened n says);
+      is_open = λ n says. let opens = finds.is_open n says in (
+        opens.0,
+        subst (λ x. IsOpenAs x (host_along acts h) p.name opens.0) (sym same)
+            (subst (λ y. IsOpenAs (pool_along rest p1) y p.name opens.0) (sym (ap (λ a. host_along a h) are ∙ bare_host made (Looked name known ∷ rest) h)) opens.1),
+      );
       loses = λ page shown says. let lost = finds.loses page shown says in record {
         opening = lost.opening;
         reads = ap opening_in are ∙ (opening_bare made (Looked name known ∷ rest) ∙ lost.reads);
@@ -371,7 +431,7 @@ import_finds c h p name acts reply knows titled made fair row = unless (named_in
       };
     }
 
-    imports : Imports c h name acts reply → FindsPool c p (pool_along acts p) acts reply
+    imports : Imports c h name acts reply → FindsPool c p (pool_along acts p) (host_along acts h) acts reply
     imports row =
         let known = known_by (size_in h.table) (handed h.table) row.row.looks in
         let p1 = pool_after (as_events row.made) p in
@@ -383,7 +443,7 @@ import_finds c h p name acts reply knows titled made fair row = unless (named_in
         let pool_is : pool_along acts p ≡ pool_along row.rest p1 = ap (λ a. pool_along a p) row.are ∙ (bare_more row.made (Looked name known ∷ row.rest) p
         ∙ ap (pool_along row.rest) (looks_along (bytes_eq p1.name name) known p1)) in
         line_finds row.made known row.rest p1 row.are pool_is
-        (found_finds row.seek c (host_behind row.made h) p p1 name row.rest reply facts.knows named1 facts.made rest_fair
+        (found_finds row.seek c (host_behind row.made h) p p1 name row.rest reply facts.knows named1 titled facts.made rest_fair
         (λ none. never_none (nat_le last_numbers seeks.found.number.0) seeks.found (sym none ∙ seeks.says))
         (λ found is. let taken = taken_live c p row.made known row.seek found seeks is in record {
           one = taken.0;
@@ -392,10 +452,10 @@ import_finds c h p name acts reply knows titled made fair row = unless (named_in
           same = ap (λ x. x.live) (calls_after row.made p);
         }) row.follows)
 
-    full_by : (full : Bool) → ImportFor full c h name acts reply → FindsPool c p (pool_along acts p) acts reply
-    full_by true row = not_opened c p (pool_along acts p) acts reply (TooManyPools 16 (length h.pools + 1)) row.1 (λ e. cc) (λ n e. cc) (λ page shown e. cc)
+    full_by : (full : Bool) → ImportFor full c h name acts reply → FindsPool c p (pool_along acts p) (host_along acts h) acts reply
+    full_by true row = not_opened c p (pool_along acts p) (host_along acts h) acts reply (TooManyPools 16 (length h.pools + 1)) row.1 (λ e. cc) (λ n e. cc) (λ page shown e. cc)
     full_by false row = imports row
 
-    unless : (found : Option PoolState) → ImportUnless found c h name acts reply → FindsPool c p (pool_along acts p) acts reply
-    unless (Some s) row = not_opened c p (pool_along acts p) acts reply NameOpen row.1 (λ e. cc) (λ n e. cc) (λ page shown e. cc)
+    unless : (found : Option PoolState) → ImportUnless found c h name acts reply → FindsPool c p (pool_along acts p) (host_along acts h) acts reply
+    unless (Some s) row = not_opened c p (pool_along acts p) (host_along acts h) acts reply NameOpen row.1 (λ e. cc) (λ n e. cc) (λ page shown e. cc)
     unless None row = full_by (nat_le 16 (length h.pools)) row

@@ -1,13 +1,12 @@
 -- The headline, from what a host knows of a pool and from the rows of a run.
-use Rattle.std.proofs.Common.{◌≡◌, ◌⊎◌, inl, inr, ⊎_elim, ℕ, ◌<◌, Bool, true, false, List, [], ◌∷◌, ◌++◌, take, Some, refl, sym, ap, ◌∙◌, subst, arith}
-use Rattle.std.specs.List.{AllByRecursion}
+use Rattle.std.proofs.Common.{◌≡◌, ◌⊎◌, inl, inr, ℕ, ◌<◌, Bool, true, false, List, [], ◌∷◌, ◌++◌, take, Some, refl, sym, ap, ◌∙◌, subst, arith}
 use Rattle.bank_core.specs.Calls.{AllCaused}
 use Rattle.bank_core.specs.Disk.{run}
 use Rattle.txg_history.specs.Events.{Event, Clears}
 use Rattle.txg_history.specs.Moves.{Mays}
 use Rattle.txg_history.specs.Pages.{Codec, IsClash}
 use Rattle.txg_history.specs.Pools.{Pool, pool_after}
-use Rattle.txg_history.specs.Records.{Rec, IsIn, key, number_of}
+use Rattle.txg_history.specs.Records.{Rec, IsIn, key}
 use Rattle.txg_history.specs.Survival.{Survives}
 use Rattle.txg_history.proofs.Folding.{mays_second, pool_more}
 use Rattle.txg_history.proofs.ScansBring.{cleared_copied, groups_leave}
@@ -20,31 +19,35 @@ use Rattle.pool_moves.specs.Missing.{AllMissed}
 use Rattle.pool_moves.specs.Moves.{Move, steps, after_moves}
 use Rattle.pool_moves.specs.ReadRow.{ReadReply, Gives, Exhausted, RowRead, made_in}
 use Rattle.pool_moves.specs.Showing.{LeafShown}
+use Rattle.pool_moves.specs.StampRow.{leaf_at, is_leaf_at, FaultOn}
 use Rattle.pool_moves.specs.States.{PoolState, Side}
+use Rattle.mp_base.specs.declared.number.Guid.{Guid}
 use Rattle.pool_moves.proofs.Keeping.{walk_keeps}
-use Rattle.pool_moves.proofs.LineWalks.{sync_walks}
+use Rattle.pool_moves.proofs.LineWalks.{turn_walks, sync_walks}
 use Rattle.pool_moves.proofs.Missing.{exhausted_missed}
 use Rattle.pool_moves.proofs.ReadWalks.{read_right}
 use Rattle.pool_runs.specs.Acts.{Act, Gives_for, Marks, Hears, calls_along, pool_along}
-use Rattle.pool_runs.specs.Committing.{CommitsAll, FindsPool}
-use Rattle.pool_runs.specs.Counting.{SomeRose, HasLostBoard, Suspends}
+use Rattle.pool_runs.specs.Committing.{CommitsAll, FindsPool, CommitsGroup}
+use Rattle.pool_runs.specs.Counting.{has_leaf_at, RoseAt, HasLostBoard, Suspends, FailsOpening, IsCounted}
+use Rattle.pool_runs.specs.Creating.{leaves_of}
 use Rattle.pool_runs.specs.Devices.{number_in, size_in}
 use Rattle.pool_runs.specs.Fairness.{AreFair}
 use Rattle.pool_runs.specs.Headline.{TakesFor, IsRequiredFor, Headline}
 use Rattle.pool_runs.specs.HostRows.{AreMade, ReadLine, TurnLine, SyncLine, OfflineLine, OnPool, RowOf, HostRow, acts_in, IsRun}
 use Rattle.pool_runs.specs.Hosts.{Host, named, host_by, host_along}
-use Rattle.pool_runs.specs.Knowing.{HasSeats, Knows, MayActs}
-use Rattle.pool_runs.specs.Lines.{Asks_read, Asks_turn, Asks_sync, Asks_offline, Asks_import, Reply, To_read, To_turn, To_sync, To_import, To_offline, ImportReply, Opened, NothingFound, PageLost, No_memory, Entry}
+use Rattle.pool_runs.specs.Knowing.{HasSeats}
+use Rattle.pool_runs.specs.Lines.{Asks_read, Asks_turn, Asks_sync, Asks_offline, Asks_import, Asks_create, Reply, To_read, To_turn, To_sync, To_import, To_offline, To_create, ImportReply, Opened, NothingFound, PageLost, Unopened, No_memory, Entry}
 use Rattle.pool_runs.specs.Moments.{Moment, events_at, pool_at, past_at, host_at, LineOf, pool_before, host_before, IsOpenAs}
 use Rattle.pool_runs.specs.Pasts.{Past, pool_of, Left, BeginsRun, HasFrozen}
 use Rattle.pool_runs.proofs.Acting.{history_pool}
 use Rattle.pool_runs.proofs.Answering.{all_answer, does_calls, marked_calls}
-use Rattle.pool_runs.proofs.Committing.{turn_commits, ends_acked, sync_all, does_pool}
-use Rattle.pool_runs.proofs.Counting.{NoFault, fault_or, turn_suspends, sync_suspends, line_answered}
+use Rattle.pool_runs.proofs.Committing.{sync_all, does_pool, turn_all}
+use Rattle.pool_runs.proofs.Suspending.{turn_counts, sync_counts, import_counts, create_counts}
+use Rattle.pool_runs.proofs.Known.{Knows, MayActs}
 use Rattle.pool_runs.proofs.Finding.{import_finds}
 use Rattle.pool_runs.proofs.Knowing.{may_more, acts_keep}
 use Rattle.pool_runs.proofs.Members.{entry_keeps}
-use Rattle.pool_runs.proofs.Moments.{has_moment, acts_mays, keeps_all, may_take, acts_table, host_more, run_at, run_front}
+use Rattle.pool_runs.proofs.Moments.{has_moments, acts_mays, keeps_all, may_take, acts_table, host_more, run_at, run_front}
 use Rattle.pool_runs.proofs.Pasting.{begins_known, then_pool, then_called, then_allowed, live_frozen}
 use Rattle.pool_runs.proofs.Running.{named_open, heard, run_may}
 use Rattle.pool_runs.proofs.Writing.{entry_writes}
@@ -178,14 +181,15 @@ line_loses c h p e name a s shown met asked at is = of met.row
     of (inr out) = read_not_memory (Exhausted shown) (sym is ∙ out.says)
 
 -- An import finds the pool.
-line_opens : (c : Codec) (h : Host) (p : Pool) (e : Entry) → Meets c h p e → e.asked ≡ Asks_import p.name → AreFair c p e.acts → FindsPool c p (pool_along e.acts p) e.acts e.reply
+line_opens : (c : Codec) (h : Host) (p : Pool) (e : Entry) → Meets c h p e → e.asked ≡ Asks_import p.name → AreFair c p e.acts → FindsPool c p (pool_along e.acts p) (host_along e.acts h) e.acts e.reply
 line_opens c h p e met asked fair = of met.row
   where
-    of : HostRow c h e → FindsPool c p (pool_along e.acts p) e.acts e.reply
+    of : HostRow c h e → FindsPool c p (pool_along e.acts p) (host_along e.acts h) e.acts e.reply
     of (inl row) = import_finds c h p p.name e.acts e.reply met.knows refl row.1 fair (subst (λ x. RowOf c h x e.acts e.reply) asked row.0)
     of (inr out) = record {
       some = λ says. import_not_memory NothingFound (sym says ∙ out.says);
       opened = λ n says. import_not_memory (Opened n) (sym says ∙ out.says);
+      is_open = λ n says. import_not_memory (Opened n) (sym says ∙ out.says);
       loses = λ page shown says. import_not_memory (PageLost page shown) (sym says ∙ out.says);
     }
 
@@ -205,18 +209,19 @@ line_syncs c h p e name s n met asked at is = of met.row
         (sync_all c (size_in h.table) s t vs n kept done)
     of (inr out) = sync_not_memory (Ended (Committed n)) (sym is ∙ out.says)
 
-line_acks : (c : Codec) (h : Host) (p : Pool) (e : Entry) (name : List ℕ) (s : PoolState) (n : ℕ) → Meets c h p e → e.asked ≡ Asks_turn name → IsOpenAs p h name s
-    → e.reply ≡ To_turn (Committed n) → number_of (pool_along e.acts p).acked ≡ n
-line_acks c h p e name s n met asked at is = of met.row
+-- A turn acknowledges its group.
+line_turns : (c : Codec) (h : Host) (p : Pool) (e : Entry) (name : List ℕ) (s : PoolState) (n : ℕ) → Meets c h p e → e.asked ≡ Asks_turn name → IsOpenAs p h name s
+    → e.reply ≡ To_turn (Committed n) → CommitsGroup p (pool_along e.acts p) n
+line_turns c h p e name s n met asked at is = of met.row
   where
-    of : HostRow c h e → number_of (pool_along e.acts p).acked ≡ n
+    of : HostRow c h e → CommitsGroup p (pool_along e.acts p) n
     of (inl row) = let line = on_open h name s (TurnLine c h) e.acts e.reply at.named (subst (λ x. RowOf c h x e.acts e.reply) asked row.0) in
         let has = met.knows.stands s (named_open name s h.pools at.named) at.ours in
         let t : Side = record { pool = p; seats = has.0 } in
         let vs = line.2.moves in
         let done : RowTurn c (size_in h.table) s vs (Committed n) = subst (RowTurn c (size_in h.table) s vs) (turn_reply line.0 (Committed n) (sym line.1 ∙ is)) line.2.row in
-        ap (λ q. number_of q.acked) (ap (λ a. pool_along a p) line.2.are ∙ does_pool s.core.pool.0 vs t (sym at.ours))
-        ∙ (ends_acked vs n t (turn_commits c (size_in h.table) s vs n done).ends).number
+        subst (λ q. CommitsGroup p q n) (sym (ap (λ a. pool_along a p) line.2.are ∙ does_pool s.core.pool.0 vs t (sym at.ours)))
+        (turn_all c (size_in h.table) s t vs n has.1 (turn_walks c (size_in h.table) s t vs (Committed n) has.1 met.knows.sizes done) done)
     of (inr out) = turn_not_memory (Committed n) (sym is ∙ out.says)
 
 -- The outage rule.
@@ -260,29 +265,42 @@ line_required c h p e name device temporary s leaf group met asked at is plain u
     of (inr out) = record { only = λ is. offline_not_memory (Required group) (sym is ∙ out.says); always = λ least. inr out.says }
 
 -- Counts.
-line_counts : (c : Codec) (h : Host) (p : Pool) (e : Entry) (name : List ℕ) (s : PoolState) (from to : ℕ → ℕ) → Meets c h p e → (e.asked ≡ Asks_turn name) ⊎ (e.asked ≡ Asks_sync name)
-    → IsOpenAs p h name s → AllCaused (calls_along e.acts) from to → Suspends e.reply → SomeRose from to ⊎ HasLostBoard s
-line_counts c h p e name s from to met asked at caused bad = ⊎_elim (λ none. inr (of none met.row asked)) (λ rose. inl rose) (fault_or (calls_along e.acts) from to caused)
+line_counts : (c : Codec) (h : Host) (p : Pool) (e : Entry) (from to : ℕ → ℕ) → Meets c h p e → AllCaused (calls_along e.acts) from to → IsCounted c h e from to
+line_counts c h p e from to met caused = record {
+  turns = λ name s asked found bad. turns name s asked found bad met.row asked;
+  imports = λ name group top faults asked says. imports name group top faults asked says met.row;
+  creates = λ name blocks tops device asked says. creates name blocks tops device asked says met.row;
+}
   where
-    of : AllByRecursion NoFault (calls_along e.acts) → HostRow c h e → (e.asked ≡ Asks_turn name) ⊎ (e.asked ≡ Asks_sync name) → HasLostBoard s
-    of none (inl row) (inl asked) = let line = on_open h name s (TurnLine c h) e.acts e.reply at.named (subst (λ x. RowOf c h x e.acts e.reply) asked row.0) in
-        turn_suspends c (size_in h.table) s line.2.moves line.0 (line_answered line.2.moves (calls_along e.acts) (ap calls_along line.2.are ∙ does_calls s.core.pool.0 line.2.moves) none)
-        line.2.row (subst Suspends line.1 bad)
-    of none (inl row) (inr asked) = let line = on_open h name s (SyncLine c h) e.acts e.reply at.named (subst (λ x. RowOf c h x e.acts e.reply) asked row.0) in
-        sync_suspends c (size_in h.table) s line.2.moves line.0 (line_answered line.2.moves (calls_along e.acts) (ap calls_along line.2.are ∙ does_calls s.core.pool.0 line.2.moves) none)
-        line.2.row (subst Suspends line.1 bad)
-    of none (inr out) asked = absurd (subst Suspends out.says bad)
+    turns : (name : List ℕ) (s : PoolState) → (e.asked ≡ Asks_turn name) ⊎ (e.asked ≡ Asks_sync name) → named name h.pools ≡ Some s → Suspends e.reply → HostRow c h e
+        → (e.asked ≡ Asks_turn name) ⊎ (e.asked ≡ Asks_sync name) → RoseAt (λ d. has_leaf_at d s) from to ⊎ HasLostBoard s
+    turns name s asks found bad (inl row) (inl asked) = let line = on_open h name s (TurnLine c h) e.acts e.reply found (subst (λ x. RowOf c h x e.acts e.reply) asked row.0) in
+        turn_counts c h s line.2.moves line.0 from to line.2.row
+        (subst (λ calls. AllCaused calls from to) (ap calls_along line.2.are ∙ does_calls s.core.pool.0 line.2.moves) caused) (subst Suspends line.1 bad)
+    turns name s asks found bad (inl row) (inr asked) = let line = on_open h name s (SyncLine c h) e.acts e.reply found (subst (λ x. RowOf c h x e.acts e.reply) asked row.0) in
+        sync_counts c h s line.2.moves line.0 from to line.2.row
+        (subst (λ calls. AllCaused calls from to) (ap calls_along line.2.are ∙ does_calls s.core.pool.0 line.2.moves) caused) (subst Suspends line.1 bad)
+    turns name s asks found bad (inr out) asked = absurd (subst Suspends out.says bad)
+
+    imports : (name : List ℕ) (group : ℕ) (top : Guid) (faults : ℕ) → e.asked ≡ Asks_import name → e.reply ≡ To_import (Unopened group top faults) → HostRow c h e → FailsOpening c e.acts from to
+    imports name group top faults asked says (inl row) = import_counts c h name e.acts e.reply from to group top faults (subst (λ x. RowOf c h x e.acts e.reply) asked row.0) caused says
+    imports name group top faults asked says (inr out) = import_not_memory (Unopened group top faults) (sym says ∙ out.says)
+
+    creates : (name : List ℕ) (blocks : ℕ) (tops : List (List (List ℕ))) (device : List ℕ) → e.asked ≡ Asks_create name blocks tops → e.reply ≡ To_create (FaultOn device) → HostRow c h e
+        → RoseAt (λ d. is_leaf_at (leaf_at d (leaves_of h.table tops))) from to
+    creates name blocks tops device asked says (inl row) = create_counts c h name blocks tops e.acts e.reply device from to (subst (λ x. RowOf c h x e.acts e.reply) asked row.0) caused says
+    creates name blocks tops device asked says (inr out) = absurd (let no = sym says ∙ out.says in cc)
 
 pub headline_from : (c : Codec) (past : Past) (h : Host) (acts : List Act) (entries : List Entry) → Follows c past h acts entries → Headline c past h acts entries
 headline_from c past h acts entries f = record {
-  moments = has_moment past acts entries;
+  moments = has_moments past acts entries;
   left = at_left c past h acts entries f;
   sound = λ m. survives_sound c (pool_at m) (at_known c past h acts entries f m).survives;
   contents = at_contents c past h acts entries f;
   opens = λ l asked fair. line_opens c (host_before h l) (pool_before l) l.entry (meets c past h acts entries f l) asked fair;
-  acks = λ l name s n at. record {
-    turns = λ asked is. line_acks c (host_before h l) (pool_before l) l.entry name s n (meets c past h acts entries f l) asked at is;
-    syncs = λ asked is. line_syncs c (host_before h l) (pool_before l) l.entry name s n (meets c past h acts entries f l) asked at is;
+  commits = λ l. record {
+    syncs = λ name s n asked at is. line_syncs c (host_before h l) (pool_before l) l.entry name s n (meets c past h acts entries f l) asked at is;
+    turns = λ name s n asked at is. line_turns c (host_before h l) (pool_before l) l.entry name s n (meets c past h acts entries f l) asked at is;
   };
   writes = λ l. entry_writes c (host_before h l) (pool_before l) l.entry (meets c past h acts entries f l).row;
   reads = λ l name a s asked at. record {
@@ -292,7 +310,7 @@ headline_from c past h acts entries f = record {
   required = λ l name device temporary s leaf group asked at is plain up. line_required c (host_before h l) (pool_before l) l.entry name device temporary s leaf group (meets c past h acts entries f l) asked at is plain up;
   scans = at_scans c past h acts entries f;
   keeps = λ l d is. entry_keeps c (host_before h l) l.entry d (pool_before l) (meets c past h acts entries f l).row is;
-  counts = λ l name s from to asked at caused bad. line_counts c (host_before h l) (pool_before l) l.entry name s from to (meets c past h acts entries f l) asked at caused bad;
+  counts = λ l from to caused. line_counts c (host_before h l) (pool_before l) l.entry from to (meets c past h acts entries f l) caused;
 }
 
 pub first_headline : (c : Codec) (past : Past) (h : Host) (entries : List Entry) → BeginsRun c past h → IsRun c h entries → Headline c past h [] entries

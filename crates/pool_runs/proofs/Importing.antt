@@ -45,7 +45,8 @@ use Rattle.pool_runs.specs.Fairness.{IsFairOpening, AreFair}
 use Rattle.pool_runs.specs.HostRows.{AreMade}
 use Rattle.pool_runs.specs.Hosts.{Host, free_in, IsOpen, named, is_of, host_by, host_along}
 use Rattle.pool_runs.specs.Importing.{read_in, all_shown, OpensBy, FollowsMap, OpensFound, ImportBy, host_behind, Imports, ImportFor, ImportUnless, RowImport}
-use Rattle.pool_runs.specs.Knowing.{HasSeats, Knows, MayActs, IsTrueLook, AreOwnActs}
+use Rattle.pool_runs.specs.Knowing.{HasSeats, IsTrueLook, AreOwnActs}
+use Rattle.pool_runs.proofs.Known.{Knows, MayActs}
 use Rattle.pool_runs.specs.Lines.{Reply}
 use Rattle.pool_runs.proofs.Acting.{same_number, number_of_test, calls_number}
 use Rattle.pool_runs.proofs.Answering.{all_answer}

@@ -32,8 +32,9 @@ use Rattle.pool_moves.proofs.Rosters.{roster_goes_on}
 use Rattle.pool_runs.specs.Acts.{Act, Hears, Bare, Does, Marks, Looked, Shows, Reads_as, Enters, Names, Takes, Bears, Closes, does, read_by, events_for, pool_by, pool_along}
 use Rattle.pool_runs.specs.Fairness.{IsFair, AreFair}
 use Rattle.pool_runs.specs.Hosts.{Host, IsOpen, is_of, moved, host_by, host_along}
-use Rattle.pool_runs.specs.Knowing.{HasSeats, HasRoster, Knows, MayActs, IsOwnMove, IsShown, IsTrueLook, HasNoLeafAt, IsOwnAct, AreOwnActs}
+use Rattle.pool_runs.specs.Knowing.{HasSeats, HasRoster, IsOwnMove, IsShown, IsTrueLook, HasNoLeafAt, IsOwnAct, AreOwnActs}
 use Rattle.pool_runs.proofs.Acting.{same_number, other_number, own_events, other_events, move_sectors, move_size, move_number, calls_number}
+use Rattle.pool_runs.proofs.Known.{Knows, MayActs}
 use Rattle.pool_runs.proofs.Sparing.{other_call}
 
 -- Fronts.
@@ -52,7 +53,7 @@ may_more c h p (act ∷ first) second may more knows = λ fair. let now = may fa
     (now.0, now.1, may_more c (host_by act h) (pool_by act p) first second now.2 (λ rest known. more (fair, rest) known) now.1)
 
 -- Open pools.
-step_number : (v : Move) (s : PoolState) → (state_step v s).core.pool ≡ s.core.pool
+pub step_number : (v : Move) (s : PoolState) → (state_step v s).core.pool ≡ s.core.pool
 step_number (Makes noted) s = refl
 step_number v s = refl
 

@@ -9,6 +9,7 @@ pub mod GroupMoves
 pub mod Heading
 pub mod Importing
 pub mod Knowing
+pub mod Known
 pub mod LineMoves
 pub mod Members
 pub mod Moments
@@ -17,4 +18,6 @@ pub mod Pasting
 pub mod Running
 pub mod SmallRuns
 pub mod Sparing
+pub mod Stamps
+pub mod Suspending
 pub mod Writing

@@ -21,7 +21,8 @@ use Rattle.txg_history.proofs.Stamping.{stamped_survives}
 use Rattle.pool_moves.proofs.Rosters.{roster_anew}
 use Rattle.pool_runs.specs.Devices.{size_in}
 use Rattle.pool_runs.specs.Hosts.{Host, IsOpen}
-use Rattle.pool_runs.specs.Knowing.{HasRoster, Knows}
+use Rattle.pool_runs.specs.Knowing.{HasRoster}
+use Rattle.pool_runs.proofs.Known.{Knows}
 use Rattle.pool_runs.proofs.Knowing.{roster_by_events}
 use Rattle.pool_runs.specs.Pasts.{Past, Born, Then, Numbered, pool_of, called_in, IsAllowed, then_all, BeginsRun, IsFoundAs, IsNext, AreNamed, met, next_past, WasFrozen, HasFrozen}
 

@@ -31,7 +31,8 @@ use Rattle.pool_runs.specs.Fairness.{IsMember, IsFairMark}
 use Rattle.pool_runs.specs.HostRows.{AreMade, ByMoves, is_read, is_reading, marked_behind, marked, ByMarked, found_in, device_for, ByOnline, OnlineLine, StepLine, ScrubLine, StopLine, WriteLine, ReadLine, FreezeLine, TurnLine, SyncLine, OfflineLine, LogsLine, OnPool, RowOf, HostRow, acts_of, acts_in, IsRun}
 use Rattle.pool_runs.specs.Hosts.{Host, IsOpen, named, moved, host_by, host_along}
 use Rattle.pool_runs.specs.Importing.{read_in, all_shown}
-use Rattle.pool_runs.specs.Knowing.{Knows, MayActs, AreOwnActs}
+use Rattle.pool_runs.specs.Knowing.{AreOwnActs}
+use Rattle.pool_runs.proofs.Known.{Knows, MayActs}
 use Rattle.pool_runs.specs.Lines.{Asked, Asks_nothing, Asks_write, Asks_read, Asks_freeze, Asks_turn, Asks_sync, Asks_offline, Asks_online, Asks_logs, Asks_step, Asks_scrub, Asks_stop, Asks_import, Asks_create, Reply, Entry}
 use Rattle.pool_runs.proofs.Acting.{same_number, number_of_test, own_events}
 use Rattle.pool_runs.proofs.Answering.{all_answer, marked_calls}

@@ -11,22 +11,26 @@ use Rattle.pool_moves.specs.AwayRows.{Required, LeastOut, is_offline, is_spare, 
 use Rattle.pool_moves.specs.Leaves.{LeafSeen}
 use Rattle.pool_moves.specs.States.{PoolState}
 use Rattle.pool_runs.specs.Acts.{Act, calls_along, history}
-use Rattle.pool_runs.specs.Committing.{AcksAs, FindsPool}
-use Rattle.pool_runs.specs.Counting.{SomeRose, HasLostBoard, Suspends}
+use Rattle.pool_runs.specs.Committing.{Acknowledges, FindsPool}
+use Rattle.pool_runs.specs.Counting.{IsCounted}
 use Rattle.pool_runs.specs.Fairness.{AreFair}
 use Rattle.pool_runs.specs.HostRows.{acts_in}
 use Rattle.pool_runs.specs.Hosts.{Host}
-use Rattle.pool_runs.specs.Lines.{Asks_read, Asks_turn, Asks_sync, Asks_offline, Asks_import, Reply, To_offline, No_memory, Entry}
-use Rattle.pool_runs.specs.Moments.{Moment, events_at, pool_at, past_at, host_at, LineOf, pool_before, pool_behind, host_before, calls_in_line, IsOpenAs}
+use Rattle.pool_runs.specs.Lines.{Asks_read, Asks_offline, Asks_import, Reply, To_offline, No_memory, Entry}
+use Rattle.pool_runs.specs.Moments.{Moment, events_at, pool_at, past_at, host_at, LineOf, pool_before, pool_behind, host_before, calls_in_line, IsOpenAs, host_after}
 use Rattle.pool_runs.specs.Pasts.{Past, pool_of, Left, HasFrozen}
 use Rattle.pool_runs.specs.Taking.{IsTakenBy}
 use Rattle.pool_runs.specs.Writing.{KeepsWrites, ReadsWritten}
 
--- Behind so many of the run's device calls there is a moment, and the pool's history has just these calls then.
-pub record HasMoment (past : Past) (acts : List Act) (entries : List Entry) (k : ℕ) : Type 0 where
+-- Behind so many of the run's device calls there is a moment.
+pub record HasMoment (acts : List Act) (entries : List Entry) (k : ℕ) : Type 0 where
   pub count : ℕ
   pub so_far : calls_along (take count (acts ++ acts_in entries)) ≡ take k (calls_along (acts ++ acts_in entries))
-  pub in_history : calls_of (history (take count (acts ++ acts_in entries)) (pool_of past)) ≡ take k (calls_along (acts ++ acts_in entries))
+
+-- Behind each device call of a run there is a moment, the same for each pool, and at each moment the pool's history has just the calls so far.
+pub record HasMoments (past : Past) (acts : List Act) (entries : List Entry) : Type 0 where
+  pub each : (k : ℕ) → HasMoment acts entries k
+  pub told : (i : ℕ) → calls_of (history (take i (acts ++ acts_in entries)) (pool_of past)) ≡ calls_along (take i (acts ++ acts_in entries))
 
 -- The last of these events takes a group from the log of the leaf on this device: a scan's end, which copied it, the end of a suspended group that had
 -- the number, an opening, which takes the log of the record that it found, or another leaf in the leaf's place.
@@ -42,7 +46,7 @@ pub record IsRequiredFor (leaf : LeafSeen) (leaves : List LeafSeen) (group : ℕ
 
 pub record Headline (c : Codec) (past : Past) (h : Host) (acts : List Act) (entries : List Entry) : Type 0 where
   -- behind each device call of the run there is a moment, and the pool's history has just the calls so far
-  pub moments : (k : ℕ) → HasMoment past acts entries k
+  pub moments : HasMoments past acts entries
   -- at each moment the host is as the pool's past leaves it, the devices and what the open pool's code has in memory: a further run may begin from there
   pub left : (m : Moment c past acts entries) → Left c (past_at m) (host_at h m)
   -- at each moment the pool is sound
@@ -51,10 +55,9 @@ pub record Headline (c : Codec) (past : Past) (h : Host) (acts : List Act) (entr
   pub contents : (m : Moment c past acts entries) (r : Rec) → IsIn r (pool_at m).live → HasFrozen (past_at m) r
   -- an import of its name finds a live record, not below the acknowledged one, and opens it above, or some page of it has no good leaf
   pub opens : (l : LineOf c past acts entries) → l.entry.asked ≡ Asks_import (pool_before l).name → AreFair c (pool_before l) l.entry.acts
-      → FindsPool c (pool_before l) (pool_behind l) l.entry.acts l.entry.reply
-  -- a turn or a sync that answers a number acknowledged that record, and a sync's has each block as it was written last
-  pub acks : (l : LineOf c past acts entries) (name : List ℕ) (s : PoolState) (n : ℕ) → IsOpenAs (pool_before l) (host_before h l) name s
-      → AcksAs (pool_before l) (pool_behind l) name l.entry n
+      → FindsPool c (pool_before l) (pool_behind l) (host_after h l) l.entry.acts l.entry.reply
+  -- a sync or a turn that answers a number acknowledged that record; it has each block as it was written last, before the turn's group was frozen
+  pub commits : (l : LineOf c past acts entries) → Acknowledges (host_before h l) (pool_before l) (pool_behind l) l.entry
   -- a write that is taken puts its block where it says, and nothing else but an import changes what was written last
   pub writes : (l : LineOf c past acts entries) → KeepsWrites (host_before h l) (pool_before l) (pool_behind l) l.entry
   -- a read gives the block that was written last, up to a clash, and none only where each readable leaf of the block's top missed it in this line
@@ -69,6 +72,5 @@ pub record Headline (c : Codec) (past : Past) (h : Host) (acts : List Act) (entr
       → (pool_after before (pool_of past)).owes d g ≡ true → (pool_at m).owes d g ≡ false → TakesFor (pool_of past) before v d g
   -- a member stays one, unless this very line is a create that names its device, wasn't refused, and wrote to it
   pub keeps : (l : LineOf c past acts entries) (d : ℕ) → (pool_before l).member d ≡ true → ((pool_behind l).member d ≡ true) ⊎ IsTakenBy (host_before h l) l.entry d
-  -- a turn or a sync is refused as suspended only where a device's count rose in that very line, or some top had nobody left on its board before
-  pub counts : (l : LineOf c past acts entries) (name : List ℕ) (s : PoolState) (from to : ℕ → ℕ) → (l.entry.asked ≡ Asks_turn name) ⊎ (l.entry.asked ≡ Asks_sync name)
-      → IsOpenAs (pool_before l) (host_before h l) name s → AllCaused (calls_in_line l) from to → Suspends l.entry.reply → SomeRose from to ⊎ HasLostBoard s
+  -- a line is suspended, or told a device that failed, only where the count of a device of its own rose in that very line, or nobody was left before
+  pub counts : (l : LineOf c past acts entries) (from to : ℕ → ℕ) → AllCaused (calls_in_line l) from to → IsCounted c (host_before h l) l.entry from to

@@ -1,0 +1,303 @@
+-- What counts tell of lines that are suspended, or told a device that failed.
+use Rattle.std.proofs.Common.{◌≡◌, ◌⊎◌, inl, inr, ⊎_elim, ℕ, ◌==◌, ◌&&◌, ◌||◌, nat_le, Bool, true, false, cond, List, [], ◌∷◌, ◌++◌, map, length, Option, Some, None, refl, sym, ap, ◌∙◌, subst, append-nil, append_assoc, arith}
+use Rattle.std.specs.List.{AllByRecursion, list_any}
+use Rattle.std.specs.Option.{is_some}
+use Rattle.std.proofs.lemmas.Bool.Decides.{nat_tests}
+use Rattle.mp_base.specs.declared.number.Guid.{Guid}
+use Rattle.bank_core.specs.Calls.{AllCaused}
+use Rattle.bank_core.specs.Disk.{Noted}
+use Rattle.label_store.specs.declared.found.Found.{Found}
+use Rattle.label_store.specs.declared.member.Member.{Member}
+use Rattle.vdev_tree.specs.Leaf.{is_up}
+use Rattle.txg_history.specs.Pages.{LeafKept, Codec}
+use Rattle.txg_history.specs.Rounds.{all_true}
+use Rattle.pool_moves.specs.Boards.{board_of}
+use Rattle.pool_moves.specs.FreezeRow.{is_dev}
+use Rattle.pool_moves.specs.Leaves.{LeafSeen}
+use Rattle.pool_moves.specs.LineRows.{TurnReply, Idle, Write, Flush, Round, Committed, Suspended, SyncReply, RowTurn, RowSync}
+use Rattle.pool_moves.specs.Moves.{Move, Flushed_all, steps}
+use Rattle.pool_moves.specs.Opened.{opened_leaves}
+use Rattle.pool_moves.specs.OpeningRow.{SeekReply, NoRecord, NumbersEnd, TakesRecord, OpenReply, Opens_state, NoPage, RowOpen, RowResume, is_up_under, lacking_of}
+use Rattle.pool_moves.specs.ReadRow.{made_in}
+use Rattle.pool_moves.specs.Refusing.{is_writable_under, unwritable_of, unwritable}
+use Rattle.pool_moves.specs.StampRow.{NewLeaf, leaf_at, is_leaf_at, Stamp, calls_of_stamps, AreStamps, new_leaf_seen, new_state, CreateReply, Created, FaultOn, first_failed, found_reply}
+use Rattle.pool_moves.specs.States.{PoolState}
+use Rattle.pool_runs.specs.Acts.{Act, Looked, Enters, Bears, Closes, does, calls_of_act, calls_along}
+use Rattle.pool_runs.specs.Committing.{opening_in}
+use Rattle.pool_runs.specs.Counting.{has_leaf_at, RoseAt, HasLostBoard, IsSuspended, SuspendsSync, LacksTop, FailsOpening}
+use Rattle.pool_runs.specs.Creating.{tops_of, leaves_of, new_birth, stamp_acts, commit_acts, RowCreate}
+use Rattle.pool_runs.specs.Devices.{size_in}
+use Rattle.pool_runs.specs.Hosts.{Host, free_in, named}
+use Rattle.pool_runs.specs.Importing.{OpensBy, FollowsMap, OpensFound, ImportBy, host_behind, Imports, ImportFor, ImportUnless, RowImport}
+use Rattle.pool_runs.specs.Lines.{Reply, To_import, To_create, Unopened}
+use Rattle.pool_runs.proofs.Answering.{does_calls}
+use Rattle.pool_runs.proofs.Counting.{NoFault, fault_or, OwnDev, AreOwnLeaves, turn_suspends, sync_suspends, resume_fine, stamp_fine, found_fine, line_answered}
+use Rattle.pool_runs.proofs.Stamps.{stamp_calls}
+use Rattle.pool_runs.proofs.Finding.{opening_bare}
+use Rattle.pool_runs.proofs.Importing.{bare_calls, opening_of, opening_calls}
+
+-- The leaves of an opening are on the devices where it found them.
+abbrev among : (devs : List (Option ℕ)) → ℕ → Bool
+among devs d = list_any (is_dev d) devs
+
+same_dev : (d : ℕ) → (d == d) ≡ true
+same_dev d = grind (arith, nat_tests)
+
+or_right : (a b : Bool) → b ≡ true → (a || b) ≡ true
+or_right true b is = refl
+or_right false b is = is
+
+own_more : (first : Option ℕ) (devs : List (Option ℕ)) (dev : Option ℕ) → OwnDev (among devs) dev → OwnDev (among (first ∷ devs)) dev
+own_more first devs None mine = tt
+own_more first devs (Some d) mine = or_right (is_dev d first) (among devs d) mine
+
+own_first : (dev : Option ℕ) (devs : List (Option ℕ)) → OwnDev (among (dev ∷ devs)) dev
+own_first None devs = tt
+own_first (Some d) devs = ap (λ t. t || among devs d) (same_dev d)
+
+up_all : (first : Option ℕ) (devs : List (Option ℕ)) (leaves : List LeafSeen) → AreOwnLeaves (among devs) leaves → AreOwnLeaves (among (first ∷ devs)) leaves
+up_all first devs [] all = tt
+up_all first devs (leaf ∷ leaves) all = (own_more first devs leaf.dev all.0, up_all first devs leaves all.1)
+
+opened_own_leaves : (leaves : List LeafKept) (devs : List (Option ℕ)) → AreOwnLeaves (among devs) (opened_leaves leaves devs)
+opened_own_leaves [] devs = tt
+opened_own_leaves (leaf ∷ leaves) [] = tt
+opened_own_leaves (leaf ∷ leaves) (dev ∷ devs) = (own_first dev devs, up_all dev devs (opened_leaves leaves devs) (opened_own_leaves leaves devs))
+
+-- where such a leaf is readable it has a device
+abbrev IsFoundUp : LeafSeen → Type 0
+IsFoundUp leaf = (is_up leaf.own.mode && is_some leaf.dev) ≡ is_up leaf.own.mode
+
+and_true : (a : Bool) → (a && true) ≡ a
+and_true true = refl
+and_true false = refl
+
+opened_up : (leaves : List LeafKept) (devs : List (Option ℕ)) → AllByRecursion IsFoundUp (opened_leaves leaves devs)
+opened_up [] devs = tt
+opened_up (leaf ∷ leaves) [] = tt
+opened_up (leaf ∷ leaves) (None ∷ devs) = (refl, opened_up leaves devs)
+opened_up (leaf ∷ leaves) (Some d ∷ devs) = (and_true (is_up leaf.mode), opened_up leaves devs)
+
+any_up : (top : ℕ) (leaves : List LeafSeen) → AllByRecursion IsFoundUp leaves → list_any (is_writable_under top) leaves ≡ list_any (is_up_under top) leaves
+any_up top [] all = refl
+any_up top (leaf ∷ leaves) all = ap (λ t. (t && (leaf.top == top)) || list_any (is_writable_under top) leaves) all.0 ∙ ap (λ rest. is_up_under top leaf || rest) (any_up top leaves all.1)
+
+lacks_unwritable : (all leaves : List LeafSeen) → AllByRecursion IsFoundUp all → unwritable_of all leaves ≡ lacking_of all leaves
+lacks_unwritable all [] up = refl
+lacks_unwritable all (leaf ∷ leaves) up = ap (λ t. cond t (unwritable_of all leaves) (Some leaf.top)) (any_up leaf.top all up)
+    ∙ ap (λ rest. cond (list_any (is_up_under leaf.top) all) rest (Some leaf.top)) (lacks_unwritable all leaves up)
+
+-- An opening that was suspended.
+opened_is : (c : Codec) (size : ℕ → ℕ) (handed : List ℕ → Option ℕ) (name : List ℕ) (found : Found) (made : List Noted) (outcome : OpenReply) (row : RowOpen c size handed name found made outcome)
+    (s : PoolState) → outcome ≡ Opens_state s → s.core.leaves ≡ opened_leaves (c.leaves found.blob.items) row.devs
+opened_is c size handed name found made (Opens_state x) row s out = ap (λ y. y.core.leaves) (sym (one x s out) ∙ row.ends.1)
+  where
+    one : (a b : PoolState) → Opens_state a ≡ Opens_state b → a ≡ b
+    one a b e = cc
+opened_is c size handed name found made (NoPage page shown) row s out = absurd (cc)
+
+none_second : (own : ℕ → Bool) (a b : List Noted) → AllByRecursion (NoFault own) (a ++ b) → AllByRecursion (NoFault own) b
+none_second own [] b all = all
+none_second own (noted ∷ a) b all = none_second own a b all.1
+
+calls_more : (first second : List Act) → calls_along (first ++ second) ≡ calls_along first ++ calls_along second
+calls_more [] second = refl
+calls_more (act ∷ first) second = ap (λ l. calls_of_act act ++ l) (calls_more first second) ∙ sym (append_assoc (calls_of_act act) (calls_along first) (calls_along second))
+
+closed_calls : (g : ℕ) (vs : List Move) → calls_along (does g vs ++ (Closes g ∷ [])) ≡ made_in vs
+closed_calls g vs = calls_more (does g vs) (Closes g ∷ []) ∙ (append-nil (calls_along (does g vs)) ∙ does_calls g vs)
+
+opens_suspended : (c : Codec) (h : Host) (name : List ℕ) (found : Found) (acts : List Act) (reply : Reply) (before : List Noted) (from to : ℕ → ℕ) (group : ℕ) (top : Guid) (faults : ℕ)
+    → (opens : OpensFound c h name found acts reply) → AllCaused (before ++ calls_along acts) from to → reply ≡ To_import (Unopened group top faults)
+    → RoseAt (among opens.row.devs) from to ⊎ LacksTop c (opening_of c h name found acts reply opens)
+opens_suspended c h name found acts reply before from to group top faults opens caused says = follow opens.outcome refl opens.follows
+  where
+    leaves : List LeafSeen
+    leaves = opened_leaves (c.leaves found.blob.items) opens.row.devs
+
+    own : ℕ → Bool
+    own = among opens.row.devs
+
+    suspended : (s : PoolState) (vs : List Move) (g n : ℕ) (t : Guid) (k : ℕ) → opens.outcome ≡ Opens_state s → RowResume c (size_in h.table) s vs (Suspended n t k)
+        → opens.rest ≡ Enters s ∷ (does g vs ++ (Closes g ∷ [])) → RoseAt own from to ⊎ LacksTop c (opening_of c h name found acts reply opens)
+    suspended s vs g n t k out row rest = ⊎_elim (λ none. by (lacking_of leaves leaves) refl (behind none)) (λ rose. inl rose) (fault_or own (before ++ calls_along acts) from to caused)
+      where
+        are : s.core.leaves ≡ leaves
+        are = opened_is c (size_in h.table) (free_in h) name found opens.made opens.outcome opens.row s out
+
+        behind : AllByRecursion (NoFault own) (before ++ calls_along acts) → AllByRecursion (NoFault own) (made_in vs)
+        behind none = subst (AllByRecursion (NoFault own)) (ap calls_along rest ∙ closed_calls g vs)
+            (none_second own opens.made (calls_along opens.rest)
+            (subst (AllByRecursion (NoFault own)) (opening_calls c h name found acts reply opens) (none_second own before (calls_along acts) none)))
+
+        by : (lack : Option ℕ) → lacking_of leaves leaves ≡ lack → AllByRecursion (NoFault own) (made_in vs) → RoseAt own from to ⊎ LacksTop c (opening_of c h name found acts reply opens)
+        by (Some x) is none = inr (x, is)
+        by None is none = absurd (resume_fine own c (size_in h.table) s vs (Suspended n t k)
+            (subst (λ l. unwritable l ≡ None) (sym are) (lacks_unwritable leaves leaves (opened_up (c.leaves found.blob.items) opens.row.devs) ∙ is))
+            (subst (AreOwnLeaves own) (sym are) (opened_own_leaves (c.leaves found.blob.items) opens.row.devs))
+            (line_answered own vs (made_in vs) refl none) row tt (subst (λ l. lacking_of l l ≡ None) (sym are) is))
+
+    by_turn : (turn : TurnReply) (s : PoolState) (vs : List Move) → opens.outcome ≡ Opens_state s → RowResume c (size_in h.table) s vs turn → OpensBy turn found.pool.0 s vs opens.rest reply
+        → RoseAt own from to ⊎ LacksTop c (opening_of c h name found acts reply opens)
+    by_turn (Committed m) s vs out row by = absurd (let no = sym by.1 ∙ says in cc)
+    by_turn (Suspended n t k) s vs out row by = suspended s vs found.pool.0 n t k out row by.0
+    by_turn Idle s vs out row by = absurd by
+    by_turn Write s vs out row by = absurd by
+    by_turn Flush s vs out row by = absurd by
+    by_turn (Round m) s vs out row by = absurd by
+
+    follow : (outcome : OpenReply) → opens.outcome ≡ outcome → FollowsMap outcome c (size_in h.table) found.pool.0 opens.rest reply
+        → RoseAt own from to ⊎ LacksTop c (opening_of c h name found acts reply opens)
+    follow (Opens_state s) out row = by_turn row.1 s row.0 out row.2 row.3
+    follow (NoPage page shown) out row = absurd (let no = sym row.1 ∙ says in cc)
+
+import_by : (seek : SeekReply) (c : Codec) (h : Host) (name : List ℕ) (acts : List Act) (reply : Reply) (before : List Noted) (from to : ℕ → ℕ) (group : ℕ) (top : Guid) (faults : ℕ)
+    → ImportBy seek c h name acts reply → AllCaused (before ++ calls_along acts) from to → reply ≡ To_import (Unopened group top faults) → FailsOpening c acts from to
+import_by NoRecord c h name acts reply before from to group top faults row caused says = absurd (let no = sym row.1 ∙ says in cc)
+import_by (NumbersEnd limit count) c h name acts reply before from to group top faults row caused says = absurd (let no = sym row.1 ∙ says in cc)
+import_by (TakesRecord found) c h name acts reply before from to group top faults row caused says = record {
+  opening = opening_of c h name found acts reply row;
+  reads = ap opening_in row.are;
+  why = opens_suspended c h name found acts reply before from to group top faults row caused says;
+}
+
+pub import_counts : (c : Codec) (h : Host) (name : List ℕ) (acts : List Act) (reply : Reply) (from to : ℕ → ℕ) (group : ℕ) (top : Guid) (faults : ℕ) → RowImport c h name acts reply
+    → AllCaused (calls_along acts) from to → reply ≡ To_import (Unopened group top faults) → FailsOpening c acts from to
+import_counts c h name acts reply from to group top faults row caused says = unless (named name h.pools) row
+  where
+    imports : Imports c h name acts reply → FailsOpening c acts from to
+    imports row = let fails = import_by row.seek c (host_behind row.made h) name row.rest reply row.made from to group top faults row.follows
+        (subst (λ calls. AllCaused calls from to) (ap calls_along row.are ∙ bare_calls row.made (Looked name _ ∷ row.rest)) caused) says in record {
+          opening = fails.opening;
+          reads = ap opening_in row.are ∙ (opening_bare row.made (Looked name _ ∷ row.rest) ∙ fails.reads);
+          why = fails.why;
+        }
+
+    full_by : (full : Bool) → ImportFor full c h name acts reply → FailsOpening c acts from to
+    full_by true row = absurd (let no = sym row.1 ∙ says in cc)
+    full_by false row = imports row
+
+    unless : (found : Option PoolState) → ImportUnless found c h name acts reply → FailsOpening c acts from to
+    unless (Some s) row = absurd (let no = sym row.1 ∙ says in cc)
+    unless None row = full_by (nat_le 16 (length h.pools)) row
+
+-- Turns and syncs: the leaves of a state are on devices where it has a leaf.
+abbrev at_leaves : (leaves : List LeafSeen) → ℕ → Bool
+at_leaves leaves d = list_any (λ leaf. is_dev d leaf.dev) leaves
+
+own_leaf : (first : LeafSeen) (leaves : List LeafSeen) (dev : Option ℕ) → OwnDev (at_leaves leaves) dev → OwnDev (at_leaves (first ∷ leaves)) dev
+own_leaf first leaves None mine = tt
+own_leaf first leaves (Some d) mine = or_right (is_dev d first.dev) (at_leaves leaves d) mine
+
+own_here : (leaf : LeafSeen) (leaves : List LeafSeen) (dev : Option ℕ) → leaf.dev ≡ dev → OwnDev (at_leaves (leaf ∷ leaves)) dev
+own_here leaf leaves None is = tt
+own_here leaf leaves (Some d) is = ap (λ x. is_dev d x || at_leaves leaves d) is ∙ ap (λ t. t || at_leaves leaves d) (same_dev d)
+
+own_up : (first : LeafSeen) (leaves rest : List LeafSeen) → AreOwnLeaves (at_leaves leaves) rest → AreOwnLeaves (at_leaves (first ∷ leaves)) rest
+own_up first leaves [] all = tt
+own_up first leaves (leaf ∷ rest) all = (own_leaf first leaves leaf.dev all.0, own_up first leaves rest all.1)
+
+own_all : (leaves : List LeafSeen) → AreOwnLeaves (at_leaves leaves) leaves
+own_all [] = tt
+own_all (leaf ∷ leaves) = (own_here leaf leaves leaf.dev refl, own_up leaf leaves leaves (own_all leaves))
+
+pub turn_counts : (c : Codec) (h : Host) (s : PoolState) (vs : List Move) (reply : TurnReply) (from to : ℕ → ℕ) → RowTurn c (size_in h.table) s vs reply → AllCaused (made_in vs) from to → IsSuspended reply
+    → RoseAt (λ d. has_leaf_at d s) from to ⊎ HasLostBoard s
+turn_counts c h s vs reply from to row caused bad = ⊎_elim
+    (λ none. inr (turn_suspends (at_leaves s.core.leaves) c (size_in h.table) s vs reply (own_all s.core.leaves) (line_answered (at_leaves s.core.leaves) vs (made_in vs) refl none) row bad))
+    (λ rose. inl rose) (fault_or (at_leaves s.core.leaves) (made_in vs) from to caused)
+
+pub sync_counts : (c : Codec) (h : Host) (s : PoolState) (vs : List Move) (reply : SyncReply) (from to : ℕ → ℕ) → RowSync c (size_in h.table) s vs reply → AllCaused (made_in vs) from to → SuspendsSync reply
+    → RoseAt (λ d. has_leaf_at d s) from to ⊎ HasLostBoard s
+sync_counts c h s vs reply from to row caused bad = ⊎_elim
+    (λ none. inr (sync_suspends (at_leaves s.core.leaves) c (size_in h.table) s vs reply (own_all s.core.leaves) (line_answered (at_leaves s.core.leaves) vs (made_in vs) refl none) row bad))
+    (λ rose. inl rose) (fault_or (at_leaves s.core.leaves) (made_in vs) from to caused)
+
+-- Creates.
+abbrev at_new : (leaves : List NewLeaf) → ℕ → Bool
+at_new leaves d = is_leaf_at (leaf_at d leaves)
+
+found_here : (leaf : NewLeaf) (leaves : List NewLeaf) → at_new (leaf ∷ leaves) leaf.dev ≡ true
+found_here leaf leaves = ap (λ t. is_leaf_at (cond t (Some leaf) (leaf_at leaf.dev leaves))) (same_dev leaf.dev)
+
+found_later : (first : NewLeaf) (leaves : List NewLeaf) (d : ℕ) → at_new leaves d ≡ true → at_new (first ∷ leaves) d ≡ true
+found_later first leaves d is = by (first.dev == d)
+  where
+    by : (t : Bool) → is_leaf_at (cond t (Some first) (leaf_at d leaves)) ≡ true
+    by true = refl
+    by false = is
+
+-- every one of these leaves is found among all
+abbrev AreFound : (all leaves : List NewLeaf) → Type 0
+AreFound all leaves = AllByRecursion (λ leaf. at_new all leaf.dev ≡ true) leaves
+
+found_up : (first : NewLeaf) (all leaves : List NewLeaf) → AreFound all leaves → AreFound (first ∷ all) leaves
+found_up first all [] each = tt
+found_up first all (leaf ∷ leaves) each = (found_later first all leaf.dev each.0, found_up first all leaves each.1)
+
+found_all : (leaves : List NewLeaf) → AreFound leaves leaves
+found_all [] = tt
+found_all (leaf ∷ leaves) = (found_here leaf leaves, found_up leaf leaves leaves (found_all leaves))
+
+new_own_leaves : (all leaves : List NewLeaf) → AreFound all leaves → AreOwnLeaves (at_new all) (map new_leaf_seen leaves)
+new_own_leaves all [] each = tt
+new_own_leaves all (leaf ∷ leaves) each = (each.0, new_own_leaves all leaves each.1)
+
+none_first : (own : ℕ → Bool) (a b : List Noted) → AllByRecursion (NoFault own) (a ++ b) → AllByRecursion (NoFault own) a
+none_first own [] b all = tt
+none_first own (noted ∷ a) b all = (all.0, none_first own a b all.1)
+
+-- where no call on them failed all stamps are whole
+stamps_fine : (all : List NewLeaf) (pool : Guid) (size : ℕ → ℕ) (leaves : List NewLeaf) (stamps : List Stamp) (failed : Option NewLeaf) → AreFound all leaves → AreStamps size pool leaves stamps failed
+    → AllByRecursion (NoFault (at_new all)) (calls_of_stamps stamps) → failed ≡ None
+stamps_fine all pool size [] [] failed each are none = are
+stamps_fine all pool size [] (stamp ∷ stamps) failed each are none = absurd are
+stamps_fine all pool size (leaf ∷ leaves) [] failed each are none = absurd are
+stamps_fine all pool size (leaf ∷ leaves) (stamp ∷ stamps) failed each (dev, inl whole) none =
+    stamps_fine all pool size leaves stamps failed each.1 whole.1 (none_second (at_new all) stamp.made (calls_of_stamps stamps) none)
+stamps_fine all pool size (leaf ∷ leaves) (stamp ∷ stamps) failed each (dev, inr stop) none =
+    absurd (let no : Some stop.0 ≡ None = stamp_fine (at_new all) leaf.dev (size leaf.dev) pool leaf.guid stamp.made (Some stop.0) each.0 stop.1 (none_first (at_new all) stamp.made (calls_of_stamps stamps) none) in cc)
+
+all_fine : (ms : List Member) (results : List Bool) → all_true results ≡ true → first_failed ms results ≡ None
+all_fine [] results on = refl
+all_fine (m ∷ ms) [] on = refl
+all_fine (m ∷ ms) (true ∷ results) on = all_fine ms results on
+all_fine (m ∷ ms) (false ∷ results) on = absurd (cc)
+
+fault_answer : (a b : CreateReply) → To_create a ≡ To_create b → a ≡ b
+fault_answer a b e = cc
+
+pub create_counts : (c : Codec) (h : Host) (name : List ℕ) (blocks : ℕ) (tops : List (List (List ℕ))) (acts : List Act) (reply : Reply) (device : List ℕ) (from to : ℕ → ℕ)
+    → RowCreate c h name blocks tops acts reply → AllCaused (calls_along acts) from to → reply ≡ To_create (FaultOn device) → RoseAt (λ d. is_leaf_at (leaf_at d (leaves_of h.table tops))) from to
+create_counts c h name blocks tops acts reply device from to (inl row) caused says = absurd (let no = sym row.3 ∙ says in cc)
+create_counts c h name blocks tops acts reply device from to (inr (inl row)) caused says = ⊎_elim
+    (λ none. absurd (let no : Some row.leaf ≡ None = stamps_fine leaves row.pool (size_in h.table) leaves row.stamps (Some row.leaf) (found_all leaves) row.are
+    (subst (AllByRecursion (NoFault (at_new leaves))) (ap calls_along row.all ∙ stamp_calls row.pool.0 row.stamps) none) in cc))
+    (λ rose. rose) (fault_or (at_new leaves) (calls_along acts) from to caused)
+  where
+    leaves : List NewLeaf
+    leaves = leaves_of h.table tops
+create_counts c h name blocks tops acts reply device from to (inr (inr row)) caused says = ⊎_elim (λ none. absurd (whole (fine none))) (λ rose. rose) (fault_or (at_new leaves) (calls_along acts) from to caused)
+  where
+    leaves : List NewLeaf
+    leaves = leaves_of h.table tops
+
+    s : PoolState
+    s = new_state (size_in h.table) name row.pool blocks (tops_of h.table tops)
+
+    answer_is : row.answer ≡ FaultOn device
+    answer_is = fault_answer row.answer (FaultOn device) (sym row.says ∙ says)
+
+    calls : calls_along acts ≡ calls_of_stamps row.stamps ++ made_in row.moves
+    calls = ap calls_along row.all ∙ (calls_more (stamp_acts row.pool.0 row.stamps) (Bears (new_birth name row.pool blocks h.table tops) ∷ commit_acts row.answer row.pool.0 row.moves)
+        ∙ (ap (λ made. made ++ calls_along (commit_acts row.answer row.pool.0 row.moves)) (stamp_calls row.pool.0 row.stamps)
+        ∙ ap (λ made. calls_of_stamps row.stamps ++ made) (ap (λ a. calls_along (commit_acts a row.pool.0 row.moves)) answer_is ∙ closed_calls row.pool.0 row.moves)))
+
+    fine : AllByRecursion (NoFault (at_new leaves)) (calls_along acts) → all_true row.row.row.ends.results ≡ true
+    fine none = found_fine (at_new leaves) c (size_in h.table) s row.moves row.row.whole (new_own_leaves leaves leaves (found_all leaves))
+        (line_answered (at_new leaves) row.moves (made_in row.moves) refl
+        (none_second (at_new leaves) (calls_of_stamps row.stamps) (made_in row.moves) (subst (AllByRecursion (NoFault (at_new leaves))) calls none))) row.row.row
+
+    whole : all_true row.row.row.ends.results ≡ true → ⊥
+    whole on = let no : Created ≡ FaultOn device = sym (row.row.says ∙ ap (λ m. found_reply m s.core.leaves)
+        (all_fine (board_of (steps (row.row.row.first ++ (Flushed_all ∷ [])) s).core.leaves) row.row.row.ends.results on)) ∙ answer_is in cc
