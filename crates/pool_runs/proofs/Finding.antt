@@ -260,8 +260,6 @@ opens_live c h p before name found acts reply n knows live titled made fair open
     follow (NoPage page shown) out row = absurd (let no = sym row.1 ∙ says in cc)
 
 -- A page that was lost.
-page_same : (a b : Key) (x y : List LeafShown) → To_import (PageLost a x) ≡ To_import (PageLost b y) → a ≡ b
-page_same a b x y e = cc
 
 failed_more : (first second : List Noted) (d : ℕ) → failed_on second d ≡ true → failed_on (first ++ second) d ≡ true
 failed_more [] second d is = is
