@@ -2,6 +2,8 @@
 use Rattle.std.proofs.Common.{◌≡◌, ◌≢◌, ◌⊎◌, inl, inr, ⊎_elim, ℕ, ◌≤◌, ◌<◌, ◌==◌, Bool, true, false, cond, List, [], ◌∷◌, ◌++◌, take, Option, Some, None, refl, sym, ap, ◌∙◌, subst, arith}
 use Rattle.std.specs.List.{AllByRecursion}
 use Rattle.std.specs.Str.{bytes_eq}
+use Rattle.mp_base.specs.Outside.{Rose}
+use Rattle.mp_base.specs.declared.number.Guid.{Guid}
 use Rattle.bank_core.specs.Calls.{AllCaused}
 use Rattle.bank_core.specs.Disk.{Noted, run}
 use Rattle.txg_history.specs.Copies.{IsCopiedGroup, MayTakeGroup}
@@ -42,7 +44,7 @@ use Rattle.txg_history.proofs.Surviving.{survives_sound}
 use Rattle.pool_moves.specs.AwayRows.{OfflineReply, Gone, Required, LeastOut, IsRequired, is_offline, is_spare, leaf_named, siblings, OfflineLeaf, OfflineHere, OfflineBy}
 use Rattle.pool_moves.specs.Keeping.{Kept}
 use Rattle.pool_moves.specs.Leaves.{LeafSeen}
-use Rattle.pool_moves.specs.LineRows.{TurnReply, SyncReply, Ended, Committed, RowTurn, RowSync}
+use Rattle.pool_moves.specs.LineRows.{TurnReply, SyncReply, Ended, Committed, Suspended, RowTurn, RowSync}
 use Rattle.pool_moves.specs.Missing.{AllMissed}
 use Rattle.pool_moves.specs.Moves.{Move, steps, after_moves}
 use Rattle.pool_moves.specs.ReadRow.{ReadReply, Gives, Exhausted, RowRead, made_in}
@@ -53,7 +55,7 @@ use Rattle.pool_moves.proofs.Missing.{exhausted_missed}
 use Rattle.pool_moves.proofs.ReadWalks.{read_right}
 use Rattle.pool_runs.specs.Acts.{Act, Gives_for, Marks, Hears, calls_along, pool_along, history}
 use Rattle.pool_runs.specs.Committing.{CommitsAll, CommitsGroup, FindsPool}
-use Rattle.pool_runs.specs.Counting.{SomeRose, HasLostBoard, Suspends}
+use Rattle.pool_runs.specs.Counting.{SomeRose, HasLostBoard, LosesTop, Suspends}
 use Rattle.pool_runs.specs.Devices.{number_in, size_in}
 use Rattle.pool_runs.specs.Fairness.{AreFair}
 use Rattle.pool_runs.specs.Headline.{TakesFor, IsRequiredFor, Headline}
@@ -70,6 +72,7 @@ use Rattle.pool_runs.proofs.Committing.{sync_all, turn_all, does_pool}
 use Rattle.pool_runs.proofs.Counting.{NoFault, fault_or, turn_suspends, sync_suspends, line_answered}
 use Rattle.pool_runs.proofs.Finding.{import_finds}
 use Rattle.pool_runs.proofs.Knowing.{may_more, acts_keep, acts_number}
+use Rattle.pool_runs.proofs.Losing.{turn_loses}
 use Rattle.pool_runs.proofs.Members.{entry_keeps}
 use Rattle.pool_runs.proofs.Moments.{has_moments, acts_mays, keeps_all, may_take, acts_table, host_more, run_at, run_front}
 use Rattle.pool_runs.proofs.Pasting.{begins_known, then_pool, then_called, then_allowed, live_frozen}
@@ -301,6 +304,16 @@ line_counts c h p e name s from to met asked at caused bad = ⊎_elim (λ none. 
         line.2.row (subst Suspends line.1 bad)
     of none (inr out) asked = absurd (subst Suspends out.says bad)
 
+line_loses_top : (c : Codec) (h : Host) (p : Pool) (e : Entry) (name : List ℕ) (s : PoolState) (group : ℕ) (top : Guid) (faults : ℕ) (from to : ℕ → ℕ) → Meets c h p e → e.asked ≡ Asks_turn name
+    → IsOpenAs p h name s → AllCaused (calls_along e.acts) from to → e.reply ≡ To_turn (Suspended group top faults) → LosesTop s (λ d. Rose (from d) (to d)) top
+line_loses_top c h p e name s group top faults from to met asked at caused is = of met.row
+  where
+    of : HostRow c h e → LosesTop s (λ d. Rose (from d) (to d)) top
+    of (inl row) = let line = on_open h name s (TurnLine c h) e.acts e.reply at.named (subst (λ x. RowOf c h x e.acts e.reply) asked row.0) in
+        turn_loses c (size_in h.table) s line.2.moves (calls_along e.acts) group top faults from to (ap calls_along line.2.are ∙ does_calls s.core.pool.0 line.2.moves) caused
+        (subst (RowTurn c (size_in h.table) s line.2.moves) (turn_reply line.0 (Suspended group top faults) (sym line.1 ∙ is)) line.2.row)
+    of (inr out) = turn_not_memory (Suspended group top faults) (sym is ∙ out.says)
+
 pub headline_from : (c : Codec) (past : Past) (h : Host) (acts : List Act) (entries : List Entry) → Follows c past h acts entries → Headline c past h acts entries
 headline_from c past h acts entries f = record {
   moments = has_moments past acts entries;
@@ -320,7 +333,10 @@ headline_from c past h acts entries f = record {
   required = λ l name device temporary s leaf group asked at is plain up. line_required c (host_before h l) (pool_before l) l.entry name device temporary s leaf group (meets c past h acts entries f l) asked at is plain up;
   scans = at_scans c past h acts entries f;
   keeps = λ l d is. entry_keeps c (host_before h l) l.entry d (pool_before l) (meets c past h acts entries f l).row is;
-  counts = λ l name s from to asked at caused bad. line_counts c (host_before h l) (pool_before l) l.entry name s from to (meets c past h acts entries f l) asked at caused bad;
+  counts = λ l from to caused. record {
+    turns = λ name s group top faults asked at is. line_loses_top c (host_before h l) (pool_before l) l.entry name s group top faults from to (meets c past h acts entries f l) asked at caused is;
+    syncs = λ name s asked at bad. line_counts c (host_before h l) (pool_before l) l.entry name s from to (meets c past h acts entries f l) (inr asked) at caused bad;
+  };
 }
 
 pub first_headline : (c : Codec) (past : Past) (h : Host) (entries : List Entry) → BeginsRun c past h → IsRun c h entries → Headline c past h [] entries

@@ -12,11 +12,11 @@ use Rattle.pool_moves.specs.Leaves.{LeafSeen}
 use Rattle.pool_moves.specs.States.{PoolState}
 use Rattle.pool_runs.specs.Acts.{Act, calls_along, pool_along, history}
 use Rattle.pool_runs.specs.Committing.{Acknowledges, FindsPool}
-use Rattle.pool_runs.specs.Counting.{SomeRose, HasLostBoard, Suspends}
+use Rattle.pool_runs.specs.Counting.{SuspendsFor}
 use Rattle.pool_runs.specs.Fairness.{AreFair}
 use Rattle.pool_runs.specs.HostRows.{acts_in}
 use Rattle.pool_runs.specs.Hosts.{Host}
-use Rattle.pool_runs.specs.Lines.{Asks_read, Asks_turn, Asks_sync, Asks_offline, Asks_import, Reply, To_offline, No_memory, Entry}
+use Rattle.pool_runs.specs.Lines.{Asks_read, Asks_offline, Asks_import, Reply, To_offline, No_memory, Entry}
 use Rattle.pool_runs.specs.Moments.{Moment, events_at, pool_at, past_at, host_at, LineOf, pool_before, pool_behind, host_before, host_after, calls_in_line, IsOpenAs}
 use Rattle.pool_runs.specs.Pasts.{Past, pool_of, Left, HasFrozen}
 use Rattle.pool_runs.specs.Taking.{IsTakenBy}
@@ -72,6 +72,5 @@ pub record Headline (c : Codec) (past : Past) (h : Host) (acts : List Act) (entr
       → (pool_after before (pool_of past)).owes d g ≡ true → (pool_at m).owes d g ≡ false → TakesFor (pool_of past) before v d g
   -- a member stays one, unless this very line is a create that names its device, wasn't refused, and wrote to it
   pub keeps : (l : LineOf c past acts entries) (d : ℕ) → (pool_before l).member d ≡ true → ((pool_behind l).member d ≡ true) ⊎ IsTakenBy (host_before h l) l.entry d
-  -- a turn or a sync is refused as suspended only where a device's count rose in that very line, or some top had nobody left on its board before
-  pub counts : (l : LineOf c past acts entries) (name : List ℕ) (s : PoolState) (from to : ℕ → ℕ) → (l.entry.asked ≡ Asks_turn name) ⊎ (l.entry.asked ≡ Asks_sync name)
-      → IsOpenAs (pool_before l) (host_before h l) name s → AllCaused (calls_in_line l) from to → Suspends l.entry.reply → SomeRose from to ⊎ HasLostBoard s
+  -- a turn is refused as suspended only where each leaf of the lost top failed that was still on its board, as its device's count tells, and so on
+  pub counts : (l : LineOf c past acts entries) (from to : ℕ → ℕ) → AllCaused (calls_in_line l) from to → SuspendsFor (host_before h l) (pool_before l) l.entry from to
