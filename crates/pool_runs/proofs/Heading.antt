@@ -72,6 +72,7 @@ use Rattle.pool_runs.proofs.Committing.{sync_all, turn_all, does_pool}
 use Rattle.pool_runs.proofs.Counting.{NoFault, fault_or, turn_suspends, sync_suspends, line_answered}
 use Rattle.pool_runs.proofs.Finding.{import_finds}
 use Rattle.pool_runs.proofs.Knowing.{may_more, acts_keep, acts_number}
+use Rattle.pool_runs.proofs.Faulting.{create_rose}
 use Rattle.pool_runs.proofs.Losing.{turn_loses}
 use Rattle.pool_runs.proofs.Members.{entry_keeps}
 use Rattle.pool_runs.proofs.Moments.{has_moments, acts_mays, keeps_all, may_take, acts_table, host_more, run_at, run_front}
@@ -336,6 +337,7 @@ headline_from c past h acts entries f = record {
   counts = λ l from to caused. record {
     turns = λ name s group top faults asked at is. line_loses_top c (host_before h l) (pool_before l) l.entry name s group top faults from to (meets c past h acts entries f l) asked at caused is;
     syncs = λ name s asked at bad. line_counts c (host_before h l) (pool_before l) l.entry name s from to (meets c past h acts entries f l) (inr asked) at caused bad;
+    creates = λ name blocks tops device asked is. create_rose c (host_before h l) l.entry name blocks tops device from to (meets c past h acts entries f l).row asked caused is;
   };
 }
 

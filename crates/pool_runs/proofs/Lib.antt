@@ -4,6 +4,7 @@ pub mod Bearing
 pub mod Committing
 pub mod Counting
 pub mod Creating
+pub mod Faulting
 pub mod Finding
 pub mod GroupMoves
 pub mod Heading

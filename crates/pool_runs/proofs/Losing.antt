@@ -42,17 +42,17 @@ failed_rose d (noted ∷ made) from to caused (inl failed) = subst (λ e. Rose (
     (caused_up made caused.0 to caused.2 (device_of noted.call)))
 failed_rose d (noted ∷ made) from to caused (inr more) = rose_since (from d) (caused.0 d) (to d) (caused.1.counts d) (failed_rose d made caused.0 to caused.2 more)
 
-failed_left : (d : ℕ) (xs ys : List Noted) → FailedOn d xs → FailedOn d (xs ++ ys)
+pub failed_left : (d : ℕ) (xs ys : List Noted) → FailedOn d xs → FailedOn d (xs ++ ys)
 failed_left d [] ys failed = absurd failed
 failed_left d (x ∷ xs) ys (inl here) = inl here
 failed_left d (x ∷ xs) ys (inr more) = inr (failed_left d xs ys more)
 
-failed_right : (d : ℕ) (xs ys : List Noted) → FailedOn d ys → FailedOn d (xs ++ ys)
+pub failed_right : (d : ℕ) (xs ys : List Noted) → FailedOn d ys → FailedOn d (xs ++ ys)
 failed_right d [] ys failed = failed
 failed_right d (x ∷ xs) ys failed = inr (failed_right d xs ys failed)
 
 -- A member's turn that failed has a call on its device that did.
-abbrev IsAskOn : (d : ℕ) → Ask → Type 0
+abbrev pub IsAskOn : (d : ℕ) → Ask → Type 0
 IsAskOn d (Reads dev at sectors) = dev ≡ d
 IsAskOn d (Writes dev at bytes) = dev ≡ d
 IsAskOn d (Flushes dev) = dev ≡ d
@@ -66,7 +66,7 @@ asked_on (FlushCall dev fault) d is = is
 asked_on (Admit dev holds) d is = is
 asked_on (Eject dev) d is = is
 
-part_failed : (d : ℕ) (asks : List Ask) (made : List Noted) (fault : Fault) → AllByRecursion (IsAskOn d) asks → IsPart asks made (Some fault) → FailedOn d made
+pub part_failed : (d : ℕ) (asks : List Ask) (made : List Noted) (fault : Fault) → AllByRecursion (IsAskOn d) asks → IsPart asks made (Some fault) → FailedOn d made
 part_failed d [] [] fault on part = absurd (let no : Some fault ≡ None = part in cc)
 part_failed d [] (noted ∷ made) fault on part = absurd part
 part_failed d (ask ∷ asks) [] fault on part = absurd part
@@ -78,7 +78,7 @@ turn_failed d asks made on (None, part, is) = absurd (let no : false ≡ true = 
 turn_failed d asks made on (Some fault, part, is) = part_failed d asks made fault on part
 
 -- Each member without a good result failed.
-abbrev Failing : (Fails : ℕ → Type 0) → List Member → (results : List Bool) → Type 0
+abbrev pub Failing : (Fails : ℕ → Type 0) → List Member → (results : List Bool) → Type 0
 Failing Fails [] results = Unit {0}
 Failing Fails (m ∷ ms) [] = Unit {0}
 Failing Fails (m ∷ ms) (true ∷ results) = Failing Fails ms results
@@ -282,13 +282,13 @@ ends_lost Fails s vs (Some at) draws going ending group top faults just is never
 ends_lost Fails s vs None draws going ending group top faults just is never ends = absurd (never (sym ends.1))
 
 -- calls that failed, among the moves of a turn
-moves_left : (d : ℕ) (vs ws : List Move) → FailedOn d (made_in vs) → FailedOn d (made_in (vs ++ ws))
+pub moves_left : (d : ℕ) (vs ws : List Move) → FailedOn d (made_in vs) → FailedOn d (made_in (vs ++ ws))
 moves_left d [] ws failed = absurd failed
 moves_left d (Makes noted ∷ vs) ws (inl here) = inl here
 moves_left d (Makes noted ∷ vs) ws (inr more) = inr (moves_left d vs ws more)
 moves_left d (v ∷ vs) ws failed = moves_left d vs ws failed
 
-moves_right : (d : ℕ) (vs ws : List Move) → FailedOn d (made_in ws) → FailedOn d (made_in (vs ++ ws))
+pub moves_right : (d : ℕ) (vs ws : List Move) → FailedOn d (made_in ws) → FailedOn d (made_in (vs ++ ws))
 moves_right d [] ws failed = failed
 moves_right d (Makes noted ∷ vs) ws failed = inr (moves_right d vs ws failed)
 moves_right d (v ∷ vs) ws failed = moves_right d vs ws failed
@@ -314,6 +314,18 @@ part_loses s vs group top faults plan ms made results leaving mark part going on
     ends_lost (FailedIn vs) s (part ++ counts) (emptied (steps (part ++ counts) s).core.leaves) false going turn.ending group top faults
     (just_more (FailedIn vs) part counts just_part (just_counts (FailedIn vs) s.core.leaves ms results)) refl never turn.ends
 
+pub round_failing : (c : Codec) (size : ℕ → ℕ) (s : PoolSeen) (part : List Move) (whole : Bool) (row : RowRound c size s part whole) (F : ℕ → Type 0)
+    → ((d : ℕ) → FailedOn d (made_in (as_moves row.first ++ (as_moves row.second ++ row.thirds))) → F d) → Failing F (board_of s.leaves) row.results
+round_failing c size s part whole row F fails =
+    let ms = board_of s.leaves in
+    let more = as_moves row.second ++ row.thirds in
+    let one = phase_failing F (first_plan size row.draft.commit) (λ m. (refl, (refl, (refl, tt)))) ms (map (λ m. true) ms) row.in_first row.first
+        (λ d f. fails d (moves_left d (as_moves row.first) more (as_calls d row.first f))) row.configs (start_failing F ms) in
+    let two = phase_failing F (second_plan size row.draft.commit) (λ m. (refl, (refl, (refl, (refl, (refl, tt)))))) ms row.in_first row.in_second row.second
+        (λ d f. fails d (moves_right d (as_moves row.first) more (moves_left d (as_moves row.second) row.thirds (as_calls d row.second f)))) row.uberblocks one in
+    third_failing F (third_plan size row.draft.commit) row.draft (λ m. (refl, (refl, (refl, tt)))) ms row.in_second row.results row.thirds
+    (λ d f. fails d (moves_right d (as_moves row.first) more (moves_right d (as_moves row.second) row.thirds f))) row.copies two
+
 round_loses : (c : Codec) (size : ℕ → ℕ) (s : PoolState) (vs : List Move) (group : ℕ) (top : Guid) (faults : ℕ) → IsRoundPart c size s vs (Suspended group top faults) → LosesTop s (FailedIn vs) top
 round_loses c size s vs group top faults w = of w.whole w.row w.ends w.counted
   where
@@ -330,12 +342,7 @@ round_loses c size s vs group top faults w = of w.whole w.row w.ends w.counted
         let part_fails : (d : ℕ) → FailedOn d (made_in body) → F d = λ d f. subst (λ l. FailedOn d (made_in l)) (sym w.moves) (moves_left d w.behind w.ending
             (subst (λ l. FailedOn d (made_in l)) (sym counted) (moves_left d w.part counts (subst (λ l. FailedOn d (made_in l)) (sym row.moves)
             (moves_left d (round_moves row.draft row.first row.second row.thirds) row.ending f))))) in
-        let one = phase_failing F (first_plan size row.draft.commit) (λ m. (refl, (refl, (refl, tt)))) ms (map (λ m. true) ms) row.in_first row.first
-            (λ d f. part_fails d (moves_left d (as_moves row.first) more (as_calls d row.first f))) row.configs (start_failing F ms) in
-        let two = phase_failing F (second_plan size row.draft.commit) (λ m. (refl, (refl, (refl, (refl, (refl, tt)))))) ms row.in_first row.in_second row.second
-            (λ d f. part_fails d (moves_right d (as_moves row.first) more (moves_left d (as_moves row.second) row.thirds (as_calls d row.second f)))) row.uberblocks one in
-        let three = third_failing F (third_plan size row.draft.commit) row.draft (λ m. (refl, (refl, (refl, tt)))) ms row.in_second row.results row.thirds
-            (λ d f. part_fails d (moves_right d (as_moves row.first) more (moves_right d (as_moves row.second) row.thirds f))) row.copies two in
+        let three = round_failing c size s.core w.part false row F part_fails in
         let just_body : AreJust F (round_moves row.draft row.first row.second row.thirds) = (tt, just_more F (as_moves row.first) more (just_calls F row.first)
             (just_more F (as_moves row.second) row.thirds (just_calls F row.second) (just_thirds F (third_plan size row.draft.commit) row.draft ms row.in_second row.results row.thirds row.copies))) in
         let just_part : AreJust F w.part = subst (AreJust F) (sym row.moves) (just_more F (round_moves row.draft row.first row.second row.thirds) row.ending just_body

@@ -7,9 +7,10 @@ use Rattle.txg_history.specs.Pools.{Pool}
 use Rattle.pool_moves.specs.Boards.{emptied}
 use Rattle.pool_moves.specs.Leaves.{LeafSeen}
 use Rattle.pool_moves.specs.LineRows.{TurnReply, Suspended, SyncReply, Ended}
+use Rattle.pool_moves.specs.StampRow.{FaultOn}
 use Rattle.pool_moves.specs.States.{PoolState}
 use Rattle.pool_runs.specs.Hosts.{Host}
-use Rattle.pool_runs.specs.Lines.{Asks_turn, Asks_sync, Reply, To_turn, To_sync, Entry}
+use Rattle.pool_runs.specs.Lines.{Asks_turn, Asks_sync, Asks_create, Reply, To_turn, To_sync, To_create, Entry}
 use Rattle.pool_runs.specs.Moments.{IsOpenAs}
 
 -- some device's count rose
@@ -47,8 +48,11 @@ Suspends (To_sync reply) = SuspendsSync reply
 Suspends reply = ⊥
 
 -- A turn of the open pool is refused as suspended only where the count of each device on which the lost top had a leaf on its board rose in that very
--- line; and a sync only where some device's count did, or a top had nobody left on its board before.
-pub record SuspendsFor (h : Host) (p : Pool) (e : Entry) (from to : ℕ → ℕ) : Type 0 where
+-- line; a sync only where some device's count did, or a top had nobody left on its board before; and a create answers that a device failed only where
+-- some device's count rose in that line.
+pub record FailsByCounts (h : Host) (p : Pool) (e : Entry) (from to : ℕ → ℕ) : Type 0 where
   pub turns : (name : List ℕ) (s : PoolState) (group : ℕ) (top : Guid) (faults : ℕ) → e.asked ≡ Asks_turn name → IsOpenAs p h name s
       → e.reply ≡ To_turn (Suspended group top faults) → LosesTop s (λ d. Rose (from d) (to d)) top
   pub syncs : (name : List ℕ) (s : PoolState) → e.asked ≡ Asks_sync name → IsOpenAs p h name s → Suspends e.reply → SomeRose from to ⊎ HasLostBoard s
+  pub creates : (name : List ℕ) (blocks : ℕ) (tops : List (List (List ℕ))) (device : List ℕ) → e.asked ≡ Asks_create name blocks tops
+      → e.reply ≡ To_create (FaultOn device) → SomeRose from to

@@ -12,7 +12,7 @@ use Rattle.pool_moves.specs.Leaves.{LeafSeen}
 use Rattle.pool_moves.specs.States.{PoolState}
 use Rattle.pool_runs.specs.Acts.{Act, calls_along, pool_along, history}
 use Rattle.pool_runs.specs.Committing.{Acknowledges, FindsPool}
-use Rattle.pool_runs.specs.Counting.{SuspendsFor}
+use Rattle.pool_runs.specs.Counting.{FailsByCounts}
 use Rattle.pool_runs.specs.Fairness.{AreFair}
 use Rattle.pool_runs.specs.HostRows.{acts_in}
 use Rattle.pool_runs.specs.Hosts.{Host}
@@ -72,5 +72,6 @@ pub record Headline (c : Codec) (past : Past) (h : Host) (acts : List Act) (entr
       → (pool_after before (pool_of past)).owes d g ≡ true → (pool_at m).owes d g ≡ false → TakesFor (pool_of past) before v d g
   -- a member stays one, unless this very line is a create that names its device, wasn't refused, and wrote to it
   pub keeps : (l : LineOf c past acts entries) (d : ℕ) → (pool_before l).member d ≡ true → ((pool_behind l).member d ≡ true) ⊎ IsTakenBy (host_before h l) l.entry d
-  -- a turn is refused as suspended only where each leaf of the lost top failed that was still on its board, as its device's count tells, and so on
-  pub counts : (l : LineOf c past acts entries) (from to : ℕ → ℕ) → AllCaused (calls_in_line l) from to → SuspendsFor (host_before h l) (pool_before l) l.entry from to
+  -- a turn is refused as suspended only where each leaf of the lost top that was still on its board failed in that very line, as its device's count
+  -- tells; a sync only where some count rose in it, or a top was lost before; and a create answers a failed device only where some count rose in it
+  pub counts : (l : LineOf c past acts entries) (from to : ℕ → ℕ) → AllCaused (calls_in_line l) from to → FailsByCounts (host_before h l) (pool_before l) l.entry from to
