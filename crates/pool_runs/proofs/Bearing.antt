@@ -136,7 +136,7 @@ bears_known c h name blocks tops pool stamps may are new =
         apart = λ d k is off. not_true (is_leaf_at (leaf_at d leaves)) (λ member. let at = leaf_of d leaves member in
             let found = leaf_found d leaves at.0 at.1 in
             let owned : (host_stamped h pool.0 stamps).owner d ≡ Some pool.0 = subst (λ x. (host_stamped h pool.0 stamps).owner x ≡ Some pool.0) found.1
-                (all_of (λ leaf. (host_stamped h pool.0 stamps).owner leaf.dev ≡ Some pool.0) leaves at.0 (all_owned pool (size_in h.table) leaves stamps h are) found.0) in
+            (all_of (λ leaf. (host_stamped h pool.0 stamps).owner leaf.dev ≡ Some pool.0) leaves at.0 (all_owned pool (size_in h.table) leaves stamps h are) found.0) in
             off (some_same k pool.0 (sym is ∙ owned)));
         sizes = λ d one. ap (λ table. size_in table d) (sym (acts_table (stamp_acts pool.0 stamps) h));
         disk = λ d s one. refl;

@@ -241,10 +241,10 @@ open_commits (Some refusal) c size s vs n row = absurd (let no = row.1 in cc)
 open_commits None c size s vs n row =
     let w : CommitsOpen c size s vs (Committed n) = subst (CommitsOpen c size s vs) (sym (ended_turn (Committed n) row.0 row.2)) row.1 in
     let rest = group_commits c size (steps w.first s) w.rest n w.ends in record {
-  ends = subst (λ l. EndsIn l n) (sym w.moves) (ends_behind w.first w.rest n rest.ends);
-  none = ap (λ l. (steps l s).own.writes) w.moves ∙ frozen_writes w.first w.rest s w.freeze.cells (up_devs s.core.leaves) w.freeze.moves
-      (all_group KeepsWrites writes_kind c size (steps w.first s) w.rest (Committed n) (λ bad. absurd bad) w.ends);
-}
+      ends = subst (λ l. EndsIn l n) (sym w.moves) (ends_behind w.first w.rest n rest.ends);
+      none = ap (λ l. (steps l s).own.writes) w.moves ∙ frozen_writes w.first w.rest s w.freeze.cells (up_devs s.core.leaves) w.freeze.moves
+          (all_group KeepsWrites writes_kind c size (steps w.first s) w.rest (Committed n) (λ bad. absurd bad) w.ends);
+    }
 
 behind_commits : (turn : TurnReply) (c : Codec) (size : ℕ → ℕ) (s : PoolState) (first vs : List Move) (n : ℕ) → SyncBehind turn c size s vs (Ended (Committed n)) → SyncCommits s vs n
 behind_commits (Committed number) c size s first vs n (inl row) = absurd (let no = row.1 in cc)
@@ -266,10 +266,10 @@ pub sync_all : (c : Codec) (size : ℕ → ℕ) (s : PoolState) (t : Side) (vs :
 sync_all c size s t vs n kept row =
     let commits = sync_commits s.core.group.frozen c size s vs n row in
     let acked = ends_acked vs n t commits.ends in record {
-  acked = acked.number;
-  blocks = λ a. kept_blocks c (steps vs s) (after_moves vs t) n kept acked commits.none a
-      ∙ ap (λ w. w a) (written_along vs t (all_sync KeepsWritten written_kind (λ cells board. tt) s.core.group.frozen c size s vs (Ended (Committed n)) (λ bad. tt) row));
-}
+      acked = acked.number;
+      blocks = λ a. kept_blocks c (steps vs s) (after_moves vs t) n kept acked commits.none a
+          ∙ ap (λ w. w a) (written_along vs t (all_sync KeepsWritten written_kind (λ cells board. tt) s.core.group.frozen c size s vs (Ended (Committed n)) (λ bad. tt) row));
+    }
 
 -- A turn acknowledges what was written before its group's freeze.
 abbrev KeepsContent : Move → Type 0
@@ -316,9 +316,9 @@ turn_all c size s t vs n kept walks row =
     let now = walk_second c e.body ending t all in
     let before = walk_keeps c e.body s t (walk_first c e.body ending t all) kept in
     let keeps : AllByRecursion KeepsContent (e.body ++ ending) = subst (AllByRecursion KeepsContent) e.moves (all_turn KeepsContent content_kind c size s vs (Committed n) (λ bad. tt) row) in record {
-  acked = (ends_acked vs n t e).number;
-  blocks = λ a. ap (λ p. block_at p.acked a) (ends_pool vs n t e) ∙ (before.survives.come_to.contents now.0.0.0.frozen a ∙ ap (λ f. f a) (content_along e.body ending t keeps));
-}
+      acked = (ends_acked vs n t e).number;
+      blocks = λ a. ap (λ p. block_at p.acked a) (ends_pool vs n t e) ∙ (before.survives.come_to.contents now.0.0.0.frozen a ∙ ap (λ f. f a) (content_along e.body ending t keeps));
+    }
 
 -- the pool behind its own moves
 pub does_pool : (g : ℕ) (vs : List Move) (t : Side) → t.pool.pool.0 ≡ g → pool_along (does g vs) t.pool ≡ (after_moves vs t).pool

@@ -55,13 +55,15 @@ few limit count is = by_bool (nat_lt limit count) (λ yes. absurd (let no : Some
 big_of : (n : ℕ) (rest : Option CreateRefusal) → or_else (cond (nat_lt n 320) (Some (TooSmall 320 n)) None) rest ≡ None → 320 ≤ n
 big_of n rest is = by_bool (nat_lt n 320)
     (λ yes. absurd (let no : Some (TooSmall 320 n) ≡ None =
-        sym (ap (λ t. cond t (Some (TooSmall 320 n)) None) yes) ∙ or_first (cond (nat_lt n 320) (Some (TooSmall 320 n)) None) rest is in cc))
+    sym (ap (λ t. cond t (Some (TooSmall 320 n)) None) yes) ∙ or_first (cond (nat_lt n 320) (Some (TooSmall 320 n)) None) rest is in cc))
     (λ no. let high : 320 ≤ n = grind (arith, nat_tests) in high)
 
 all_big : (table : List Device) (leaves : List NewLeaf) → too_small table leaves ≡ None → AllByRecursion (λ leaf. 320 ≤ size_in table leaf.dev) leaves
 all_big table [] is = tt
-all_big table (l ∷ leaves) is = (big_of (size_in table l.dev) (too_small table leaves) is,
-    all_big table leaves (or_second (cond (nat_lt (size_in table l.dev) 320) (Some (TooSmall 320 (size_in table l.dev))) None) (too_small table leaves) is))
+all_big table (l ∷ leaves) is = (
+  big_of (size_in table l.dev) (too_small table leaves) is,
+  all_big table leaves (or_second (cond (nat_lt (size_in table l.dev) 320) (Some (TooSmall 320 (size_in table l.dev))) None) (too_small table leaves) is),
+)
 
 not_refused : (t : Bool) (refusal : CreateRefusal) → refused_if t refusal ≡ None → t ≡ false
 not_refused true refusal is = absurd (cc)
@@ -95,8 +97,10 @@ children_few : (table : List Device) (tops : List (List (List ℕ))) → too_wid
     → AllByRecursion (λ members. (1 ≤ length members) × (length members ≤ 8)) (tops_of table tops)
 children_few table [] none some = tt
 children_few table (names ∷ tops) none some = (
-  (subst (λ n. 1 ≤ n) (sym (members_length table names)) some.0,
-      subst (λ n. n ≤ 8) (sym (members_length table names)) (few 8 (length names) (or_first (too_many 8 (length names)) (too_wide tops) none))),
+  (
+    subst (λ n. 1 ≤ n) (sym (members_length table names)) some.0,
+    subst (λ n. n ≤ 8) (sym (members_length table names)) (few 8 (length names) (or_first (too_many 8 (length names)) (too_wide tops) none)),
+  ),
   children_few table tops (or_second (too_many 8 (length names)) (too_wide tops) none) some.1,
 )
 
@@ -106,11 +110,11 @@ pub within : (h : Host) (name : List ℕ) (blocks : ℕ) (tops : List (List (Lis
 within h name blocks tops pool may =
     let all = none_refused h name blocks tops may.none in
     let range = some_blocks blocks (not_refused ((blocks == 0) || nat_lt 262144 blocks) (BadBlocks 262144) all.1.1.1.1.1.0) in record {
-  some = range.0;
-  most = range.1;
-  few_tops = subst (λ n. n ≤ 8) (sym (tops_length h.table tops)) (few 8 (length tops) all.1.1.0);
-  few_children = children_few h.table tops all.1.1.1.0 may.some;
-  few_leaves = subst (λ n. n ≤ 32) (sym (leaves_length h.table tops 1 1)) (few 32 (length (all_names tops)) all.1.1.1.1.0);
-  apart = may.apart;
-  big = all_big h.table (leaves_of h.table tops) all.1.1.1.1.1.1.1.1.1.0;
-}
+      some = range.0;
+      most = range.1;
+      few_tops = subst (λ n. n ≤ 8) (sym (tops_length h.table tops)) (few 8 (length tops) all.1.1.0);
+      few_children = children_few h.table tops all.1.1.1.0 may.some;
+      few_leaves = subst (λ n. n ≤ 32) (sym (leaves_length h.table tops 1 1)) (few 32 (length (all_names tops)) all.1.1.1.1.0);
+      apart = may.apart;
+      big = all_big h.table (leaves_of h.table tops) all.1.1.1.1.1.1.1.1.1.0;
+    }

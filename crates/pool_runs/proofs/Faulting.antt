@@ -97,8 +97,11 @@ create_failed c h name blocks tops acts reply device (inr (inl row)) is =
 create_failed c h name blocks tops acts reply device (inr (inr row)) is =
     let s = new_state (size_in h.table) name row.pool blocks (tops_of h.table tops) in
     let failed = commit_failed c (size_in h.table) s row.moves device (subst (CommitsFirst c (size_in h.table) s row.moves) (create_reply row.answer (FaultOn device) (sym row.says ∙ is)) row.row) in
-    subst (λ a. SomeFailed (calls_along a)) (sym row.all) (failed.0, acts_right failed.0 (stamp_acts row.pool.0 row.stamps) (Bears (new_birth name row.pool blocks h.table tops) ∷ commit_acts row.answer row.pool.0 row.moves)
-    (fails_acts row.answer row.pool.0 row.moves failed.0 failed.1))
+    subst (λ a. SomeFailed (calls_along a)) (sym row.all) (
+      failed.0,
+      acts_right failed.0 (stamp_acts row.pool.0 row.stamps) (Bears (new_birth name row.pool blocks h.table tops) ∷ commit_acts row.answer row.pool.0 row.moves)
+          (fails_acts row.answer row.pool.0 row.moves failed.0 failed.1),
+    )
 
 pub create_rose : (c : Codec) (h : Host) (e : Entry) (name : List ℕ) (blocks : ℕ) (tops : List (List (List ℕ))) (device : List ℕ) (from to : ℕ → ℕ) → HostRow c h e → e.asked ≡ Asks_create name blocks tops
     → AllCaused (calls_along e.acts) from to → e.reply ≡ To_create (FaultOn device) → SomeRose from to

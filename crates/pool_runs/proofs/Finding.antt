@@ -83,25 +83,25 @@ resumed c size s t vs n kept w =
     let zeros = uncounts leaves in
     let commits = group_commits c size (steps first s) w.row.rest n w.row.ends in
     let acked_first : IsAckedAs (after_moves w.first t).pool n = subst (λ l. IsAckedAs (after_moves l t).pool n) (sym w.row.moves)
-        (subst (λ x. IsAckedAs x.pool n) (sym (moves_more first (w.row.rest ++ zeros) t))
-        (ends_acked (w.row.rest ++ zeros) n (after_moves first t) (ends_before w.row.rest zeros n commits.ends (uncounts_set leaves)))) in
+    (subst (λ x. IsAckedAs x.pool n) (sym (moves_more first (w.row.rest ++ zeros) t))
+    (ends_acked (w.row.rest ++ zeros) n (after_moves first t) (ends_before w.row.rest zeros n commits.ends (uncounts_set leaves)))) in
     let acked : IsAckedAs (after_moves vs t).pool n = subst (λ l. IsAckedAs (after_moves l t).pool n) (sym w.moves)
-        (subst (λ x. IsAckedAs x.pool n) (sym (moves_more w.first w.rest t)) (resilver_acked (steps w.first s).core w.rest (after_moves w.first t) n w.resumes acked_first)) in
+    (subst (λ x. IsAckedAs x.pool n) (sym (moves_more w.first w.rest t)) (resilver_acked (steps w.first s).core w.rest (after_moves w.first t) n w.resumes acked_first)) in
     let still = resilver_written (steps w.first s).core w.rest w.resumes in
     let none : (steps vs s).own.writes ≡ (λ x. None) = ap (λ l. (steps l s).own.writes) w.moves ∙ (ap (λ x. x.own.writes) (steps_more w.first w.rest s)
-        ∙ (writes_along w.rest (steps w.first s) still.1 ∙ (ap (λ l. (steps l s).own.writes) w.row.moves
-        ∙ frozen_writes first (w.row.rest ++ zeros) s (λ k. None) (up_devs s.core.leaves) w.row.freeze.moves
-        (more KeepsWrites w.row.rest zeros (all_group KeepsWrites writes_kind c size (steps first s) w.row.rest (Committed n) (λ bad. absurd bad) w.row.ends)
-        (all_uncounts KeepsWrites writes_kind leaves))))) in
+    ∙ (writes_along w.rest (steps w.first s) still.1 ∙ (ap (λ l. (steps l s).own.writes) w.row.moves
+    ∙ frozen_writes first (w.row.rest ++ zeros) s (λ k. None) (up_devs s.core.leaves) w.row.freeze.moves
+    (more KeepsWrites w.row.rest zeros (all_group KeepsWrites writes_kind c size (steps first s) w.row.rest (Committed n) (λ bad. absurd bad) w.row.ends)
+    (all_uncounts KeepsWrites writes_kind leaves))))) in
     let all : AllByRecursion KeepsWritten vs = subst (AllByRecursion KeepsWritten) (sym w.moves) (more KeepsWritten w.first w.rest
-        (all_reopen KeepsWritten written_kind (λ cells board. tt) c size s w.first (Committed n) (λ bad. tt) w.row) still.0) in record {
-  up = let frozen : s.core.number + 1 ≤ (steps first s).core.number = subst (λ l. s.core.number + 1 ≤ (steps l s).core.number) (sym w.row.freeze.moves.moves)
-      (numbers_up w.row.freeze.moves.widens (state_step (Freeze (λ k. None) (up_devs s.core.leaves)) s)) in
-      let most = commits.up in omega (arith, frozen, most);
-  acked = acked.number;
-  blocks = λ a. kept_blocks c (steps vs s) (after_moves vs t) n kept acked none a ∙ ap (λ f. f a) (written_along vs t all);
-  written = written_along vs t all;
-}
+    (all_reopen KeepsWritten written_kind (λ cells board. tt) c size s w.first (Committed n) (λ bad. tt) w.row) still.0) in record {
+      up = let frozen : s.core.number + 1 ≤ (steps first s).core.number = subst (λ l. s.core.number + 1 ≤ (steps l s).core.number) (sym w.row.freeze.moves.moves)
+          (numbers_up w.row.freeze.moves.widens (state_step (Freeze (λ k. None) (up_devs s.core.leaves)) s)) in
+          let most = commits.up in omega (arith, frozen, most);
+      acked = acked.number;
+      blocks = λ a. kept_blocks c (steps vs s) (after_moves vs t) n kept acked none a ∙ ap (λ f. f a) (written_along vs t all);
+      written = written_along vs t all;
+    }
 
 resumed_by : (top : Option ℕ) (c : Codec) (size : ℕ → ℕ) (s : PoolState) (t : Side) (vs : List Move) (n : ℕ) → Kept c (steps vs s) (after_moves vs t) → ResumesUnless top c size s vs (Committed n) → Resumed t vs s.core.number n
 resumed_by (Some top) c size s t vs n kept row = absurd (let no = row.1 in cc)
@@ -225,21 +225,21 @@ opens_live c h p before name found acts reply n knows live titled made fair open
         let s_number : s.core.number ≡ number_of r = ap (λ core. core.number) has.1.core ∙ q_highest in
         let mine : s.core.pool.0 ≡ g = ap (λ core. core.pool.0) has.1.core ∙ q_number in
         let called : s.core.name ≡ name = ap (λ core. core.name) has.1.core ∙ (ap (λ x. x.name) (calls_after opens.made (after (Opens r) p)) ∙ titled) in record {
-      live = record {
-        r = r;
-        live = subst (IsIn r) live.same facts.is.is_live;
-        not_below = subst (λ k. number_of before.acked ≤ k) (sym (ap (λ x. x.0) live.is.number_is) ∙ ap (λ x. x.0) facts.is.number_is) live.not_below;
-        above = subst (λ k. number_of r < k) same (subst (λ k. k < m) s_number end.up);
-        acked = ap (λ x. number_of x.acked) pool_is ∙ (end.acked ∙ same);
-        blocks = λ a. ap (λ x. block_at x.acked a) pool_is ∙ (end.blocks a ∙ ap (λ w. w a) q_written);
-        written = λ a. ap (λ x. x.written a) pool_is ∙ (ap (λ w. w a) end.written ∙ ap (λ w. w a) q_written);
-      };
-      state = steps vs s;
-      at = record {
-        named = enters_named name g early acts s vs h (acts_are ∙ ap (λ l. early ++ l) rest) mine called;
-        ours = ap (λ core. core.pool.0) kept.core ∙ sym (ap (λ x. x.pool.0) pool_is);
-      };
-    }
+          live = record {
+            r = r;
+            live = subst (IsIn r) live.same facts.is.is_live;
+            not_below = subst (λ k. number_of before.acked ≤ k) (sym (ap (λ x. x.0) live.is.number_is) ∙ ap (λ x. x.0) facts.is.number_is) live.not_below;
+            above = subst (λ k. number_of r < k) same (subst (λ k. k < m) s_number end.up);
+            acked = ap (λ x. number_of x.acked) pool_is ∙ (end.acked ∙ same);
+            blocks = λ a. ap (λ x. block_at x.acked a) pool_is ∙ (end.blocks a ∙ ap (λ w. w a) q_written);
+            written = λ a. ap (λ x. x.written a) pool_is ∙ (ap (λ w. w a) end.written ∙ ap (λ w. w a) q_written);
+          };
+          state = steps vs s;
+          at = record {
+            named = enters_named name g early acts s vs h (acts_are ∙ ap (λ l. early ++ l) rest) mine called;
+            ours = ap (λ core. core.pool.0) kept.core ∙ sym (ap (λ x. x.pool.0) pool_is);
+          };
+        }
 
     by_turn : (turn : TurnReply) (s : PoolState) (vs : List Move) → opens.outcome ≡ Opens_state s → RowResume c (size_in h.table) s vs turn → OpensBy turn g s vs opens.rest reply → OpensAs before (pool_along acts p) (host_along acts h) name n
     by_turn (Committed m) s vs out row by = committed s vs m out row by.0 by.1
@@ -314,7 +314,7 @@ import_finds c h p name acts reply knows titled made fair row = unless (named_in
         let seeks = facts.seeks titled (all.0 named1) in
         let rest_fair : AreFair c p1 row.rest = subst (λ x. AreFair c x row.rest) (looks_along (bytes_eq p1.name name) known p1) all.1 in
         let pool_is : pool_along acts p ≡ pool_along row.rest p1 = ap (λ a. pool_along a p) row.are ∙ (bare_more row.made (Looked name known ∷ row.rest) p
-            ∙ ap (pool_along row.rest) (looks_along (bytes_eq p1.name name) known p1)) in
+        ∙ ap (pool_along row.rest) (looks_along (bytes_eq p1.name name) known p1)) in
         let host_is : host_along acts h ≡ host_along row.rest (host_behind row.made h) = ap (λ a. host_along a h) row.are ∙ bare_host row.made (Looked name known ∷ row.rest) h in
         subst (λ x. FindsPool p x (host_along acts h) reply) (sym pool_is)
         (subst (λ y. FindsPool p (pool_along row.rest p1) y reply) (sym host_is)

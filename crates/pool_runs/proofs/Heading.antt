@@ -106,12 +106,12 @@ at_left : (c : Codec) (past : Past) (h : Host) (acts : List Act) (entries : List
 at_left c past h acts entries f m = let known = at_known c past h acts entries f m in
     let table_is = acts_table (take m.count (acts ++ acts_in entries)) h in
     let same = at_pool c past acts entries m in record {
-  allowed = then_allowed c past (events_at m) f.left.allowed (at_mays c past h acts entries f m);
-  names = λ name d is. ap (λ called. called d) (then_called past (events_at m)) ∙ f.left.names name d (sym (ap (λ table. number_in name table) table_is) ∙ is);
-  sizes = λ d one. ap (λ q. q.size d) same ∙ known.sizes d one;
-  disk = λ d s one. ap (λ q. q.sectors d s) same ∙ known.disk d s one;
-  stands = λ s is number. subst (HasSeats c s) (sym same) (known.stands s is (number ∙ ap (λ q. q.pool.0) same));
-}
+      allowed = then_allowed c past (events_at m) f.left.allowed (at_mays c past h acts entries f m);
+      names = λ name d is. ap (λ called. called d) (then_called past (events_at m)) ∙ f.left.names name d (sym (ap (λ table. number_in name table) table_is) ∙ is);
+      sizes = λ d one. ap (λ q. q.size d) same ∙ known.sizes d one;
+      disk = λ d s one. ap (λ q. q.sectors d s) same ∙ known.disk d s one;
+      stands = λ s is number. subst (HasSeats c s) (sym same) (known.stands s is (number ∙ ap (λ q. q.pool.0) same));
+    }
 
 at_contents : (c : Codec) (past : Past) (h : Host) (acts : List Act) (entries : List Entry) → Follows c past h acts entries → (m : Moment c past acts entries) (r : Rec) → IsIn r (pool_at m).live
     → HasFrozen (past_at m) r

@@ -405,9 +405,12 @@ own_opens c h p name found acts reply o made opens = subst (MayActs c h p) (sym 
         let r = read_by opening p in
         let events : events_for (Reads_as opening) p ≡ Opens r ∷ [] = ap (λ t. cond t (Opens r ∷ []) []) (same_number p.pool.0 found.pool.0 o.number) in
         let none = none_open c h p name o.knows fair.named o.free in
-        let known = opens_known c h p r o.knows facts.is.is_live none in
-        (subst (Mays c p) (sym events) (facts.is.is_live, tt), subst (λ vs. Knows c h (pool_after vs p)) (sym events) known, subst (λ vs. MayActs c h (pool_after vs p) more) (sym events)
-        (opens_more c h p name found acts reply r opens o.number known facts.mays facts.seats none (subst (AreOwnActs found.pool.0 h) opens.are opens.own).1))
+        let known = opens_known c h p r o.knows facts.is.is_live none in (
+          subst (Mays c p) (sym events) (facts.is.is_live, tt),
+          subst (λ vs. Knows c h (pool_after vs p)) (sym events) known,
+          subst (λ vs. MayActs c h (pool_after vs p) more) (sym events)
+              (opens_more c h p name found acts reply r opens o.number known facts.mays facts.seats none (subst (AreOwnActs found.pool.0 h) opens.are opens.own).1),
+        )
 
 -- The looks of an opening, whichever pool is asked for.
 true_look : (c : Codec) (h : Host) (name : List ℕ) (made : List Noted) (seek : SeekReply) → (row : RowSeek c (size_in h.table) (handed h.table) name made seek) → AllAnswer h.disk made
@@ -478,9 +481,12 @@ taken_live c p made known seek found seeks is =
 imports_may : (c : Codec) (h : Host) (p : Pool) (name : List ℕ) (acts : List Act) (reply : Reply) → Knows c h p → AreMade h (calls_along acts) → Imports c h name acts reply → MayActs c h p acts
 imports_may c h p name acts reply knows made row = subst (MayActs c h p) (sym row.are)
     (bare_then c row.made (Looked name known ∷ row.rest) h p (reads_may c p row.made (look_reads (size_in h.table) (handed h.table) row.row.looks row.made row.row.look)) knows
-    (λ before known1. λ fair. let looked = looked_acted c h1 p1 known (bytes_eq p1.name name) facts.looked known1 in
-    (looked.0, looked.1, subst (λ x. MayActs c h1 x row.rest) (sym (looks_along (bytes_eq p1.name name) known p1))
-    (found_may row.seek c h1 p1 name row.rest reply known1 row.free (λ found is same. live found is same (fair same)) facts.made row.follows))))
+    (λ before known1. λ fair. let looked = looked_acted c h1 p1 known (bytes_eq p1.name name) facts.looked known1 in (
+      looked.0,
+      looked.1,
+      subst (λ x. MayActs c h1 x row.rest) (sym (looks_along (bytes_eq p1.name name) known p1))
+          (found_may row.seek c h1 p1 name row.rest reply known1 row.free (λ found is same. live found is same (fair same)) facts.made row.follows),
+    )))
   where
     known : Known
     known = known_by (size_in h.table) (handed h.table) row.row.looks

@@ -252,9 +252,12 @@ module _ (P : Move → Type 0) (k : IsLineKind P) where
 
     by_online : (h : Host) (s : PoolState) (device : List ℕ) (reply : OnlineReply) (acts : List Act) → ByOnline h s device reply acts → AllActs acts
     by_online h s device reply acts line = let g = s.core.pool.0 in let vs = line.moves in
-        subst AllActs (sym line.are) (a.marks g _, both_acts (does g vs) (all_shown g (read_in (made_in vs)) (found_in vs))
-        (line_does g vs (line_online (leaf_named device s.core.leaves) (is_listed device s) (device_for device (number_in device h.table) h g) (size_in h.table) s vs reply line.row))
-        (line_shown g (read_in (made_in vs)) (found_in vs)))
+        subst AllActs (sym line.are) (
+          a.marks g _,
+          both_acts (does g vs) (all_shown g (read_in (made_in vs)) (found_in vs))
+              (line_does g vs (line_online (leaf_named device s.core.leaves) (is_listed device s) (device_for device (number_in device h.table) h g) (size_in h.table) s vs reply line.row))
+              (line_shown g (read_in (made_in vs)) (found_in vs)),
+        )
 
     -- A line but a write, an import and a create.
     abbrev pub IsPlainLine : Asked → Type 0

@@ -187,8 +187,11 @@ just_thirds Fails plan draft [] [] (c ∷ is) vs third = absurd third
 just_thirds Fails plan draft [] (b ∷ was) is vs third = absurd third
 just_thirds Fails plan draft (m ∷ ms) [] is vs third = absurd third
 just_thirds Fails plan draft (m ∷ ms) (b ∷ was) [] vs third = absurd third
-just_thirds Fails plan draft (m ∷ ms) (true ∷ was) (c ∷ is) vs (mine, rest, whole, turn, more) = subst (AreJust Fails) (sym whole) (tt, just_more Fails (as_moves mine) (ended c draft m.dev ++ rest)
-    (just_calls Fails mine) (just_more Fails (ended c draft m.dev) rest (ends c) (just_thirds Fails plan draft ms was is rest more)))
+just_thirds Fails plan draft (m ∷ ms) (true ∷ was) (c ∷ is) vs (mine, rest, whole, turn, more) = subst (AreJust Fails) (sym whole) (
+  tt,
+  just_more Fails (as_moves mine) (ended c draft m.dev ++ rest)
+      (just_calls Fails mine) (just_more Fails (ended c draft m.dev) rest (ends c) (just_thirds Fails plan draft ms was is rest more)),
+)
   where
     ends : (c : Bool) → AreJust Fails (ended c draft m.dev)
     ends true = (tt, tt)
@@ -307,10 +310,10 @@ part_loses : (s : PoolState) (vs : List Move) (group : ℕ) (top : Guid) (faults
 part_loses s vs group top faults plan ms made results leaving mark part going on just_mark part_is calls leaves never turn =
     let counts = count_moves s.core.leaves ms results in
     let fails : (d : ℕ) → FailedOn d made → FailedIn vs d = λ d f. subst (λ l. FailedOn d (made_in l)) (sym turn.moves) (moves_left d (part ++ counts) turn.ending (moves_left d part counts
-        (subst (λ l. FailedOn d (made_in l)) (sym part_is) (moves_left d (as_moves made) (leaving ++ (mark ∷ [])) (as_calls d made f))))) in
+    (subst (λ l. FailedOn d (made_in l)) (sym part_is) (moves_left d (as_moves made) (leaving ++ (mark ∷ [])) (as_calls d made f))))) in
     let failing = phase_failing (FailedIn vs) plan on ms (map (λ m. true) ms) results made fails calls (start_failing (FailedIn vs) ms) in
     let just_part : AreJust (FailedIn vs) part = subst (AreJust (FailedIn vs)) (sym part_is) (just_more (FailedIn vs) (as_moves made) (leaving ++ (mark ∷ [])) (just_calls (FailedIn vs) made)
-        (just_more (FailedIn vs) leaving (mark ∷ []) (just_leaves (FailedIn vs) s.core ms results leaving failing leaves) (just_mark, tt))) in
+    (just_more (FailedIn vs) leaving (mark ∷ []) (just_leaves (FailedIn vs) s.core ms results leaving failing leaves) (just_mark, tt))) in
     ends_lost (FailedIn vs) s (part ++ counts) (emptied (steps (part ++ counts) s).core.leaves) false going turn.ending group top faults
     (just_more (FailedIn vs) part counts just_part (just_counts (FailedIn vs) s.core.leaves ms results)) refl never turn.ends
 
@@ -320,9 +323,9 @@ round_failing c size s part whole row F fails =
     let ms = board_of s.leaves in
     let more = as_moves row.second ++ row.thirds in
     let one = phase_failing F (first_plan size row.draft.commit) (λ m. (refl, (refl, (refl, tt)))) ms (map (λ m. true) ms) row.in_first row.first
-        (λ d f. fails d (moves_left d (as_moves row.first) more (as_calls d row.first f))) row.configs (start_failing F ms) in
+    (λ d f. fails d (moves_left d (as_moves row.first) more (as_calls d row.first f))) row.configs (start_failing F ms) in
     let two = phase_failing F (second_plan size row.draft.commit) (λ m. (refl, (refl, (refl, (refl, (refl, tt)))))) ms row.in_first row.in_second row.second
-        (λ d f. fails d (moves_right d (as_moves row.first) more (moves_left d (as_moves row.second) row.thirds (as_calls d row.second f)))) row.uberblocks one in
+    (λ d f. fails d (moves_right d (as_moves row.first) more (moves_left d (as_moves row.second) row.thirds (as_calls d row.second f)))) row.uberblocks one in
     third_failing F (third_plan size row.draft.commit) row.draft (λ m. (refl, (refl, (refl, tt)))) ms row.in_second row.results row.thirds
     (λ d f. fails d (moves_right d (as_moves row.first) more (moves_right d (as_moves row.second) row.thirds f))) row.copies two
 
@@ -340,13 +343,16 @@ round_loses c size s vs group top faults w = of w.whole w.row w.ends w.counted
         let more = as_moves row.second ++ row.thirds in
         let body = as_moves row.first ++ more in
         let part_fails : (d : ℕ) → FailedOn d (made_in body) → F d = λ d f. subst (λ l. FailedOn d (made_in l)) (sym w.moves) (moves_left d w.behind w.ending
-            (subst (λ l. FailedOn d (made_in l)) (sym counted) (moves_left d w.part counts (subst (λ l. FailedOn d (made_in l)) (sym row.moves)
-            (moves_left d (round_moves row.draft row.first row.second row.thirds) row.ending f))))) in
+        (subst (λ l. FailedOn d (made_in l)) (sym counted) (moves_left d w.part counts (subst (λ l. FailedOn d (made_in l)) (sym row.moves)
+        (moves_left d (round_moves row.draft row.first row.second row.thirds) row.ending f))))) in
         let three = round_failing c size s.core w.part false row F part_fails in
-        let just_body : AreJust F (round_moves row.draft row.first row.second row.thirds) = (tt, just_more F (as_moves row.first) more (just_calls F row.first)
-            (just_more F (as_moves row.second) row.thirds (just_calls F row.second) (just_thirds F (third_plan size row.draft.commit) row.draft ms row.in_second row.results row.thirds row.copies))) in
+        let just_body : AreJust F (round_moves row.draft row.first row.second row.thirds) = (
+          tt,
+          just_more F (as_moves row.first) more (just_calls F row.first)
+              (just_more F (as_moves row.second) row.thirds (just_calls F row.second) (just_thirds F (third_plan size row.draft.commit) row.draft ms row.in_second row.results row.thirds row.copies)),
+        ) in
         let just_part : AreJust F w.part = subst (AreJust F) (sym row.moves) (just_more F (round_moves row.draft row.first row.second row.thirds) row.ending just_body
-            (just_leaves F (seen_along (round_moves row.draft row.first row.second row.thirds) s.core) ms row.results row.ending three row.ends)) in
+        (just_leaves F (seen_along (round_moves row.draft row.first row.second row.thirds) s.core) ms row.results row.ending three row.ends)) in
         ends_lost F s w.behind (emptied (steps w.behind s).core.leaves) true (Round s.core.number) w.ending group top faults
         (subst (AreJust F) (sym counted) (just_more F w.part counts just_part (just_counts F s.core.leaves ms row.results))) refl (λ e. cc) ends
 

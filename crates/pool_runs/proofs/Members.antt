@@ -313,11 +313,22 @@ create_keeps c h e d name blocks tops asked (inr (inl row)) = ⊎_elim (λ keeps
     (keep_stamps (HasName h.table (all_names tops)) d row.pool (size_in h.table) (leaves_of h.table tops) row.stamps (Some row.leaf) row.are (all_have h name blocks tops row.may.none))
 create_keeps c h e d name blocks tops asked (inr (inr row)) =
     let behind = Bears (new_birth name row.pool blocks h.table tops) ∷ commit_acts row.answer row.pool.0 row.moves in
-    ⊎_elim (λ keeps. inl (subst (Keep d) (sym row.all) (tt, keep_acts d (stamp_acts row.pool.0 row.stamps) behind keeps (tt, keep_commit row.answer d row.pool.0 row.moves
-    (all_found KeepsMembers kept_kind (λ cells board. tt) c (size_in h.table) (new_state (size_in h.table) name row.pool blocks (tops_of h.table tops)) row.moves row.row.whole row.row.row)))))
+    ⊎_elim (λ keeps. inl (subst (Keep d) (sym row.all) (
+      tt,
+      keep_acts d (stamp_acts row.pool.0 row.stamps) behind keeps (
+        tt,
+        keep_commit row.answer d row.pool.0 row.moves
+            (all_found KeepsMembers kept_kind (λ cells board. tt) c (size_in h.table) (new_state (size_in h.table) name row.pool blocks (tops_of h.table tops)) row.moves row.row.whole row.row.row),
+      ),
+    )))
     (λ on. inr (taken_by h e d name blocks tops row.answer asked
-    (record { leaf = on.leaf; has = on.has; dev = on.dev; wrote = subst (λ acts. HasWriteTo d (calls_along acts)) (sym row.all)
-        (wrote_first d (stamp_acts row.pool.0 row.stamps) behind on.wrote) }) row.says))
+    (record {
+      leaf = on.leaf;
+      has = on.has;
+      dev = on.dev;
+      wrote = subst (λ acts. HasWriteTo d (calls_along acts)) (sym row.all)
+          (wrote_first d (stamp_acts row.pool.0 row.stamps) behind on.wrote);
+    }) row.says))
     (keep_stamps (HasName h.table (all_names tops)) d row.pool (size_in h.table) (leaves_of h.table tops) row.stamps None row.are (all_have h name blocks tops row.may.none))
 
 -- Imports.

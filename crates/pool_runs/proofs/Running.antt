@@ -95,11 +95,13 @@ marked_may true c h s t g mark (Makes noted) vs reads was rest knows is number k
     let events : events_for (Does g (Makes noted)) t.pool ≡ Calls noted ∷ [] = own_events g (Makes noted) t.pool number in
     let pool_is : pool_by (Does g (Makes noted)) t.pool ≡ (after_move (Makes noted) t).pool = ap (λ vs. pool_after vs t.pool) events in
     let behind : Knows c (host_by (Does g (Makes noted)) h) (after_move (Makes noted) t).pool = own_does c h s t g (Makes noted) knows is number kept may tt own.0.1 in
-    let mine : s.core.pool.0 ≡ g = ap (λ core. core.pool.0) kept.core ∙ number in
-    (subst (Mays c t.pool) (sym events) may, subst (Knows c (host_by (Does g (Makes noted)) h)) (sym pool_is) behind,
-    subst (λ q. MayActs c (host_by (Does g (Makes noted)) h) q (marked (Marks g mark) g vs)) (sym pool_is)
-    (rest behind (subst (λ x. IsOpen x (map (moved g (Makes noted)) h.pools)) (moved_own g (Makes noted) s mine) (open_moved g (Makes noted) s h.pools is)) number
-    (move_keeps c (Makes noted) s t may tt kept) (λ ok. (walks (was noted t.pool ok)).1) own.1))
+    let mine : s.core.pool.0 ≡ g = ap (λ core. core.pool.0) kept.core ∙ number in (
+      subst (Mays c t.pool) (sym events) may,
+      subst (Knows c (host_by (Does g (Makes noted)) h)) (sym pool_is) behind,
+      subst (λ q. MayActs c (host_by (Does g (Makes noted)) h) q (marked (Marks g mark) g vs)) (sym pool_is)
+          (rest behind (subst (λ x. IsOpen x (map (moved g (Makes noted)) h.pools)) (moved_own g (Makes noted) s mine) (open_moved g (Makes noted) s h.pools is)) number
+          (move_keeps c (Makes noted) s t may tt kept) (λ ok. (walks (was noted t.pool ok)).1) own.1),
+    )
 marked_may true c h s t g mark v vs reads was rest knows is number kept walks own = absurd (cc)
 marked_may false c h s t g mark v vs reads was rest knows is number kept walks own = λ fair.
     (tt, knows, walk_may c h s t g (v ∷ vs) knows is number kept (walks (fair number)) own.1)
@@ -154,13 +156,16 @@ online_may c h p s device reply acts knows is line = by_bool (s.core.pool.0 == p
     let g = s.core.pool.0 in
     let known = read_in (made_in line.moves) in
     let own = subst (AreOwnActs g h) line.are line.own in
-    subst (MayActs c h p) (sym line.are) (λ fair. let ok = fair (sym number) in (tt, knows,
-    may_more c h p (does g line.moves) (all_shown g known (found_in line.moves))
-    (walk_may c h s t g line.moves knows is (sym number) has.1
-    (online_walks c (size_in h.table) s t device (is_listed device s) (device_for device (number_in device h.table) h g) line.moves reply has.1 knows.sizes line.row ok.0
-    (found_members p line.moves ok.1)) (own_front g h (does g line.moves) (all_shown g known (found_in line.moves)) own.1))
-    (λ fair known_behind. shown_may c (host_along (does g line.moves) h) (pool_along (does g line.moves) p) g known (found_in line.moves) known_behind
-    (ap (λ n. n.0) (acts_number (does g line.moves) p) ∙ sym number)) knows)))
+    subst (MayActs c h p) (sym line.are) (λ fair. let ok = fair (sym number) in (
+      tt,
+      knows,
+      may_more c h p (does g line.moves) (all_shown g known (found_in line.moves))
+          (walk_may c h s t g line.moves knows is (sym number) has.1
+          (online_walks c (size_in h.table) s t device (is_listed device s) (device_for device (number_in device h.table) h g) line.moves reply has.1 knows.sizes line.row ok.0
+          (found_members p line.moves ok.1)) (own_front g h (does g line.moves) (all_shown g known (found_in line.moves)) own.1))
+          (λ fair known_behind. shown_may c (host_along (does g line.moves) h) (pool_along (does g line.moves) p) g known (found_in line.moves) known_behind
+          (ap (λ n. n.0) (acts_number (does g line.moves) p) ∙ sym number)) knows,
+    )))
     (λ off. other_may c h p s.core.pool.0 acts knows (not_same s.core.pool.0 p.pool.0 off) line.own)
 
 -- Each line.

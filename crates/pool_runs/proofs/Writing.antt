@@ -102,9 +102,14 @@ still_create c h name blocks tops acts reply (inl row) = subst AllStill (sym row
 still_create c h name blocks tops acts reply (inr (inl row)) = subst AllStill (sym row.all) (tt, still_stamps row.pool.0 row.stamps)
 still_create c h name blocks tops acts reply (inr (inr row)) =
     let behind = Bears (new_birth name row.pool blocks h.table tops) ∷ commit_acts row.answer row.pool.0 row.moves in
-    subst AllStill (sym row.all) (tt, both_acts KeepsWritten written_line StillAt still_acts (stamp_acts row.pool.0 row.stamps) behind (still_stamps row.pool.0 row.stamps)
-    (tt, still_commit row.answer row.pool.0 row.moves
-    (all_found KeepsWritten written_kind (λ cells board. tt) c (size_in h.table) (new_state (size_in h.table) name row.pool blocks (tops_of h.table tops)) row.moves row.row.whole row.row.row)))
+    subst AllStill (sym row.all) (
+      tt,
+      both_acts KeepsWritten written_line StillAt still_acts (stamp_acts row.pool.0 row.stamps) behind (still_stamps row.pool.0 row.stamps) (
+        tt,
+        still_commit row.answer row.pool.0 row.moves
+            (all_found KeepsWritten written_kind (λ cells board. tt) c (size_in h.table) (new_state (size_in h.table) name row.pool blocks (tops_of h.table tops)) row.moves row.row.whole row.row.row),
+      ),
+    )
 
 -- A write.
 puts_one : (short : Bool) (need free a : ℕ) (block : List ℕ) (vs : List Move) (reply : WriteReply) → WriteFits short need free a block vs reply → ((vs ≡ Puts a block ∷ []) × (reply ≡ Taken)) ⊎ (vs ≡ [])
@@ -161,14 +166,18 @@ write_leaves : (h : Host) (p : Pool) (e : Entry) (name : List ℕ) (a : ℕ) (bl
 write_leaves h p e name a block None at asked row = leaves_still h p e (subst AllStill (sym row.0) tt)
 write_leaves h p e name a block (Some s) at asked line = ⊎_elim
     (λ put. let acts : e.acts ≡ does s.core.pool.0 (Puts a block ∷ []) = line.2.are ∙ ap (does s.core.pool.0) put.0 in by_bool (p.pool.0 == s.core.pool.0)
-        (λ ours. inl (inl (a, block, record {
-            name = name;
-            s = s;
-            asked = asked;
-            at = record { named = at; ours = sym (number_of_test p.pool.0 s.core.pool.0 ours) };
-            reply = line.1 ∙ ap To_write put.1;
-        })))
-        (λ off. inr (λ x. ap (λ acts. (pool_along acts p).written x) acts ∙ ap (λ f. f x) (other_put s.core.pool.0 a block p off))))
+    (λ ours. inl (inl (
+      a,
+      block,
+      record {
+        name = name;
+        s = s;
+        asked = asked;
+        at = record { named = at; ours = sym (number_of_test p.pool.0 s.core.pool.0 ours) };
+        reply = line.1 ∙ ap To_write put.1;
+      },
+    )))
+    (λ off. inr (λ x. ap (λ acts. (pool_along acts p).written x) acts ∙ ap (λ f. f x) (other_put s.core.pool.0 a block p off))))
     (λ none. leaves_still h p e (subst AllStill (sym (line.2.are ∙ ap (does s.core.pool.0) none)) tt))
     (puts_or s a block line.2.moves line.0 line.2.row)
 
