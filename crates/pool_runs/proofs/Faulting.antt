@@ -49,7 +49,8 @@ abbrev SomeFailed : List Noted → Type 0
 SomeFailed made = (d : ℕ) × FailedOn d made
 
 -- A stamp that failed.
-stamps_failed : (g : ℕ) (pool : Guid) (size : ℕ → ℕ) (leaves : List NewLeaf) (stamps : List Stamp) (leaf : NewLeaf) → AreStamps size pool leaves stamps (Some leaf) → SomeFailed (calls_along (stamp_acts g stamps))
+stamps_failed : (g : ℕ) (pool : Guid) (size : ℕ → ℕ) (leaves : List NewLeaf) (stamps : List Stamp) (leaf : NewLeaf)
+    → AreStamps size pool leaves stamps (Some leaf) → SomeFailed (calls_along (stamp_acts g stamps))
 stamps_failed g pool size [] [] leaf are = absurd (let no : Some leaf ≡ None = are in cc)
 stamps_failed g pool size [] (stamp ∷ stamps) leaf are = absurd are
 stamps_failed g pool size (first ∷ leaves) [] leaf are = absurd are
@@ -72,7 +73,8 @@ found_failed : (found : Option Guid) (leaves : List LeafSeen) (device : List ℕ
 found_failed None leaves device is = absurd (cc)
 found_failed (Some m) leaves device is = (m, refl)
 
-commit_failed : (c : Codec) (size : ℕ → ℕ) (s : PoolState) (vs : List Move) (device : List ℕ) → CommitsFirst c size s vs (FaultOn device) → SomeFailed (made_in vs)
+commit_failed : (c : Codec) (size : ℕ → ℕ) (s : PoolState) (vs : List Move) (device : List ℕ) → CommitsFirst c size s vs (FaultOn device)
+    → SomeFailed (made_in vs)
 commit_failed c size s vs device row =
     let start = row.row.first ++ (Flushed_all ∷ []) in
     let at = (steps start s).core in
@@ -89,7 +91,8 @@ fails_acts : (answer : CreateReply) (g : ℕ) (vs : List Move) (d : ℕ) → Fai
 fails_acts Created g vs d failed = subst (FailedOn d) (sym (does_calls g vs)) failed
 fails_acts (FaultOn device) g vs d failed = acts_left d (does g vs) (Closes g ∷ []) (subst (FailedOn d) (sym (does_calls g vs)) failed)
 
-create_failed : (c : Codec) (h : Host) (name : List ℕ) (blocks : ℕ) (tops : List (List (List ℕ))) (acts : List Act) (reply : Reply) (device : List ℕ) → RowCreate c h name blocks tops acts reply
+create_failed : (c : Codec) (h : Host) (name : List ℕ) (blocks : ℕ) (tops : List (List (List ℕ))) (acts : List Act) (reply : Reply) (device : List ℕ)
+    → RowCreate c h name blocks tops acts reply
     → reply ≡ To_create (FaultOn device) → SomeFailed (calls_along acts)
 create_failed c h name blocks tops acts reply device (inl row) is = absurd (let no : To_uncreated row.0 ≡ To_create (FaultOn device) = sym row.3 ∙ is in cc)
 create_failed c h name blocks tops acts reply device (inr (inl row)) is =
@@ -103,7 +106,8 @@ create_failed c h name blocks tops acts reply device (inr (inr row)) is =
           (fails_acts row.answer row.pool.0 row.moves failed.0 failed.1),
     )
 
-pub create_rose : (c : Codec) (h : Host) (e : Entry) (name : List ℕ) (blocks : ℕ) (tops : List (List (List ℕ))) (device : List ℕ) (from to : ℕ → ℕ) → HostRow c h e → e.asked ≡ Asks_create name blocks tops
+pub create_rose : (c : Codec) (h : Host) (e : Entry) (name : List ℕ) (blocks : ℕ) (tops : List (List (List ℕ))) (device : List ℕ) (from to : ℕ → ℕ)
+    → HostRow c h e → e.asked ≡ Asks_create name blocks tops
     → AllCaused (calls_along e.acts) from to → e.reply ≡ To_create (FaultOn device) → SomeRose from to
 create_rose c h e name blocks tops device from to (inl row) asked caused is =
     let failed = create_failed c h name blocks tops e.acts e.reply device (subst (λ x. RowOf c h x e.acts e.reply) asked row.0) is in

@@ -209,7 +209,8 @@ line_loses c h p e name a s met asked at is = of met.row
     of (inr out) = read_not_memory Exhausted (sym is ∙ out.says)
 
 -- An import finds the pool.
-line_opens : (c : Codec) (h : Host) (p : Pool) (e : Entry) → Meets c h p e → e.asked ≡ Asks_import p.name → AreFair c p e.acts → FindsPool p (pool_along e.acts p) (host_along e.acts h) e.reply
+line_opens : (c : Codec) (h : Host) (p : Pool) (e : Entry) → Meets c h p e → e.asked ≡ Asks_import p.name → AreFair c p e.acts
+    → FindsPool p (pool_along e.acts p) (host_along e.acts h) e.reply
 line_opens c h p e met asked fair = of met.row
   where
     of : HostRow c h e → FindsPool p (pool_along e.acts p) (host_along e.acts h) e.reply
@@ -237,7 +238,8 @@ line_syncs c h p e name s n met asked at is = of met.row
     of (inr out) = sync_not_memory (Ended (Committed n)) (sym is ∙ out.says)
 
 -- A turn acknowledges its group.
-line_turns : (c : Codec) (h : Host) (p : Pool) (e : Entry) (name : List ℕ) (s : PoolState) (n : ℕ) → Meets c h p e → e.asked ≡ Asks_turn name → IsOpenAs p h name s
+line_turns : (c : Codec) (h : Host) (p : Pool) (e : Entry) (name : List ℕ) (s : PoolState) (n : ℕ) → Meets c h p e → e.asked ≡ Asks_turn name
+    → IsOpenAs p h name s
     → e.reply ≡ To_turn (Committed n) → CommitsGroup p (pool_along e.acts p) n
 line_turns c h p e name s n met asked at is = of met.row
   where
@@ -305,7 +307,8 @@ line_counts c h p e name s from to met asked at caused bad = ⊎_elim (λ none. 
         line.2.row (subst Suspends line.1 bad)
     of none (inr out) asked = absurd (subst Suspends out.says bad)
 
-line_loses_top : (c : Codec) (h : Host) (p : Pool) (e : Entry) (name : List ℕ) (s : PoolState) (group : ℕ) (top : Guid) (faults : ℕ) (from to : ℕ → ℕ) → Meets c h p e → e.asked ≡ Asks_turn name
+line_loses_top : (c : Codec) (h : Host) (p : Pool) (e : Entry) (name : List ℕ) (s : PoolState) (group : ℕ) (top : Guid) (faults : ℕ) (from to : ℕ → ℕ)
+    → Meets c h p e → e.asked ≡ Asks_turn name
     → IsOpenAs p h name s → AllCaused (calls_along e.acts) from to → e.reply ≡ To_turn (Suspended group top faults) → LosesTop s (λ d. Rose (from d) (to d)) top
 line_loses_top c h p e name s group top faults from to met asked at caused is = of met.row
   where

@@ -66,7 +66,8 @@ asked_on (FlushCall dev fault) d is = is
 asked_on (Admit dev holds) d is = is
 asked_on (Eject dev) d is = is
 
-pub part_failed : (d : ℕ) (asks : List Ask) (made : List Noted) (fault : Fault) → AllByRecursion (IsAskOn d) asks → IsPart asks made (Some fault) → FailedOn d made
+pub part_failed : (d : ℕ) (asks : List Ask) (made : List Noted) (fault : Fault) → AllByRecursion (IsAskOn d) asks → IsPart asks made (Some fault)
+    → FailedOn d made
 part_failed d [] [] fault on part = absurd (let no : Some fault ≡ None = part in cc)
 part_failed d [] (noted ∷ made) fault on part = absurd part
 part_failed d (ask ∷ asks) [] fault on part = absurd part
@@ -91,7 +92,8 @@ start_failing Fails (m ∷ ms) = start_failing Fails ms
 abbrev IsPlanOn : (Member → List Ask) → Type 0
 IsPlanOn plan = (m : Member) → AllByRecursion (IsAskOn m.dev) (plan m)
 
-phase_failing : (Fails : ℕ → Type 0) (plan : Member → List Ask) → IsPlanOn plan → (ms : List Member) (was is : List Bool) (made : List Noted) → ((d : ℕ) → FailedOn d made → Fails d) → IsPhase plan ms was is made
+phase_failing : (Fails : ℕ → Type 0) (plan : Member → List Ask) → IsPlanOn plan → (ms : List Member) (was is : List Bool) (made : List Noted)
+    → ((d : ℕ) → FailedOn d made → Fails d) → IsPhase plan ms was is made
     → Failing Fails ms was → Failing Fails ms is
 phase_failing Fails plan on [] was is made fails phase before = tt
 phase_failing Fails plan on (m ∷ ms) [] is made fails phase before = absurd phase
@@ -117,7 +119,8 @@ ended_more : (c : Bool) (draft : Draft) (d : ℕ) (vs : List Move) → made_in (
 ended_more true draft d vs = refl
 ended_more false draft d vs = refl
 
-third_failing : (Fails : ℕ → Type 0) (plan : Member → List Ask) (draft : Draft) → IsPlanOn plan → (ms : List Member) (was is : List Bool) (vs : List Move) → ((d : ℕ) → FailedOn d (made_in vs) → Fails d)
+third_failing : (Fails : ℕ → Type 0) (plan : Member → List Ask) (draft : Draft) → IsPlanOn plan
+    → (ms : List Member) (was is : List Bool) (vs : List Move) → ((d : ℕ) → FailedOn d (made_in vs) → Fails d)
     → IsThirdMoves plan draft ms was is vs → Failing Fails ms was → Failing Fails ms is
 third_failing Fails plan draft on [] was is vs fails third before = tt
 third_failing Fails plan draft on (m ∷ ms) [] is vs fails third before = absurd third
@@ -164,7 +167,8 @@ just_widens Fails s [] are = tt
 just_widens Fails s (Widen m low high ∷ vs) are = (tt, just_widens Fails (step (Widen m low high) s) vs are.2)
 just_widens Fails s (v ∷ vs) are = absurd are
 
-just_leaves : (Fails : ℕ → Type 0) (s : PoolSeen) (ms : List Member) (results : List Bool) (vs : List Move) → Failing Fails ms results → AreLeaves s ms results vs → AreJust Fails vs
+just_leaves : (Fails : ℕ → Type 0) (s : PoolSeen) (ms : List Member) (results : List Bool) (vs : List Move) → Failing Fails ms results
+    → AreLeaves s ms results vs → AreJust Fails vs
 just_leaves Fails s [] results vs failing are = subst (AreJust Fails) (sym are) tt
 just_leaves Fails s (m ∷ ms) [] vs failing are = subst (AreJust Fails) (sym are) tt
 just_leaves Fails s (m ∷ ms) (true ∷ results) vs failing are = just_leaves Fails s ms results vs failing are
@@ -181,7 +185,8 @@ just_counts Fails leaves (m ∷ ms) (false ∷ results) = just_more Fails (sets_
     failed None = tt
     failed (Some leaf) = (tt, tt)
 
-just_thirds : (Fails : ℕ → Type 0) (plan : Member → List Ask) (draft : Draft) (ms : List Member) (was is : List Bool) (vs : List Move) → IsThirdMoves plan draft ms was is vs → AreJust Fails vs
+just_thirds : (Fails : ℕ → Type 0) (plan : Member → List Ask) (draft : Draft) (ms : List Member) (was is : List Bool) (vs : List Move)
+    → IsThirdMoves plan draft ms was is vs → AreJust Fails vs
 just_thirds Fails plan draft [] [] [] vs third = subst (AreJust Fails) (sym third) tt
 just_thirds Fails plan draft [] [] (c ∷ is) vs third = absurd third
 just_thirds Fails plan draft [] (b ∷ was) is vs third = absurd third
@@ -220,7 +225,8 @@ emptied_none top all (leaf ∷ leaves) is = by_bool (has_on leaf.top all)
     some_same : (a b : ℕ) → Some a ≡ Some b → a ≡ b
     some_same a b e = cc
 
-map_back : (P : LeafSeen → Type 0) (f : LeafSeen → LeafSeen) → ((leaf : LeafSeen) → P (f leaf) → P leaf) → (leaves : List LeafSeen) → AllByRecursion P (map f leaves) → AllByRecursion P leaves
+map_back : (P : LeafSeen → Type 0) (f : LeafSeen → LeafSeen) → ((leaf : LeafSeen) → P (f leaf) → P leaf) → (leaves : List LeafSeen)
+    → AllByRecursion P (map f leaves) → AllByRecursion P leaves
 map_back P f back [] all = tt
 map_back P f back (leaf ∷ leaves) all = (back leaf all.0, map_back P f back leaves all.1)
 
@@ -230,11 +236,13 @@ leave_back Fails top d fails None on under lost at is = lost at is
 leave_back Fails top d fails (Some e) on under lost at is = by_bool (d == e) (λ here. (e, refl, subst Fails (same_device d e here) fails))
     (λ away. lost at (ap (λ t. cond t false on) away ∙ is))
 
-sets_back : (Fails : ℕ → Type 0) (top : ℕ) (t : Bool) (leaf : LeafSeen) (own : _) → IsLostBy Fails top (cond t (record leaf { own = own }) leaf) → IsLostBy Fails top leaf
+sets_back : (Fails : ℕ → Type 0) (top : ℕ) (t : Bool) (leaf : LeafSeen) (own : _) → IsLostBy Fails top (cond t (record leaf { own = own }) leaf)
+    → IsLostBy Fails top leaf
 sets_back Fails top true leaf own lost = lost
 sets_back Fails top false leaf own lost = lost
 
-step_back : (Fails : ℕ → Type 0) (top : ℕ) (v : Move) (s : PoolState) → IsJust Fails v → AllByRecursion (IsLostBy Fails top) (state_step v s).core.leaves → AllByRecursion (IsLostBy Fails top) s.core.leaves
+step_back : (Fails : ℕ → Type 0) (top : ℕ) (v : Move) (s : PoolState) → IsJust Fails v
+    → AllByRecursion (IsLostBy Fails top) (state_step v s).core.leaves → AllByRecursion (IsLostBy Fails top) s.core.leaves
 step_back Fails top (Makes noted) s just lost = lost
 step_back Fails top (Wrote_key k) s just lost = lost
 step_back Fails top Flushed_all s just lost = lost
@@ -250,7 +258,8 @@ step_back Fails top (Sets m own) s just lost = map_back (IsLostBy Fails top) (le
     (λ leaf lost. sets_back Fails top (leaf.guid.0 == m.0) leaf own lost) s.core.leaves lost
 step_back Fails top v s just lost = absurd just
 
-steps_back : (Fails : ℕ → Type 0) (top : ℕ) (vs : List Move) (s : PoolState) → AreJust Fails vs → AllByRecursion (IsLostBy Fails top) (steps vs s).core.leaves → AllByRecursion (IsLostBy Fails top) s.core.leaves
+steps_back : (Fails : ℕ → Type 0) (top : ℕ) (vs : List Move) (s : PoolState) → AreJust Fails vs
+    → AllByRecursion (IsLostBy Fails top) (steps vs s).core.leaves → AllByRecursion (IsLostBy Fails top) s.core.leaves
 steps_back Fails top [] s just lost = lost
 steps_back Fails top (v ∷ vs) s just lost = step_back Fails top v s just.0 (steps_back Fails top vs (state_step v s) just.1 lost)
 
@@ -276,7 +285,8 @@ suspended_top : (a b : ℕ) (top other : Guid) (m n : ℕ) → Suspended a top m
 suspended_top a b top other m n e = cc
 
 ends_lost : (Fails : ℕ → Type 0) (s : PoolState) (vs : List Move) (found : Option ℕ) (draws : Bool) (going : TurnReply) (ending : List Move) (group : ℕ) (top : Guid) (faults : ℕ) → AreJust Fails vs
-    → emptied (steps vs s).core.leaves ≡ found → (going ≡ Suspended group top faults → ⊥) → EndsBy found (steps vs s) draws going ending (Suspended group top faults) → LosesTop s Fails top
+    → emptied (steps vs s).core.leaves ≡ found → (going ≡ Suspended group top faults → ⊥)
+    → EndsBy found (steps vs s) draws going ending (Suspended group top faults) → LosesTop s Fails top
 ends_lost Fails s vs (Some at) draws going ending group top faults just is never ends = record {
   at = at;
   number = sym (ap (λ f. f at) (steps_tops Fails vs s just)) ∙ sym (suspended_top group _ top _ faults _ ends.1);
@@ -306,7 +316,8 @@ FailedIn vs d = FailedOn d (made_in vs)
 
 part_loses : (s : PoolState) (vs : List Move) (group : ℕ) (top : Guid) (faults : ℕ) (plan : Member → List Ask) (ms : List Member) (made : List Noted) (results : List Bool) (leaving : List Move) (mark : Move)
     (part : List Move) (going : TurnReply) → IsPlanOn plan → IsJust (FailedIn vs) mark → part ≡ turn_moves made leaving mark → IsPhase plan ms (map (λ m. true) ms) results made
-    → AreLeaves s.core ms results leaving → (going ≡ Suspended group top faults → ⊥) → IsTurnOf s part ms results going vs (Suspended group top faults) → LosesTop s (FailedIn vs) top
+    → AreLeaves s.core ms results leaving → (going ≡ Suspended group top faults → ⊥) → IsTurnOf s part ms results going vs (Suspended group top faults)
+    → LosesTop s (FailedIn vs) top
 part_loses s vs group top faults plan ms made results leaving mark part going on just_mark part_is calls leaves never turn =
     let counts = count_moves s.core.leaves ms results in
     let fails : (d : ℕ) → FailedOn d made → FailedIn vs d = λ d f. subst (λ l. FailedOn d (made_in l)) (sym turn.moves) (moves_left d (part ++ counts) turn.ending (moves_left d part counts
@@ -329,7 +340,8 @@ round_failing c size s part whole row F fails =
     third_failing F (third_plan size row.draft.commit) row.draft (λ m. (refl, (refl, (refl, tt)))) ms row.in_second row.results row.thirds
     (λ d f. fails d (moves_right d (as_moves row.first) more (moves_right d (as_moves row.second) row.thirds f))) row.copies two
 
-round_loses : (c : Codec) (size : ℕ → ℕ) (s : PoolState) (vs : List Move) (group : ℕ) (top : Guid) (faults : ℕ) → IsRoundPart c size s vs (Suspended group top faults) → LosesTop s (FailedIn vs) top
+round_loses : (c : Codec) (size : ℕ → ℕ) (s : PoolState) (vs : List Move) (group : ℕ) (top : Guid) (faults : ℕ)
+    → IsRoundPart c size s vs (Suspended group top faults) → LosesTop s (FailedIn vs) top
 round_loses c size s vs group top faults w = of w.whole w.row w.ends w.counted
   where
     of : (whole : Bool) → (row : RowRound c size s.core w.part whole)
@@ -356,7 +368,8 @@ round_loses c size s vs group top faults w = of w.whole w.row w.ends w.counted
         ends_lost F s w.behind (emptied (steps w.behind s).core.leaves) true (Round s.core.number) w.ending group top faults
         (subst (AreJust F) (sym counted) (just_more F w.part counts just_part (just_counts F s.core.leaves ms row.results))) refl (λ e. cc) ends
 
-starts_lose : (found : Option ℕ) (c : Codec) (size : ℕ → ℕ) (s : PoolState) (vs : List Move) (group : ℕ) (top : Guid) (faults : ℕ) → emptied s.core.leaves ≡ found
+starts_lose : (found : Option ℕ) (c : Codec) (size : ℕ → ℕ) (s : PoolState) (vs : List Move) (group : ℕ) (top : Guid) (faults : ℕ)
+    → emptied s.core.leaves ≡ found
     → StartsBy found c size s vs (Suspended group top faults) → LosesTop s (FailedIn vs) top
 starts_lose (Some at) c size s vs group top faults is row = ends_lost (FailedIn vs) s [] (Some at) false Idle vs group top faults tt is (λ e. cc) row
 starts_lose None c size s vs group top faults is (inl w) = part_loses s vs group top faults (write_plan w.row.cell) (board_under w.row.cell.top s.core.leaves) w.row.made w.row.results w.row.leaving
@@ -365,7 +378,8 @@ starts_lose None c size s vs group top faults is (inr (inl w)) = part_loses s vs
     Flushed_all w.part Flush (λ m. (refl, tt)) tt w.row.moves w.row.calls w.row.leaves (λ e. cc) w.turn
 starts_lose None c size s vs group top faults is (inr (inr w)) = round_loses c size s vs group top faults w
 
-turn_by_loses : (frozen : Bool) (c : Codec) (size : ℕ → ℕ) (s : PoolState) (vs : List Move) (group : ℕ) (top : Guid) (faults : ℕ) → TurnBy frozen c size s vs (Suspended group top faults) → LosesTop s (FailedIn vs) top
+turn_by_loses : (frozen : Bool) (c : Codec) (size : ℕ → ℕ) (s : PoolState) (vs : List Move) (group : ℕ) (top : Guid) (faults : ℕ)
+    → TurnBy frozen c size s vs (Suspended group top faults) → LosesTop s (FailedIn vs) top
 turn_by_loses false c size s vs group top faults row = absurd (let no = row.1 in cc)
 turn_by_loses true c size s vs group top faults row = starts_lose (emptied s.core.leaves) c size s vs group top faults refl row
 

@@ -97,7 +97,8 @@ still_commit : (answer : CreateReply) (g : ℕ) (vs : List Move) → AllByRecurs
 still_commit Created g vs all = line_does KeepsWritten written_line StillAt still_acts g vs all
 still_commit (FaultOn device) g vs all = both_acts KeepsWritten written_line StillAt still_acts (does g vs) (Closes g ∷ []) (line_does KeepsWritten written_line StillAt still_acts g vs all) (tt, tt)
 
-still_create : (c : Codec) (h : Host) (name : List ℕ) (blocks : ℕ) (tops : List (List (List ℕ))) (acts : List Act) (reply : Reply) → RowCreate c h name blocks tops acts reply → AllStill acts
+still_create : (c : Codec) (h : Host) (name : List ℕ) (blocks : ℕ) (tops : List (List (List ℕ))) (acts : List Act) (reply : Reply)
+    → RowCreate c h name blocks tops acts reply → AllStill acts
 still_create c h name blocks tops acts reply (inl row) = subst AllStill (sym row.2) tt
 still_create c h name blocks tops acts reply (inr (inl row)) = subst AllStill (sym row.all) (tt, still_stamps row.pool.0 row.stamps)
 still_create c h name blocks tops acts reply (inr (inr row)) =
@@ -112,15 +113,18 @@ still_create c h name blocks tops acts reply (inr (inr row)) =
     )
 
 -- A write.
-puts_one : (short : Bool) (need free a : ℕ) (block : List ℕ) (vs : List Move) (reply : WriteReply) → WriteFits short need free a block vs reply → ((vs ≡ Puts a block ∷ []) × (reply ≡ Taken)) ⊎ (vs ≡ [])
+puts_one : (short : Bool) (need free a : ℕ) (block : List ℕ) (vs : List Move) (reply : WriteReply) → WriteFits short need free a block vs reply
+    → ((vs ≡ Puts a block ∷ []) × (reply ≡ Taken)) ⊎ (vs ≡ [])
 puts_one true need free a block vs reply row = inr row.0
 puts_one false need free a block vs reply row = inl row
 
-puts_by : (full : Bool) (s : PoolState) (a : ℕ) (block : List ℕ) (vs : List Move) (reply : WriteReply) → WriteBy full s a block vs reply → ((vs ≡ Puts a block ∷ []) × (reply ≡ Taken)) ⊎ (vs ≡ [])
+puts_by : (full : Bool) (s : PoolState) (a : ℕ) (block : List ℕ) (vs : List Move) (reply : WriteReply) → WriteBy full s a block vs reply
+    → ((vs ≡ Puts a block ∷ []) × (reply ≡ Taken)) ⊎ (vs ≡ [])
 puts_by true s a block vs reply row = inr row.0
 puts_by false s a block vs reply row = puts_one _ _ row.0 a block vs reply row.2
 
-puts_or : (s : PoolState) (a : ℕ) (block : List ℕ) (vs : List Move) (reply : WriteReply) → RowWrite s a block vs reply → ((vs ≡ Puts a block ∷ []) × (reply ≡ Taken)) ⊎ (vs ≡ [])
+puts_or : (s : PoolState) (a : ℕ) (block : List ℕ) (vs : List Move) (reply : WriteReply) → RowWrite s a block vs reply
+    → ((vs ≡ Puts a block ∷ []) × (reply ≡ Taken)) ⊎ (vs ≡ [])
 puts_or s a block vs reply (inl row) = inr row.1
 puts_or s a block vs reply (inr row) = puts_by _ s a block vs reply row.1
 
@@ -139,7 +143,8 @@ taken_moves s a block vs (inr row) = full _ row.1
     full true row = absurd (let no : Taken ≡ Full = row.1 in cc)
     full false row = fits _ _ row.0 row.2
 
-put_written : (g a : ℕ) (block : List ℕ) (p : Pool) → p.pool.0 ≡ g → (x : ℕ) → (pool_along (does g (Puts a block ∷ [])) p).written x ≡ cond (a == x) block (p.written x)
+put_written : (g a : ℕ) (block : List ℕ) (p : Pool) → p.pool.0 ≡ g → (x : ℕ)
+    → (pool_along (does g (Puts a block ∷ [])) p).written x ≡ cond (a == x) block (p.written x)
 put_written g a block p is x = ap (λ vs. (pool_after vs p).written x) (own_events g (Puts a block) p is)
 
 write_puts : (c : Codec) (h : Host) (p : Pool) (e : Entry) (a : ℕ) (block : List ℕ) → HostRow c h e → IsTakenWrite h p e a block → (x : ℕ)
@@ -161,7 +166,8 @@ leaves_still h p e all = inr (λ x. ap (λ f. f x) (acts_still e.acts p all))
 other_put : (g a : ℕ) (block : List ℕ) (p : Pool) → (p.pool.0 == g) ≡ false → (pool_along (does g (Puts a block ∷ [])) p).written ≡ p.written
 other_put g a block p off = ap (λ t. (pool_after (cond t (events_of (Puts a block) p) []) p).written) off
 
-write_leaves : (h : Host) (p : Pool) (e : Entry) (name : List ℕ) (a : ℕ) (block : List ℕ) (found : Option PoolState) → named name h.pools ≡ found → e.asked ≡ Asks_write name a block
+write_leaves : (h : Host) (p : Pool) (e : Entry) (name : List ℕ) (a : ℕ) (block : List ℕ) (found : Option PoolState) → named name h.pools ≡ found
+    → e.asked ≡ Asks_write name a block
     → OnPool found (WriteLine h a block) e.acts e.reply → Leaves h p e
 write_leaves h p e name a block None at asked row = leaves_still h p e (subst AllStill (sym row.0) tt)
 write_leaves h p e name a block (Some s) at asked line = ⊎_elim
@@ -210,11 +216,13 @@ all_still : (acts : List Act) → AllByRecursion ChangesNone acts → AllByRecur
 all_still [] none off = tt
 all_still (act ∷ acts) none off = (none_still act none.0 off.0, all_still acts none.1 off.1)
 
-write_none : (h : Host) (a : ℕ) (block : List ℕ) (found : Option PoolState) (acts : List Act) (reply : Reply) → OnPool found (WriteLine h a block) acts reply → AllByRecursion NoReading acts
+write_none : (h : Host) (a : ℕ) (block : List ℕ) (found : Option PoolState) (acts : List Act) (reply : Reply)
+    → OnPool found (WriteLine h a block) acts reply → AllByRecursion NoReading acts
 write_none h a block None acts reply row = subst (AllByRecursion NoReading) (sym row.0) tt
 write_none h a block (Some s) acts reply row = subst (AllByRecursion NoReading) (sym row.2.are) (moves_none s.core.pool.0 row.2.moves)
 
-short_leaves : (c : Codec) (h : Host) (p : Pool) (e : Entry) (rest : List Act) (reply : Reply) (asked : Asked) → e.asked ≡ asked → RowOf c h asked (e.acts ++ rest) reply
+short_leaves : (c : Codec) (h : Host) (p : Pool) (e : Entry) (rest : List Act) (reply : Reply) (asked : Asked) → e.asked ≡ asked
+    → RowOf c h asked (e.acts ++ rest) reply
     → (AllByRecursion ChangesNone e.acts × AreReads (calls_along e.acts)) ⊎ MayRewrite asked e.acts → Leaves h p e
 short_leaves c h p e rest reply (Asks_write name a block) is row (inl early) =
     leaves_still h p e (all_still e.acts early.0 (none_front e.acts rest (write_none h a block (named name h.pools) (e.acts ++ rest) reply row)))

@@ -74,4 +74,5 @@ pub record Headline (c : Codec) (past : Past) (h : Host) (acts : List Act) (entr
   pub keeps : (l : LineOf c past acts entries) (d : ℕ) → (pool_before l).member d ≡ true → ((pool_behind l).member d ≡ true) ⊎ IsTakenBy (host_before h l) l.entry d
   -- a turn is refused as suspended only where each leaf of the lost top that was still on its board failed in that very line, as its device's count
   -- tells; a sync only where some count rose in it, or a top was lost before; and a create answers a failed device only where some count rose in it
-  pub counts : (l : LineOf c past acts entries) (from to : ℕ → ℕ) → AllCaused (calls_in_line l) from to → FailsByCounts (host_before h l) (pool_before l) l.entry from to
+  pub counts : (l : LineOf c past acts entries) (from to : ℕ → ℕ) → AllCaused (calls_in_line l) from to
+      → FailsByCounts (host_before h l) (pool_before l) l.entry from to
