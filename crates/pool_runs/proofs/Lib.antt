@@ -13,6 +13,7 @@ pub mod Members
 pub mod Moments
 pub mod Pasting
 pub mod Running
+pub mod Seating
 pub mod SmallRuns
 pub mod Sparing
 pub mod Stamps

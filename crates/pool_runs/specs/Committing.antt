@@ -9,17 +9,20 @@ use Rattle.txg_history.specs.Records.{Rec, IsIn, number_of, block_at}
 use Rattle.pool_moves.specs.LineRows.{Committed, Ended}
 use Rattle.pool_moves.specs.Opened.{opened_leaves}
 use Rattle.pool_moves.specs.PageReads.{LeafShown, answers_in}
+use Rattle.pool_moves.specs.TreeRows.{Detached}
 use Rattle.pool_runs.specs.Acts.{Act, Opening, Reads_as, calls_along}
-use Rattle.pool_runs.specs.Lines.{Asks_turn, Asks_sync, Reply, To_turn, To_sync, To_import, Opened, NothingFound, PageLost, Entry}
+use Rattle.pool_runs.specs.Lines.{Asks_turn, Asks_sync, Asks_detach, Reply, To_turn, To_sync, To_detach, To_import, Opened, NothingFound, PageLost, Entry}
 
 -- Behind a line record n is acknowledged, and it has each block as it was written last before the line.
 pub record CommitsAll (before behind : Pool) (n : ℕ) : Type 0 where
   pub acked : number_of behind.acked ≡ n
   pub blocks : (a : ℕ) → block_at behind.acked a ≡ before.written a
 
--- What a line acknowledges of a pool of this name where it answers n: a turn record n, and a sync record n with each block as it was written last.
+-- What a line acknowledges of a pool of this name where it answers n: a turn and a detach record n, and a sync record n with each block as it was
+-- written last.
 pub record AcksAs (before behind : Pool) (name : List ℕ) (e : Entry) (n : ℕ) : Type 0 where
   pub turns : e.asked ≡ Asks_turn name → e.reply ≡ To_turn (Committed n) → number_of behind.acked ≡ n
+  pub detaches : (leaf : List ℕ) → e.asked ≡ Asks_detach name leaf → e.reply ≡ To_detach (Detached n) → number_of behind.acked ≡ n
   pub syncs : e.asked ≡ Asks_sync name → e.reply ≡ To_sync (Ended (Committed n)) → CommitsAll before behind n
 
 -- An opening that answers n found a live record, not below the acknowledged one, and acknowledged its blocks again as record n, above it.
