@@ -102,11 +102,11 @@ module _ (own : ℕ → Bool) where
   answered_made (Makes noted ∷ vs) none = (none.0, answered_made vs none.1)
   answered_made (v ∷ vs) none = (tt, answered_made vs none)
 
-  answered_first : (vs ws : List Move) → AllByRecursion Answered (vs ++ ws) → AllByRecursion Answered vs
+  pub answered_first : (vs ws : List Move) → AllByRecursion Answered (vs ++ ws) → AllByRecursion Answered vs
   answered_first [] ws all = tt
   answered_first (v ∷ vs) ws all = (all.0, answered_first vs ws all.1)
 
-  answered_second : (vs ws : List Move) → AllByRecursion Answered (vs ++ ws) → AllByRecursion Answered ws
+  pub answered_second : (vs ws : List Move) → AllByRecursion Answered (vs ++ ws) → AllByRecursion Answered ws
   answered_second [] ws all = all
   answered_second (v ∷ vs) ws all = answered_second vs ws all.1
 
@@ -533,12 +533,12 @@ module _ (own : ℕ → Bool) where
   freeze_going c s first none mine row = froze_going row.cells s first none mine row.moves
 
   -- where nothing refuses a freeze each top has a writable leaf
-  none_unwritable : (ended : Bool) (top : Option ℕ) (s : PoolState) → RefusedBy ended top s None → top ≡ None
+  pub none_unwritable : (ended : Bool) (top : Option ℕ) (s : PoolState) → RefusedBy ended top s None → top ≡ None
   none_unwritable true top s is = absurd (cc)
   none_unwritable false (Some top) s is = absurd (cc)
   none_unwritable false None s is = refl
 
-  commits_fine : (c : Codec) (size : ℕ → ℕ) (s : PoolState) (vs : List Move) (reply : TurnReply) → unwritable s.core.leaves ≡ None → AreOwnLeaves s.core.leaves → AllByRecursion Answered vs → CommitsOpen c size s vs reply → IsSuspended reply → ⊥
+  pub commits_fine : (c : Codec) (size : ℕ → ℕ) (s : PoolState) (vs : List Move) (reply : TurnReply) → unwritable s.core.leaves ≡ None → AreOwnLeaves s.core.leaves → AllByRecursion Answered vs → CommitsOpen c size s vs reply → IsSuspended reply → ⊥
   commits_fine c size s vs reply none mine all w = group_fine c size (steps w.first s) w.rest reply (freeze_going c s w.first none mine w.freeze) (answered_second w.first w.rest (subst (AllByRecursion Answered) w.moves all)) w.ends
 
   open_by : (refusal : Option FreezeRefusal) (c : Codec) (size : ℕ → ℕ) (s : PoolState) (vs : List Move) (reply : SyncReply) → IsRefused s refusal → AreOwnLeaves s.core.leaves → AllByRecursion Answered vs → CommitsFor refusal c size s vs reply

@@ -12,9 +12,9 @@ use Rattle.pool_runs.specs.Acts.{Act, Names, Bears}
 use Rattle.pool_runs.specs.Creating.{members_of, tops_of, leaves_of, new_birth, or_else, first_some, too_many, too_wide, all_names, refused_if, too_small, refusals_of, create_refusal, stamp_acts, MayCreate, commit_acts, RowCreate}
 use Rattle.pool_runs.specs.Devices.{Device, size_in}
 use Rattle.pool_runs.specs.Hosts.{Host}
-use Rattle.pool_runs.specs.Knowing.{AreOwnActs}
 use Rattle.pool_runs.proofs.Known.{Knows, MayActs}
-use Rattle.pool_runs.specs.Lines.{CreateRefusal, TooMany, BadBlocks, TooSmall, Reply}
+use Rattle.pool_runs.specs.Knowing.{AreOwnActs}
+use Rattle.pool_runs.specs.Lines.{Refusal, TooMany, BadBlocks, TooSmall, Reply, Refusal}
 use Rattle.pool_runs.proofs.Knowing.{other_may}
 
 -- Other pools.
@@ -30,15 +30,15 @@ create_may c h p name blocks tops acts reply knows (inr (inr row)) =
     names_may c h p row.pool.0 (stamp_acts row.pool.0 row.stamps ++ (Bears (new_birth name row.pool blocks h.table tops) ∷ commit_acts row.answer row.pool.0 row.moves)) acts knows row.all row.own
 
 -- What it takes that no refusal came.
-pub or_first : (a b : Option CreateRefusal) → or_else a b ≡ None → a ≡ None
+pub or_first : (a b : Option Refusal) → or_else a b ≡ None → a ≡ None
 or_first (Some x) b is = absurd (cc)
 or_first None b is = refl
 
-pub or_second : (a b : Option CreateRefusal) → or_else a b ≡ None → b ≡ None
+pub or_second : (a b : Option Refusal) → or_else a b ≡ None → b ≡ None
 or_second (Some x) b is = absurd (cc)
 or_second None b is = is
 
-all_none : (refusals : List (Option CreateRefusal)) → first_some refusals ≡ None → AllByRecursion (λ refusal. refusal ≡ None) refusals
+all_none : (refusals : List (Option Refusal)) → first_some refusals ≡ None → AllByRecursion (λ refusal. refusal ≡ None) refusals
 all_none [] is = tt
 all_none (refusal ∷ more) is = (or_first refusal (first_some more) is, all_none more (or_second refusal (first_some more) is))
 
@@ -52,7 +52,7 @@ few : (limit count : ℕ) → too_many limit count ≡ None → count ≤ limit
 few limit count is = by_bool (nat_lt limit count) (λ yes. absurd (let no : Some (TooMany limit count) ≡ None = sym (ap (λ t. cond t (Some (TooMany limit count)) None) yes) ∙ is in cc))
     (λ no. let low : count ≤ limit = grind (arith, nat_tests) in low)
 
-big_of : (n : ℕ) (rest : Option CreateRefusal) → or_else (cond (nat_lt n 320) (Some (TooSmall 320 n)) None) rest ≡ None → 320 ≤ n
+big_of : (n : ℕ) (rest : Option Refusal) → or_else (cond (nat_lt n 320) (Some (TooSmall 320 n)) None) rest ≡ None → 320 ≤ n
 big_of n rest is = by_bool (nat_lt n 320)
     (λ yes. absurd (let no : Some (TooSmall 320 n) ≡ None =
     sym (ap (λ t. cond t (Some (TooSmall 320 n)) None) yes) ∙ or_first (cond (nat_lt n 320) (Some (TooSmall 320 n)) None) rest is in cc))
@@ -65,7 +65,7 @@ all_big table (l ∷ leaves) is = (
   all_big table leaves (or_second (cond (nat_lt (size_in table l.dev) 320) (Some (TooSmall 320 (size_in table l.dev))) None) (too_small table leaves) is),
 )
 
-not_refused : (t : Bool) (refusal : CreateRefusal) → refused_if t refusal ≡ None → t ≡ false
+not_refused : (t : Bool) (refusal : Refusal) → refused_if t refusal ≡ None → t ≡ false
 not_refused true refusal is = absurd (cc)
 not_refused false refusal is = refl
 

@@ -1,28 +1,32 @@
 -- The headline, from what a host knows of a pool and from the rows of a run.
-use Rattle.std.proofs.Common.{◌≡◌, ◌⊎◌, inl, inr, ℕ, ◌<◌, Bool, true, false, List, [], ◌∷◌, ◌++◌, take, Some, refl, sym, ap, ◌∙◌, subst, arith}
+use Rattle.bank_core.specs.Disk.{Noted, run}
+use Rattle.txg_history.specs.Records.{number_of, Rec, IsIn, key}
+use Rattle.std.proofs.Common.{◌≡◌, ◌⊎◌, inl, inr, ℕ, ◌<◌, Bool, true, false, List, [], ◌∷◌, ◌++◌, take, Some, refl, sym, ap, ◌∙◌, subst, arith, Option, None, append_assoc}
 use Rattle.mp_base.specs.Outside.{Rose}
 use Rattle.mp_base.specs.declared.number.Guid.{Guid}
 use Rattle.bank_core.specs.Calls.{AllCaused}
-use Rattle.bank_core.specs.Disk.{run}
 use Rattle.txg_history.specs.Events.{Event, Clears}
 use Rattle.txg_history.specs.Moves.{Mays}
 use Rattle.txg_history.specs.Pages.{Codec, IsClash}
 use Rattle.txg_history.specs.Pools.{Pool, pool_after}
-use Rattle.txg_history.specs.Records.{Rec, IsIn, key}
 use Rattle.txg_history.specs.Survival.{Survives}
 use Rattle.txg_history.proofs.Folding.{mays_second, pool_more}
 use Rattle.txg_history.proofs.ScansBring.{cleared_copied, groups_leave}
 use Rattle.txg_history.proofs.Surviving.{survives_sound}
 use Rattle.pool_moves.specs.AwayRows.{OfflineReply, Gone, Required, LeastOut, is_offline, is_spare, leaf_named, siblings, OfflineLeaf, OfflineHere, OfflineBy}
 use Rattle.pool_moves.specs.Keeping.{Kept}
-use Rattle.pool_moves.specs.Leaves.{LeafSeen}
-use Rattle.pool_moves.specs.LineRows.{TurnReply, SyncReply, Ended, Committed, Suspended, RowTurn, RowSync}
+use Rattle.pool_moves.specs.Leaves.{LeafSeen, Seat}
+use Rattle.pool_moves.specs.LineRows.{TurnReply, SyncReply, Ended, Committed, Suspended, RowTurn, RowSync, Idle, Write, Flush, Round, CommitsOpen}
 use Rattle.pool_moves.specs.Missing.{AllMissed}
-use Rattle.pool_moves.specs.Moves.{Move, steps, after_moves}
+use Rattle.pool_moves.specs.Moves.{Move, Makes, Lose, steps, after_move, after_moves}
 use Rattle.pool_moves.specs.ReadRow.{ReadReply, Gives, Exhausted, RowRead, made_in}
 use Rattle.pool_moves.specs.Showing.{LeafShown}
 use Rattle.pool_moves.specs.StampRow.{leaf_at, is_leaf_at, FaultOn}
 use Rattle.pool_moves.specs.States.{PoolState, Side}
+use Rattle.pool_moves.specs.Refusing.{FreezeRefusal}
+use Rattle.pool_moves.specs.TreeRows.{Graft, TreeRefusal, graft_refusal, GraftReply, DeviceFault, goes_out, is_there, IsCleaned, DetachReply, Detached, Undone, Required as DetachRequired, DetachBehind, CommitsWithout, DetachFor, DetachLeaf, DetachBy}
+use Rattle.pool_moves.specs.Walking.{as_moves}
+use Rattle.pool_moves.proofs.FreeWalks.{moves_more}
 use Rattle.pool_moves.proofs.Keeping.{walk_keeps}
 use Rattle.pool_moves.proofs.LineWalks.{turn_walks, sync_walks}
 use Rattle.pool_moves.proofs.Missing.{exhausted_missed}
@@ -34,17 +38,17 @@ use Rattle.pool_runs.specs.Creating.{leaves_of}
 use Rattle.pool_runs.specs.Devices.{number_in, size_in}
 use Rattle.pool_runs.specs.Fairness.{AreFair}
 use Rattle.pool_runs.specs.Headline.{TakesFor, IsRequiredFor, Headline}
-use Rattle.pool_runs.specs.HostRows.{AreMade, ReadLine, TurnLine, SyncLine, OfflineLine, OnPool, RowOf, HostRow, acts_in, IsRun}
-use Rattle.pool_runs.specs.Hosts.{Host, named, host_by, host_along}
+use Rattle.pool_runs.specs.HostRows.{AreMade, ReadLine, TurnLine, SyncLine, OfflineLine, OnPool, RowOf, HostRow, acts_in, IsRun, graft_acts, GraftUnless, GraftOnto, GraftIf, GraftLine, DetachLine}
+use Rattle.pool_runs.specs.Hosts.{Host, named, host_by, host_along, holder}
+use Rattle.pool_runs.proofs.Known.{Knows, MayActs}
 use Rattle.pool_runs.specs.Knowing.{HasSeats}
-use Rattle.pool_runs.specs.Lines.{Asks_read, Asks_turn, Asks_sync, Asks_offline, Asks_import, Asks_create, Reply, To_read, To_turn, To_sync, To_import, To_offline, To_create, ImportReply, Opened, NothingFound, PageLost, Unopened, No_memory, Entry}
+use Rattle.pool_runs.specs.Lines.{Asks_read, Asks_turn, Asks_sync, Asks_offline, Asks_import, Asks_create, Reply, To_read, To_turn, To_sync, To_import, To_offline, To_create, ImportReply, Opened, NothingFound, PageLost, Unopened, No_memory, Entry, Asks_graft, Asks_detach, To_graft, To_detach}
 use Rattle.pool_runs.specs.Moments.{Moment, events_at, pool_at, past_at, host_at, LineOf, pool_before, host_before, IsOpenAs}
 use Rattle.pool_runs.specs.Pasts.{Past, pool_of, Left, BeginsRun, HasFrozen}
 use Rattle.pool_runs.proofs.Acting.{history_pool}
 use Rattle.pool_runs.proofs.Answering.{all_answer, does_calls, marked_calls}
-use Rattle.pool_runs.proofs.Committing.{sync_all, does_pool, turn_all}
-use Rattle.pool_runs.proofs.Suspending.{turn_counts, sync_counts, import_counts, create_counts}
-use Rattle.pool_runs.proofs.Known.{Knows, MayActs}
+use Rattle.pool_runs.proofs.Committing.{sync_all, does_pool, turn_all, EndsIn, ends_behind, group_commits, ends_acked}
+use Rattle.pool_runs.proofs.Suspending.{turn_counts, sync_counts, import_counts, create_counts, detach_counts, graft_counts}
 use Rattle.pool_runs.proofs.Finding.{import_finds}
 use Rattle.pool_runs.proofs.Knowing.{may_more, acts_keep}
 use Rattle.pool_runs.proofs.Losing.{turn_loses}
@@ -134,6 +138,12 @@ read_reply a b e = cc
 
 offline_reply : (a b : OfflineReply) → To_offline a ≡ To_offline b → a ≡ b
 offline_reply a b e = cc
+
+detach_reply : (a b : DetachReply) → To_detach a ≡ To_detach b → a ≡ b
+detach_reply a b e = cc
+
+detach_not_memory : {A : Type 0} (a : DetachReply) → To_detach a ≡ No_memory → A
+detach_not_memory a e = absurd (cc)
 
 turn_reply : (a b : TurnReply) → To_turn a ≡ To_turn b → a ≡ b
 turn_reply a b e = cc
@@ -228,6 +238,63 @@ line_turns c h p e name s n met asked at is = of met.row
         (turn_all c (size_in h.table) s t vs n has.1 (turn_walks c (size_in h.table) s t vs (Committed n) has.1 met.knows.sizes done) done)
     of (inr out) = turn_not_memory (Committed n) (sym is ∙ out.says)
 
+-- A detach that answers a number acknowledged it: behind the commit the leaf's device is cleaned.
+cleaned_acked : (there : Bool) (dev : Option ℕ) (spare : Bool) (size : ℕ → ℕ) (vs : List Move) (t : Side) → IsCleaned there dev spare size vs → (after_moves vs t).pool.acked ≡ t.pool.acked
+cleaned_acked true (Some d) spare size vs t row = ap (λ l. (after_moves l t).pool.acked) row.3 ∙ made_acked row.0 (after_move (Lose d) t)
+  where
+    made_acked : (made : List Noted) (t : Side) → (after_moves (as_moves made) t).pool.acked ≡ t.pool.acked
+    made_acked [] t = refl
+    made_acked (noted ∷ made) t = made_acked made (after_move (Makes noted) t)
+cleaned_acked true None spare size vs t row = ap (λ l. (after_moves l t).pool.acked) row
+cleaned_acked false dev spare size vs t row = ap (λ l. (after_moves l t).pool.acked) row
+
+without_acks : (c : Codec) (size : ℕ → ℕ) (s : PoolState) (name : List ℕ) (leaf : LeafSeen) (seat : Seat) (vs : List Move) (r : DetachReply) (n : ℕ) (t : Side)
+    → CommitsWithout c size s name leaf seat vs r → r ≡ Detached n → number_of (after_moves vs t).pool.acked ≡ n
+without_acks c size s name leaf seat vs r n t row is = by row.turn row.commit row.behind
+  where
+    same : (a b : ℕ) → Detached a ≡ Detached b → a ≡ b
+    same a b e = cc
+
+    by : (turn : TurnReply) → CommitsOpen c size (steps (goes_out s name leaf) s) row.part turn → DetachBehind turn size s name leaf seat row.rest r → number_of (after_moves vs t).pool.acked ≡ n
+    by (Committed k) commit behind =
+        let ends : EndsIn (goes_out s name leaf ++ row.part) n = ends_behind (goes_out s name leaf) row.part n (subst (λ l. EndsIn l n) (sym commit.moves)
+        (ends_behind commit.first commit.rest n (subst (EndsIn commit.rest) (same k n (sym behind.1 ∙ is)) (group_commits c size (steps commit.first (steps (goes_out s name leaf) s)) commit.rest k commit.ends).ends))) in
+        ap (λ l. number_of (after_moves l t).pool.acked) (row.moves ∙ sym (append_assoc (goes_out s name leaf) row.part row.rest))
+        ∙ (ap (λ x. number_of x.pool.acked) (moves_more (goes_out s name leaf ++ row.part) row.rest t)
+        ∙ (ap number_of (cleaned_acked (is_there leaf.own.mode) leaf.dev (is_spare s leaf) size row.rest (after_moves (goes_out s name leaf ++ row.part) t) behind.0)
+        ∙ (ends_acked (goes_out s name leaf ++ row.part) n t ends).number))
+    by (Suspended g top faults) commit behind = absurd (let no = sym behind.1 ∙ is in cc)
+    by Idle commit behind = absurd behind
+    by Write commit behind = absurd behind
+    by Flush commit behind = absurd behind
+    by (Round k) commit behind = absurd behind
+
+detach_acks : (found : Option LeafSeen) (c : Codec) (size : ℕ → ℕ) (s : PoolState) (name : List ℕ) (seat : Seat) (vs : List Move) (r : DetachReply) (n : ℕ) (t : Side) → DetachBy found c size s name seat vs r
+    → r ≡ Detached n → number_of (after_moves vs t).pool.acked ≡ n
+detach_acks None c size s name seat vs r n t row is = absurd (let no = sym row.1 ∙ is in cc)
+detach_acks (Some leaf) c size s name seat vs r n t row is = by s.core.group.frozen row
+  where
+    for : (refusal : Option FreezeRefusal) → DetachFor refusal c size s name leaf seat vs r → number_of (after_moves vs t).pool.acked ≡ n
+    for (Some refusal) row = absurd (let no = sym row.1 ∙ is in cc)
+    for None row = without_acks c size s name leaf seat vs r n t row is
+
+    by : (frozen : Bool) → DetachLeaf frozen c size s name leaf seat vs r → number_of (after_moves vs t).pool.acked ≡ n
+    by true row = absurd (let no = sym row.1 ∙ is in cc)
+    by false (inl row) = absurd (let no = sym row.3 ∙ is in cc)
+    by false (inr row) = for row.1.0 row.1.2
+
+line_detaches : (c : Codec) (h : Host) (p : Pool) (e : Entry) (name leaf : List ℕ) (s : PoolState) (n : ℕ) → Meets c h p e → e.asked ≡ Asks_detach name leaf → IsOpenAs p h name s
+    → e.reply ≡ To_detach (Detached n) → number_of (pool_along e.acts p).acked ≡ n
+line_detaches c h p e name leaf s n met asked at is = of met.row
+  where
+    of : HostRow c h e → number_of (pool_along e.acts p).acked ≡ n
+    of (inl row) = let line = on_open h name s (DetachLine c h leaf) e.acts e.reply at.named (subst (λ x. RowOf c h x e.acts e.reply) asked row.0) in
+        let has = met.knows.stands s (named_open name s h.pools at.named) at.ours in
+        let t : Side = record { pool = p; seats = has.0 } in
+        ap (λ q. number_of q.acked) (ap (λ a. pool_along a p) line.2.are ∙ does_pool s.core.pool.0 line.2.moves t (sym at.ours))
+        ∙ detach_acks (leaf_named leaf s.core.leaves) c (size_in h.table) s leaf line.2.seat line.2.moves line.0 n t line.2.row (detach_reply line.0 (Detached n) (sym line.1 ∙ is))
+    of (inr out) = detach_not_memory (Detached n) (sym is ∙ out.says)
+
 -- The outage rule.
 least_one : (leaves : List LeafSeen) (g k : ℕ) → LeastOut leaves g → LeastOut leaves k → g ≡ k
 least_one leaves g k a b = meet (low g k)
@@ -247,7 +314,7 @@ gone_not_required : {A : Type 0} (g : ℕ) → Gone ≡ Required g → A
 gone_not_required g e = absurd (cc)
 
 required_leaf : (s : PoolState) (leaf : LeafSeen) (temporary : Bool) (vs : List Move) (r : OfflineReply) (reply : Reply) (group : ℕ) → reply ≡ To_offline r
-    → OfflineLeaf false s leaf temporary vs r → IsRequiredFor leaf s.core.leaves group reply
+    → OfflineLeaf false s leaf temporary vs r → IsRequiredFor leaf s.core.leaves group reply (To_offline (Required group))
 required_leaf s leaf temporary vs r reply group says (inl row) = record {
   only = λ is. subst (LeastOut (siblings leaf s.core.leaves)) (required_same row.0 group (sym row.3 ∙ offline_reply r (Required group) (sym says ∙ is))) row.1;
   always = λ least. inl (says ∙ ap To_offline (row.3 ∙ ap Required (least_one (siblings leaf s.core.leaves) row.0 group row.1 least)));
@@ -258,21 +325,64 @@ required_leaf s leaf temporary vs r reply group says (inr row) = record {
 }
 
 line_required : (c : Codec) (h : Host) (p : Pool) (e : Entry) (name device : List ℕ) (temporary : Bool) (s : PoolState) (leaf : LeafSeen) (group : ℕ) → Meets c h p e
-    → e.asked ≡ Asks_offline name device temporary → IsOpenAs p h name s → leaf_named device s.core.leaves ≡ Some leaf → is_spare s leaf ≡ false → is_offline leaf.own.mode ≡ false → IsRequiredFor leaf s.core.leaves group e.reply
+    → e.asked ≡ Asks_offline name device temporary → IsOpenAs p h name s → leaf_named device s.core.leaves ≡ Some leaf → is_spare s leaf ≡ false → is_offline leaf.own.mode ≡ false
+    → IsRequiredFor leaf s.core.leaves group e.reply (To_offline (Required group))
 line_required c h p e name device temporary s leaf group met asked at is plain up = of met.row
   where
-    of : HostRow c h e → IsRequiredFor leaf s.core.leaves group e.reply
+    of : HostRow c h e → IsRequiredFor leaf s.core.leaves group e.reply (To_offline (Required group))
     of (inl row) = let line = on_open h name s (OfflineLine h device temporary) e.acts e.reply at.named (subst (λ x. RowOf c h x e.acts e.reply) asked row.0) in
         let found : OfflineBy (Some leaf) s device temporary line.2.moves line.0 = subst (λ x. OfflineBy x s device temporary line.2.moves line.0) is line.2.row in
         let here : OfflineLeaf (is_offline leaf.own.mode) s leaf temporary line.2.moves line.0 = subst (λ t. OfflineHere t s leaf temporary line.2.moves line.0) plain found in
         required_leaf s leaf temporary line.2.moves line.0 e.reply group line.1 (subst (λ t. OfflineLeaf t s leaf temporary line.2.moves line.0) up here)
     of (inr out) = record { only = λ is. offline_not_memory (Required group) (sym is ∙ out.says); always = λ least. inr out.says }
 
+same_group : (a b : ℕ) → DetachRequired a ≡ DetachRequired b → a ≡ b
+same_group a b e = cc
+
+-- where the leaf may go, its line says nothing of it
+for_not_required : {A : Type 0} (refusal : Option FreezeRefusal) (c : Codec) (size : ℕ → ℕ) (s : PoolState) (name : List ℕ) (leaf : LeafSeen) (seat : Seat) (vs : List Move) (r : DetachReply) (group : ℕ)
+    → DetachFor refusal c size s name leaf seat vs r → r ≡ DetachRequired group → A
+for_not_required (Some refusal) c size s name leaf seat vs r group row is = absurd (let no = sym row.1 ∙ is in cc)
+for_not_required None c size s name leaf seat vs r group row is = absurd (by row.turn row.behind)
+  where
+    by : (turn : TurnReply) → DetachBehind turn size s name leaf seat row.rest r → ⊥
+    by (Committed number) behind = let no = sym behind.1 ∙ is in cc
+    by (Suspended g top faults) behind = let no = sym behind.1 ∙ is in cc
+    by Idle behind = behind
+    by Write behind = behind
+    by Flush behind = behind
+    by (Round n) behind = behind
+
+required_out : (c : Codec) (size : ℕ → ℕ) (s : PoolState) (name : List ℕ) (leaf : LeafSeen) (seat : Seat) (vs : List Move) (r : DetachReply) (reply : Reply) (group : ℕ) → reply ≡ To_detach r
+    → DetachLeaf false c size s name leaf seat vs r → IsRequiredFor leaf s.core.leaves group reply (To_detach (DetachRequired group))
+required_out c size s name leaf seat vs r reply group says (inl row) = record {
+  only = λ is. subst (LeastOut (siblings leaf s.core.leaves)) (same_group row.0 group (sym row.3 ∙ detach_reply r (DetachRequired group) (sym says ∙ is))) row.1;
+  always = λ least. inl (says ∙ ap To_detach (row.3 ∙ ap DetachRequired (least_one (siblings leaf s.core.leaves) row.0 group row.1 least)));
+}
+required_out c size s name leaf seat vs r reply group says (inr row) = record {
+  only = λ is. for_not_required row.1.0 c size s name leaf seat vs r group row.1.2 (detach_reply r (DetachRequired group) (sym says ∙ is));
+  always = λ least. absurd (row.0 (group, least.first, least.out));
+}
+
+line_required_out : (c : Codec) (h : Host) (p : Pool) (e : Entry) (name device : List ℕ) (s : PoolState) (leaf : LeafSeen) (group : ℕ) → Meets c h p e
+    → e.asked ≡ Asks_detach name device → IsOpenAs p h name s → leaf_named device s.core.leaves ≡ Some leaf → s.core.group.frozen ≡ false
+    → IsRequiredFor leaf s.core.leaves group e.reply (To_detach (DetachRequired group))
+line_required_out c h p e name device s leaf group met asked at is idle = of met.row
+  where
+    of : HostRow c h e → IsRequiredFor leaf s.core.leaves group e.reply (To_detach (DetachRequired group))
+    of (inl row) = let line = on_open h name s (DetachLine c h device) e.acts e.reply at.named (subst (λ x. RowOf c h x e.acts e.reply) asked row.0) in
+        let found : DetachBy (Some leaf) c (size_in h.table) s device line.2.seat line.2.moves line.0 = subst (λ x. DetachBy x c (size_in h.table) s device line.2.seat line.2.moves line.0) is line.2.row in
+        required_out c (size_in h.table) s device leaf line.2.seat line.2.moves line.0 e.reply group line.1
+        (subst (λ t. DetachLeaf t c (size_in h.table) s device leaf line.2.seat line.2.moves line.0) idle found)
+    of (inr out) = record { only = λ is. detach_not_memory (DetachRequired group) (sym is ∙ out.says); always = λ least. inr out.says }
+
 -- Counts.
 line_counts : (c : Codec) (h : Host) (p : Pool) (e : Entry) (from to : ℕ → ℕ) → Meets c h p e → AllCaused (calls_along e.acts) from to → IsCounted c h e from to
 line_counts c h p e from to met caused = record {
   turns = λ name s asked found bad. turns name s asked found bad met.row asked;
   tops = λ name s group top faults asked found says. tops name s group top faults asked found says met.row;
+  detaches = λ name leaf s group top faults asked found says. detaches name leaf s group top faults asked found says met.row;
+  grafts = λ graft name leaf new asked says. grafts graft name leaf new asked says met.row;
   imports = λ name group top faults asked says. imports name group top faults asked says met.row;
   creates = λ name blocks tops device asked says. creates name blocks tops device asked says met.row;
 }
@@ -295,6 +405,49 @@ line_counts c h p e from to met caused = record {
         (subst (RowTurn c (size_in h.table) s line.2.moves) (turn_reply line.0 (Suspended group top faults) (sym line.1 ∙ says)) line.2.row)
     tops name s group top faults asked found says (inr out) = turn_not_memory (Suspended group top faults) (sym says ∙ out.says)
 
+    detaches : (name leaf : List ℕ) (s : PoolState) (group : ℕ) (top : Guid) (faults : ℕ) → e.asked ≡ Asks_detach name leaf → named name h.pools ≡ Some s
+        → e.reply ≡ To_detach (Undone group top faults) → HostRow c h e → RoseAt (λ d. has_leaf_at d s) from to
+    detaches name leaf s group top faults asked found says (inl row) = let line = on_open h name s (DetachLine c h leaf) e.acts e.reply found (subst (λ x. RowOf c h x e.acts e.reply) asked row.0) in
+        detach_counts c h s leaf line.2.seat line.2.moves line.0 from to group top faults line.2.row
+        (subst (λ calls. AllCaused calls from to) (ap calls_along line.2.are ∙ does_calls s.core.pool.0 line.2.moves) caused) (detach_reply line.0 (Undone group top faults) (sym line.1 ∙ says))
+    detaches name leaf s group top faults asked found says (inr out) = detach_not_memory (Undone group top faults) (sym says ∙ out.says)
+
+    grafts : (graft : Graft) (name leaf new : List ℕ) → e.asked ≡ Asks_graft graft name leaf new → e.reply ≡ To_graft DeviceFault → HostRow c h e
+        → (d : ℕ) × (number_in new h.table ≡ Some d) × Rose (from d) (to d)
+    grafts graft name leaf new asked says (inr out) = absurd (let no = sym says ∙ out.says in cc)
+    grafts graft name leaf new asked says (inl row) = on (named name h.pools) (subst (λ x. RowOf c h x e.acts e.reply) asked row.0)
+      where
+        A : Type 0
+        A = (d : ℕ) × (number_in new h.table ≡ Some d) × Rose (from d) (to d)
+
+        same_graft : (a b : GraftReply) → To_graft a ≡ To_graft b → a ≡ b
+        same_graft a b e = cc
+
+        graft_calls : (g d : ℕ) (vs : List Move) → calls_along (graft_acts g d vs) ≡ made_in vs
+        graft_calls g d [] = refl
+        graft_calls g d (v ∷ vs) = does_calls g (v ∷ vs)
+
+        unless : (s : PoolState) (d : ℕ) → number_in new h.table ≡ Some d → (found : Option PoolState) → GraftUnless found h s graft leaf new d e.acts e.reply → A
+        unless s d here (Some u) row = absurd (let no = sym row.1 ∙ says in cc)
+        unless s d here None row = let line = row.2 in (
+          d,
+          here,
+          graft_counts (size_in h.table) graft s leaf new d line.moves row.0 from to line.row
+              (subst (λ calls. AllCaused calls from to) (ap calls_along line.are ∙ graft_calls s.core.pool.0 d line.moves) caused) (same_graft row.0 DeviceFault (sym row.1 ∙ says)),
+        )
+
+        onto : (s : PoolState) (number : Option ℕ) → number_in new h.table ≡ number → GraftOnto number h s graft leaf new e.acts e.reply → A
+        onto s None here row = absurd (let no = sym row.1 ∙ says in cc)
+        onto s (Some d) here row = unless s d here (holder new d h.pools) row
+
+        refused : (s : PoolState) (refusal : Option TreeRefusal) → GraftIf refusal h s graft leaf new e.acts e.reply → A
+        refused s (Some refusal) row = absurd (let no = sym row.1 ∙ says in cc)
+        refused s None row = onto s (number_in new h.table) refl row
+
+        on : (found : Option PoolState) → OnPool found (GraftLine h graft leaf new) e.acts e.reply → A
+        on None row = absurd (let no = sym row.1 ∙ says in cc)
+        on (Some s) row = refused s (graft_refusal graft s leaf (leaf_named leaf s.core.leaves)) row
+
     imports : (name : List ℕ) (group : ℕ) (top : Guid) (faults : ℕ) → e.asked ≡ Asks_import name → e.reply ≡ To_import (Unopened group top faults) → HostRow c h e → FailsOpening c e.acts from to
     imports name group top faults asked says (inl row) = import_counts c h name e.acts e.reply from to group top faults (subst (λ x. RowOf c h x e.acts e.reply) asked row.0) caused says
     imports name group top faults asked says (inr out) = import_not_memory (Unopened group top faults) (sym says ∙ out.says)
@@ -314,13 +467,17 @@ headline_from c past h acts entries f = record {
   commits = λ l. record {
     syncs = λ name s n asked at is. line_syncs c (host_before h l) (pool_before l) l.entry name s n (meets c past h acts entries f l) asked at is;
     turns = λ name s n asked at is. line_turns c (host_before h l) (pool_before l) l.entry name s n (meets c past h acts entries f l) asked at is;
+    detaches = λ name leaf s n asked at is. line_detaches c (host_before h l) (pool_before l) l.entry name leaf s n (meets c past h acts entries f l) asked at is;
   };
   writes = λ l. entry_writes c (host_before h l) (pool_before l) l.entry (meets c past h acts entries f l).row;
   reads = λ l name a s asked at. record {
     gives = λ bytes is. line_reads c (host_before h l) (pool_before l) l.entry name a s bytes (meets c past h acts entries f l) asked at is;
     loses = λ shown is. line_loses c (host_before h l) (pool_before l) l.entry name a s shown (meets c past h acts entries f l) asked at is;
   };
-  required = λ l name device temporary s leaf group asked at is plain up. line_required c (host_before h l) (pool_before l) l.entry name device temporary s leaf group (meets c past h acts entries f l) asked at is plain up;
+  required = λ l name device s leaf group at is. record {
+    away = λ temporary asked plain up. line_required c (host_before h l) (pool_before l) l.entry name device temporary s leaf group (meets c past h acts entries f l) asked at is plain up;
+    out = λ asked idle. line_required_out c (host_before h l) (pool_before l) l.entry name device s leaf group (meets c past h acts entries f l) asked at is idle;
+  };
   scans = at_scans c past h acts entries f;
   keeps = λ l d is. entry_keeps c (host_before h l) l.entry d (pool_before l) (meets c past h acts entries f l).row is;
   counts = λ l from to caused. line_counts c (host_before h l) (pool_before l) l.entry from to (meets c past h acts entries f l) caused;

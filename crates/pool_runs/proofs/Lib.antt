@@ -17,6 +17,7 @@ pub mod Moments
 pub mod Numbers
 pub mod Pasting
 pub mod Running
+pub mod Seating
 pub mod SmallRuns
 pub mod Sparing
 pub mod Stamps

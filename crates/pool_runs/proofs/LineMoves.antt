@@ -31,7 +31,7 @@ use Rattle.pool_runs.specs.Devices.{number_in, size_in}
 use Rattle.pool_runs.specs.HostRows.{ByMoves, is_reading, marked_behind, marked, ByMarked, found_in, device_for, ByOnline, OnlineLine, StepLine, ScrubLine, StopLine, ReadLine, FreezeLine, TurnLine, SyncLine, OfflineLine, LogsLine, OnPool, RowOf}
 use Rattle.pool_runs.specs.Hosts.{Host, named}
 use Rattle.pool_runs.specs.Importing.{read_in, all_shown}
-use Rattle.pool_runs.specs.Lines.{Asked, Asks_nothing, Asks_write, Asks_read, Asks_freeze, Asks_turn, Asks_sync, Asks_offline, Asks_online, Asks_logs, Asks_step, Asks_scrub, Asks_stop, Asks_import, Asks_create, Reply}
+use Rattle.pool_runs.specs.Lines.{Asked, Asks_nothing, Asks_write, Asks_read, Asks_freeze, Asks_turn, Asks_sync, Asks_offline, Asks_online, Asks_logs, Asks_step, Asks_scrub, Asks_stop, Asks_import, Asks_create, Asks_graft, Asks_detach, Reply}
 use Rattle.pool_runs.proofs.GroupMoves.{IsKind, more, all_calls, all_widened, all_reads, all_turn, all_freeze, all_sync, all_reopen}
 
 -- A kind that has each move that a line of an open pool may make, but those of its writes.
@@ -259,11 +259,13 @@ module _ (P : Move → Type 0) (k : IsLineKind P) where
               (line_shown g (read_in (made_in vs)) (found_in vs)),
         )
 
-    -- A line but a write, an import and a create.
+    -- A line but a write, an import, a create, and one that changes a tree.
     abbrev pub IsPlainLine : Asked → Type 0
     IsPlainLine (Asks_write name at block) = ⊥
     IsPlainLine (Asks_import name) = ⊥
     IsPlainLine (Asks_create name blocks tops) = ⊥
+    IsPlainLine (Asks_graft graft name leaf new) = ⊥
+    IsPlainLine (Asks_detach name leaf) = ⊥
     IsPlainLine asked = Unit {0}
 
     pub plain_line : (c : Codec) (h : Host) (asked : Asked) (acts : List Act) (reply : Reply) → IsPlainLine asked → RowOf c h asked acts reply → AllActs acts
@@ -291,3 +293,5 @@ module _ (P : Move → Type 0) (k : IsLineKind P) where
         (λ s line. by_moves h s (λ vs. RowLogs s vs line.0) acts (λ vs is. subst All (sym is.0) tt) line.2) row
     plain_line c h (Asks_import name) acts reply plain row = absurd plain
     plain_line c h (Asks_create name blocks tops) acts reply plain row = absurd plain
+    plain_line c h (Asks_graft graft name leaf new) acts reply plain row = absurd plain
+    plain_line c h (Asks_detach name leaf) acts reply plain row = absurd plain

@@ -3,13 +3,13 @@ use Rattle.std.proofs.Common.{◌≡◌, ◌≢◌, ◌⊎◌, inl, inr, ⊎_eli
 use Rattle.std.specs.List.{AllByRecursion}
 use Rattle.std.specs.Str.{bytes_eq}
 use Rattle.bank_core.specs.Disk.{Call, Read, Noted, AllAnswer}
-use Rattle.txg_history.specs.Events.{Known, Calls}
+use Rattle.txg_history.specs.Events.{Known, Calls, Loses}
 use Rattle.bank_core.specs.Standing.{touches}
 use Rattle.txg_history.specs.Moves.{IsPlain, Mays}
 use Rattle.txg_history.specs.Pages.{Codec}
 use Rattle.txg_history.specs.Pools.{Pool, after, pool_after}
 use Rattle.txg_history.proofs.Logging.{by_bool}
-use Rattle.pool_moves.specs.AwayRows.{is_listed, RowWrite, RowOffline}
+use Rattle.pool_moves.specs.AwayRows.{is_listed, leaf_named, RowWrite, RowOffline}
 use Rattle.pool_moves.specs.CommitRows.{RowLogs}
 use Rattle.pool_moves.specs.Keeping.{Kept, Walks}
 use Rattle.pool_moves.specs.LineRows.{IsSized, RowTurn, RowFreezeLine, RowSync}
@@ -18,27 +18,31 @@ use Rattle.pool_moves.specs.OnlineRow.{OnlineReply, FindMembers}
 use Rattle.pool_moves.specs.ReadRow.{RowRead, made_in}
 use Rattle.pool_moves.specs.ScanRows.{FoundClash, RowStep, RowScrub, RowStopScrub}
 use Rattle.pool_moves.specs.States.{PoolState, Side}
+use Rattle.pool_moves.specs.TreeRows.{Graft, TreeRefusal, graft_refusal, GraftReply, DetachReply}
 use Rattle.pool_moves.proofs.AwayWalks.{write_walks, offline_walks}
 use Rattle.pool_moves.proofs.CommitWalks.{logs_walks}
+use Rattle.pool_moves.proofs.DetachWalks.{detach_walks}
+use Rattle.pool_moves.proofs.GraftWalks.{graft_walks}
 use Rattle.pool_moves.proofs.Keeping.{move_keeps}
 use Rattle.pool_moves.proofs.LineWalks.{turn_walks, freeze_line_walks, sync_walks}
 use Rattle.pool_moves.proofs.OnlineWalks.{online_walks}
 use Rattle.pool_moves.proofs.ReadWalks.{read_walks}
 use Rattle.pool_moves.proofs.ScanEnds.{step_walks, scrub_walks, stop_walks}
-use Rattle.pool_runs.specs.Acts.{Act, Mark, Gives_for, Steps_by, Does, Marks, Shows, Hears, does, calls_along, events_for, pool_by, pool_along}
+use Rattle.pool_runs.specs.Acts.{Act, Mark, Gives_for, Steps_by, Does, Marks, Shows, Hears, does, calls_along, events_for, pool_by, pool_along, Takes}
 use Rattle.pool_runs.specs.Devices.{number_in, size_in}
 use Rattle.pool_runs.specs.Fairness.{IsMember, IsFairMark}
-use Rattle.pool_runs.specs.HostRows.{AreMade, ByMoves, is_read, is_reading, marked_behind, marked, ByMarked, found_in, device_for, ByOnline, OnlineLine, StepLine, ScrubLine, StopLine, WriteLine, ReadLine, FreezeLine, TurnLine, SyncLine, OfflineLine, LogsLine, OnPool, RowOf, HostRow, acts_of, acts_in, IsRun}
-use Rattle.pool_runs.specs.Hosts.{Host, IsOpen, named, moved, host_by, host_along}
+use Rattle.pool_runs.specs.HostRows.{AreMade, ByMoves, is_read, is_reading, marked_behind, marked, ByMarked, found_in, device_for, ByOnline, OnlineLine, StepLine, ScrubLine, StopLine, WriteLine, ReadLine, FreezeLine, TurnLine, SyncLine, OfflineLine, LogsLine, OnPool, RowOf, HostRow, acts_of, acts_in, IsRun, graft_acts, ByGraft, GraftUnless, GraftOnto, GraftIf, ByDetach, GraftLine, DetachLine}
+use Rattle.pool_runs.specs.Hosts.{Host, IsOpen, named, moved, host_by, host_along, holder}
 use Rattle.pool_runs.specs.Importing.{read_in, all_shown}
-use Rattle.pool_runs.specs.Knowing.{AreOwnActs}
 use Rattle.pool_runs.proofs.Known.{Knows, MayActs}
-use Rattle.pool_runs.specs.Lines.{Asked, Asks_nothing, Asks_write, Asks_read, Asks_freeze, Asks_turn, Asks_sync, Asks_offline, Asks_online, Asks_logs, Asks_step, Asks_scrub, Asks_stop, Asks_import, Asks_create, Reply, Entry}
+use Rattle.pool_runs.specs.Knowing.{AreOwnActs}
+use Rattle.pool_runs.specs.Lines.{Asked, Asks_nothing, Asks_write, Asks_read, Asks_freeze, Asks_turn, Asks_sync, Asks_offline, Asks_online, Asks_logs, Asks_step, Asks_scrub, Asks_stop, Asks_import, Asks_create, Reply, Entry, Asks_graft, Asks_detach}
 use Rattle.pool_runs.proofs.Acting.{same_number, number_of_test, own_events}
 use Rattle.pool_runs.proofs.Answering.{all_answer, marked_calls}
 use Rattle.pool_runs.proofs.Creating.{create_may}
 use Rattle.pool_runs.proofs.Importing.{own_shown, import_may}
 use Rattle.pool_runs.proofs.Knowing.{acts_number, may_more, moved_own, open_moved, other_may, own_does, walk_may}
+use Rattle.pool_runs.proofs.Seating.{seat_as, detach_as, may_as, own_as, some_seat}
 use Rattle.pool_runs.proofs.Sparing.{untouched_sparing}
 
 -- the open pool of a name is open
@@ -167,6 +171,62 @@ online_may c h p s device reply acts knows is line = by_bool (s.core.pool.0 == p
     )))
     (λ off. other_may c h p s.core.pool.0 acts knows (not_same s.core.pool.0 p.pool.0 off) line.own)
 
+-- A leaf that is put in, and one that is taken out.
+graft_may : (c : Codec) (h : Host) (p : Pool) (s : PoolState) (graft : Graft) (leaf new : List ℕ) (d : ℕ) (reply : GraftReply) (acts : List Act) → Knows c h p → IsOpen s h.pools
+    → ByGraft h s graft leaf new d reply acts → MayActs c h p acts
+graft_may c h p s graft leaf new d reply acts knows is line = by_bool (s.core.pool.0 == p.pool.0)
+    (λ mine. let number = number_of_test s.core.pool.0 p.pool.0 mine in
+    let has = knows.stands s is number in
+    subst (MayActs c h p) (sym line.are) (of line.moves (record { pool = p; seats = has.0 }) has.1 (sym number) refl
+    (graft_walks c (size_in h.table) graft s (record { pool = p; seats = has.0 }) leaf new d line.moves reply has.1 knows.sizes line.row)
+    (subst (AreOwnActs s.core.pool.0 h) line.are line.own)))
+    (λ off. other_may c h p s.core.pool.0 acts knows (not_same s.core.pool.0 p.pool.0 off) line.own)
+  where
+    g : ℕ
+    g = s.core.pool.0
+
+    of : (vs : List Move) (t : Side) → Kept c s t → t.pool.pool.0 ≡ s.core.pool.0 → t.pool ≡ p → Walks c t vs → AreOwnActs s.core.pool.0 h (graft_acts s.core.pool.0 d vs)
+        → MayActs c h p (graft_acts s.core.pool.0 d vs)
+    of [] t kept number same walks own = tt
+    of (v ∷ vs) t kept number same walks own = λ fair.
+        let none : events_for (Takes g d) p ≡ [] = ap (λ x. cond x [] (Loses d ∷ [])) (same_number p.pool.0 g (ap (λ q. q.pool.0) (sym same) ∙ number)) in
+        let owned : Knows c (host_by (Takes g d) h) p = own_shown c h p g d (ap (λ q. q.pool.0) (sym same) ∙ number) knows in (
+          subst (Mays c p) (sym none) tt,
+          subst (λ events. Knows c (host_by (Takes g d) h) (pool_after events p)) (sym none) owned,
+          subst (λ events. MayActs c (host_by (Takes g d) h) (pool_after events p) (does g (v ∷ vs))) (sym none)
+              (subst (λ q. MayActs c (host_by (Takes g d) h) q (does g (v ∷ vs))) same
+              (walk_may c (host_by (Takes g d) h) s t g (v ∷ vs) (subst (Knows c (host_by (Takes g d) h)) (sym same) owned) is number kept walks own.1)),
+        )
+
+graft_line_may : (c : Codec) (h : Host) (p : Pool) (s : PoolState) (graft : Graft) (leaf new : List ℕ) (acts : List Act) (reply : Reply) → Knows c h p → IsOpen s h.pools
+    → GraftLine h graft leaf new s acts reply → MayActs c h p acts
+graft_line_may c h p s graft leaf new acts reply knows is row = refused (graft_refusal graft s leaf (leaf_named leaf s.core.leaves)) row
+  where
+    unless : (d : ℕ) (found : Option PoolState) → GraftUnless found h s graft leaf new d acts reply → MayActs c h p acts
+    unless d (Some u) row = subst (MayActs c h p) (sym row.0) tt
+    unless d None row = graft_may c h p s graft leaf new d row.0 acts knows is row.2
+
+    onto : (number : Option ℕ) → GraftOnto number h s graft leaf new acts reply → MayActs c h p acts
+    onto None row = subst (MayActs c h p) (sym row.0) tt
+    onto (Some d) row = unless d (holder new d h.pools) row
+
+    refused : (refusal : Option TreeRefusal) → GraftIf refusal h s graft leaf new acts reply → MayActs c h p acts
+    refused (Some refusal) row = subst (MayActs c h p) (sym row.0) tt
+    refused None row = onto (number_in new h.table) row
+
+detach_may : (c : Codec) (h : Host) (p : Pool) (s : PoolState) (leaf : List ℕ) (reply : DetachReply) (acts : List Act) → Knows c h p → IsOpen s h.pools → ByDetach c h s leaf reply acts → MayActs c h p acts
+detach_may c h p s leaf reply acts knows is line = by_bool (s.core.pool.0 == p.pool.0)
+    (λ mine. let number = number_of_test s.core.pool.0 p.pool.0 mine in
+    let has = knows.stands s is number in
+    let t : Side = record { pool = p; seats = has.0 } in
+    let g = s.core.pool.0 in
+    let at = some_seat c s t leaf line.seat has.1 in
+    let walks = detach_walks c (size_in h.table) s t leaf at.0 (map (seat_as at.0) line.moves) reply has.1 knows.sizes at.1
+    (detach_as c (size_in h.table) s leaf line.seat at.0 line.moves reply line.row) in
+    subst (MayActs c h p) (sym line.are) (may_as c h p g at.0 line.moves
+    (walk_may c h s t g (map (seat_as at.0) line.moves) knows is (sym number) has.1 walks (own_as h g at.0 line.moves (subst (AreOwnActs g h) line.are line.own)))))
+    (λ off. other_may c h p s.core.pool.0 acts knows (not_same s.core.pool.0 p.pool.0 off) line.own)
+
 -- Each line.
 on_pool : (c : Codec) (h : Host) (p : Pool) (name : List ℕ) (found : Option PoolState) (Line : PoolState → List Act → Reply → Type 0) (acts : List Act) (reply : Reply)
     → named name h.pools ≡ found → ((s : PoolState) → IsOpen s h.pools → Line s acts reply → MayActs c h p acts) → OnPool found Line acts reply → MayActs c h p acts
@@ -195,6 +255,10 @@ row_may c h p (Asks_offline name device temporary) acts reply knows made row = o
     (λ s is line. line_may c h p s (λ vs. RowOffline s device temporary vs line.0) acts knows is (λ t vs kept at row. offline_walks c s t device temporary vs line.0 kept row) line.2) row
 row_may c h p (Asks_online name device) acts reply knows made row = on_pool c h p name (named name h.pools) (OnlineLine h device) acts reply refl
     (λ s is line. online_may c h p s device line.0 acts knows is line.2) row
+row_may c h p (Asks_graft graft name leaf new) acts reply knows made row = on_pool c h p name (named name h.pools) (GraftLine h graft leaf new) acts reply refl
+    (λ s is line. graft_line_may c h p s graft leaf new acts reply knows is line) row
+row_may c h p (Asks_detach name leaf) acts reply knows made row = on_pool c h p name (named name h.pools) (DetachLine c h leaf) acts reply refl
+    (λ s is line. detach_may c h p s leaf line.0 acts knows is line.2) row
 row_may c h p (Asks_step name) acts reply knows made row = on_pool c h p name (named name h.pools) (StepLine h) acts reply refl
     (λ s is line. marked_line_may c h p s (λ vs. Steps_by (made_in vs)) (λ vs. RowStep s vs line.0) acts knows is made (λ vs noted p fair clash. fair (clash_behind noted p (made_in vs) clash))
     (λ t vs kept answers row fair. ⊎_elim (λ w. w) (λ clash. absurd (fair clash)) (step_walks c s t vs line.0 kept answers row)) line.2) row

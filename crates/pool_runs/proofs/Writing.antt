@@ -1,5 +1,5 @@
 -- Which lines leave what was written last.
-use Rattle.std.proofs.Common.{◌≡◌, ◌⊎◌, inl, inr, ⊎_elim, ℕ, ◌==◌, Bool, true, false, cond, List, [], ◌∷◌, ◌++◌, Option, Some, None, refl, sym, ap, ◌∙◌, subst, nat_le, length}
+use Rattle.std.proofs.Common.{◌≡◌, ◌⊎◌, inl, inr, ⊎_elim, ℕ, ◌==◌, Bool, true, false, cond, List, [], ◌∷◌, ◌++◌, Option, Some, None, refl, sym, ap, ◌∙◌, subst, nat_le, length, ◌+◌, nat_lt}
 use Rattle.std.specs.List.{AllByRecursion}
 use Rattle.std.specs.Str.{bytes_eq}
 use Rattle.bank_core.specs.Disk.{Noted}
@@ -9,26 +9,33 @@ use Rattle.txg_history.specs.Pages.{Codec}
 use Rattle.txg_history.specs.Pools.{Pool, after, pool_after}
 use Rattle.txg_history.proofs.Folding.{name_kept}
 use Rattle.txg_history.proofs.Logging.{by_bool}
-use Rattle.pool_moves.specs.AwayRows.{WriteReply, Taken, BadAddress, Full, NoSpace, WriteFits, WriteBy, RowWrite}
+use Rattle.pool_moves.specs.AwayRows.{WriteReply, Taken, BadAddress, Full, NoSpace, WriteFits, WriteBy, RowWrite, is_spare, leaf_named}
 use Rattle.pool_moves.specs.LineRows.{TurnReply, Idle, Write, Flush, Round, Committed, Suspended}
-use Rattle.pool_moves.specs.Moves.{Move, Makes, Puts, events_of}
+use Rattle.pool_moves.specs.Moves.{Move, Makes, Puts, events_of, Widen, step, steps}
 use Rattle.pool_moves.specs.OpeningRow.{SeekReply, NoRecord, NumbersEnd, TakesRecord, OpenReply, Opens_state, NoPage, lacking_of}
 use Rattle.pool_moves.specs.ReadRow.{made_in}
 use Rattle.pool_moves.specs.StampRow.{Stamp, CreateReply, Created, FaultOn, new_state}
-use Rattle.pool_moves.specs.States.{PoolState}
+use Rattle.pool_moves.specs.States.{PoolState, PoolSeen}
 use Rattle.pool_runs.specs.Acts.{Act, Bare, Does, Looked, Reads_as, Takes, Bears, Closes, does, bare, calls_along, pool_by, pool_along, read_by, events_for}
 use Rattle.pool_runs.specs.Creating.{tops_of, stamp_acts, new_birth, commit_acts, RowCreate}
-use Rattle.pool_runs.specs.Devices.{size_in}
-use Rattle.pool_runs.specs.HostRows.{WriteLine, OnPool, RowOf, ChangesNone, MayRewrite, HostRow}
+use Rattle.pool_runs.specs.Devices.{size_in, number_in}
+use Rattle.pool_runs.specs.HostRows.{WriteLine, OnPool, RowOf, ChangesNone, MayRewrite, HostRow, graft_acts, GraftUnless, GraftOnto, GraftIf, GraftLine, DetachLine}
 use Rattle.pool_runs.specs.Fairness.{IsFairOpening, IsFair, AreFair}
-use Rattle.pool_runs.specs.Hosts.{Host, named}
+use Rattle.pool_runs.specs.Hosts.{Host, named, holder}
 use Rattle.pool_runs.specs.Importing.{read_in, all_shown, OpensBy, FollowsMap, ImportBy, host_behind, ImportFor, ImportUnless}
-use Rattle.pool_runs.specs.Lines.{Asked, Asks_write, Asks_import, Asks_create, Reply, To_write, No_memory, Entry}
+use Rattle.pool_runs.specs.Lines.{Asked, Asks_write, Asks_import, Asks_create, Reply, To_write, No_memory, Entry, Asks_graft, Asks_detach}
 use Rattle.pool_runs.specs.Writing.{IsTakenWrite, IsImport, KeepsWrites}
 use Rattle.pool_runs.proofs.Acting.{number_of_test, own_events}
 use Rattle.pool_runs.proofs.Committing.{KeepsWritten, written_kind, move_written}
-use Rattle.pool_runs.proofs.GroupMoves.{all_found}
+use Rattle.pool_runs.proofs.GroupMoves.{all_found, more, all_calls, all_commits}
 use Rattle.pool_runs.proofs.LineMoves.{IsLineKind, IsActKind, line_resume, line_does, both_acts, plain_line}
+use Rattle.bank_core.specs.declared.bank.Fault.{Fault}
+use Rattle.pool_moves.specs.Leaves.{LeafSeen, Seat}
+use Rattle.pool_moves.specs.Refusing.{FreezeRefusal}
+use Rattle.pool_moves.specs.ScanRows.{starts_scan}
+use Rattle.pool_moves.specs.TreeRows.{Graft, TreeRefusal, graft_refusal, comes_in, graft_first, graft_moves, GraftReply, GraftEnds, GraftOn, GraftAt, GraftFor, RowGraft, goes_out, is_there, IsCleaned, DetachReply, DetachBehind, DetachFor, DetachLeaf, DetachBy}
+use Rattle.pool_moves.specs.Walking.{as_moves}
+use Rattle.pool_moves.specs.Widening.{AreWidens}
 
 -- Acts that leave what was written.
 calls_written : (made : List Noted) (p : Pool) → (pool_after (as_events made) p).written ≡ p.written
@@ -115,6 +122,112 @@ still_create c h name blocks tops acts reply (inr (inr row)) =
             (all_found KeepsWritten written_kind (λ cells board. tt) c (size_in h.table) (new_state (size_in h.table) name row.pool blocks (tops_of h.table tops)) row.moves row.row.whole row.row.row),
       ),
     )
+
+-- A leaf that is put in, and one that is taken out.
+abbrev AllWritten : List Move → Type 0
+AllWritten vs = AllByRecursion KeepsWritten vs
+
+written_calls : (made : List Noted) → AllWritten (as_moves made)
+written_calls made = all_calls KeepsWritten written_kind made
+
+written_widens : (s : PoolSeen) (vs : List Move) → AreWidens s vs → AllWritten vs
+written_widens s [] are = tt
+written_widens s (Widen m low high ∷ vs) are = (tt, written_widens (step (Widen m low high) s) vs are.2)
+written_widens s (v ∷ vs) are = absurd are
+
+written_ends : (outcome : Option Fault) (graft : Graft) (s : PoolState) (name : List ℕ) (leaf : LeafSeen) (new : List ℕ) (d : ℕ) (made : List Noted)
+    (vs : List Move) (reply : GraftReply) → GraftEnds outcome graft s name leaf new d made vs reply → AllWritten vs
+written_ends (Some fault) graft s name leaf new d made vs reply row = subst AllWritten (sym row.0) (tt, written_calls made)
+written_ends None graft s name leaf new d made vs reply row = subst AllWritten (sym row.0.moves)
+    (more KeepsWritten (graft_moves graft s name leaf new d made) row.0.widens (
+      tt,
+      more KeepsWritten (as_moves made ++ comes_in graft s name leaf new d) (starts_scan (steps (graft_first graft s name leaf new d made) s) ∷ [])
+          (more KeepsWritten (as_moves made) (comes_in graft s name leaf new d) (written_calls made) (tt, (tt, (tt, tt)))) (tt, tt),
+    )
+    (written_widens (steps (graft_moves graft s name leaf new d made) s).core row.0.widens row.0.are))
+
+written_graft : (size : ℕ → ℕ) (graft : Graft) (s : PoolState) (name new : List ℕ) (d : ℕ) (vs : List Move) (reply : GraftReply)
+    → RowGraft size graft s name new d vs reply → AllWritten vs
+written_graft size graft s name new d vs reply row = for (graft_refusal graft s name (leaf_named name s.core.leaves)) row
+  where
+    on : (small : Bool) (leaf : LeafSeen) → GraftOn small size graft s name leaf new d vs reply → AllWritten vs
+    on true leaf row = subst AllWritten (sym row.0) tt
+    on false leaf row = written_ends row.outcome graft s name leaf new d row.made vs reply row.ends
+
+    at : (found : Option LeafSeen) → GraftAt found size graft s name new d vs reply → AllWritten vs
+    at None row = absurd row
+    at (Some leaf) row = on (nat_lt (size d) (s.core.room leaf.top + 256)) leaf row
+
+    for : (refusal : Option TreeRefusal) → GraftFor refusal size graft s name new d vs reply → AllWritten vs
+    for (Some refusal) row = subst AllWritten (sym row.0) tt
+    for None row = at (leaf_named name s.core.leaves) row
+
+still_does : (g : ℕ) (vs : List Move) → AllWritten vs → AllStill (does g vs)
+still_does g vs all = line_does KeepsWritten written_line StillAt still_acts g vs all
+
+still_graft_acts : (g d : ℕ) (vs : List Move) → AllWritten vs → AllStill (graft_acts g d vs)
+still_graft_acts g d [] all = tt
+still_graft_acts g d (v ∷ vs) all = (tt, still_does g (v ∷ vs) all)
+
+still_graft : (found : Option PoolState) (h : Host) (graft : Graft) (leaf new : List ℕ) (acts : List Act) (reply : Reply)
+    → OnPool found (GraftLine h graft leaf new) acts reply → AllStill acts
+still_graft None h graft leaf new acts reply row = subst AllStill (sym row.0) tt
+still_graft (Some s) h graft leaf new acts reply row = refused (graft_refusal graft s leaf (leaf_named leaf s.core.leaves)) row
+  where
+    unless : (d : ℕ) (found : Option PoolState) → GraftUnless found h s graft leaf new d acts reply → AllStill acts
+    unless d (Some u) row = subst AllStill (sym row.0) tt
+    unless d None row = subst AllStill (sym row.2.are) (still_graft_acts s.core.pool.0 d row.2.moves
+        (written_graft (size_in h.table) graft s leaf new d row.2.moves row.0 row.2.row))
+
+    onto : (number : Option ℕ) → GraftOnto number h s graft leaf new acts reply → AllStill acts
+    onto None row = subst AllStill (sym row.0) tt
+    onto (Some d) row = unless d (holder new d h.pools) row
+
+    refused : (refusal : Option TreeRefusal) → GraftIf refusal h s graft leaf new acts reply → AllStill acts
+    refused (Some refusal) row = subst AllStill (sym row.0) tt
+    refused None row = onto (number_in new h.table) row
+
+written_cleaned : (there : Bool) (dev : Option ℕ) (spare : Bool) (size : ℕ → ℕ) (vs : List Move) → IsCleaned there dev spare size vs → AllWritten vs
+written_cleaned true (Some d) spare size vs row = subst AllWritten (sym row.3) (tt, written_calls row.0)
+written_cleaned true None spare size vs row = subst AllWritten (sym row) tt
+written_cleaned false dev spare size vs row = subst AllWritten (sym row) tt
+
+written_behind : (turn : TurnReply) (size : ℕ → ℕ) (s : PoolState) (name : List ℕ) (leaf : LeafSeen) (seat : Seat) (vs : List Move) (reply : DetachReply)
+    → DetachBehind turn size s name leaf seat vs reply → AllWritten vs
+written_behind (Committed number) size s name leaf seat vs reply row = written_cleaned (is_there leaf.own.mode) leaf.dev (is_spare s leaf) size vs row.0
+written_behind (Suspended group top faults) size s name leaf seat vs reply row = subst AllWritten (sym row.0) (tt, (tt, tt))
+written_behind Idle size s name leaf seat vs reply row = absurd row
+written_behind Write size s name leaf seat vs reply row = absurd row
+written_behind Flush size s name leaf seat vs reply row = absurd row
+written_behind (Round number) size s name leaf seat vs reply row = absurd row
+
+written_detach : (found : Option LeafSeen) (c : Codec) (size : ℕ → ℕ) (s : PoolState) (name : List ℕ) (seat : Seat) (vs : List Move) (reply : DetachReply)
+    → DetachBy found c size s name seat vs reply → AllWritten vs
+written_detach None c size s name seat vs reply row = subst AllWritten (sym row.0) tt
+written_detach (Some leaf) c size s name seat vs reply row = by s.core.group.frozen row
+  where
+    for : (refusal : Option FreezeRefusal) → DetachFor refusal c size s name leaf seat vs reply → AllWritten vs
+    for (Some refusal) row = subst AllWritten (sym row.0) tt
+    for None row = subst AllWritten (sym row.moves) (
+      tt,
+      (
+        tt,
+        more KeepsWritten row.part row.rest
+            (all_commits KeepsWritten written_kind (λ cells board. tt) c size (steps (goes_out s name leaf) s) row.part row.turn (λ bad. tt) row.commit)
+            (written_behind row.turn size s name leaf seat row.rest reply row.behind),
+      ),
+    )
+
+    by : (frozen : Bool) → DetachLeaf frozen c size s name leaf seat vs reply → AllWritten vs
+    by true row = subst AllWritten (sym row.0) tt
+    by false (inl row) = subst AllWritten (sym row.2) tt
+    by false (inr row) = for row.1.0 row.1.2
+
+still_detach : (found : Option PoolState) (c : Codec) (h : Host) (leaf : List ℕ) (acts : List Act) (reply : Reply)
+    → OnPool found (DetachLine c h leaf) acts reply → AllStill acts
+still_detach None c h leaf acts reply row = subst AllStill (sym row.0) tt
+still_detach (Some s) c h leaf acts reply row = subst AllStill (sym row.2.are) (still_does s.core.pool.0 row.2.moves
+    (written_detach (leaf_named leaf s.core.leaves) c (size_in h.table) s leaf row.2.seat row.2.moves row.0 row.2.row))
 
 -- A write.
 puts_one : (short : Bool) (need free a : ℕ) (block : List ℕ) (vs : List Move) (reply : WriteReply) → WriteFits short need free a block vs reply
@@ -277,6 +390,8 @@ row_leaves : (c : Codec) (h : Host) (p : Pool) (e : Entry) (asked : Asked) → e
 row_leaves c h p e (Asks_write name a block) is row = write_leaves c h p e name a block (named name h.pools) refl is row
 row_leaves c h p e (Asks_import name) is row = import_leaves c h p e name is (named_import (named name h.pools) c h name e.acts e.reply row)
 row_leaves c h p e (Asks_create name blocks tops) is row = leaves_still c h p e (still_create c h name blocks tops e.acts e.reply row)
+row_leaves c h p e (Asks_graft graft name leaf new) is row = leaves_still c h p e (still_graft (named name h.pools) h graft leaf new e.acts e.reply row)
+row_leaves c h p e (Asks_detach name leaf) is row = leaves_still c h p e (still_detach (named name h.pools) c h leaf e.acts e.reply row)
 row_leaves c h p e asked is row = leaves_still c h p e (plain_line KeepsWritten written_line StillAt still_acts c h asked e.acts e.reply tt row)
 
 -- Where there was no memory.
@@ -316,6 +431,10 @@ short_leaves c h p e rest reply (Asks_write name a block) is row (inr none) = ab
 short_leaves c h p e rest reply (Asks_import name) is row early =
     import_leaves c h p e name is (named_front name e.acts rest (named_import (named name h.pools) c h name (e.acts ++ rest) reply row))
 short_leaves c h p e rest reply (Asks_create name blocks tops) is row early = leaves_still c h p e (still_front e.acts rest (still_create c h name blocks tops (e.acts ++ rest) reply row))
+short_leaves c h p e rest reply (Asks_graft graft name leaf new) is row early =
+    leaves_still c h p e (still_front e.acts rest (still_graft (named name h.pools) h graft leaf new (e.acts ++ rest) reply row))
+short_leaves c h p e rest reply (Asks_detach name leaf) is row early =
+    leaves_still c h p e (still_front e.acts rest (still_detach (named name h.pools) c h leaf (e.acts ++ rest) reply row))
 short_leaves c h p e rest reply asked is row early = leaves_still c h p e (still_front e.acts rest (plain_line KeepsWritten written_line StillAt still_acts c h asked (e.acts ++ rest) reply tt row))
 
 entry_leaves : (c : Codec) (h : Host) (p : Pool) (e : Entry) → HostRow c h e → Leaves c h p e

@@ -9,8 +9,9 @@ use Rattle.txg_history.specs.Records.{Rec, IsIn, number_of, block_at}
 use Rattle.pool_moves.specs.LineRows.{Committed, Ended}
 use Rattle.pool_moves.specs.Opened.{opened_leaves}
 use Rattle.pool_moves.specs.PageReads.{LeafShown, answers_in}
+use Rattle.pool_moves.specs.TreeRows.{Detached}
 use Rattle.pool_runs.specs.Acts.{Act, Opening, Reads_as, calls_along}
-use Rattle.pool_runs.specs.Lines.{Asks_turn, Asks_sync, Reply, To_turn, To_sync, To_import, Opened, NothingFound, PageLost, Entry}
+use Rattle.pool_runs.specs.Lines.{Asks_turn, Asks_sync, Reply, To_turn, To_sync, To_import, Opened, NothingFound, PageLost, Entry, Asks_detach, To_detach}
 use Rattle.pool_moves.specs.States.{PoolState}
 use Rattle.pool_runs.specs.Hosts.{Host}
 use Rattle.pool_runs.specs.Moments.{IsOpenAs}
@@ -25,12 +26,14 @@ pub record CommitsGroup (before behind : Pool) (n : ℕ) : Type 0 where
   pub acked : number_of behind.acked ≡ n
   pub blocks : (a : ℕ) → block_at behind.acked a ≡ before.group.content a
 
--- A sync or a turn of the open pool that answers a number acknowledged that record.
+-- A sync, a turn or a detach of the open pool that answers a number acknowledged that record.
 pub record Acknowledges (h : Host) (before behind : Pool) (e : Entry) : Type 0 where
   pub syncs : (name : List ℕ) (s : PoolState) (n : ℕ) → e.asked ≡ Asks_sync name → IsOpenAs before h name s → e.reply ≡ To_sync (Ended (Committed n))
       → CommitsAll before behind n
   pub turns : (name : List ℕ) (s : PoolState) (n : ℕ) → e.asked ≡ Asks_turn name → IsOpenAs before h name s → e.reply ≡ To_turn (Committed n)
       → CommitsGroup before behind n
+  pub detaches : (name leaf : List ℕ) (s : PoolState) (n : ℕ) → e.asked ≡ Asks_detach name leaf → IsOpenAs before h name s → e.reply ≡ To_detach (Detached n)
+      → number_of behind.acked ≡ n
 
 -- An opening that answers n found a live record, not below the acknowledged one, and acknowledged its blocks again as record n, above it; and what
 -- was written last is what the record found has.

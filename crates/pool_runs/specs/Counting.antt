@@ -15,8 +15,10 @@ use Rattle.txg_history.specs.Pages.{Codec}
 use Rattle.pool_runs.specs.Acts.{Act, Opening}
 use Rattle.pool_runs.specs.Committing.{opening_in}
 use Rattle.pool_runs.specs.Creating.{leaves_of}
+use Rattle.pool_runs.specs.Devices.{number_in}
+use Rattle.pool_moves.specs.TreeRows.{Graft, DeviceFault, Undone}
 use Rattle.pool_runs.specs.Hosts.{Host, named}
-use Rattle.pool_runs.specs.Lines.{Asks_turn, Asks_sync, Asks_import, Asks_create, Reply, To_turn, To_sync, To_import, To_create, Unopened, Entry}
+use Rattle.pool_runs.specs.Lines.{Asks_turn, Asks_sync, Asks_graft, Asks_detach, Asks_import, Asks_create, Reply, To_turn, To_sync, To_graft, To_detach, To_import, To_create, Unopened, Entry}
 
 -- the pool has a leaf on this device
 abbrev pub has_leaf_at : (d : ℕ) → PoolState → Bool
@@ -69,13 +71,18 @@ pub record FailsOpening (c : Codec) (acts : List Act) (from to : ℕ → ℕ) : 
 
 -- What a line's counts tell of its refusals, where they went from these to those. A turn or a sync is suspended only where the count of a device of the
 -- pool's leaves rose in this line, or some top had nobody left on its board before; and a turn only where the count of each device on which the lost top
--- had a leaf on its board rose in it. An import is suspended only where the count of a device of its leaves rose, or where a top lacks all of its leaves;
--- and a create tells a device that failed only where the count of a device that it names rose.
+-- had a leaf on its board rose in it. A detach is undone only where the count of a device of the pool's leaves rose. An import is suspended only where the
+-- count of a device of its leaves rose, or where a top lacks all of its leaves. And a create tells a device that failed only where the count of a device
+-- that it names rose, and an attach or a replace only where that of the new one did.
 pub record IsCounted (c : Codec) (h : Host) (e : Entry) (from to : ℕ → ℕ) : Type 0 where
   pub turns : (name : List ℕ) (s : PoolState) → (e.asked ≡ Asks_turn name) ⊎ (e.asked ≡ Asks_sync name) → named name h.pools ≡ Some s → Suspends e.reply
       → RoseAt (λ d. has_leaf_at d s) from to ⊎ HasLostBoard s
   pub tops : (name : List ℕ) (s : PoolState) (group : ℕ) (top : Guid) (faults : ℕ) → e.asked ≡ Asks_turn name → named name h.pools ≡ Some s
       → e.reply ≡ To_turn (Suspended group top faults) → LosesTop s (λ d. Rose (from d) (to d)) top
+  pub detaches : (name leaf : List ℕ) (s : PoolState) (group : ℕ) (top : Guid) (faults : ℕ) → e.asked ≡ Asks_detach name leaf → named name h.pools ≡ Some s
+      → e.reply ≡ To_detach (Undone group top faults) → RoseAt (λ d. has_leaf_at d s) from to
+  pub grafts : (graft : Graft) (name leaf new : List ℕ) → e.asked ≡ Asks_graft graft name leaf new → e.reply ≡ To_graft DeviceFault
+      → (d : ℕ) × (number_in new h.table ≡ Some d) × Rose (from d) (to d)
   pub imports : (name : List ℕ) (group : ℕ) (top : Guid) (faults : ℕ) → e.asked ≡ Asks_import name → e.reply ≡ To_import (Unopened group top faults)
       → FailsOpening c e.acts from to
   pub creates : (name : List ℕ) (blocks : ℕ) (tops : List (List (List ℕ))) (device : List ℕ) → e.asked ≡ Asks_create name blocks tops

@@ -14,7 +14,7 @@ use Rattle.pool_runs.specs.Acts.{Act, Birth, Names, Takes, Bears, Closes, does, 
 use Rattle.pool_runs.specs.Devices.{Device, number_in, name_in, size_in}
 use Rattle.pool_runs.specs.Hosts.{Host, IsOpen, named, holder, host_along}
 use Rattle.pool_runs.specs.Knowing.{AreOwnActs}
-use Rattle.pool_runs.specs.Lines.{Reply, To_create, To_uncreated, CreateRefusal, NameTaken, TooMany, BadBlocks, NameTwice, UnknownDevice, InUse, TooSmall}
+use Rattle.pool_runs.specs.Lines.{Reply, To_create, To_refused, Refusal, NameTaken, TooMany, BadBlocks, NameTwice, UnknownDevice, InUse, TooSmall}
 
 abbrev pub dev_or_none : Option ℕ → ℕ
 dev_or_none None = 0
@@ -48,14 +48,14 @@ new_birth name pool blocks table tops = record {
 }
 
 -- Refusals, each where its cause is, the first one of those that come.
-abbrev pub or_else : Option CreateRefusal → Option CreateRefusal → Option CreateRefusal
+abbrev pub or_else : Option Refusal → Option Refusal → Option Refusal
 or_else (Some refusal) other = Some refusal
 or_else None other = other
 
-abbrev pub too_many : (limit count : ℕ) → Option CreateRefusal
+abbrev pub too_many : (limit count : ℕ) → Option Refusal
 too_many limit count = cond (nat_lt limit count) (Some (TooMany limit count)) None
 
-abbrev pub too_wide : (tops : List (List (List ℕ))) → Option CreateRefusal
+abbrev pub too_wide : (tops : List (List (List ℕ))) → Option Refusal
 too_wide [] = None
 too_wide (names ∷ tops) = or_else (too_many 8 (length names)) (too_wide tops)
 
@@ -67,36 +67,36 @@ abbrev pub has_twice : List (List ℕ) → Bool
 has_twice [] = false
 has_twice (name ∷ names) = list_any (bytes_eq name) names || has_twice names
 
-abbrev pub unknown_by : Option ℕ → (name : List ℕ) → Option CreateRefusal
+abbrev pub unknown_by : Option ℕ → (name : List ℕ) → Option Refusal
 unknown_by None name = Some (UnknownDevice name)
 unknown_by (Some d) name = None
 
-abbrev pub unknown : List Device → List (List ℕ) → Option CreateRefusal
+abbrev pub unknown : List Device → List (List ℕ) → Option Refusal
 unknown table [] = None
 unknown table (name ∷ names) = or_else (unknown_by (number_in name table) name) (unknown table names)
 
 -- the open pool whose the device is is named
-abbrev pub used_by : Option PoolState → Option CreateRefusal
+abbrev pub used_by : Option PoolState → Option Refusal
 used_by None = None
 used_by (Some s) = Some (InUse s.core.name)
 
-abbrev pub used : List PoolState → List NewLeaf → Option CreateRefusal
+abbrev pub used : List PoolState → List NewLeaf → Option Refusal
 used pools [] = None
 used pools (leaf ∷ leaves) = or_else (used_by (holder leaf.name leaf.dev pools)) (used pools leaves)
 
-abbrev pub too_small : List Device → List NewLeaf → Option CreateRefusal
+abbrev pub too_small : List Device → List NewLeaf → Option Refusal
 too_small table [] = None
 too_small table (leaf ∷ leaves) = or_else (cond (nat_lt (size_in table leaf.dev) 320) (Some (TooSmall 320 (size_in table leaf.dev))) None) (too_small table leaves)
 
-abbrev pub refused_if : Bool → CreateRefusal → Option CreateRefusal
+abbrev pub refused_if : Bool → Refusal → Option Refusal
 refused_if true refusal = Some refusal
 refused_if false refusal = None
 
-abbrev pub first_some : List (Option CreateRefusal) → Option CreateRefusal
+abbrev pub first_some : List (Option Refusal) → Option Refusal
 first_some [] = None
 first_some (refusal ∷ more) = or_else refusal (first_some more)
 
-abbrev pub refusals_of : Host → (name : List ℕ) → (blocks : ℕ) → (tops : List (List (List ℕ))) → List (Option CreateRefusal)
+abbrev pub refusals_of : Host → (name : List ℕ) → (blocks : ℕ) → (tops : List (List (List ℕ))) → List (Option Refusal)
 refusals_of h name blocks tops =
     refused_if (is_some (named name h.pools)) NameTaken
     ∷ too_many 16 (length h.pools + 1)
@@ -110,7 +110,7 @@ refusals_of h name blocks tops =
     ∷ too_small h.table (leaves_of h.table tops)
     ∷ []
 
-abbrev pub create_refusal : Host → (name : List ℕ) → (blocks : ℕ) → (tops : List (List (List ℕ))) → Option CreateRefusal
+abbrev pub create_refusal : Host → (name : List ℕ) → (blocks : ℕ) → (tops : List (List (List ℕ))) → Option Refusal
 create_refusal h name blocks tops = first_some (refusals_of h name blocks tops)
 
 -- the acts of these stamps: each takes its device as it begins
@@ -169,7 +169,7 @@ host_stamped h g stamps = host_along (stamp_acts g stamps) h
 
 -- `create`
 abbrev pub RowCreate : Codec → Host → (name : List ℕ) → (blocks : ℕ) → (tops : List (List (List ℕ))) → List Act → Reply → Type 0
-RowCreate c h name blocks tops acts reply = ((refusal : CreateRefusal) × (create_refusal h name blocks tops ≡ Some refusal) × (acts ≡ []) × (reply ≡ To_uncreated refusal))
+RowCreate c h name blocks tops acts reply = ((refusal : Refusal) × (create_refusal h name blocks tops ≡ Some refusal) × (acts ≡ []) × (reply ≡ To_refused refusal))
     ⊎ (FailsStamp h name blocks tops acts reply ⊎ Creates c h name blocks tops acts reply)
 
 -- The pool number of a create is no open pool's, and no two names of the host have one device, as its look-ups leave it.

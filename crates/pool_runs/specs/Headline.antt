@@ -12,11 +12,12 @@ use Rattle.pool_moves.specs.Leaves.{LeafSeen}
 use Rattle.pool_moves.specs.States.{PoolState}
 use Rattle.pool_runs.specs.Acts.{Act, calls_along, history}
 use Rattle.pool_runs.specs.Committing.{Acknowledges, FindsPool}
+use Rattle.pool_moves.specs.TreeRows.{Required as DetachRequired}
 use Rattle.pool_runs.specs.Counting.{IsCounted}
 use Rattle.pool_runs.specs.Fairness.{AreFair}
 use Rattle.pool_runs.specs.HostRows.{acts_in}
 use Rattle.pool_runs.specs.Hosts.{Host}
-use Rattle.pool_runs.specs.Lines.{Asks_read, Asks_offline, Asks_import, Reply, To_offline, No_memory, Entry}
+use Rattle.pool_runs.specs.Lines.{Asks_read, Asks_offline, Asks_import, Reply, To_offline, No_memory, Entry, Asks_detach, To_detach}
 use Rattle.pool_runs.specs.Moments.{Moment, events_at, pool_at, past_at, host_at, LineOf, pool_before, pool_behind, host_before, calls_in_line, IsOpenAs, host_after}
 use Rattle.pool_runs.specs.Pasts.{Past, pool_of, Left, HasFrozen}
 use Rattle.pool_runs.specs.Taking.{IsTakenBy}
@@ -40,9 +41,15 @@ TakesFor p before v d g = MayTakeGroup (pool_after before p) v d g
 
 -- The reply is that the leaf is required for this group, just where it is the least that could be read from no other leaf of its top; or there was
 -- no memory.
-pub record IsRequiredFor (leaf : LeafSeen) (leaves : List LeafSeen) (group : ℕ) (reply : Reply) : Type 0 where
-  pub only : reply ≡ To_offline (Required group) → LeastOut (siblings leaf leaves) group
-  pub always : LeastOut (siblings leaf leaves) group → (reply ≡ To_offline (Required group)) ⊎ (reply ≡ No_memory)
+pub record IsRequiredFor (leaf : LeafSeen) (leaves : List LeafSeen) (group : ℕ) (reply needed : Reply) : Type 0 where
+  pub only : reply ≡ needed → LeastOut (siblings leaf leaves) group
+  pub always : LeastOut (siblings leaf leaves) group → (reply ≡ needed) ⊎ (reply ≡ No_memory)
+
+-- So it is of an offline of a leaf that isn't OFFLINE, nor a spare that stands in, and of a detach while no group is frozen.
+pub record IsRequiredRight (e : Entry) (name device : List ℕ) (s : PoolState) (leaf : LeafSeen) (group : ℕ) : Type 0 where
+  pub away : (temporary : Bool) → e.asked ≡ Asks_offline name device temporary → is_spare s leaf ≡ false → is_offline leaf.own.mode ≡ false
+      → IsRequiredFor leaf s.core.leaves group e.reply (To_offline (Required group))
+  pub out : e.asked ≡ Asks_detach name device → s.core.group.frozen ≡ false → IsRequiredFor leaf s.core.leaves group e.reply (To_detach (DetachRequired group))
 
 pub record Headline (c : Codec) (past : Past) (h : Host) (acts : List Act) (entries : List Entry) : Type 0 where
   -- behind each device call of the run there is a moment, and the pool's history has just the calls so far
@@ -56,22 +63,23 @@ pub record Headline (c : Codec) (past : Past) (h : Host) (acts : List Act) (entr
   -- an import of its name finds a live record, not below the acknowledged one, and opens it above, or some page of it has no good leaf
   pub opens : (l : LineOf c past acts entries) → l.entry.asked ≡ Asks_import (pool_before l).name → AreFair c (pool_before l) l.entry.acts
       → FindsPool c (pool_before l) (pool_behind l) (host_after h l) l.entry.acts l.entry.reply
-  -- a sync or a turn that answers a number acknowledged that record; it has each block as it was written last, before the turn's group was frozen
+  -- a sync, a turn or a detach that answers a number acknowledged that record; a sync's has each block as it was written last, and a turn's so as it was
+  -- before the group was frozen
   pub commits : (l : LineOf c past acts entries) → Acknowledges (host_before h l) (pool_before l) (pool_behind l) l.entry
   -- a write that is taken puts its block where it says, and nothing else but an import of the pool changes what was written last
   pub writes : (l : LineOf c past acts entries) → KeepsWrites c (host_before h l) (pool_before l) (pool_behind l) l.entry
   -- a read gives the block that was written last, up to a clash, and none only where each readable leaf of the block's top missed it in this line
   pub reads : (l : LineOf c past acts entries) (name : List ℕ) (a : ℕ) (s : PoolState) → l.entry.asked ≡ Asks_read name a
       → IsOpenAs (pool_before l) (host_before h l) name s → ReadsWritten (pool_before l) s a (calls_in_line l) l.entry.reply
-  -- a leaf that isn't OFFLINE, nor a spare that stands in, is required just where the outage rule says so
-  pub required : (l : LineOf c past acts entries) (name device : List ℕ) (temporary : Bool) (s : PoolState) (leaf : LeafSeen) (group : ℕ)
-      → l.entry.asked ≡ Asks_offline name device temporary → IsOpenAs (pool_before l) (host_before h l) name s
-      → leaf_named device s.core.leaves ≡ Some leaf → is_spare s leaf ≡ false → is_offline leaf.own.mode ≡ false → IsRequiredFor leaf s.core.leaves group l.entry.reply
+  -- a leaf is required just where the outage rule says so
+  pub required : (l : LineOf c past acts entries) (name device : List ℕ) (s : PoolState) (leaf : LeafSeen) (group : ℕ)
+      → IsOpenAs (pool_before l) (host_before h l) name s → leaf_named device s.core.leaves ≡ Some leaf → IsRequiredRight l.entry name device s leaf group
   -- scans clear only copied groups, and else a group leaves a log only where its number is burned, at an opening, or with its leaf
   pub scans : (m : Moment c past acts entries) (before : List Event) (v : Event) (d g : ℕ) → events_at m ≡ before ++ (v ∷ []) → (pool_after before (pool_of past)).member d ≡ true
       → (pool_after before (pool_of past)).owes d g ≡ true → (pool_at m).owes d g ≡ false → TakesFor (pool_of past) before v d g
-  -- a member stays one, unless this very line is a create that names its device, wasn't refused, and wrote to it
-  pub keeps : (l : LineOf c past acts entries) (d : ℕ) → (pool_before l).member d ≡ true → ((pool_behind l).member d ≡ true) ⊎ IsTakenBy (host_before h l) l.entry d
-  -- a line is suspended, or told a device that failed, only where the count of a device of its own rose in that very line, or nobody was left before;
-  -- and a turn only where each leaf of the lost top that was still on its board failed in it, as its device's count tells
+  -- a member stays one, unless this very line wasn't refused, and makes a pool or brings in a leaf on its device, or takes its leaf out
+  pub keeps : (l : LineOf c past acts entries) (d : ℕ) → (pool_before l).member d ≡ true
+      → ((pool_behind l).member d ≡ true) ⊎ IsTakenBy (pool_before l) (host_before h l) l.entry d
+  -- a line is suspended or undone, or told a device that failed, only where the count of a device of its own rose in that very line, or nobody was left
+  -- before; and a turn only where each leaf of the lost top that was still on its board failed in it, as its device's count tells
   pub counts : (l : LineOf c past acts entries) (from to : ℕ → ℕ) → AllCaused (calls_in_line l) from to → IsCounted c (host_before h l) l.entry from to
