@@ -18,3 +18,4 @@ pub mod SmallRuns
 pub mod Sparing
 pub mod Stamps
 pub mod Suspending
+pub mod Writing

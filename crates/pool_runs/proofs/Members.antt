@@ -27,7 +27,7 @@ use Rattle.pool_moves.specs.Moves.{Draft, Move, Makes, Puts, Freeze, Wrote_key, 
 use Rattle.pool_moves.specs.OnlineRow.{HostDevice, NoneFound, HeldBy, Handed, OnlineReply, Stands, NoLeaf, IsSpare, NoDevice, InUse, TooSmall, FaultOnDevice, WrongLabel, is_away, marked_own, brought_own, searched_own, SearchEnds, ScansBehind, OnlineRoomy, OnlineAway, OnlineOn, OnlineBy}
 use Rattle.pool_moves.specs.OpeningRow.{SeekReply, NoRecord, NumbersEnd, TakesRecord, OpenReply, Opens_state, NoPage, lacking_of, ResumesBy, ResumesUnless}
 use Rattle.pool_moves.specs.ReadRow.{ReadReply, count_reads, RowCopies, stands_under, ReadRecord, ReadGroup, ReadOpen, RowRead, made_in}
-use Rattle.pool_moves.specs.Refusing.{FreezeRefusal, IsRefused}
+use Rattle.pool_moves.specs.Refusing.{count_below, keys_needed, written_with, dirty_with, FreezeRefusal, IsRefused}
 use Rattle.pool_moves.specs.Resilvers.{rest_if, Resilvers}
 use Rattle.pool_moves.specs.ScanRows.{starts_scan, flush_end, AreFlushed, is_eligible, StepReply, StepBy, RowStep, ScrubReply, ScrubBy, RowScrub, StopReply, StopBy, RowStopScrub}
 use Rattle.pool_moves.specs.StampRow.{NewLeaf, top_leaves, leaves_from, leaf_at, is_leaf_at, Stamp, AreStamps, new_state, CreateReply, Created, FaultOn}
@@ -48,27 +48,31 @@ use Rattle.pool_runs.proofs.Acting.{calls_number}
 use Rattle.pool_runs.proofs.GroupMoves.{IsKind, more, all_calls, all_reads, all_turn, all_freeze, all_commits, all_sync, all_found, all_reopen}
 use Rattle.pool_runs.proofs.Creating.{or_first, or_second, none_refused}
 
--- Moves that leave the members.
-abbrev KeepsMembers : Move → Type 0
+-- Moves that leave the members, and what was written.
+abbrev pub KeepsMembers : Move → Type 0
 KeepsMembers (Lose d) = ⊥
 KeepsMembers (Comes i d m top own) = ⊥
+KeepsMembers (Puts a block) = ⊥
 KeepsMembers v = Unit {0}
 
 move_members : (v : Move) (p : Pool) → KeepsMembers v → (pool_after (events_of v p) p).member ≡ p.member
 move_members (Makes noted) p keeps = refl
 move_members (Lose d) p keeps = absurd keeps
 move_members (Comes i d m top own) p keeps = absurd keeps
+move_members (Puts a block) p keeps = absurd keeps
 move_members v p keeps = refl
 
 calls_members : (made : List Noted) (p : Pool) → (pool_after (as_events made) p).member ≡ p.member
 calls_members [] p = refl
 calls_members (noted ∷ made) p = calls_members made (after (Calls noted) p)
 
--- A member that a pool has: the pool's number, the device, and its member number there.
-record Held : Type 0 where
-  pool : ℕ
-  d : ℕ
-  guid : Guid
+-- A member that a pool has: the pool's number, the device, and its member number there; and whether besides no write is taken, and no record read.
+pub record Held : Type 0 where
+  pub pool : ℕ
+  pub d : ℕ
+  pub guid : Guid
+  pub quiet : Bool
+  pub closed : Bool
 
 record IsHeld (x : Held) (p : Pool) : Type 0 where
   number : p.pool.0 ≡ x.pool
@@ -76,15 +80,17 @@ record IsHeld (x : Held) (p : Pool) : Type 0 where
   guid_is : p.guid x.d ≡ x.guid
 
 -- a move of its own pool that keeps it
-abbrev KeepsIt : Held → Move → Type 0
+abbrev pub KeepsIt : Held → Move → Type 0
 KeepsIt x (Lose e) = (e == x.d) ≡ false
 KeepsIt x (Comes i e m top own) = ((e == x.d) ≡ false) × ((x.guid.0 == m.0) ≡ false)
+KeepsIt x (Puts a block) = x.quiet ≡ false
 KeepsIt x v = Unit {0}
 
 -- acts that take it from no pool
-abbrev KeepsAt : Held → Act → Type 0
+abbrev pub KeepsAt : Held → Act → Type 0
 KeepsAt x (Does g v) = (x.pool == g) ≡ true → KeepsIt x v
 KeepsAt x (Takes g e) = (e == x.d) ≡ false
+KeepsAt x (Reads_as opening) = x.closed ≡ false
 KeepsAt x act = Unit {0}
 
 calls_guids : (made : List Noted) (p : Pool) → (pool_after (as_events made) p).guid ≡ p.guid
@@ -147,16 +153,17 @@ acts_held x (act ∷ acts) p keeps is = acts_held x acts (pool_by act p) keeps.1
 it_keeps : (x : Held) (v : Move) → KeepsMembers v → KeepsIt x v
 it_keeps x (Lose e) keeps = absurd keeps
 it_keeps x (Comes i e m top own) keeps = absurd keeps
+it_keeps x (Puts a block) keeps = absurd keeps
 it_keeps x v keeps = tt
 
 -- Lists of moves.
-abbrev AllKeep : List Move → Type 0
+abbrev pub AllKeep : List Move → Type 0
 AllKeep vs = AllByRecursion KeepsMembers vs
 
 keep_more : (vs ws : List Move) → AllKeep vs → AllKeep ws → AllKeep (vs ++ ws)
 keep_more vs ws a b = more KeepsMembers vs ws a b
 
-kept_kind : IsKind KeepsMembers
+pub kept_kind : IsKind KeepsMembers
 kept_kind = record {
   calls = λ noted. tt;
   leave = λ d. tt;
@@ -175,18 +182,6 @@ keep_calls made = all_calls KeepsMembers kept_kind made
 
 keep_reads : (sum : List ℕ) (made : List Noted) (leaves : List LeafSeen) → AllKeep (count_reads sum made leaves)
 keep_reads sum made leaves = all_reads KeepsMembers kept_kind sum made leaves
-
-keep_fits : (short : Bool) (need free a : ℕ) (block : List ℕ) (vs : List Move) (reply : WriteReply) → WriteFits short need free a block vs reply → AllKeep vs
-keep_fits true need free a block vs reply row = subst AllKeep (sym row.0) tt
-keep_fits false need free a block vs reply row = subst AllKeep (sym row.0) (tt, tt)
-
-keep_write_by : (full : Bool) (s : PoolState) (a : ℕ) (block : List ℕ) (vs : List Move) (reply : WriteReply) → WriteBy full s a block vs reply → AllKeep vs
-keep_write_by true s a block vs reply row = subst AllKeep (sym row.0) tt
-keep_write_by false s a block vs reply row = keep_fits _ _ row.0 a block vs reply row.2
-
-keep_write : (s : PoolState) (a : ℕ) (block : List ℕ) (vs : List Move) (reply : WriteReply) → RowWrite s a block vs reply → AllKeep vs
-keep_write s a block vs reply (inl row) = subst AllKeep (sym row.1) tt
-keep_write s a block vs reply (inr row) = keep_write_by _ s a block vs reply row.1
 
 keep_record : (sum : Option Sum) (s : PoolSeen) (vs : List Move) (reply : ReadReply) → ReadRecord sum s vs reply → AllKeep vs
 keep_record None s vs reply row = subst AllKeep (sym row.0) tt
@@ -339,7 +334,7 @@ keep_marked : (d : Held) (mark : Act) (g : ℕ) (vs : List Move) → KeepsAt d m
 keep_marked d mark g [] is all = (is, tt)
 keep_marked d mark g (v ∷ vs) is all = keep_marked_first (is_reading v) d mark g v vs (marked mark g vs) is all (keep_marked d mark g vs is all.1)
 
-abbrev Keep : Held → List Act → Type 0
+abbrev pub Keep : Held → List Act → Type 0
 Keep d acts = AllByRecursion (KeepsAt d) acts
 
 on_keeps : (d : Held) (found : Option PoolState) (Line : PoolState → List Act → Reply → Type 0) (acts : List Act) (reply : Reply) → ((s : PoolState) → Line s acts reply → Keep d acts) → OnPool found Line acts reply → Keep d acts
@@ -354,7 +349,7 @@ by_marked : (d : Held) (h : Host) (s : PoolState) (mark : List Move → Mark) (R
 by_marked d h s mark Row acts keeps line = subst (Keep d) (sym line.are)
     (keep_marked d (Marks s.core.pool.0 (mark line.moves)) s.core.pool.0 line.moves tt (keeps line.moves line.row))
 
-keep_acts : (d : Held) (first second : List Act) → Keep d first → Keep d second → Keep d (first ++ second)
+pub keep_acts : (d : Held) (first second : List Act) → Keep d first → Keep d second → Keep d (first ++ second)
 keep_acts d [] second a b = b
 keep_acts d (act ∷ first) second a b = (a.0, keep_acts d first second a.1 b)
 
@@ -369,8 +364,24 @@ online_keeps d h s device reply acts line = let g = s.core.pool.0 in let vs = li
     (keep_does d g vs (keep_online (leaf_named device s.core.leaves) (is_listed device s) (device_for (number_in device h.table) h g) (size_in h.table) s vs reply line.row))
     (keep_shown_all d g (read_in (made_in vs)) (found_in vs)))
 
+-- writes, where they may be taken
+puts_keep : (d : Held) (g a : ℕ) (block : List ℕ) (s : PoolState) (vs : List Move) (reply : WriteReply) → d.quiet ≡ false → RowWrite s a block vs reply → AllByRecursion (KeepsAt d) (does g vs)
+puts_keep d g a block s vs reply loud (inl row) = subst (λ l. AllByRecursion (KeepsAt d) (does g l)) (sym row.1) tt
+puts_keep d g a block s vs reply loud (inr row) = by (nat_lt 4096 (count_below s.own.blocks (dirty_with a s))) row.1
+  where
+    fits : (short : Bool) (need free : ℕ) → WriteFits short need free a block vs reply → AllByRecursion (KeepsAt d) (does g vs)
+    fits true need free row = subst (λ l. AllByRecursion (KeepsAt d) (does g l)) (sym row.0) tt
+    fits false need free row = subst (λ l. AllByRecursion (KeepsAt d) (does g l)) (sym row.0) ((λ mine. loud), tt)
+
+    by : (full : Bool) → WriteBy full s a block vs reply → AllByRecursion (KeepsAt d) (does g vs)
+    by true row = subst (λ l. AllByRecursion (KeepsAt d) (does g l)) (sym row.0) tt
+    by false row = fits (nat_lt row.0 (keys_needed s.own.blocks (written_with a s))) (keys_needed s.own.blocks (written_with a s)) row.0 row.2
+
+write_keeps : (d : Held) (h : Host) (s : PoolState) (a : ℕ) (block : List ℕ) (reply : WriteReply) (acts : List Act) → d.quiet ≡ false → ByMoves h s (λ vs. RowWrite s a block vs reply) acts → Keep d acts
+write_keeps d h s a block reply acts loud line = subst (Keep d) (sym line.are) (puts_keep d s.core.pool.0 a block s line.moves reply loud line.row)
+
 -- Creates.
-keep_front : (d : Held) (first second : List Act) → Keep d (first ++ second) → Keep d first
+pub keep_front : (d : Held) (first second : List Act) → Keep d (first ++ second) → Keep d first
 keep_front d [] second all = tt
 keep_front d (act ∷ first) second all = (all.0, keep_front d first second all.1)
 
@@ -387,7 +398,7 @@ off_all (l ∷ leaves) d off = by (l.dev == d) refl (λ rest. off_all leaves d r
     by true is rest = absurd (let no : true ≡ false = sym (ap (λ t. is_leaf_at (cond t (Some l) (leaf_at d leaves))) is) ∙ off in cc)
     by false is rest = (is, rest (sym (ap (λ t. is_leaf_at (cond t (Some l) (leaf_at d leaves))) is) ∙ off))
 
-keep_stamps : (d : Held) (pool : Guid) (size : ℕ → ℕ) (leaves : List NewLeaf) (stamps : List Stamp) (failed : Option NewLeaf) → AreStamps size pool leaves stamps failed
+pub keep_stamps : (d : Held) (pool : Guid) (size : ℕ → ℕ) (leaves : List NewLeaf) (stamps : List Stamp) (failed : Option NewLeaf) → AreStamps size pool leaves stamps failed
     → AllByRecursion (λ leaf. (leaf.dev == d.d) ≡ false) leaves → Keep d (stamp_acts pool.0 stamps)
 keep_stamps d pool size [] [] failed are off = tt
 keep_stamps d pool size [] (stamp ∷ stamps) failed are off = absurd are
@@ -397,7 +408,7 @@ keep_stamps d pool size (leaf ∷ leaves) (stamp ∷ stamps) failed (dev, inl wh
 keep_stamps d pool size (leaf ∷ leaves) (stamp ∷ stamps) failed (dev, inr stop) off = (subst (λ e. (e == d.d) ≡ false) (sym dev) off.0,
     keep_bare d stamp.made (stamp_acts pool.0 stamps) (subst (λ l. Keep d (stamp_acts pool.0 l)) (sym stop.2) tt))
 
-keep_commit : (answer : CreateReply) (d : Held) (g : ℕ) (vs : List Move) → AllKeep vs → Keep d (commit_acts answer g vs)
+pub keep_commit : (answer : CreateReply) (d : Held) (g : ℕ) (vs : List Move) → AllKeep vs → Keep d (commit_acts answer g vs)
 keep_commit Created d g vs all = keep_does d g vs all
 keep_commit (FaultOn device) d g vs all = keep_acts d (does g vs) (Closes g ∷ []) (keep_does d g vs all) (tt, tt)
 
@@ -462,7 +473,7 @@ taken_by h e d name blocks tops answer asked none is reply =
     let has = all_of (HasName h.table (all_names tops)) (leaves_of h.table tops) at.0 (all_named h.table tops 1 1 (none_refused h name blocks tops none).1.1.1.1.1.1.1.0) found.0 in
     record { name = name; blocks = blocks; tops = tops; asked = asked; device = at.0.name; is_named = has.0; number = has.1 ∙ ap Some found.1; answer = answer; reply = reply }
 
-create_keeps : (c : Codec) (h : Host) (e : Entry) (d : Held) (name : List ℕ) (blocks : ℕ) (tops : List (List (List ℕ))) → e.asked ≡ Asks_create name blocks tops → RowCreate c h name blocks tops e.acts e.reply
+pub create_keeps : (c : Codec) (h : Host) (e : Entry) (d : Held) (name : List ℕ) (blocks : ℕ) (tops : List (List (List ℕ))) → e.asked ≡ Asks_create name blocks tops → RowCreate c h name blocks tops e.acts e.reply
     → Keep d e.acts ⊎ IsCreatedOn h e d.d
 create_keeps c h e d name blocks tops asked (inl row) = inl (subst (Keep d) (sym row.2) tt)
 create_keeps c h e d name blocks tops asked (inr (inl row)) = by_bool (is_leaf_at (leaf_at d.d (leaves_of h.table tops)))
@@ -493,27 +504,27 @@ keep_follows : (outcome : OpenReply) (c : Codec) (size : ℕ → ℕ) (d : Held)
 keep_follows (NoPage page shown) c size d g acts reply row = subst (Keep d) (sym row.0) tt
 keep_follows (Opens_state s) c size d g acts reply row = keep_opens row.1 d g s row.0 acts reply (keep_resume (lacking_of s.core.leaves s.core.leaves) c size s row.0 row.1 row.2) row.3
 
-keep_import_by : (seek : SeekReply) (c : Codec) (h : Host) (name : List ℕ) (acts : List Act) (reply : Reply) (d : Held) → ImportBy seek c h name acts reply → Keep d acts
-keep_import_by NoRecord c h name acts reply d row = subst (Keep d) (sym row.0) tt
-keep_import_by (NumbersEnd limit count) c h name acts reply d row = subst (Keep d) (sym row.0) tt
-keep_import_by (TakesRecord found) c h name acts reply d row = subst (Keep d) (sym row.are)
-    (tt, keep_bare d row.row.ids (all_shown found.pool.0 (read_in row.row.ids) row.row.devs ++ (bare row.row.pages ++ row.rest))
+keep_import_by : (seek : SeekReply) (c : Codec) (h : Host) (name : List ℕ) (acts : List Act) (reply : Reply) (d : Held) → d.closed ≡ false → ImportBy seek c h name acts reply → Keep d acts
+keep_import_by NoRecord c h name acts reply d opens row = subst (Keep d) (sym row.0) tt
+keep_import_by (NumbersEnd limit count) c h name acts reply d opens row = subst (Keep d) (sym row.0) tt
+keep_import_by (TakesRecord found) c h name acts reply d opens row = subst (Keep d) (sym row.are)
+    (opens, keep_bare d row.row.ids (all_shown found.pool.0 (read_in row.row.ids) row.row.devs ++ (bare row.row.pages ++ row.rest))
     (keep_shown d found.pool.0 (read_in row.row.ids) row.row.devs (bare row.row.pages ++ row.rest)
     (keep_bare d row.row.pages row.rest (keep_follows row.outcome c (size_in h.table) d found.pool.0 row.rest reply row.follows))))
 
-keep_for : (full : Bool) (c : Codec) (h : Host) (name : List ℕ) (acts : List Act) (reply : Reply) (d : Held) → ImportFor full c h name acts reply → Keep d acts
-keep_for true c h name acts reply d row = subst (Keep d) (sym row.0) tt
-keep_for false c h name acts reply d row = subst (Keep d) (sym row.are) (keep_bare d row.made (Looked name _ ∷ row.rest) (tt, keep_import_by row.seek c (host_behind row.made h) name row.rest reply d row.follows))
+keep_for : (full : Bool) (c : Codec) (h : Host) (name : List ℕ) (acts : List Act) (reply : Reply) (d : Held) → d.closed ≡ false → ImportFor full c h name acts reply → Keep d acts
+keep_for true c h name acts reply d opens row = subst (Keep d) (sym row.0) tt
+keep_for false c h name acts reply d opens row = subst (Keep d) (sym row.are) (keep_bare d row.made (Looked name _ ∷ row.rest) (tt, keep_import_by row.seek c (host_behind row.made h) name row.rest reply d opens row.follows))
 
-keep_unless : (found : Option PoolState) (c : Codec) (h : Host) (name : List ℕ) (acts : List Act) (reply : Reply) (d : Held) → ImportUnless found c h name acts reply → Keep d acts
-keep_unless (Some s) c h name acts reply d row = subst (Keep d) (sym row.0) tt
-keep_unless None c h name acts reply d row = keep_for (nat_le 16 (length h.pools)) c h name acts reply d row
+keep_unless : (found : Option PoolState) (c : Codec) (h : Host) (name : List ℕ) (acts : List Act) (reply : Reply) (d : Held) → d.closed ≡ false → ImportUnless found c h name acts reply → Keep d acts
+keep_unless (Some s) c h name acts reply d opens row = subst (Keep d) (sym row.0) tt
+keep_unless None c h name acts reply d opens row = keep_for (nat_le 16 (length h.pools)) c h name acts reply d opens row
 
 -- A leaf that is put in.
-abbrev KeepAll : Held → (g : ℕ) → List Move → Type 0
+abbrev pub KeepAll : Held → (g : ℕ) → List Move → Type 0
 KeepAll x g vs = AllByRecursion (λ v. (x.pool == g) ≡ true → KeepsIt x v) vs
 
-all_does : (x : Held) (g : ℕ) (vs : List Move) → KeepAll x g vs → Keep x (does g vs)
+pub all_does : (x : Held) (g : ℕ) (vs : List Move) → KeepAll x g vs → Keep x (does g vs)
 all_does x g [] all = tt
 all_does x g (v ∷ vs) all = (all.0, all_does x g vs all.1)
 
@@ -526,9 +537,9 @@ all_plain x g [] all = tt
 all_plain x g (v ∷ vs) all = ((λ mine. it_keeps x v all.0), all_plain x g vs all.1)
 
 -- what a graft makes is of no other device, and, in its pool, of no other number
-record Begins (x : Held) (g e : ℕ) (m : Guid) (vs : List Move) (reply : GraftReply) : Type 0 where
-  begun : (reply ≡ Grafted) ⊎ (reply ≡ DeviceFault)
-  keeps : (e == x.d) ≡ false → ((x.pool == g) ≡ true → (x.guid.0 == m.0) ≡ false) → KeepAll x g vs
+pub record Begins (x : Held) (g e : ℕ) (m : Guid) (vs : List Move) (reply : GraftReply) : Type 0 where
+  pub begun : (reply ≡ Grafted) ⊎ (reply ≡ DeviceFault)
+  pub keeps : (e == x.d) ≡ false → ((x.pool == g) ≡ true → (x.guid.0 == m.0) ≡ false) → KeepAll x g vs
 
 ends_begin : (outcome : Option Fault) (x : Held) (g : ℕ) (graft : Graft) (s : PoolState) (name : List ℕ) (leaf : LeafSeen) (new : List ℕ) (e : ℕ) (made : List Noted) (vs : List Move) (reply : GraftReply)
     → GraftEnds outcome graft s name leaf new e made vs reply → Begins x g e (new_number graft s) vs reply
@@ -544,7 +555,7 @@ ends_begin None x g graft s name leaf new e made vs reply row = record {
       ((λ mine. tt), ((λ mine. (away, other mine)), ((λ mine. tt), tt)))) ((λ mine. tt), tt));
 }
 
-graft_begins : (x : Held) (g : ℕ) (size : ℕ → ℕ) (graft : Graft) (s : PoolState) (name new : List ℕ) (e : ℕ) (vs : List Move) (reply : GraftReply) → RowGraft size graft s name new e vs reply
+pub graft_begins : (x : Held) (g : ℕ) (size : ℕ → ℕ) (graft : Graft) (s : PoolState) (name new : List ℕ) (e : ℕ) (vs : List Move) (reply : GraftReply) → RowGraft size graft s name new e vs reply
     → (vs ≡ []) ⊎ Begins x g e (new_number graft s) vs reply
 graft_begins x g size graft s name new e vs reply row = for (graft_refusal graft s name (leaf_named name s.core.leaves)) row
   where
@@ -560,7 +571,7 @@ graft_begins x g size graft s name new e vs reply row = for (graft_refusal graft
     for (Some refusal) row = inl row.0
     for None row = at (leaf_named name s.core.leaves) row
 
-graft_acts_keep : (x : Held) (g e : ℕ) (vs : List Move) → (e == x.d) ≡ false → KeepAll x g vs → Keep x (graft_acts g e vs)
+pub graft_acts_keep : (x : Held) (g e : ℕ) (vs : List Move) → (e == x.d) ≡ false → KeepAll x g vs → Keep x (graft_acts g e vs)
 graft_acts_keep x g e [] away all = tt
 graft_acts_keep x g e (v ∷ vs) away all = (away, all_does x g (v ∷ vs) all)
 
@@ -568,11 +579,11 @@ same_guid : (a b : Guid) → (a.0 == b.0) ≡ true → a ≡ b
 same_guid a b is = ap (λ n. record { 0 = n }) (same_device a.0 b.0 is)
 
 graft_keeps : (h : Host) (e : Entry) (p : Pool) (d : ℕ) (graft : Graft) (name leaf new : List ℕ) (s : PoolState) → e.asked ≡ Asks_graft graft name leaf new → named name h.pools ≡ Some s
-    → GraftLine h graft leaf new s e.acts e.reply → Keep (record { pool = p.pool.0; d = d; guid = p.guid d }) e.acts ⊎ IsGraftedOn p h e d
+    → GraftLine h graft leaf new s e.acts e.reply → Keep (record { pool = p.pool.0; d = d; guid = p.guid d; quiet = false; closed = false }) e.acts ⊎ IsGraftedOn p h e d
 graft_keeps h e p d graft name leaf new s asked stands row = refused (graft_refusal graft s leaf (leaf_named leaf s.core.leaves)) row
   where
     x : Held
-    x = record { pool = p.pool.0; d = d; guid = p.guid d }
+    x = record { pool = p.pool.0; d = d; guid = p.guid d; quiet = false; closed = false }
 
     g : ℕ
     g = s.core.pool.0
@@ -633,7 +644,7 @@ without_keeps c size s name at seat x g vs reply row = ⊎_elim
     (all_plain x g row.part (all_commits KeepsMembers kept_kind (λ cells board. tt) c size (steps (goes_out s name at) s) row.part row.turn (λ bad. tt) row.commit)) keeps))))
     (λ taken. inr taken) (behind_keeps row.turn size s name at seat x g row.rest reply row.behind)
 
-detach_keeps_by : (found : Option LeafSeen) (c : Codec) (size : ℕ → ℕ) (s : PoolState) (name : List ℕ) (seat : Seat) (x : Held) (g : ℕ) (vs : List Move) (reply : DetachReply)
+pub detach_keeps_by : (found : Option LeafSeen) (c : Codec) (size : ℕ → ℕ) (s : PoolState) (name : List ℕ) (seat : Seat) (x : Held) (g : ℕ) (vs : List Move) (reply : DetachReply)
     → DetachBy found c size s name seat vs reply → KeepAll x g vs ⊎ ((at : LeafSeen) × (found ≡ Some at) × (is_dev x.d at.dev ≡ true) × (n : ℕ) × (reply ≡ Detached n))
 detach_keeps_by None c size s name seat x g vs reply row = inl (subst (KeepAll x g) (sym row.0) tt)
 detach_keeps_by (Some at) c size s name seat x g vs reply row = leaf s.core.group.frozen row
@@ -652,7 +663,7 @@ dev_is d None is = absurd (cc)
 dev_is d (Some e) is = ap Some (sym (same_device d e is))
 
 detach_keeps : (c : Codec) (h : Host) (e : Entry) (p : Pool) (d : ℕ) (name leaf : List ℕ) (s : PoolState) → e.asked ≡ Asks_detach name leaf → named name h.pools ≡ Some s
-    → DetachLine c h leaf s e.acts e.reply → Keep (record { pool = p.pool.0; d = d; guid = p.guid d }) e.acts ⊎ IsDetachedFrom p h e d
+    → DetachLine c h leaf s e.acts e.reply → Keep (record { pool = p.pool.0; d = d; guid = p.guid d; quiet = false; closed = false }) e.acts ⊎ IsDetachedFrom p h e d
 detach_keeps c h e p d name leaf s asked stands row = by_bool (p.pool.0 == g)
     (λ mine. ⊎_elim (λ keeps. inl (subst (Keep x) (sym line.are) (all_does x g line.moves keeps)))
     (λ taken. inr (record {
@@ -671,7 +682,7 @@ detach_keeps c h e p d name leaf s asked stands row = by_bool (p.pool.0 == g)
     (λ off. inl (subst (Keep x) (sym line.are) (all_does x g line.moves (vacuous line.moves off))))
   where
     x : Held
-    x = record { pool = p.pool.0; d = d; guid = p.guid d }
+    x = record { pool = p.pool.0; d = d; guid = p.guid d; quiet = false; closed = false }
 
     g : ℕ
     g = s.core.pool.0
@@ -684,16 +695,18 @@ detach_keeps c h e p d name leaf s asked stands row = by_bool (p.pool.0 == g)
     vacuous (v ∷ vs) off = ((λ mine. true_not_false (p.pool.0 == s.core.pool.0) mine off), vacuous vs off)
 
 -- a row's acts keep the device, but those of lines that may take it
-abbrev TakesNone : Asked → Type 0
-TakesNone (Asks_create name blocks tops) = ⊥
-TakesNone (Asks_graft graft name leaf new) = ⊥
-TakesNone (Asks_detach name leaf) = ⊥
-TakesNone asked = Unit {0}
+abbrev pub TakesNone : Held → Asked → Type 0
+TakesNone x (Asks_create name blocks tops) = ⊥
+TakesNone x (Asks_graft graft name leaf new) = ⊥
+TakesNone x (Asks_detach name leaf) = ⊥
+TakesNone x (Asks_write name a block) = x.quiet ≡ false
+TakesNone x (Asks_import name) = x.closed ≡ false
+TakesNone x asked = Unit {0}
 
-row_keeps : (c : Codec) (h : Host) (asked : Asked) (acts : List Act) (reply : Reply) (d : Held) → TakesNone asked → RowOf c h asked acts reply → Keep d acts
+pub row_keeps : (c : Codec) (h : Host) (asked : Asked) (acts : List Act) (reply : Reply) (d : Held) → TakesNone d asked → RowOf c h asked acts reply → Keep d acts
 row_keeps c h Asks_nothing acts reply d other row = subst (Keep d) (sym row.0) tt
 row_keeps c h (Asks_write name a block) acts reply d other row = on_keeps d (named name h.pools) (WriteLine h a block) acts reply
-    (λ s line. by_moves d h s (λ vs. RowWrite s a block vs line.0) acts (λ vs is. keep_write s a block vs line.0 is) line.2) row
+    (λ s line. write_keeps d h s a block line.0 acts other line.2) row
 row_keeps c h (Asks_read name a) acts reply d other row = on_keeps d (named name h.pools) (ReadLine h a) acts reply 
     (λ s line. by_marked d h s (λ vs. Gives_for a line.0) (λ vs. RowRead s a vs line.0) acts (λ vs is. keep_read s a vs line.0 is) line.2) row
 row_keeps c h (Asks_freeze name) acts reply d other row = on_keeps d (named name h.pools) (FreezeLine c h) acts reply
@@ -714,14 +727,14 @@ row_keeps c h (Asks_stop name) acts reply d other row = on_keeps d (named name h
     (λ s line. by_moves d h s (λ vs. RowStopScrub s vs line.0) acts (λ vs is. keep_stop (s.core.scan.running && s.own.scrubs) vs line.0 is) line.2) row
 row_keeps c h (Asks_logs name) acts reply d other row = on_keeps d (named name h.pools) (LogsLine h) acts reply
     (λ s line. by_moves d h s (λ vs. RowLogs s vs line.0) acts (λ vs is. subst AllKeep (sym is.0) tt) line.2) row
-row_keeps c h (Asks_import name) acts reply d other row = keep_unless (named name h.pools) c h name acts reply d row
+row_keeps c h (Asks_import name) acts reply d other row = keep_unless (named name h.pools) c h name acts reply d other row
 row_keeps c h (Asks_create name blocks tops) acts reply d other row = absurd other
 row_keeps c h (Asks_graft graft name leaf new) acts reply d other row = absurd other
 row_keeps c h (Asks_detach name leaf) acts reply d other row = absurd other
 
-none_keeps : (d : Held) (acts : List Act) → AllByRecursion ChangesNone acts → Keep d acts
-none_keeps d [] all = tt
-none_keeps d (act ∷ acts) all = (one act all.0, none_keeps d acts all.1)
+pub none_keeps : (d : Held) (acts : List Act) → d.closed ≡ false → AllByRecursion ChangesNone acts → Keep d acts
+none_keeps d [] opens all = tt
+none_keeps d (act ∷ acts) opens all = (one act all.0, none_keeps d acts opens all.1)
   where
     moves : (g : ℕ) (v : Move) → ChangesNone (Does g v) → KeepsMembers v
     moves g (Makes noted) is = tt
@@ -730,12 +743,13 @@ none_keeps d (act ∷ acts) all = (one act all.0, none_keeps d acts all.1)
     one : (act : Act) → ChangesNone act → KeepsAt d act
     one (Does g v) is = λ mine. it_keeps d v (moves g v is)
     one (Takes g e) is = absurd is
+    one (Reads_as opening) is = opens
     one act is = tt
 
-rewrite_front : (c : Codec) (h : Host) (asked : Asked) (acts rest : List Act) (reply : Reply) (d : Held) → MayRewrite asked acts → RowOf c h asked (acts ++ rest) reply → Keep d acts
-rewrite_front c h (Asks_read name a) acts rest reply d is row = keep_front d acts rest (row_keeps c h (Asks_read name a) (acts ++ rest) reply d tt row)
-rewrite_front c h (Asks_import name) acts rest reply d is row = none_keeps d acts is
-rewrite_front c h asked acts rest reply d is row = absurd is
+pub rewrite_front : (c : Codec) (h : Host) (asked : Asked) (acts rest : List Act) (reply : Reply) (d : Held) → d.closed ≡ false → MayRewrite asked acts → RowOf c h asked (acts ++ rest) reply → Keep d acts
+rewrite_front c h (Asks_read name a) acts rest reply d opens is row = keep_front d acts rest (row_keeps c h (Asks_read name a) (acts ++ rest) reply d tt row)
+rewrite_front c h (Asks_import name) acts rest reply d opens is row = none_keeps d acts opens is
+rewrite_front c h asked acts rest reply d opens is row = absurd is
 
 -- the open pool of a line
 on_found : (h : Host) (name : List ℕ) (found : Option PoolState) (Line : PoolState → List Act → Reply → Type 0) (acts : List Act) (reply : Reply) (A : Type 0) → named name h.pools ≡ found
@@ -744,25 +758,27 @@ on_found h name None Line acts reply A is row none line = none row.0
 on_found h name (Some s) Line acts reply A is row none line = line s is row
 
 entry_row : (c : Codec) (h : Host) (e : Entry) (p : Pool) (d : ℕ) (asked : Asked) → e.asked ≡ asked → RowOf c h asked e.acts e.reply
-    → Keep (record { pool = p.pool.0; d = d; guid = p.guid d }) e.acts ⊎ IsTakenBy p h e d
+    → Keep (record { pool = p.pool.0; d = d; guid = p.guid d; quiet = false; closed = false }) e.acts ⊎ IsTakenBy p h e d
 entry_row c h e p d (Asks_create name blocks tops) is row =
-    ⊎_elim (λ keeps. inl keeps) (λ taken. inr (inl taken)) (create_keeps c h e (record { pool = p.pool.0; d = d; guid = p.guid d }) name blocks tops is row)
+    ⊎_elim (λ keeps. inl keeps) (λ taken. inr (inl taken)) (create_keeps c h e (record { pool = p.pool.0; d = d; guid = p.guid d; quiet = false; closed = false }) name blocks tops is row)
 entry_row c h e p d (Asks_graft graft name leaf new) is row = on_found h name (named name h.pools) (GraftLine h graft leaf new) e.acts e.reply
-    (Keep (record { pool = p.pool.0; d = d; guid = p.guid d }) e.acts ⊎ IsTakenBy p h e d) refl row
-    (λ none. inl (subst (Keep (record { pool = p.pool.0; d = d; guid = p.guid d })) (sym none) tt))
+    (Keep (record { pool = p.pool.0; d = d; guid = p.guid d; quiet = false; closed = false }) e.acts ⊎ IsTakenBy p h e d) refl row
+    (λ none. inl (subst (Keep (record { pool = p.pool.0; d = d; guid = p.guid d; quiet = false; closed = false })) (sym none) tt))
     (λ s stands line. ⊎_elim (λ keeps. inl keeps) (λ taken. inr (inr (inl taken))) (graft_keeps h e p d graft name leaf new s is stands line))
 entry_row c h e p d (Asks_detach name leaf) is row = on_found h name (named name h.pools) (DetachLine c h leaf) e.acts e.reply
-    (Keep (record { pool = p.pool.0; d = d; guid = p.guid d }) e.acts ⊎ IsTakenBy p h e d) refl row
-    (λ none. inl (subst (Keep (record { pool = p.pool.0; d = d; guid = p.guid d })) (sym none) tt))
+    (Keep (record { pool = p.pool.0; d = d; guid = p.guid d; quiet = false; closed = false }) e.acts ⊎ IsTakenBy p h e d) refl row
+    (λ none. inl (subst (Keep (record { pool = p.pool.0; d = d; guid = p.guid d; quiet = false; closed = false })) (sym none) tt))
     (λ s stands line. ⊎_elim (λ keeps. inl keeps) (λ taken. inr (inr (inr taken))) (detach_keeps c h e p d name leaf s is stands line))
-entry_row c h e p d asked is row = inl (row_keeps c h asked e.acts e.reply (record { pool = p.pool.0; d = d; guid = p.guid d }) tt row)
+entry_row c h e p d (Asks_write name a block) is row = inl (row_keeps c h (Asks_write name a block) e.acts e.reply (record { pool = p.pool.0; d = d; guid = p.guid d; quiet = false; closed = false }) refl row)
+entry_row c h e p d (Asks_import name) is row = inl (row_keeps c h (Asks_import name) e.acts e.reply (record { pool = p.pool.0; d = d; guid = p.guid d; quiet = false; closed = false }) refl row)
+entry_row c h e p d asked is row = inl (row_keeps c h asked e.acts e.reply (record { pool = p.pool.0; d = d; guid = p.guid d; quiet = false; closed = false }) tt row)
 
 pub entry_keeps : (c : Codec) (h : Host) (e : Entry) (d : ℕ) (p : Pool) → HostRow c h e → p.member d ≡ true → ((pool_along e.acts p).member d ≡ true) ⊎ IsTakenBy p h e d
-entry_keeps c h e d p (inl row) is = ⊎_elim (λ keeps. inl (acts_held (record { pool = p.pool.0; d = d; guid = p.guid d }) e.acts p keeps (record { number = refl; member = is; guid_is = refl })).member)
+entry_keeps c h e d p (inl row) is = ⊎_elim (λ keeps. inl (acts_held (record { pool = p.pool.0; d = d; guid = p.guid d; quiet = false; closed = false }) e.acts p keeps (record { number = refl; member = is; guid_is = refl })).member)
     (λ taken. inr taken) (entry_row c h e p d e.asked refl row.0)
 entry_keeps c h e d p (inr out) is = inl (acts_held x e.acts p
-    (⊎_elim (λ early. none_keeps x e.acts early.0) (λ rewrites. rewrite_front c h e.asked e.acts out.rest out.reply x rewrites out.goes_on) out.early)
+    (⊎_elim (λ early. none_keeps x e.acts refl early.0) (λ rewrites. rewrite_front c h e.asked e.acts out.rest out.reply x refl rewrites out.goes_on) out.early)
     (record { number = refl; member = is; guid_is = refl })).member
   where
     x : Held
-    x = record { pool = p.pool.0; d = d; guid = p.guid d }
+    x = record { pool = p.pool.0; d = d; guid = p.guid d; quiet = false; closed = false }

@@ -14,3 +14,4 @@ pub mod Moments
 pub mod Pasts
 pub mod SmallRuns
 pub mod Taking
+pub mod Writing
