@@ -72,6 +72,7 @@ record Resumed (t : Side) (vs : List Move) (from n : ℕ) : Type 0 where
   up : from < n
   acked : number_of (after_moves vs t).pool.acked ≡ n
   blocks : (a : ℕ) → block_at (after_moves vs t).pool.acked a ≡ t.pool.written a
+  written : (after_moves vs t).pool.written ≡ t.pool.written
 
 resumed : (c : Codec) (size : ℕ → ℕ) (s : PoolState) (t : Side) (vs : List Move) (n : ℕ) → Kept c (steps vs s) (after_moves vs t) → Resumes c size s vs (Committed n) → Resumed t vs s.core.number n
 resumed c size s t vs n kept w =
@@ -92,6 +93,7 @@ resumed c size s t vs n kept w =
       let most = commits.up in omega (arith, frozen, most);
   acked = acked.number;
   blocks = λ a. kept_blocks c (steps vs s) (after_moves vs t) n kept acked none a ∙ ap (λ f. f a) (written_along vs t all);
+  written = written_along vs t all;
 }
 
 resumed_by : (top : Option ℕ) (c : Codec) (size : ℕ → ℕ) (s : PoolState) (t : Side) (vs : List Move) (n : ℕ) → Kept c (steps vs s) (after_moves vs t) → ResumesUnless top c size s vs (Committed n) → Resumed t vs s.core.number n
@@ -188,6 +190,7 @@ opens_live c h p before name found acts reply n knows live named made fair opens
       above = subst (λ k. number_of r < k) same (subst (λ k. k < m) s_number end.up);
       acked = ap (λ x. number_of x.acked) pool_is ∙ (end.acked ∙ same);
       blocks = λ a. ap (λ x. block_at x.acked a) pool_is ∙ (end.blocks a ∙ ap (λ w. w a) q_written);
+      written = ap (λ x. x.written) pool_is ∙ (end.written ∙ q_written);
     }
 
     by_turn : (turn : TurnReply) (s : PoolState) (vs : List Move) → opens.outcome ≡ Opens_state s → RowResume c (size_in h.table) s vs turn → OpensBy turn g s vs opens.rest reply → OpensLive before (pool_along acts p) n

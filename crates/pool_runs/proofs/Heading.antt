@@ -74,6 +74,7 @@ use Rattle.pool_runs.specs.Pasts.{Past, pool_of, then_all, Left, BeginsRun, HasF
 use Rattle.pool_runs.proofs.Acting.{acts_more, history_pool}
 use Rattle.pool_runs.proofs.Answering.{all_answer, does_calls, marked_calls}
 use Rattle.pool_runs.proofs.Committing.{EndsIn, turn_commits, ends_behind, group_commits, ends_acked, sync_all, does_pool}
+use Rattle.pool_runs.proofs.Writing.{entry_writes}
 use Rattle.pool_runs.proofs.Suspending.{turn_counts, sync_counts, detach_counts, graft_counts, import_counts, create_counts}
 use Rattle.pool_runs.proofs.Finding.{import_finds}
 use Rattle.pool_runs.proofs.Knowing.{may_more, acts_keep, acts_number}
@@ -475,8 +476,11 @@ headline_from c past h acts entries f = record {
     detaches = λ leaf asked is. line_detaches c (host_before h l) (pool_before l) l.entry name leaf s n (meets c past h acts entries f l) asked at is;
     syncs = λ asked is. line_syncs c (host_before h l) (pool_before l) l.entry name s n (meets c past h acts entries f l) asked at is;
   };
-  reads = λ l name a s bytes asked at is. line_reads c (host_before h l) (pool_before l) l.entry name a s bytes (meets c past h acts entries f l) asked at is;
-  loses = λ l name a s asked at is. line_loses c (host_before h l) (pool_before l) l.entry name a s (meets c past h acts entries f l) asked at is;
+  writes = λ l. entry_writes c (host_before h l) (pool_before l) l.entry (meets c past h acts entries f l).row;
+  reads = λ l name a s asked at. record {
+    gives = λ bytes is. line_reads c (host_before h l) (pool_before l) l.entry name a s bytes (meets c past h acts entries f l) asked at is;
+    misses = λ is. line_loses c (host_before h l) (pool_before l) l.entry name a s (meets c past h acts entries f l) asked at is;
+  };
   required = λ l name device s leaf group at is. record {
     away = λ temporary asked plain up. line_required c (host_before h l) (pool_before l) l.entry name device temporary s leaf group (meets c past h acts entries f l) asked at is plain up;
     out = λ asked idle. line_required_out c (host_before h l) (pool_before l) l.entry name device s leaf group (meets c past h acts entries f l) asked at is idle;

@@ -25,7 +25,8 @@ pub record AcksAs (before behind : Pool) (name : List ℕ) (e : Entry) (n : ℕ)
   pub detaches : (leaf : List ℕ) → e.asked ≡ Asks_detach name leaf → e.reply ≡ To_detach (Detached n) → number_of behind.acked ≡ n
   pub syncs : e.asked ≡ Asks_sync name → e.reply ≡ To_sync (Ended (Committed n)) → CommitsAll before behind n
 
--- An opening that answers n found a live record, not below the acknowledged one, and acknowledged its blocks again as record n, above it.
+-- An opening that answers n found a live record, not below the acknowledged one, and acknowledged its blocks again as record n, above it; they are what
+-- was written last from there on.
 pub record OpensLive (before behind : Pool) (n : ℕ) : Type 0 where
   pub r : Rec
   pub live : IsIn r before.live
@@ -33,6 +34,7 @@ pub record OpensLive (before behind : Pool) (n : ℕ) : Type 0 where
   pub above : number_of r < n
   pub acked : number_of behind.acked ≡ n
   pub blocks : (a : ℕ) → block_at behind.acked a ≡ block_at r a
+  pub written : behind.written ≡ block_at r
 
 -- what these acts open, if anything
 abbrev pub opening_in : List Act → Option Opening

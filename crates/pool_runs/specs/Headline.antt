@@ -1,7 +1,7 @@
 -- The headline: what a run is to a pool that the devices had when it began, or that it made.
 use Rattle.std.specs.Prelude.{◌≡◌, ◌≢◌, ◌⊎◌, ℕ, Bool, true, false, List, [], ◌∷◌, ◌++◌, Some, take}
 use Rattle.bank_core.specs.Calls.{AllCaused}
-use Rattle.bank_core.specs.Disk.{run}
+use Rattle.bank_core.specs.Disk.{Noted, run}
 use Rattle.txg_history.specs.Copies.{IsCopiedGroup, MayTakeGroup}
 use Rattle.txg_history.specs.Events.{Event, Clears, calls_of}
 use Rattle.txg_history.specs.Pages.{Codec, IsClash}
@@ -24,6 +24,7 @@ use Rattle.pool_runs.specs.Lines.{Asks_read, Asks_offline, Asks_detach, Asks_imp
 use Rattle.pool_runs.specs.Moments.{Moment, events_at, pool_at, past_at, host_at, LineOf, pool_before, pool_behind, host_before, calls_in_line, IsOpenAs}
 use Rattle.pool_runs.specs.Pasts.{Past, pool_of, Left, HasFrozen}
 use Rattle.pool_runs.specs.Taking.{IsTakenBy}
+use Rattle.pool_runs.specs.Writing.{WritesJust}
 
 -- Behind so many of the run's device calls there is a moment, and the pool's history has just these calls then.
 pub record HasMoment (past : Past) (acts : List Act) (entries : List Entry) (k : ℕ) : Type 0 where
@@ -36,6 +37,12 @@ pub record HasMoment (past : Past) (acts : List Act) (entries : List Entry) (k :
 abbrev pub TakesFor : Pool → (before : List Event) → Event → (d g : ℕ) → Type 0
 TakesFor p before (Clears e) d g = (e ≡ d) × IsCopiedGroup p before d g
 TakesFor p before v d g = MayTakeGroup (pool_after before p) v d g
+
+-- A read gives the block that was written last, or that block and the bytes that it gave are two byte strings with one SHA-256 sum; and it gives none
+-- only where each readable leaf of the block's top missed it by these calls.
+pub record IsReadRight (before : Pool) (s : PoolState) (a : ℕ) (calls : List Noted) (reply : Reply) : Type 0 where
+  pub gives : (bytes : List ℕ) → reply ≡ To_read (Gives bytes) → (bytes ≡ before.written a) ⊎ IsClash (before.written a) bytes
+  pub misses : reply ≡ To_read Exhausted → AllMissed (s.core.committed (key 0 a)) calls (run calls before.sectors) s.core.leaves
 
 -- The reply is that the leaf is required for this group, just where it is the least that could be read from no other leaf of its top; or there was
 -- no memory.
@@ -64,14 +71,11 @@ pub record Headline (c : Codec) (past : Past) (h : Host) (acts : List Act) (entr
   -- a turn or a sync that answers a number acknowledged that record, and a sync's has each block as it was written last
   pub acks : (l : LineOf c past acts entries) (name : List ℕ) (s : PoolState) (n : ℕ) → IsOpenAs (pool_before l) (host_before h l) name s
       → AcksAs (pool_before l) (pool_behind l) name l.entry n
-  -- a read gives the block that was written last, or that block and the bytes that it gave are two byte strings with one SHA-256 sum
-  pub reads : (l : LineOf c past acts entries) (name : List ℕ) (a : ℕ) (s : PoolState) (bytes : List ℕ) → l.entry.asked ≡ Asks_read name a
-      → IsOpenAs (pool_before l) (host_before h l) name s → l.entry.reply ≡ To_read (Gives bytes)
-      → (bytes ≡ (pool_before l).written a) ⊎ IsClash ((pool_before l).written a) bytes
-  -- it gives none only where each readable leaf of the block's top missed it in this line
-  pub loses : (l : LineOf c past acts entries) (name : List ℕ) (a : ℕ) (s : PoolState) → l.entry.asked ≡ Asks_read name a
-      → IsOpenAs (pool_before l) (host_before h l) name s → l.entry.reply ≡ To_read Exhausted
-      → AllMissed (s.core.committed (key 0 a)) (calls_in_line l) (run (calls_in_line l) (pool_before l).sectors) s.core.leaves
+  -- what was written last to each block changes by a write that was taken, and by an import of the pool alone
+  pub writes : (l : LineOf c past acts entries) → WritesJust (pool_before l) (pool_behind l) (host_before h l) l.entry
+  -- a read gives the block that was written last, or it and the bytes that it gave clash; and none only where each readable leaf of its top missed it
+  pub reads : (l : LineOf c past acts entries) (name : List ℕ) (a : ℕ) (s : PoolState) → l.entry.asked ≡ Asks_read name a → IsOpenAs (pool_before l) (host_before h l) name s
+      → IsReadRight (pool_before l) s a (calls_in_line l) l.entry.reply
   -- a leaf is required just where the outage rule says so
   pub required : (l : LineOf c past acts entries) (name device : List ℕ) (s : PoolState) (leaf : LeafSeen) (group : ℕ) → IsOpenAs (pool_before l) (host_before h l) name s
       → leaf_named device s.core.leaves ≡ Some leaf → IsRequiredRight l.entry name device s leaf group
