@@ -1,11 +1,11 @@
 -- What an act leaves of a pool.
-use Rattle.std.proofs.Common.{◌≡◌, ◌≢◌, ℕ, ◌==◌, Bool, true, false, cond, List, [], ◌∷◌, ◌++◌, take, zero, suc, refl, sym, ap, ◌∙◌, subst, arith}
+use Rattle.std.proofs.Common.{◌≡◌, ◌≢◌, ℕ, ◌==◌, true, false, cond, List, [], ◌∷◌, ◌++◌, refl, sym, ap, ◌∙◌, arith}
 use Rattle.std.proofs.lemmas.Bool.Decides.{nat_tests}
-use Rattle.bank_core.specs.Disk.{Noted, Sectors, run}
-use Rattle.txg_history.specs.Events.{Event, Calls, as_events}
+use Rattle.bank_core.specs.Disk.{Noted, run}
+use Rattle.txg_history.specs.Events.{Calls, as_events}
 use Rattle.txg_history.specs.Pools.{Pool, after, pool_after}
 use Rattle.txg_history.proofs.Folding.{pool_more}
-use Rattle.pool_moves.specs.Moves.{Move, Makes, Lose, Comes, events_of}
+use Rattle.pool_moves.specs.Moves.{Move, Makes, events_of}
 use Rattle.pool_moves.specs.ReadRow.{made_in}
 use Rattle.pool_runs.specs.Acts.{Act, Does, events_for, pool_by, pool_along, history}
 

@@ -1,18 +1,20 @@
 -- Calls that answer by the disk model of a host do so by a pool's history.
-use Rattle.std.proofs.Common.{◌≡◌, ℕ, ◌+◌, ◌≤◌, Bool, true, false, List, [], ◌∷◌, ◌++◌, map, Option, Some, None, refl, sym, ap, ◌∙◌, subst}
+use Rattle.std.proofs.Common.{◌≡◌, ℕ, ◌+◌, ◌≤◌, Bool, true, false, List, [], ◌∷◌, ◌++◌, Some, None, refl, sym, ap, ◌∙◌, subst}
 use Rattle.std.specs.List.{AllByRecursion}
-use Rattle.bank_core.specs.declared.bank.Fault.{Fault}
 use Rattle.bank_core.specs.Calls.{device_of}
 use Rattle.bank_core.specs.Disk.{Call, Read, Write, Flush, Admit, Eject, Noted, Sectors, IsClean, Answers, AllAnswer, as_found, hurt, replay, run}
 use Rattle.pool_moves.specs.Moves.{Move, Makes}
 use Rattle.pool_moves.specs.ReadRow.{made_in}
-use Rattle.pool_runs.specs.Acts.{Act, Does, does, calls_of_act, calls_along}
+use Rattle.pool_runs.specs.Acts.{Act, does, calls_of_act, calls_along}
 use Rattle.pool_runs.specs.Devices.{Device, size_in}
 use Rattle.pool_runs.specs.HostRows.{is_reading, marked_behind, marked}
 
 answers_same : (call : Call) (a b : Sectors) → ((s : ℕ) → a (device_of call) s ≡ b (device_of call) s) → Answers a call → Answers b call
-answers_same (Read dev at bytes None) a b same is = (is.0, λ i inside clean. let e = same (at + i) in
-    is.1 i inside (subst (λ x. IsClean x) (sym e) clean) ∙ ap (λ x. x.stable) e)
+answers_same (Read dev at bytes None) a b same is = (
+  is.0,
+  λ i inside clean. let e = same (at + i) in
+      is.1 i inside (subst (λ x. IsClean x) (sym e) clean) ∙ ap (λ x. x.stable) e,
+)
 answers_same (Read dev at bytes (Some fault)) a b same is = tt
 answers_same (Write dev at bytes fault) a b same is = tt
 answers_same (Flush dev fault) a b same is = tt
@@ -23,7 +25,8 @@ pub all_answer : (table : List Device) (made : List Noted) (a b : Sectors) → A
     → ((d s : ℕ) → 1 ≤ size_in table d → a d s ≡ b d s) → AllAnswer a made → AllAnswer b made
 all_answer table [] a b here same is = tt
 all_answer table (noted ∷ made) a b here same is = (
-  answers_same noted.call (as_found noted a) (as_found noted b) (λ s. ap (hurt (noted.damage (device_of noted.call) s)) (same (device_of noted.call) s here.0)) is.0,
+  answers_same noted.call (as_found noted a) (as_found noted b)
+      (λ s. ap (hurt (noted.damage (device_of noted.call) s)) (same (device_of noted.call) s here.0)) is.0,
   all_answer table made (run (noted ∷ []) a) (run (noted ∷ []) b) here.1 (λ d s one. ap (λ x. replay (noted ∷ []) d s x) (same d s one)) is.1,
 )
 

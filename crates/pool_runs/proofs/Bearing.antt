@@ -1,5 +1,5 @@
 -- Behind the stamps of a create its pool is known, and its commit may be made.
-use Rattle.std.proofs.Common.{◌≡◌, ◌≢◌, ◌⊎◌, inl, inr, ℕ, ◌==◌, Bool, true, false, not, cond, List, [], ◌∷◌, ◌++◌, Option, Some, None, refl, sym, ap, ◌∙◌, subst, arith}
+use Rattle.std.proofs.Common.{◌≡◌, ◌≢◌, inl, inr, ℕ, ◌==◌, Bool, true, false, not, cond, List, [], ◌∷◌, ◌++◌, Some, None, refl, sym, ap, ◌∙◌, subst, arith}
 use Rattle.std.specs.List.{AllByRecursion, filter}
 use Rattle.std.proofs.lemmas.Bool.Decides.{nat_tests}
 use Rattle.mp_base.specs.declared.number.Guid.{Guid}
@@ -12,7 +12,7 @@ use Rattle.pool_moves.specs.Keeping.{Kept, Walks}
 use Rattle.pool_moves.specs.Making.{IsMade}
 use Rattle.pool_moves.specs.Moves.{Move}
 use Rattle.pool_moves.specs.Rosters.{devices_of}
-use Rattle.pool_moves.specs.StampRow.{NewLeaf, leaf_at, is_leaf_at, Stamp, calls_of_stamps, AreStamps, new_state, new_side, CreateReply, Created, FaultOn}
+use Rattle.pool_moves.specs.StampRow.{NewLeaf, leaf_at, is_leaf_at, Stamp, AreStamps, new_state, new_side, CreateReply, Created, FaultOn}
 use Rattle.pool_moves.specs.States.{PoolState, Side}
 use Rattle.pool_moves.proofs.CommitWalks.{found_walks}
 use Rattle.pool_moves.proofs.Making.{made_kept}
@@ -26,7 +26,7 @@ use Rattle.pool_runs.specs.HostRows.{IsRun}
 use Rattle.pool_runs.specs.Hosts.{Host, IsOpen, is_of, host_by, host_along}
 use Rattle.pool_runs.specs.Knowing.{Knows, MayActs, AreOwnActs}
 use Rattle.pool_runs.specs.Lines.{Reply, Entry}
-use Rattle.pool_runs.specs.Pasts.{Past, Born, Left}
+use Rattle.pool_runs.specs.Pasts.{Born}
 use Rattle.pool_runs.proofs.Creating.{within}
 use Rattle.pool_runs.proofs.Stamps.{stamp_calls}
 use Rattle.pool_runs.proofs.Heading.{headline_from}
@@ -44,7 +44,8 @@ act_disk act h = refl
 
 pub acts_disk : (acts : List Act) (h : Host) → (host_along acts h).disk ≡ run (calls_along acts) h.disk
 acts_disk [] h = refl
-acts_disk (act ∷ acts) h = acts_disk acts (host_by act h) ∙ (ap (run (calls_along acts)) (act_disk act h) ∙ sym (run_more (calls_of_act act) (calls_along acts) h.disk))
+acts_disk (act ∷ acts) h = acts_disk acts (host_by act h) ∙
+    (ap (run (calls_along acts)) (act_disk act h) ∙ sym (run_more (calls_of_act act) (calls_along acts) h.disk))
 
 bare_host : (made : List Noted) (rest : List Act) (h : Host) → host_along (bare made ++ rest) h ≡ host_along rest (record h { disk = run made h.disk })
 bare_host [] rest h = refl
@@ -80,7 +81,8 @@ all_owned pool size (leaf ∷ leaves) [] h are = absurd are
 all_owned pool size (leaf ∷ leaves) (stamp ∷ stamps) h (dev, inr stop) = absurd (let no : None ≡ Some leaf = stop.3 in cc)
 all_owned pool size (leaf ∷ leaves) (stamp ∷ stamps) h (dev, inl whole) = (
   subst (λ d. (host_stamped h pool.0 (stamp ∷ stamps)).owner d ≡ Some pool.0) dev (just_taken pool.0 stamp stamps h),
-  subst (λ x. AllByRecursion (λ l. x.owner l.dev ≡ Some pool.0) leaves) (sym (bare_host stamp.made (stamp_acts pool.0 stamps) (host_by (Takes pool.0 stamp.dev) h)))
+  subst (λ x. AllByRecursion (λ l. x.owner l.dev ≡ Some pool.0) leaves)
+      (sym (bare_host stamp.made (stamp_acts pool.0 stamps) (host_by (Takes pool.0 stamp.dev) h)))
       (all_owned pool size leaves stamps (record (host_by (Takes pool.0 stamp.dev) h) { disk = run stamp.made h.disk }) whole.1),
 )
 
@@ -92,12 +94,15 @@ is_made : (h : Host) (name : List ℕ) (blocks : ℕ) (tops : List (List (List �
     → AreStamps (size_in h.table) pool (leaves_of h.table tops) stamps None
     → IsMade (new_state (size_in h.table) name pool blocks (tops_of h.table tops)) (side_behind h name pool tops stamps)
 is_made h name blocks tops pool stamps may are =
-    subst (λ sectors. IsMade (new_state (size_in h.table) name pool blocks (tops_of h.table tops)) (new_side (size_in h.table) name pool (tops_of h.table tops) sectors))
+    subst (λ sectors. IsMade (new_state (size_in h.table) name pool blocks (tops_of h.table tops))
+    (new_side (size_in h.table) name pool (tops_of h.table tops) sectors))
     (ap (λ made. run made h.disk) (sym (stamp_calls pool.0 stamps)) ∙ sym (acts_disk (stamp_acts pool.0 stamps) h))
     (stamps_make (size_in h.table) name pool blocks (tops_of h.table tops) stamps h.disk (within h name blocks tops pool may) may.in_range are)
 
-is_stamped : (h : Host) (name : List ℕ) (blocks : ℕ) (tops : List (List (List ℕ))) (pool : Guid) (stamps : List Stamp) → (may : MayCreate h name blocks tops pool)
-    → AreStamps (size_in h.table) pool (leaves_of h.table tops) stamps None → (let p = (side_behind h name pool tops stamps).pool in AreStamped p.pool p.member p.guid p.size p.room p.home p.sectors)
+is_stamped : (h : Host) (name : List ℕ) (blocks : ℕ) (tops : List (List (List ℕ))) (pool : Guid) (stamps : List Stamp)
+    → (may : MayCreate h name blocks tops pool)
+    → AreStamps (size_in h.table) pool (leaves_of h.table tops) stamps None
+    → (let p = (side_behind h name pool tops stamps).pool in AreStamped p.pool p.member p.guid p.size p.room p.home p.sectors)
 is_stamped h name blocks tops pool stamps may are = let made = is_made h name blocks tops pool stamps may are in
     subst (λ q. AreStamped q.pool q.member q.guid q.size q.room q.home q.sectors) (sym made.is) made.stamps
 
@@ -106,13 +111,16 @@ own_more : (g : ℕ) (h : Host) (first second : List Act) → AreOwnActs g h (fi
 own_more g h [] second own = own
 own_more g h (act ∷ first) second own = own_more g (host_by act h) first second own.1
 
-new_pools : (g : ℕ) (s : PoolState) (pools : List PoolState) → ((s : PoolState) → IsOpen s pools → s.core.pool.0 ≢ g) → (x : PoolState) → IsOpen x (s ∷ pools) → x.core.pool.0 ≡ g → x ≡ s
+new_pools : (g : ℕ) (s : PoolState) (pools : List PoolState) → ((s : PoolState) → IsOpen s pools → s.core.pool.0 ≢ g) → (x : PoolState)
+    → IsOpen x (s ∷ pools) → x.core.pool.0 ≡ g → x ≡ s
 new_pools g s pools none x (inl is) number = is
 new_pools g s pools none x (inr more) number = absurd (none x more number)
 
-bears_known : (c : Codec) (h : Host) (name : List ℕ) (blocks : ℕ) (tops : List (List (List ℕ))) (pool : Guid) (stamps : List Stamp) → MayCreate h name blocks tops pool
+bears_known : (c : Codec) (h : Host) (name : List ℕ) (blocks : ℕ) (tops : List (List (List ℕ))) (pool : Guid) (stamps : List Stamp)
+    → MayCreate h name blocks tops pool
     → AreStamps (size_in h.table) pool (leaves_of h.table tops) stamps None → IsNew h pool.0
-    → Knows c (host_by (Bears (new_birth name pool blocks h.table tops)) (host_stamped h pool.0 stamps)) (born (new_birth name pool blocks h.table tops) (host_stamped h pool.0 stamps).disk)
+    → Knows c (host_by (Bears (new_birth name pool blocks h.table tops)) (host_stamped h pool.0 stamps))
+    (born (new_birth name pool blocks h.table tops) (host_stamped h pool.0 stamps).disk)
     × Kept c (new_state (size_in h.table) name pool blocks (tops_of h.table tops)) (side_behind h name pool tops stamps)
 bears_known c h name blocks tops pool stamps may are new =
     let leaves = leaves_of h.table tops in
@@ -120,7 +128,8 @@ bears_known c h name blocks tops pool stamps may are new =
     let t = side_behind h name pool tops stamps in
     let made = is_made h name blocks tops pool stamps may are in
     let kept : Kept c s t = made_kept c s t made in
-    let none : (x : PoolState) → IsOpen x (host_stamped h pool.0 stamps).pools → x.core.pool.0 ≢ pool.0 = λ x is. new.number x (subst (IsOpen x) (stamps_pools pool.0 stamps h) is) in
+    let none : (x : PoolState) → IsOpen x (host_stamped h pool.0 stamps).pools
+    → x.core.pool.0 ≢ pool.0 = λ x is. new.number x (subst (IsOpen x) (stamps_pools pool.0 stamps h) is) in
     let only = new_pools pool.0 s (host_stamped h pool.0 stamps).pools none in (
       record {
         survives = kept.survives;
@@ -130,7 +139,8 @@ bears_known c h name blocks tops pool stamps may are new =
         apart = λ d k is off. not_true (is_leaf_at (leaf_at d leaves)) (λ member. let at = leaf_of d leaves member in
             let found = leaf_found d leaves at.0 at.1 in
             let owned : (host_stamped h pool.0 stamps).owner d ≡ Some pool.0 = subst (λ x. (host_stamped h pool.0 stamps).owner x ≡ Some pool.0) found.1
-                (all_of (λ leaf. (host_stamped h pool.0 stamps).owner leaf.dev ≡ Some pool.0) leaves at.0 (all_owned pool (size_in h.table) leaves stamps h are) found.0) in
+            (all_of (λ leaf. (host_stamped h pool.0 stamps).owner leaf.dev ≡ Some pool.0) leaves at.0
+            (all_owned pool (size_in h.table) leaves stamps h are) found.0) in
             off (some_same k pool.0 (sym is ∙ owned)));
         sizes = λ d one. ap (λ table. size_in table d) (sym (acts_table (stamp_acts pool.0 stamps) h));
         disk = λ d s one. refl;
@@ -143,7 +153,8 @@ bears_known c h name blocks tops pool stamps may are new =
 
 -- The commit, and the end of a create that failed in it.
 closes_may : (c : Codec) (h : Host) (p : Pool) (g : ℕ) → Knows c h p → MayActs c h p (Closes g ∷ [])
-closes_may c h p g knows = λ fair. (tt, pools_known c h p (filter (λ s. not (is_of g s)) h.pools) (λ s is number. open_kept (λ s. not (is_of g s)) s h.pools is) knows, tt)
+closes_may c h p g knows = λ fair.
+    (tt, pools_known c h p (filter (λ s. not (is_of g s)) h.pools) (λ s is number. open_kept (λ s. not (is_of g s)) s h.pools is) knows, tt)
 
 commit_may : (answer : CreateReply) (c : Codec) (h : Host) (t : Side) (s : PoolState) (g : ℕ) (vs : List Move) → Knows c h t.pool → IsOpen s h.pools
     → t.pool.pool.0 ≡ g → Kept c s t → Walks c t vs → AreOwnActs g h (commit_acts answer g vs) → MayActs c h t.pool (commit_acts answer g vs)
@@ -156,7 +167,8 @@ commit_may (FaultOn device) c h t s g vs knows is number kept walks own =
     own_front g h [] second own = tt
     own_front g h (act ∷ first) second own = (own.0, own_front g (host_by act h) first second own.1)
 
-bears_may : (c : Codec) (h : Host) (name : List ℕ) (blocks : ℕ) (tops : List (List (List ℕ))) (acts : List Act) (reply : Reply) → (k : Creates c h name blocks tops acts reply) → IsNew h k.pool.0
+bears_may : (c : Codec) (h : Host) (name : List ℕ) (blocks : ℕ) (tops : List (List (List ℕ))) (acts : List Act) (reply : Reply)
+    → (k : Creates c h name blocks tops acts reply) → IsNew h k.pool.0
     → MayActs c (host_by (Bears (new_birth name k.pool blocks h.table tops)) (host_stamped h k.pool.0 k.stamps))
     (born (new_birth name k.pool blocks h.table tops) (host_stamped h k.pool.0 k.stamps).disk) (commit_acts k.answer k.pool.0 k.moves)
 bears_may c h name blocks tops acts reply k new =
@@ -170,7 +182,8 @@ bears_may c h name blocks tops acts reply k new =
     (found_walks c (size_in h.table) s t k.moves k.row.whole known.1 (λ d one. refl) k.row.row)
     (own_more k.pool.0 h (stamp_acts k.pool.0 k.stamps) (Bears b ∷ rest) own).1
 
-pub born_headline : (c : Codec) (h : Host) (name : List ℕ) (blocks : ℕ) (tops : List (List (List ℕ))) (acts : List Act) (reply : Reply) (entries : List Entry) → (k : Creates c h name blocks tops acts reply)
+pub born_headline : (c : Codec) (h : Host) (name : List ℕ) (blocks : ℕ) (tops : List (List (List ℕ))) (acts : List Act) (reply : Reply)
+    (entries : List Entry) → (k : Creates c h name blocks tops acts reply)
     → IsNew h k.pool.0 → IsRun c (host_along acts h) entries
     → Headline c (Born (new_birth name k.pool blocks h.table tops) (host_stamped h k.pool.0 k.stamps).disk)
     (host_by (Bears (new_birth name k.pool blocks h.table tops)) (host_stamped h k.pool.0 k.stamps)) (commit_acts k.answer k.pool.0 k.moves) entries

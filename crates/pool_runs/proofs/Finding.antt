@@ -1,26 +1,70 @@
 -- An import finds its pool, and opens a live record of it.
-use Rattle.std.proofs.Common.{◌≡◌, ◌≢◌, ◌⊎◌, inl, inr, ⊎_elim, ℕ, ◌+◌, ◌≤◌, ◌<◌, ◌==◌, ◌&&◌, ◌||◌, nat_le, Bool, true, false, not, cond, List, [], ◌∷◌, ◌++◌, length, Option, Some, None, refl, sym, ap, ◌∙◌, subst, append_assoc, arith}
+use Rattle.std.proofs.Common.{
+  ◌≡◌,
+  inl,
+  inr,
+  ℕ,
+  ◌+◌,
+  ◌≤◌,
+  ◌<◌,
+  ◌==◌,
+  ◌&&◌,
+  ◌||◌,
+  nat_le,
+  Bool,
+  true,
+  false,
+  not,
+  cond,
+  List,
+  [],
+  ◌∷◌,
+  ◌++◌,
+  length,
+  Option,
+  Some,
+  None,
+  refl,
+  sym,
+  ap,
+  ◌∙◌,
+  subst,
+  arith,
+}
 use Rattle.std.specs.List.{AllByRecursion}
 use Rattle.std.specs.Option.{is_none}
 use Rattle.std.specs.Str.{bytes_eq}
 use Rattle.bank_core.specs.Calls.{device_of, fault_of}
-use Rattle.bank_core.specs.Disk.{Noted, AllAnswer}
+use Rattle.bank_core.specs.Disk.{Noted}
 use Rattle.label_store.specs.declared.found.Found.{Found}
-use Rattle.mp_base.specs.declared.number.Guid.{Guid}
 use Rattle.mp_base.specs.declared.place.Key.{Key}
 use Rattle.txg_history.specs.Events.{Known, Calls, Opens, as_events}
 use Rattle.txg_history.specs.Looks.{known_by}
 use Rattle.txg_history.specs.Pages.{Codec}
 use Rattle.txg_history.specs.Pools.{Pool, after, pool_after}
-use Rattle.txg_history.specs.Premises.{Premises, HasGoodPages}
+use Rattle.txg_history.specs.Premises.{HasGoodPages}
 use Rattle.txg_history.specs.Records.{Rec, IsIn, number_of, block_at}
-use Rattle.txg_history.proofs.Folding.{with_calls, calls_after, events_more, pool_more}
-use Rattle.pool_moves.specs.CommitRows.{RowReopen}
+use Rattle.txg_history.proofs.Folding.{calls_after, events_more, pool_more}
 use Rattle.pool_moves.specs.Keeping.{Kept}
 use Rattle.pool_moves.specs.Leaves.{LeafSeen}
 use Rattle.pool_moves.specs.LineRows.{TurnReply, Idle, Write, Flush, Round, Committed, Suspended}
-use Rattle.pool_moves.specs.Moves.{Move, Freeze, Scan_from, Rest, state_step, steps, after_move, after_moves}
-use Rattle.pool_moves.specs.OpeningRow.{IsLiveOne, SeeksLive, SeekReply, NoRecord, NumbersEnd, TakesRecord, seek_reply, taken_by, last_numbers, OpenReply, Opens_state, NoPage, RowOpen, lacking_of, Resumes, ResumesBy, ResumesUnless, RowResume}
+use Rattle.pool_moves.specs.Moves.{Move, Freeze, Scan_from, state_step, steps, after_moves}
+use Rattle.pool_moves.specs.OpeningRow.{
+  IsLiveOne,
+  SeekReply,
+  NoRecord,
+  NumbersEnd,
+  TakesRecord,
+  taken_by,
+  last_numbers,
+  OpenReply,
+  Opens_state,
+  NoPage,
+  lacking_of,
+  Resumes,
+  ResumesUnless,
+  RowResume,
+}
 use Rattle.pool_moves.specs.FreezeRow.{up_devs, joins}
 use Rattle.pool_moves.specs.Opened.{opened_leaves}
 use Rattle.pool_moves.specs.PageReads.{LeafShown, failed_on, answers_in}
@@ -29,20 +73,33 @@ use Rattle.pool_moves.specs.States.{PoolSeen, PoolState, Side}
 use Rattle.pool_moves.proofs.FreeWalks.{moves_more}
 use Rattle.pool_moves.proofs.Keeping.{walk_keeps}
 use Rattle.pool_moves.proofs.ResilverWalks.{resume_walks}
-use Rattle.pool_moves.proofs.Seeking.{seeks_live}
-use Rattle.pool_runs.specs.Acts.{Act, Opening, Looked, Reads_as, Enters, Closes, does, bare, read_by, record_of, events_for, pool_by, pool_along, calls_along}
+use Rattle.pool_runs.specs.Acts.{Act, Opening, Looked, Enters, does, bare, read_by, pool_along, calls_along}
 use Rattle.pool_runs.specs.Committing.{OpensLive, opening_in, LosesPage, FindsPool}
-use Rattle.pool_runs.specs.Devices.{number_in, size_in, handed}
-use Rattle.pool_runs.specs.Fairness.{IsFairOpening, AreFair}
+use Rattle.pool_runs.specs.Devices.{size_in, handed}
+use Rattle.pool_runs.specs.Fairness.{AreFair}
 use Rattle.pool_runs.specs.HostRows.{AreMade}
 use Rattle.pool_runs.specs.Hosts.{Host, named}
 use Rattle.pool_runs.specs.Importing.{read_in, all_shown, OpensBy, FollowsMap, OpensFound, ImportBy, host_behind, Imports, ImportFor, ImportUnless, RowImport}
 use Rattle.pool_runs.specs.Knowing.{Knows}
-use Rattle.pool_runs.specs.Lines.{Reply, To_import, ImportReply, Opened, NameOpen, TooManyPools, NothingFound, LastNumber, PageLost, Unopened}
-use Rattle.pool_runs.proofs.Acting.{same_number, acts_more, calls_number}
-use Rattle.pool_runs.proofs.Committing.{numbers_up, GroupCommits, IsAckedAs, ends_acked, group_commits, frozen_writes, written_kind, writes_kind, KeepsWritten, KeepsWrites, written_along, writes_along, kept_blocks, does_pool}
+use Rattle.pool_runs.specs.Lines.{Reply, To_import, ImportReply, Opened, NameOpen, TooManyPools, NothingFound, LastNumber, PageLost}
+use Rattle.pool_runs.proofs.Acting.{same_number, calls_number}
+use Rattle.pool_runs.proofs.Committing.{
+  numbers_up,
+  IsAckedAs,
+  ends_acked,
+  group_commits,
+  frozen_writes,
+  written_kind,
+  writes_kind,
+  KeepsWritten,
+  KeepsWrites,
+  written_along,
+  writes_along,
+  kept_blocks,
+  does_pool,
+}
 use Rattle.pool_runs.proofs.GroupMoves.{more, all_group, all_reopen}
-use Rattle.pool_runs.proofs.Importing.{bare_calls, bare_pool, looks_along, opening_of, OpeningFacts, opening_calls, opening_facts, LookFacts, look_facts, taken_live}
+use Rattle.pool_runs.proofs.Importing.{bare_calls, looks_along, opening_of, OpeningFacts, opening_calls, opening_facts, look_facts, taken_live}
 
 -- The commit of an opening.
 resilver_written : (s : PoolSeen) (vs : List Move) → Resilvers s vs → AllByRecursion KeepsWritten vs × AllByRecursion KeepsWrites vs
@@ -74,29 +131,33 @@ record Resumed (t : Side) (vs : List Move) (from n : ℕ) : Type 0 where
   blocks : (a : ℕ) → block_at (after_moves vs t).pool.acked a ≡ t.pool.written a
   written : (after_moves vs t).pool.written ≡ t.pool.written
 
-resumed : (c : Codec) (size : ℕ → ℕ) (s : PoolState) (t : Side) (vs : List Move) (n : ℕ) → Kept c (steps vs s) (after_moves vs t) → Resumes c size s vs (Committed n) → Resumed t vs s.core.number n
+resumed : (c : Codec) (size : ℕ → ℕ) (s : PoolState) (t : Side) (vs : List Move) (n : ℕ) → Kept c (steps vs s) (after_moves vs t)
+    → Resumes c size s vs (Committed n) → Resumed t vs s.core.number n
 resumed c size s t vs n kept w =
     let first = w.row.first in
     let commits = group_commits c size (steps first s) w.row.rest n w.row.ends in
     let acked_first : IsAckedAs (after_moves w.first t).pool n = subst (λ l. IsAckedAs (after_moves l t).pool n) (sym w.row.moves)
-        (subst (λ x. IsAckedAs x.pool n) (sym (moves_more first w.row.rest t)) (ends_acked w.row.rest n (after_moves first t) commits.ends)) in
+    (subst (λ x. IsAckedAs x.pool n) (sym (moves_more first w.row.rest t)) (ends_acked w.row.rest n (after_moves first t) commits.ends)) in
     let acked : IsAckedAs (after_moves vs t).pool n = subst (λ l. IsAckedAs (after_moves l t).pool n) (sym w.moves)
-        (subst (λ x. IsAckedAs x.pool n) (sym (moves_more w.first w.rest t)) (resilver_acked (steps w.first s).core w.rest (after_moves w.first t) n w.resumes acked_first)) in
+    (subst (λ x. IsAckedAs x.pool n) (sym (moves_more w.first w.rest t))
+    (resilver_acked (steps w.first s).core w.rest (after_moves w.first t) n w.resumes acked_first)) in
     let still = resilver_written (steps w.first s).core w.rest w.resumes in
     let none : (steps vs s).own.writes ≡ (λ x. None) = ap (λ l. (steps l s).own.writes) w.moves ∙ (ap (λ x. x.own.writes) (steps_more w.first w.rest s)
-        ∙ (writes_along w.rest (steps w.first s) still.1 ∙ (ap (λ l. (steps l s).own.writes) w.row.moves
-        ∙ frozen_writes first w.row.rest s (λ k. None) s.core.leaves w.row.freeze.moves (all_group KeepsWrites writes_kind c size (steps first s) w.row.rest (Committed n) (λ bad. absurd bad) w.row.ends)))) in
+    ∙ (writes_along w.rest (steps w.first s) still.1 ∙ (ap (λ l. (steps l s).own.writes) w.row.moves
+    ∙ frozen_writes first w.row.rest s (λ k. None) s.core.leaves w.row.freeze.moves
+    (all_group KeepsWrites writes_kind c size (steps first s) w.row.rest (Committed n) (λ bad. absurd bad) w.row.ends)))) in
     let all : AllByRecursion KeepsWritten vs = subst (AllByRecursion KeepsWritten) (sym w.moves) (more KeepsWritten w.first w.rest
-        (all_reopen KeepsWritten written_kind (λ cells board. tt) c size s w.first (Committed n) (λ bad. tt) w.row) still.0) in record {
-  up = let frozen : s.core.number + 1 ≤ (steps first s).core.number = subst (λ l. s.core.number + 1 ≤ (steps l s).core.number) (sym w.row.freeze.moves)
-      (numbers_up (joins s.core.leaves) (state_step (Freeze (λ k. None) (up_devs s.core.leaves)) s)) in
-      let most = commits.up in omega (arith, frozen, most);
-  acked = acked.number;
-  blocks = λ a. kept_blocks c (steps vs s) (after_moves vs t) n kept acked none a ∙ ap (λ f. f a) (written_along vs t all);
-  written = written_along vs t all;
-}
+    (all_reopen KeepsWritten written_kind (λ cells board. tt) c size s w.first (Committed n) (λ bad. tt) w.row) still.0) in record {
+      up = let frozen : s.core.number + 1 ≤ (steps first s).core.number = subst (λ l. s.core.number + 1 ≤ (steps l s).core.number) (sym w.row.freeze.moves)
+          (numbers_up (joins s.core.leaves) (state_step (Freeze (λ k. None) (up_devs s.core.leaves)) s)) in
+          let most = commits.up in omega (arith, frozen, most);
+      acked = acked.number;
+      blocks = λ a. kept_blocks c (steps vs s) (after_moves vs t) n kept acked none a ∙ ap (λ f. f a) (written_along vs t all);
+      written = written_along vs t all;
+    }
 
-resumed_by : (top : Option ℕ) (c : Codec) (size : ℕ → ℕ) (s : PoolState) (t : Side) (vs : List Move) (n : ℕ) → Kept c (steps vs s) (after_moves vs t) → ResumesUnless top c size s vs (Committed n) → Resumed t vs s.core.number n
+resumed_by : (top : Option ℕ) (c : Codec) (size : ℕ → ℕ) (s : PoolState) (t : Side) (vs : List Move) (n : ℕ) → Kept c (steps vs s) (after_moves vs t)
+    → ResumesUnless top c size s vs (Committed n) → Resumed t vs s.core.number n
 resumed_by (Some top) c size s t vs n kept row = absurd (let no = row.1 in cc)
 resumed_by None c size s t vs n kept row = resumed c size s t vs n kept row
 
@@ -125,11 +186,13 @@ record Looked_live (p before : Pool) (found : Found) : Type 0 where
   same : p.live ≡ before.live
 
 -- the pool behind the calls of an opening
-opens_behind : (c : Codec) (h : Host) (p : Pool) (name : List ℕ) (found : Found) (acts : List Act) (reply : Reply) (opens : OpensFound c h name found acts reply) → p.pool.0 ≡ found.pool.0
+opens_behind : (c : Codec) (h : Host) (p : Pool) (name : List ℕ) (found : Found) (acts : List Act) (reply : Reply)
+    (opens : OpensFound c h name found acts reply) → p.pool.0 ≡ found.pool.0
     → pool_along acts p ≡ pool_along opens.rest (pool_after (as_events opens.made) (after (Opens (read_by (opening_of c h name found acts reply opens) p)) p))
 opens_behind c h p name found acts reply opens number = let g = found.pool.0 in let r = read_by (opening_of c h name found acts reply opens) p in
     ap (λ a. pool_along a p) opens.are
-    ∙ (ap (λ vs. pool_along (bare opens.row.ids ++ (all_shown g (read_in opens.row.ids) opens.row.devs ++ (bare opens.row.pages ++ opens.rest))) (pool_after vs p))
+    ∙ (ap (λ vs. pool_along (bare opens.row.ids ++ (all_shown g (read_in opens.row.ids) opens.row.devs ++ (bare opens.row.pages ++ opens.rest)))
+    (pool_after vs p))
     (ap (λ t. cond t (Opens r ∷ []) []) (same_number p.pool.0 found.pool.0 number))
     ∙ (bare_more opens.row.ids (all_shown g (read_in opens.row.ids) opens.row.devs ++ (bare opens.row.pages ++ opens.rest)) (after (Opens r) p)
     ∙ (shown_more g (read_in opens.row.ids) opens.row.devs (bare opens.row.pages ++ opens.rest) (pool_after (as_events opens.row.ids) (after (Opens r) p))
@@ -137,8 +200,10 @@ opens_behind c h p name found acts reply opens number = let g = found.pool.0 in 
     ∙ ap (pool_along opens.rest) (sym (ap (λ vs. pool_after vs (after (Opens r) p)) (ap as_events opens.row.calls ∙ events_more opens.row.ids opens.row.pages)
     ∙ pool_more (as_events opens.row.ids) (as_events opens.row.pages) (after (Opens r) p)))))))
 
-opens_live : (c : Codec) (h : Host) (p before : Pool) (name : List ℕ) (found : Found) (acts : List Act) (reply : Reply) (n : ℕ) → Knows c h p → Looked_live p before found → p.name ≡ name
-    → AreMade h (calls_along acts) → AreFair c p acts → OpensFound c h name found acts reply → reply ≡ To_import (Opened n) → OpensLive before (pool_along acts p) n
+opens_live : (c : Codec) (h : Host) (p before : Pool) (name : List ℕ) (found : Found) (acts : List Act) (reply : Reply) (n : ℕ) → Knows c h p
+    → Looked_live p before found → p.name ≡ name
+    → AreMade h (calls_along acts) → AreFair c p acts → OpensFound c h name found acts reply → reply ≡ To_import (Opened n)
+    → OpensLive before (pool_along acts p) n
 opens_live c h p before name found acts reply n knows live named made fair opens says = follow opens.outcome refl opens.follows
   where
     opening : Opening
@@ -174,26 +239,29 @@ opens_live c h p before name found acts reply n knows live named made fair opens
     q_sized : (d : ℕ) → 1 ≤ size_in h.table d → q.size d ≡ size_in h.table d
     q_sized d one = ap (λ x. x.size d) (calls_after opens.made (after (Opens r) p)) ∙ knows.sizes d one
 
-    committed : (s : PoolState) (vs : List Move) (m : ℕ) → opens.outcome ≡ Opens_state s → RowResume c (size_in h.table) s vs (Committed m) → opens.rest ≡ Enters s ∷ does g vs
+    committed : (s : PoolState) (vs : List Move) (m : ℕ) → opens.outcome ≡ Opens_state s → RowResume c (size_in h.table) s vs (Committed m)
+        → opens.rest ≡ Enters s ∷ does g vs
         → reply ≡ To_import (Opened m) → OpensLive before (pool_along acts p) n
     committed s vs m out row rest answers =
         let has = facts.seats s out in
         let t : Side = record { pool = q; seats = has.0 } in
-        let kept : Kept c (steps vs s) (after_moves vs t) = walk_keeps c vs s t (resume_walks c (size_in h.table) s t vs (Committed m) has.1 q_sized row) has.1 in
+        let kept : Kept c (steps vs s) (after_moves vs t) = walk_keeps c vs s t
+        (resume_walks c (size_in h.table) s t vs (Committed m) has.1 q_sized row) has.1 in
         let end = resumed_by (lacking_of s.core.leaves s.core.leaves) c (size_in h.table) s t vs m kept row in
         let same : m ≡ n = opened_number m n (sym answers ∙ says) in
         let pool_is : pool_along acts p ≡ (after_moves vs t).pool = behind ∙ (ap (λ a. pool_along a q) rest ∙ does_pool g vs t q_number) in
         let s_number : s.core.number ≡ number_of r = ap (λ core. core.number) has.1.core ∙ q_highest in record {
-      r = r;
-      live = subst (IsIn r) live.same facts.is.is_live;
-      not_below = subst (λ k. number_of before.acked ≤ k) (sym (ap (λ x. x.0) live.is.number_is) ∙ ap (λ x. x.0) facts.is.number_is) live.not_below;
-      above = subst (λ k. number_of r < k) same (subst (λ k. k < m) s_number end.up);
-      acked = ap (λ x. number_of x.acked) pool_is ∙ (end.acked ∙ same);
-      blocks = λ a. ap (λ x. block_at x.acked a) pool_is ∙ (end.blocks a ∙ ap (λ w. w a) q_written);
-      written = ap (λ x. x.written) pool_is ∙ (end.written ∙ q_written);
-    }
+          r = r;
+          live = subst (IsIn r) live.same facts.is.is_live;
+          not_below = subst (λ k. number_of before.acked ≤ k) (sym (ap (λ x. x.0) live.is.number_is) ∙ ap (λ x. x.0) facts.is.number_is) live.not_below;
+          above = subst (λ k. number_of r < k) same (subst (λ k. k < m) s_number end.up);
+          acked = ap (λ x. number_of x.acked) pool_is ∙ (end.acked ∙ same);
+          blocks = λ a. ap (λ x. block_at x.acked a) pool_is ∙ (end.blocks a ∙ ap (λ w. w a) q_written);
+          written = ap (λ x. x.written) pool_is ∙ (end.written ∙ q_written);
+        }
 
-    by_turn : (turn : TurnReply) (s : PoolState) (vs : List Move) → opens.outcome ≡ Opens_state s → RowResume c (size_in h.table) s vs turn → OpensBy turn g s vs opens.rest reply → OpensLive before (pool_along acts p) n
+    by_turn : (turn : TurnReply) (s : PoolState) (vs : List Move) → opens.outcome ≡ Opens_state s → RowResume c (size_in h.table) s vs turn
+        → OpensBy turn g s vs opens.rest reply → OpensLive before (pool_along acts p) n
     by_turn (Committed m) s vs out row by = committed s vs m out row by.0 by.1
     by_turn (Suspended group top faults) s vs out row by = absurd (let no = sym by.1 ∙ says in cc)
     by_turn Idle s vs out row by = absurd by
@@ -201,7 +269,8 @@ opens_live c h p before name found acts reply n knows live named made fair opens
     by_turn Flush s vs out row by = absurd by
     by_turn (Round m) s vs out row by = absurd by
 
-    follow : (outcome : OpenReply) → opens.outcome ≡ outcome → FollowsMap outcome c (size_in h.table) g opens.rest reply → OpensLive before (pool_along acts p) n
+    follow : (outcome : OpenReply) → opens.outcome ≡ outcome → FollowsMap outcome c (size_in h.table) g opens.rest reply
+        → OpensLive before (pool_along acts p) n
     follow (Opens_state s) out row = by_turn row.1 s row.0 out row.2 row.3
     follow (NoPage page shown) out row = absurd (let no = sym row.1 ∙ says in cc)
 
@@ -211,7 +280,8 @@ page_same a b x y e = cc
 
 failed_more : (first second : List Noted) (d : ℕ) → failed_on second d ≡ true → failed_on (first ++ second) d ≡ true
 failed_more [] second d is = is
-failed_more (noted ∷ first) second d is = or_right ((device_of noted.call == d) && not (is_none (fault_of noted.call))) (failed_on (first ++ second) d) (failed_more first second d is)
+failed_more (noted ∷ first) second d is = or_right ((device_of noted.call == d) && not (is_none (fault_of noted.call))) (failed_on (first ++ second) d)
+    (failed_more first second d is)
   where
     or_right : (a b : Bool) → b ≡ true → (a || b) ≡ true
     or_right true b is = refl
@@ -219,7 +289,8 @@ failed_more (noted ∷ first) second d is = or_right ((device_of noted.call == d
 
 failed_first : (first second : List Noted) (d : ℕ) → failed_on first d ≡ true → failed_on (first ++ second) d ≡ true
 failed_first [] second d is = absurd (cc)
-failed_first (noted ∷ first) second d is = either ((device_of noted.call == d) && not (is_none (fault_of noted.call))) (failed_on first d) (failed_on (first ++ second) d) (failed_first first second d) is
+failed_first (noted ∷ first) second d is = either ((device_of noted.call == d) && not (is_none (fault_of noted.call))) (failed_on first d)
+    (failed_on (first ++ second) d) (failed_first first second d) is
   where
     either : (a b e : Bool) → (b ≡ true → e ≡ true) → (a || b) ≡ true → (a || e) ≡ true
     either true b e up is = refl
@@ -245,8 +316,10 @@ pub opening_bare : (made : List Noted) (more : List Act) → opening_in (bare ma
 opening_bare [] more = refl
 opening_bare (noted ∷ made) more = opening_bare made more
 
-opens_loses : (c : Codec) (h : Host) (p before : Pool) (name : List ℕ) (found : Found) (acts : List Act) (reply : Reply) (page : Key) (shown : List LeafShown) → Knows c h p → Looked_live p before found
-    → AreMade h (calls_along acts) → AreFair c p acts → OpensFound c h name found acts reply → reply ≡ To_import (PageLost page shown) → LosesPage c before (pool_along acts p) acts
+opens_loses : (c : Codec) (h : Host) (p before : Pool) (name : List ℕ) (found : Found) (acts : List Act) (reply : Reply) (page : Key)
+    (shown : List LeafShown) → Knows c h p → Looked_live p before found
+    → AreMade h (calls_along acts) → AreFair c p acts → OpensFound c h name found acts reply → reply ≡ To_import (PageLost page shown)
+    → LosesPage c before (pool_along acts p) acts
 opens_loses c h p before name found acts reply page shown knows live made fair opens says = follow opens.outcome refl opens.follows
   where
     opening : Opening
@@ -273,7 +346,8 @@ opens_loses c h p before name found acts reply page shown knows live made fair o
     -- each call of the pages is one of the line
     among : (d : ℕ) → failed_on opens.row.pages d ≡ true → failed_on (calls_along acts) d ≡ true
     among d is = subst (λ made. failed_on made d ≡ true) (sym (opening_calls c h name found acts reply opens))
-        (failed_first opens.made (calls_along opens.rest) d (subst (λ made. failed_on made d ≡ true) (sym opens.row.calls) (failed_more opens.row.ids opens.row.pages d is)))
+        (failed_first opens.made (calls_along opens.rest) d
+        (subst (λ made. failed_on made d ≡ true) (sym opens.row.calls) (failed_more opens.row.ids opens.row.pages d is)))
 
     lost : (k : Key) (ks : List LeafShown) → opens.outcome ≡ NoPage k ks → opens.rest ≡ [] → LosesPage c before (pool_along acts p) acts
     lost k ks out none = record {
@@ -287,7 +361,8 @@ opens_loses c h p before name found acts reply page shown knows live made fair o
           (subst (λ x. HasGoodPages x r (answers_in leaves (calls_along acts))) (behind ∙ ap (λ a. pool_along a q) none) good));
     }
 
-    by_turn : (turn : TurnReply) (s : PoolState) (vs : List Move) → OpensBy turn found.pool.0 s vs opens.rest reply → LosesPage c before (pool_along acts p) acts
+    by_turn : (turn : TurnReply) (s : PoolState) (vs : List Move) → OpensBy turn found.pool.0 s vs opens.rest reply
+        → LosesPage c before (pool_along acts p) acts
     by_turn (Committed m) s vs by = absurd (let no = sym by.1 ∙ says in cc)
     by_turn (Suspended group top faults) s vs by = absurd (let no = sym by.1 ∙ says in cc)
     by_turn Idle s vs by = absurd by
@@ -295,12 +370,14 @@ opens_loses c h p before name found acts reply page shown knows live made fair o
     by_turn Flush s vs by = absurd by
     by_turn (Round m) s vs by = absurd by
 
-    follow : (outcome : OpenReply) → opens.outcome ≡ outcome → FollowsMap outcome c (size_in h.table) found.pool.0 opens.rest reply → LosesPage c before (pool_along acts p) acts
+    follow : (outcome : OpenReply) → opens.outcome ≡ outcome → FollowsMap outcome c (size_in h.table) found.pool.0 opens.rest reply
+        → LosesPage c before (pool_along acts p) acts
     follow (Opens_state s) out row = by_turn row.1 s row.0 row.3
     follow (NoPage k ks) out row = lost k ks out row.0
 
 -- By what the looks found.
-not_opened : (c : Codec) (before behind : Pool) (acts : List Act) (reply : Reply) (other : ImportReply) → reply ≡ To_import other → (other ≡ NothingFound → ⊥) → ((n : ℕ) → other ≡ Opened n → ⊥)
+not_opened : (c : Codec) (before behind : Pool) (acts : List Act) (reply : Reply) (other : ImportReply) → reply ≡ To_import other
+    → (other ≡ NothingFound → ⊥) → ((n : ℕ) → other ≡ Opened n → ⊥)
     → ((page : Key) (shown : List LeafShown) → other ≡ PageLost page shown → ⊥) → FindsPool c before behind acts reply
 not_opened c before behind acts reply other is some none loses = record {
   some = λ says. some (same other NothingFound (sym is ∙ says));
@@ -311,7 +388,8 @@ not_opened c before behind acts reply other is some none loses = record {
     same : (a b : ImportReply) → To_import a ≡ To_import b → a ≡ b
     same a b e = cc
 
-opens_some : (c : Codec) (h : Host) (name : List ℕ) (found : Found) (acts : List Act) (reply : Reply) → OpensFound c h name found acts reply → reply ≡ To_import NothingFound → ⊥
+opens_some : (c : Codec) (h : Host) (name : List ℕ) (found : Found) (acts : List Act) (reply : Reply) → OpensFound c h name found acts reply
+    → reply ≡ To_import NothingFound → ⊥
 opens_some c h name found acts reply opens says = follow opens.outcome opens.follows
   where
     by_turn : (turn : TurnReply) (s : PoolState) (vs : List Move) → OpensBy turn found.pool.0 s vs opens.rest reply → ⊥
@@ -330,17 +408,21 @@ never_none : (ended : Bool) (found : Found) → NoRecord ≡ taken_by ended foun
 never_none true found e = cc
 never_none false found e = cc
 
-found_finds : (seek : SeekReply) (c : Codec) (h : Host) (before p : Pool) (name : List ℕ) (acts : List Act) (reply : Reply) → Knows c h p → p.name ≡ name → AreMade h (calls_along acts) → AreFair c p acts
-    → (seek ≡ NoRecord → ⊥) → ((found : Found) → seek ≡ TakesRecord found → Looked_live p before found) → ImportBy seek c h name acts reply → FindsPool c before (pool_along acts p) acts reply
+found_finds : (seek : SeekReply) (c : Codec) (h : Host) (before p : Pool) (name : List ℕ) (acts : List Act) (reply : Reply) → Knows c h p → p.name ≡ name
+    → AreMade h (calls_along acts) → AreFair c p acts
+    → (seek ≡ NoRecord → ⊥) → ((found : Found) → seek ≡ TakesRecord found → Looked_live p before found) → ImportBy seek c h name acts reply
+    → FindsPool c before (pool_along acts p) acts reply
 found_finds NoRecord c h before p name acts reply knows named made fair some live row = absurd (some refl)
-found_finds (NumbersEnd limit count) c h before p name acts reply knows named made fair some live row = not_opened c before (pool_along acts p) acts reply (LastNumber limit count) row.1 (λ e. cc) (λ n e. cc) (λ page shown e. cc)
+found_finds (NumbersEnd limit count) c h before p name acts reply knows named made fair some live row = not_opened c before (pool_along acts p) acts reply
+    (LastNumber limit count) row.1 (λ e. cc) (λ n e. cc) (λ page shown e. cc)
 found_finds (TakesRecord found) c h before p name acts reply knows named made fair some live row = record {
   some = opens_some c h name found acts reply row;
   opened = λ n says. opens_live c h p before name found acts reply n knows (live found refl) named made fair row says;
   loses = λ page shown says. opens_loses c h p before name found acts reply page shown knows (live found refl) made fair row says;
 }
 
-pub import_finds : (c : Codec) (h : Host) (p : Pool) (name : List ℕ) (acts : List Act) (reply : Reply) → Knows c h p → p.name ≡ name → AreMade h (calls_along acts) → AreFair c p acts → RowImport c h name acts reply
+pub import_finds : (c : Codec) (h : Host) (p : Pool) (name : List ℕ) (acts : List Act) (reply : Reply) → Knows c h p → p.name ≡ name
+    → AreMade h (calls_along acts) → AreFair c p acts → RowImport c h name acts reply
     → FindsPool c p (pool_along acts p) acts reply
 import_finds c h p name acts reply knows titled made fair row = unless (named_in h.pools) row
   where
@@ -348,7 +430,8 @@ import_finds c h p name acts reply knows titled made fair row = unless (named_in
     named_in pools = named name pools
 
     -- what the rest of the line finds, the line does
-    line_finds : (made : List Noted) (known : Known) (rest : List Act) (p1 : Pool) → acts ≡ bare made ++ (Looked name known ∷ rest) → pool_along acts p ≡ pool_along rest p1
+    line_finds : (made : List Noted) (known : Known) (rest : List Act) (p1 : Pool) → acts ≡ bare made ++ (Looked name known ∷ rest)
+        → pool_along acts p ≡ pool_along rest p1
         → FindsPool c p (pool_along rest p1) rest reply → FindsPool c p (pool_along acts p) acts reply
     line_finds made known rest p1 are same finds = record {
       some = finds.some;
@@ -359,11 +442,15 @@ import_finds c h p name acts reply knows titled made fair row = unless (named_in
         r = lost.r;
         live = lost.live;
         is = lost.is;
-        none = λ good. lost.none (more_good (pool_along rest p1) lost.r (answers_in (opened_leaves (c.leaves lost.opening.found.blob.items) lost.opening.devs) (calls_along acts))
+        none = λ good. lost.none
+            (more_good (pool_along rest p1) lost.r (answers_in (opened_leaves (c.leaves lost.opening.found.blob.items) lost.opening.devs) (calls_along acts))
             (answers_in (opened_leaves (c.leaves lost.opening.found.blob.items) lost.opening.devs) (calls_along rest))
-            (λ d is. fewer_fail (failed_on (calls_along acts) d) (failed_on (calls_along rest) d) (up_devs (opened_leaves (c.leaves lost.opening.found.blob.items) lost.opening.devs) d)
-            (λ failed. subst (λ calls. failed_on calls d ≡ true) (sym (ap calls_along are ∙ bare_calls made (Looked name known ∷ rest))) (failed_more made (calls_along rest) d failed)) is)
-            (subst (λ x. HasGoodPages x lost.r (answers_in (opened_leaves (c.leaves lost.opening.found.blob.items) lost.opening.devs) (calls_along acts))) same good));
+            (λ d is. fewer_fail (failed_on (calls_along acts) d) (failed_on (calls_along rest) d)
+            (up_devs (opened_leaves (c.leaves lost.opening.found.blob.items) lost.opening.devs) d)
+            (λ failed. subst (λ calls. failed_on calls d ≡ true) (sym (ap calls_along are ∙ bare_calls made (Looked name known ∷ rest)))
+            (failed_more made (calls_along rest) d failed)) is)
+            (subst (λ x. HasGoodPages x lost.r
+            (answers_in (opened_leaves (c.leaves lost.opening.found.blob.items) lost.opening.devs) (calls_along acts))) same good));
       };
     }
 
@@ -377,7 +464,7 @@ import_finds c h p name acts reply knows titled made fair row = unless (named_in
         let seeks = facts.seeks titled (all.0 named1) in
         let rest_fair : AreFair c p1 row.rest = subst (λ x. AreFair c x row.rest) (looks_along (bytes_eq p1.name name) known p1) all.1 in
         let pool_is : pool_along acts p ≡ pool_along row.rest p1 = ap (λ a. pool_along a p) row.are ∙ (bare_more row.made (Looked name known ∷ row.rest) p
-            ∙ ap (pool_along row.rest) (looks_along (bytes_eq p1.name name) known p1)) in
+        ∙ ap (pool_along row.rest) (looks_along (bytes_eq p1.name name) known p1)) in
         line_finds row.made known row.rest p1 row.are pool_is
         (found_finds row.seek c (host_behind row.made h) p p1 name row.rest reply facts.knows named1 facts.made rest_fair
         (λ none. never_none (nat_le last_numbers seeks.found.number.0) seeks.found (sym none ∙ seeks.says))

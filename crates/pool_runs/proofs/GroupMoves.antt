@@ -1,5 +1,5 @@
 -- Lists of moves of a group's rows, of which each move is of one kind.
-use Rattle.std.proofs.Common.{◌≡◌, ◌⊎◌, inl, inr, ⊎_elim, ℕ, Bool, true, false, cond, List, [], ◌∷◌, ◌++◌, map, Option, Some, None, refl, sym, ap, ◌∙◌, subst}
+use Rattle.std.proofs.Common.{◌≡◌, inl, inr, ℕ, Bool, true, false, cond, List, [], ◌∷◌, ◌++◌, Option, Some, None, sym, subst}
 use Rattle.std.specs.List.{AllByRecursion, find}
 use Rattle.mp_base.specs.declared.number.Guid.{Guid}
 use Rattle.mp_base.specs.declared.place.Key.{Key}
@@ -13,7 +13,35 @@ use Rattle.pool_moves.specs.Boards.{board_of, board_under, emptied}
 use Rattle.pool_moves.specs.CommitRows.{RowFound, RowReopen}
 use Rattle.pool_moves.specs.FreezeRow.{joins, RowFreeze, RowEmptyFreeze}
 use Rattle.pool_moves.specs.Leaves.{OwnLeaf, LeafSeen}
-use Rattle.pool_moves.specs.LineRows.{TurnReply, sets_failed, has_number, count_moves, EndsBy, EndsTurn, IsTurnOf, IsWritePart, IsFlushPart, IsRoundPart, StartsBy, TurnBy, RowTurn, Committed, Suspended, Idle, Write, Flush, Round, Ends, AreTurns, moves_in, EndsGroup, CommitsOpen, SyncReply, Ended, CommitsFor, SyncOpen, SyncBehind, EndsFirst, SyncBy}
+use Rattle.pool_moves.specs.LineRows.{
+  TurnReply,
+  sets_failed,
+  has_number,
+  count_moves,
+  EndsBy,
+  EndsTurn,
+  IsTurnOf,
+  IsRoundPart,
+  StartsBy,
+  TurnBy,
+  RowTurn,
+  Committed,
+  Suspended,
+  Idle,
+  Write,
+  Flush,
+  Round,
+  Ends,
+  AreTurns,
+  moves_in,
+  EndsGroup,
+  CommitsOpen,
+  SyncReply,
+  CommitsFor,
+  SyncOpen,
+  SyncBehind,
+  SyncBy,
+}
 use Rattle.pool_moves.specs.Moves.{Draft, Move, Makes, Freeze, Wrote_key, Flushed_all, Draw, Leave, Burn, Starts, Copies, Copied, Commits, Sets, steps}
 use Rattle.pool_moves.specs.ReadRow.{count_reads}
 use Rattle.pool_moves.specs.Refusing.{FreezeRefusal}
@@ -61,7 +89,8 @@ module _ (P : Move → Type 0) (k : IsKind P) where
   all_counts leaves [] results = tt
   all_counts leaves (m ∷ ms) [] = tt
   all_counts leaves (m ∷ ms) (true ∷ results) = all_counts leaves ms results
-  all_counts leaves (m ∷ ms) (false ∷ results) = more P (sets_failed (find (has_number m.guid) leaves)) (count_moves leaves ms results) (all_failed (find (has_number m.guid) leaves)) (all_counts leaves ms results)
+  all_counts leaves (m ∷ ms) (false ∷ results) = more P (sets_failed (find (has_number m.guid) leaves)) (count_moves leaves ms results)
+      (all_failed (find (has_number m.guid) leaves)) (all_counts leaves ms results)
 
   all_joins : (leaves : List LeafSeen) → All (joins leaves)
   all_joins [] = tt
@@ -75,15 +104,18 @@ module _ (P : Move → Type 0) (k : IsKind P) where
   all_ended true draft d = (k.copied draft d, tt)
   all_ended false draft d = tt
 
-  pub all_third : (plan : Member → List Ask) (draft : Draft) (ms : List Member) (was is : List Bool) (vs : List Move) → IsThirdMoves plan draft ms was is vs → All vs
+  pub all_third : (plan : Member → List Ask) (draft : Draft) (ms : List Member) (was is : List Bool) (vs : List Move) → IsThirdMoves plan draft ms was is vs
+      → All vs
   all_third plan draft [] [] [] vs third = subst All (sym third) tt
   all_third plan draft [] [] (c ∷ is) vs third = absurd third
   all_third plan draft [] (b ∷ was) is vs third = absurd third
   all_third plan draft (m ∷ ms) [] is vs third = absurd third
   all_third plan draft (m ∷ ms) (b ∷ was) [] vs third = absurd third
-  all_third plan draft (m ∷ ms) (true ∷ was) (c ∷ is) vs third = subst All (sym third.2)
-      (k.copies draft m.dev, more P (as_moves third.0) (ended c draft m.dev ++ third.1) (all_calls third.0)
-      (more P (ended c draft m.dev) third.1 (all_ended c draft m.dev) (all_third plan draft ms was is third.1 third.4)))
+  all_third plan draft (m ∷ ms) (true ∷ was) (c ∷ is) vs third = subst All (sym third.2) (
+    k.copies draft m.dev,
+    more P (as_moves third.0) (ended c draft m.dev ++ third.1) (all_calls third.0)
+        (more P (ended c draft m.dev) third.1 (all_ended c draft m.dev) (all_third plan draft ms was is third.1 third.4)),
+  )
   all_third plan draft (m ∷ ms) (false ∷ was) (c ∷ is) vs third = all_third plan draft ms was is vs third.1
 
   all_end : (whole : Bool) (draft : Draft) (ms : List Member) (results : List Bool) → All (round_end whole draft ms results)
@@ -91,47 +123,63 @@ module _ (P : Move → Type 0) (k : IsKind P) where
   all_end false draft ms results = all_leave ms results
 
   pub all_round : (c : Codec) (size : ℕ → ℕ) (s : PoolSeen) (vs : List Move) (whole : Bool) → RowRound c size s vs whole → All vs
-  all_round c size s vs whole row = let ms = board_of s.leaves in subst All (sym row.moves)
-      (k.starts row.draft, more P (as_moves row.first) (as_moves row.second ++ (row.thirds ++ round_end whole row.draft ms row.results)) (all_calls row.first)
-      (more P (as_moves row.second) (row.thirds ++ round_end whole row.draft ms row.results) (all_calls row.second)
-      (more P row.thirds (round_end whole row.draft ms row.results) (all_third (third_plan size row.draft.commit) row.draft ms row.in_second row.results row.thirds row.copies)
-      (all_end whole row.draft ms row.results))))
+  all_round c size s vs whole row = let ms = board_of s.leaves in subst All (sym row.moves) (
+    k.starts row.draft,
+    more P (as_moves row.first) (as_moves row.second ++ (row.thirds ++ round_end whole row.draft ms row.results)) (all_calls row.first)
+        (more P (as_moves row.second) (row.thirds ++ round_end whole row.draft ms row.results) (all_calls row.second)
+        (more P row.thirds (round_end whole row.draft ms row.results)
+        (all_third (third_plan size row.draft.commit) row.draft ms row.in_second row.results row.thirds row.copies)
+        (all_end whole row.draft ms row.results))),
+  )
 
-  all_ends : (top : Option ℕ) (s : PoolState) (extra : List Move) (going : TurnReply) (vs : List Move) (reply : TurnReply) → All extra → (IsSuspended reply → P Burn) → EndsBy top s extra going vs reply → All vs
+  all_ends : (top : Option ℕ) (s : PoolState) (extra : List Move) (going : TurnReply) (vs : List Move) (reply : TurnReply) → All extra
+      → (IsSuspended reply → P Burn) → EndsBy top s extra going vs reply → All vs
   all_ends (Some top) s extra going vs reply all burn ends = subst All (sym ends.0) (burn (subst IsSuspended (sym ends.1) tt), tt)
   all_ends None s extra going vs reply all burn ends = subst All (sym ends.0) all
 
   all_turn_moves : (made : List Noted) (ms : List Member) (results : List Bool) (mark : Move) → P mark → All (turn_moves made ms results mark)
-  all_turn_moves made ms results mark is = more P (as_moves made) (leave_moves ms results ++ (mark ∷ [])) (all_calls made) (more P (leave_moves ms results) (mark ∷ []) (all_leave ms results) (is, tt))
+  all_turn_moves made ms results mark is = more P (as_moves made) (leave_moves ms results ++ (mark ∷ [])) (all_calls made)
+      (more P (leave_moves ms results) (mark ∷ []) (all_leave ms results) (is, tt))
 
-  all_part : (s : PoolState) (part : List Move) (ms : List Member) (results : List Bool) (going : TurnReply) (vs : List Move) (reply : TurnReply) → All part → (IsSuspended reply → P Burn)
+  all_part : (s : PoolState) (part : List Move) (ms : List Member) (results : List Bool) (going : TurnReply) (vs : List Move) (reply : TurnReply) → All part
+      → (IsSuspended reply → P Burn)
       → IsTurnOf s part ms results [] going vs reply → All vs
   all_part s part ms results going vs reply all burn turn = subst All (sym turn.moves)
-      (more P (part ++ count_moves s.core.leaves ms results) turn.ending (more P part (count_moves s.core.leaves ms results) all (all_counts s.core.leaves ms results))
-      (all_ends (emptied (steps (part ++ count_moves s.core.leaves ms results) s).core.leaves) (steps (part ++ count_moves s.core.leaves ms results) s) [] going turn.ending reply tt burn turn.ends))
+      (more P (part ++ count_moves s.core.leaves ms results) turn.ending
+      (more P part (count_moves s.core.leaves ms results) all (all_counts s.core.leaves ms results))
+      (all_ends (emptied (steps (part ++ count_moves s.core.leaves ms results) s).core.leaves)
+      (steps (part ++ count_moves s.core.leaves ms results) s) [] going turn.ending reply tt burn turn.ends))
 
-  all_round_part : (c : Codec) (size : ℕ → ℕ) (s : PoolState) (vs : List Move) (reply : TurnReply) → (IsSuspended reply → P Burn) → IsRoundPart c size s vs reply → All vs
+  all_round_part : (c : Codec) (size : ℕ → ℕ) (s : PoolState) (vs : List Move) (reply : TurnReply) → (IsSuspended reply → P Burn)
+      → IsRoundPart c size s vs reply → All vs
   all_round_part c size s vs reply burn w = let ms = board_of s.core.leaves in subst All (sym w.moves) (more P w.behind w.ending
-      (subst All (sym w.counted) (more P w.part (count_moves s.core.leaves ms w.row.results) (all_round c size s.core w.part w.whole w.row) (all_counts s.core.leaves ms w.row.results)))
+      (subst All (sym w.counted)
+      (more P w.part (count_moves s.core.leaves ms w.row.results) (all_round c size s.core w.part w.whole w.row) (all_counts s.core.leaves ms w.row.results)))
       (of w.whole w.ends))
     where
-      of : (whole : Bool) → cond whole ((w.ending ≡ []) × (reply ≡ Committed s.core.number)) (EndsTurn (steps w.behind s) (Draw ∷ []) (Round s.core.number) w.ending reply) → All w.ending
+      of : (whole : Bool) → cond whole ((w.ending ≡ []) × (reply ≡ Committed s.core.number))
+          (EndsTurn (steps w.behind s) (Draw ∷ []) (Round s.core.number) w.ending reply) → All w.ending
       of true ends = subst All (sym ends.0) tt
-      of false ends = all_ends (emptied (steps w.behind s).core.leaves) (steps w.behind s) (Draw ∷ []) (Round s.core.number) w.ending reply (k.draw, tt) burn ends
+      of false ends = all_ends (emptied (steps w.behind s).core.leaves) (steps w.behind s) (Draw ∷ []) (Round s.core.number) w.ending reply
+          (k.draw, tt) burn ends
 
-  all_starts : (top : Option ℕ) (c : Codec) (size : ℕ → ℕ) (s : PoolState) (vs : List Move) (reply : TurnReply) → (IsSuspended reply → P Burn) → StartsBy top c size s vs reply → All vs
+  all_starts : (top : Option ℕ) (c : Codec) (size : ℕ → ℕ) (s : PoolState) (vs : List Move) (reply : TurnReply) → (IsSuspended reply → P Burn)
+      → StartsBy top c size s vs reply → All vs
   all_starts (Some top) c size s vs reply burn row = subst All (sym row.0) (burn (subst IsSuspended (sym row.1) tt), tt)
   all_starts None c size s vs reply burn (inl w) = all_part s w.part (board_under w.row.cell.top s.core.leaves) w.row.results Write vs reply
-      (subst All (sym w.row.moves) (all_turn_moves w.row.made (board_under w.row.cell.top s.core.leaves) w.row.results (Wrote_key w.row.key) (k.wrote w.row.key))) burn w.turn
+      (subst All (sym w.row.moves)
+      (all_turn_moves w.row.made (board_under w.row.cell.top s.core.leaves) w.row.results (Wrote_key w.row.key) (k.wrote w.row.key))) burn w.turn
   all_starts None c size s vs reply burn (inr (inl w)) = all_part s w.part (board_of s.core.leaves) w.row.results Flush vs reply
       (subst All (sym w.row.moves) (all_turn_moves w.row.made (board_of s.core.leaves) w.row.results Flushed_all k.flushed)) burn w.turn
   all_starts None c size s vs reply burn (inr (inr w)) = all_round_part c size s vs reply burn w
 
-  all_turn_by : (frozen : Bool) (c : Codec) (size : ℕ → ℕ) (s : PoolState) (vs : List Move) (reply : TurnReply) → (IsSuspended reply → P Burn) → TurnBy frozen c size s vs reply → All vs
+  all_turn_by : (frozen : Bool) (c : Codec) (size : ℕ → ℕ) (s : PoolState) (vs : List Move) (reply : TurnReply) → (IsSuspended reply → P Burn)
+      → TurnBy frozen c size s vs reply → All vs
   all_turn_by false c size s vs reply burn row = subst All (sym row.0) tt
   all_turn_by true c size s vs reply burn row = all_starts (emptied s.core.leaves) c size s vs reply burn row
 
-  pub all_turn : (c : Codec) (size : ℕ → ℕ) (s : PoolState) (vs : List Move) (reply : TurnReply) → (IsSuspended reply → P Burn) → RowTurn c size s vs reply → All vs
+  pub all_turn : (c : Codec) (size : ℕ → ℕ) (s : PoolState) (vs : List Move) (reply : TurnReply) → (IsSuspended reply → P Burn) → RowTurn c size s vs reply
+      → All vs
   all_turn c size s vs reply burn row = all_turn_by s.core.group.frozen c size s vs reply burn row
 
   -- a turn that isn't the last
@@ -139,13 +187,16 @@ module _ (P : Move → Type 0) (k : IsKind P) where
   goes_on (Suspended group top faults) going bad = absurd (cc)
   goes_on reply going bad = absurd bad
 
-  all_turns : (c : Codec) (size : ℕ → ℕ) (s : PoolState) (turns : List (List Move × TurnReply)) (reply : TurnReply) → (IsSuspended reply → P Burn) → AreTurns c size s turns reply → All (moves_in turns)
+  all_turns : (c : Codec) (size : ℕ → ℕ) (s : PoolState) (turns : List (List Move × TurnReply)) (reply : TurnReply) → (IsSuspended reply → P Burn)
+      → AreTurns c size s turns reply → All (moves_in turns)
   all_turns c size s [] reply burn are = absurd are
   all_turns c size s (turn ∷ []) reply burn are = more P turn.0 [] (all_turn c size s turn.0 turn.1 (λ bad. burn (subst IsSuspended (sym are.2) bad)) are.0) tt
-  all_turns c size s (turn ∷ (next ∷ turns)) reply burn are = more P turn.0 (moves_in (next ∷ turns)) (all_turn c size s turn.0 turn.1 (goes_on turn.1 are.1) are.0)
+  all_turns c size s (turn ∷ (next ∷ turns)) reply burn are = more P turn.0 (moves_in (next ∷ turns))
+      (all_turn c size s turn.0 turn.1 (goes_on turn.1 are.1) are.0)
       (all_turns c size (steps turn.0 s) (next ∷ turns) reply burn are.2)
 
-  pub all_group : (c : Codec) (size : ℕ → ℕ) (s : PoolState) (vs : List Move) (reply : TurnReply) → (IsSuspended reply → P Burn) → EndsGroup c size s vs reply → All vs
+  pub all_group : (c : Codec) (size : ℕ → ℕ) (s : PoolState) (vs : List Move) (reply : TurnReply) → (IsSuspended reply → P Burn)
+      → EndsGroup c size s vs reply → All vs
   all_group c size s vs reply burn g = subst All (sym g.moves) (all_turns c size s g.turns reply burn g.are)
 
   pub all_joined : (leaves : List LeafSeen) → All (joins leaves)
@@ -157,19 +208,24 @@ module _ (P : Move → Type 0) (k : IsKind P) where
   pub all_empty : ((cells : Cells) (board : ℕ → Bool) → P (Freeze cells board)) → (s : PoolState) (vs : List Move) → RowEmptyFreeze s vs → All vs
   all_empty freezes s vs row = subst All (sym row.moves) (freezes (λ k. None) _, all_joins s.core.leaves)
 
-  pub all_commits : ((cells : Cells) (board : ℕ → Bool) → P (Freeze cells board)) → (c : Codec) (size : ℕ → ℕ) (s : PoolState) (vs : List Move) (reply : TurnReply) → (IsSuspended reply → P Burn)
+  pub all_commits : ((cells : Cells) (board : ℕ → Bool) → P (Freeze cells board))
+      → (c : Codec) (size : ℕ → ℕ) (s : PoolState) (vs : List Move) (reply : TurnReply) → (IsSuspended reply → P Burn)
       → CommitsOpen c size s vs reply → All vs
-  all_commits freezes c size s vs reply burn w = subst All (sym w.moves) (more P w.first w.rest (all_freeze freezes c s w.first w.freeze) (all_group c size (steps w.first s) w.rest reply burn w.ends))
+  all_commits freezes c size s vs reply burn w = subst All (sym w.moves)
+      (more P w.first w.rest (all_freeze freezes c s w.first w.freeze) (all_group c size (steps w.first s) w.rest reply burn w.ends))
 
-  all_for : ((cells : Cells) (board : ℕ → Bool) → P (Freeze cells board)) → (refusal : Option FreezeRefusal) (c : Codec) (size : ℕ → ℕ) (s : PoolState) (vs : List Move) (reply : SyncReply) → (SuspendsSync reply → P Burn)
+  all_for : ((cells : Cells) (board : ℕ → Bool) → P (Freeze cells board))
+      → (refusal : Option FreezeRefusal) (c : Codec) (size : ℕ → ℕ) (s : PoolState) (vs : List Move) (reply : SyncReply) → (SuspendsSync reply → P Burn)
       → CommitsFor refusal c size s vs reply → All vs
   all_for freezes (Some refusal) c size s vs reply burn row = subst All (sym row.0) tt
   all_for freezes None c size s vs reply burn row = all_commits freezes c size s vs row.0 (λ bad. burn (subst SuspendsSync (sym row.2) bad)) row.1
 
-  all_open : ((cells : Cells) (board : ℕ → Bool) → P (Freeze cells board)) → (c : Codec) (size : ℕ → ℕ) (s : PoolState) (vs : List Move) (reply : SyncReply) → (SuspendsSync reply → P Burn) → SyncOpen c size s vs reply → All vs
+  all_open : ((cells : Cells) (board : ℕ → Bool) → P (Freeze cells board)) → (c : Codec) (size : ℕ → ℕ) (s : PoolState) (vs : List Move) (reply : SyncReply)
+      → (SuspendsSync reply → P Burn) → SyncOpen c size s vs reply → All vs
   all_open freezes c size s vs reply burn row = all_for freezes row.0 c size s vs reply burn row.2
 
-  all_behind : ((cells : Cells) (board : ℕ → Bool) → P (Freeze cells board)) → (turn : TurnReply) (c : Codec) (size : ℕ → ℕ) (s : PoolState) (vs : List Move) (reply : SyncReply) → (SuspendsSync reply → P Burn)
+  all_behind : ((cells : Cells) (board : ℕ → Bool) → P (Freeze cells board))
+      → (turn : TurnReply) (c : Codec) (size : ℕ → ℕ) (s : PoolState) (vs : List Move) (reply : SyncReply) → (SuspendsSync reply → P Burn)
       → SyncBehind turn c size s vs reply → All vs
   all_behind freezes (Committed number) c size s vs reply burn (inl row) = subst All (sym row.0) tt
   all_behind freezes (Committed number) c size s vs reply burn (inr row) = all_open freezes c size s vs reply burn row
@@ -180,20 +236,26 @@ module _ (P : Move → Type 0) (k : IsKind P) where
   all_behind freezes (Suspended group top faults) c size s vs reply burn row = subst All (sym row.0) tt
 
   -- where the first group was suspended, so was the line
-  first_burns : (turn : TurnReply) (c : Codec) (size : ℕ → ℕ) (s : PoolState) (vs : List Move) (reply : SyncReply) → (SuspendsSync reply → P Burn) → SyncBehind turn c size s vs reply → IsSuspended turn → P Burn
+  first_burns : (turn : TurnReply) (c : Codec) (size : ℕ → ℕ) (s : PoolState) (vs : List Move) (reply : SyncReply) → (SuspendsSync reply → P Burn)
+      → SyncBehind turn c size s vs reply → IsSuspended turn → P Burn
   first_burns (Suspended group top faults) c size s vs reply burn row bad = burn (subst SuspendsSync (sym row.1) tt)
   first_burns turn c size s vs reply burn row bad = absurd bad
 
-  pub all_sync : ((cells : Cells) (board : ℕ → Bool) → P (Freeze cells board)) → (frozen : Bool) (c : Codec) (size : ℕ → ℕ) (s : PoolState) (vs : List Move) (reply : SyncReply) → (SuspendsSync reply → P Burn)
+  pub all_sync : ((cells : Cells) (board : ℕ → Bool) → P (Freeze cells board))
+      → (frozen : Bool) (c : Codec) (size : ℕ → ℕ) (s : PoolState) (vs : List Move) (reply : SyncReply) → (SuspendsSync reply → P Burn)
       → SyncBy frozen c size s vs reply → All vs
   all_sync freezes false c size s vs reply burn row = all_open freezes c size s vs reply burn row
   all_sync freezes true c size s vs reply burn row = subst All (sym row.moves) (more P row.first row.rest
       (all_group c size s row.first row.turn (first_burns row.turn c size (steps row.first s) row.rest reply burn row.behind) row.ends)
       (all_behind freezes row.turn c size (steps row.first s) row.rest reply burn row.behind))
 
-  pub all_found : ((cells : Cells) (board : ℕ → Bool) → P (Freeze cells board)) → (c : Codec) (size : ℕ → ℕ) (s : PoolState) (vs : List Move) (whole : Bool) → RowFound c size s vs whole → All vs
+  pub all_found : ((cells : Cells) (board : ℕ → Bool) → P (Freeze cells board)) → (c : Codec) (size : ℕ → ℕ) (s : PoolState) (vs : List Move) (whole : Bool)
+      → RowFound c size s vs whole → All vs
   all_found freezes c size s vs whole row = subst All (sym row.moves) (more P (row.first ++ (Flushed_all ∷ [])) row.round
-      (more P row.first (Flushed_all ∷ []) (all_empty freezes s row.first row.freeze) (k.flushed, tt)) (all_round c size (steps (row.first ++ (Flushed_all ∷ [])) s).core row.round whole row.ends))
+      (more P row.first (Flushed_all ∷ []) (all_empty freezes s row.first row.freeze) (k.flushed, tt))
+      (all_round c size (steps (row.first ++ (Flushed_all ∷ [])) s).core row.round whole row.ends))
 
-  pub all_reopen : ((cells : Cells) (board : ℕ → Bool) → P (Freeze cells board)) → (c : Codec) (size : ℕ → ℕ) (s : PoolState) (vs : List Move) (reply : TurnReply) → (IsSuspended reply → P Burn) → RowReopen c size s vs reply → All vs
-  all_reopen freezes c size s vs reply burn w = subst All (sym w.moves) (more P w.first w.rest (all_empty freezes s w.first w.freeze) (all_group c size (steps w.first s) w.rest reply burn w.ends))
+  pub all_reopen : ((cells : Cells) (board : ℕ → Bool) → P (Freeze cells board))
+      → (c : Codec) (size : ℕ → ℕ) (s : PoolState) (vs : List Move) (reply : TurnReply) → (IsSuspended reply → P Burn) → RowReopen c size s vs reply → All vs
+  all_reopen freezes c size s vs reply burn w = subst All (sym w.moves)
+      (more P w.first w.rest (all_empty freezes s w.first w.freeze) (all_group c size (steps w.first s) w.rest reply burn w.ends))

@@ -1,17 +1,16 @@
 -- The device calls of acts are those of each pool's history, and each is behind a moment; and what a line of a run meets.
-use Rattle.std.proofs.Common.{◌≡◌, ◌⊎◌, inl, inr, ⊎_elim, ℕ, ◌==◌, Bool, true, false, cond, List, [], ◌∷◌, ◌++◌, take, zero, suc, refl, sym, ap, ◌∙◌, subst, append_assoc}
+use Rattle.std.proofs.Common.{◌≡◌, ◌⊎◌, inl, inr, ℕ, ◌==◌, Bool, true, false, cond, List, [], ◌∷◌, ◌++◌, take, zero, suc, refl, sym, ap, ◌∙◌, subst}
 use Rattle.std.specs.Str.{bytes_eq}
 use Rattle.bank_core.specs.Disk.{Noted}
-use Rattle.txg_history.specs.Events.{Event, Calls, Looks, Opens, Loses, calls_of, as_events}
+use Rattle.txg_history.specs.Events.{Looks, Opens, Loses, calls_of, as_events}
 use Rattle.txg_history.specs.Moves.{Mays}
 use Rattle.txg_history.specs.Pages.{Codec}
-use Rattle.txg_history.specs.Pools.{Pool, pool_after}
+use Rattle.txg_history.specs.Pools.{Pool}
 use Rattle.txg_history.proofs.Folding.{mays_more, calls_more, calls_are}
 use Rattle.pool_moves.specs.Moves.{Move, Makes, events_of}
 use Rattle.pool_moves.specs.ReadRow.{made_in}
-use Rattle.pool_runs.specs.Acts.{Act, Opening, Hears, Bare, Does, Marks, Looked, Shows, Reads_as, Enters, Names, Takes, Bears, Closes, calls_of_act, calls_along, read_by, events_for, pool_by, pool_along, history}
-use Rattle.pool_runs.specs.Devices.{Device}
-use Rattle.pool_runs.specs.Fairness.{IsFair, AreFair}
+use Rattle.pool_runs.specs.Acts.{Act, Hears, Bare, Does, Looked, Reads_as, Takes, calls_of_act, calls_along, read_by, events_for, pool_by, pool_along, history}
+use Rattle.pool_runs.specs.Fairness.{AreFair}
 use Rattle.pool_runs.specs.Headline.{HasMoment}
 use Rattle.pool_runs.specs.HostRows.{HostRow, acts_of, acts_in, IsRun}
 use Rattle.pool_runs.specs.Hosts.{Host, host_by, host_along}
@@ -51,7 +50,8 @@ act_calls act p = refl
 pub history_calls : (acts : List Act) (p : Pool) → calls_of (history acts p) ≡ calls_along acts
 history_calls [] p = refl
 history_calls (act ∷ acts) p = calls_more (events_for act p) (history acts (pool_by act p))
-    ∙ (ap (λ made. made ++ calls_of (history acts (pool_by act p))) (act_calls act p) ∙ ap (λ more. calls_of_act act ++ more) (history_calls acts (pool_by act p)))
+    ∙ (ap (λ made. made ++ calls_of (history acts (pool_by act p))) (act_calls act p)
+    ∙ ap (λ more. calls_of_act act ++ more) (history_calls acts (pool_by act p)))
 
 -- an act makes one call, or none
 one_call : (act : Act) → (calls_of_act act ≡ []) ⊎ ((noted : Noted) × (calls_of_act act ≡ noted ∷ []))
@@ -68,12 +68,17 @@ moment_of acts zero = (0, refl)
 moment_of [] (suc k) = (0, refl)
 moment_of (act ∷ acts) (suc k) = one act (moment_of acts (suc k)) (moment_of acts k) (one_call act)
   where
-    one : (act : Act) → ((i : ℕ) × (calls_along (take i acts) ≡ take (suc k) (calls_along acts))) → ((i : ℕ) × (calls_along (take i acts) ≡ take k (calls_along acts)))
+    one : (act : Act) → ((i : ℕ) × (calls_along (take i acts) ≡ take (suc k) (calls_along acts)))
+        → ((i : ℕ) × (calls_along (take i acts) ≡ take k (calls_along acts)))
         → (calls_of_act act ≡ []) ⊎ ((noted : Noted) × (calls_of_act act ≡ noted ∷ []))
         → (i : ℕ) × (calls_along (take i (act ∷ acts)) ≡ take (suc k) (calls_along (act ∷ acts)))
-    one act all rest (inl none) = (suc all.0, ap (λ made. made ++ calls_along (take all.0 acts)) none ∙ (all.1 ∙ sym (ap (λ made. take (suc k) (made ++ calls_along acts)) none)))
-    one act all rest (inr some) = (suc rest.0, ap (λ made. made ++ calls_along (take rest.0 acts)) some.1
-        ∙ (ap (λ more. some.0 ∷ more) rest.1 ∙ sym (ap (λ made. take (suc k) (made ++ calls_along acts)) some.1)))
+    one act all rest (inl none) =
+        (suc all.0, ap (λ made. made ++ calls_along (take all.0 acts)) none ∙ (all.1 ∙ sym (ap (λ made. take (suc k) (made ++ calls_along acts)) none)))
+    one act all rest (inr some) = (
+      suc rest.0,
+      ap (λ made. made ++ calls_along (take rest.0 acts)) some.1
+          ∙ (ap (λ more. some.0 ∷ more) rest.1 ∙ sym (ap (λ made. take (suc k) (made ++ calls_along acts)) some.1)),
+    )
 
 pub has_moment : (past : Past) (acts : List Act) (entries : List Entry) (k : ℕ) → HasMoment past acts entries k
 has_moment past acts entries k = let m = moment_of (acts ++ acts_in entries) k in record {
@@ -88,7 +93,8 @@ acts_mays c h p [] may fair = tt
 acts_mays c h p (act ∷ acts) may fair = let now = may fair.0 in
     mays_more c (events_for act p) (history acts (pool_by act p)) p now.0 (acts_mays c (host_by act h) (pool_by act p) acts now.2 fair.1)
 
-pub keeps_all : (c : Codec) (h : Host) (p : Pool) (acts : List Act) → Knows c h p → MayActs c h p acts → AreFair c p acts → Knows c (host_along acts h) (pool_along acts p)
+pub keeps_all : (c : Codec) (h : Host) (p : Pool) (acts : List Act) → Knows c h p → MayActs c h p acts → AreFair c p acts
+    → Knows c (host_along acts h) (pool_along acts p)
 keeps_all c h p [] knows may fair = knows
 keeps_all c h p (act ∷ acts) knows may fair = let now = may fair.0 in keeps_all c (host_by act h) (pool_by act p) acts now.1 now.2 fair.1
 
@@ -111,7 +117,8 @@ host_more [] second h = refl
 host_more (act ∷ first) second h = host_more first second (host_by act h)
 
 -- An entry of a run is a row of the host that it meets.
-pub run_at : (c : Codec) (h : Host) (before : List Entry) (e : Entry) (later : List Entry) → IsRun c h (before ++ (e ∷ later)) → HostRow c (host_by (Hears e.second) (host_along (acts_in before) h)) e
+pub run_at : (c : Codec) (h : Host) (before : List Entry) (e : Entry) (later : List Entry) → IsRun c h (before ++ (e ∷ later))
+    → HostRow c (host_by (Hears e.second) (host_along (acts_in before) h)) e
 run_at c h [] e later run = run.0
 run_at c h (first ∷ before) e later run = subst (λ x. HostRow c (host_by (Hears e.second) x) e) (sym (host_more (acts_of first) (acts_in before) h))
     (run_at c (host_along (acts_of first) h) before e later run.1)

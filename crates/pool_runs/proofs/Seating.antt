@@ -1,5 +1,5 @@
 -- A line that takes a leaf out is one whichever seat stands in its moves.
-use Rattle.std.proofs.Common.{◌≡◌, ◌⊎◌, inl, inr, ℕ, suc, ◌==◌, Bool, true, false, cond, List, [], ◌∷◌, ◌++◌, map, Option, Some, None, refl, sym, ap, ◌∙◌, subst}
+use Rattle.std.proofs.Common.{◌≡◌, inl, inr, ℕ, suc, Bool, true, false, cond, List, [], ◌∷◌, ◌++◌, map, Option, Some, None, refl, sym, ap, ◌∙◌, subst}
 use Rattle.std.specs.List.{AllByRecursion, find}
 use Rattle.std.specs.Prelude.{slice_get}
 use Rattle.std.specs.Str.{bytes_eq}
@@ -14,9 +14,22 @@ use Rattle.pool_moves.specs.LineRows.{TurnReply, Idle, Write, Flush, Round, Comm
 use Rattle.pool_moves.specs.Moves.{Move, Makes, Lose, Returns, steps}
 use Rattle.pool_moves.specs.Refusing.{FreezeRefusal}
 use Rattle.pool_moves.specs.States.{PoolState, Side}
-use Rattle.pool_moves.specs.TreeRows.{place_where, place_named, goes_out, comes_back, is_there, IsCleaned, DetachReply, DetachBehind, DetachFor, DetachLeaf, DetachBy, RowDetach, IsSeatOf}
+use Rattle.pool_moves.specs.TreeRows.{
+  place_where,
+  place_named,
+  goes_out,
+  is_there,
+  IsCleaned,
+  DetachReply,
+  DetachBehind,
+  DetachFor,
+  DetachLeaf,
+  DetachBy,
+  RowDetach,
+  IsSeatOf,
+}
 use Rattle.pool_moves.specs.Walking.{as_moves}
-use Rattle.pool_runs.specs.Acts.{Act, Does, does, events_for, pool_by}
+use Rattle.pool_runs.specs.Acts.{Does, does, events_for, pool_by}
 use Rattle.pool_runs.specs.Hosts.{Host, host_by}
 use Rattle.pool_runs.specs.Knowing.{Knows, MayActs, IsOwnAct, AreOwnActs}
 use Rattle.pool_runs.proofs.GroupMoves.{IsKind, all_commits}
@@ -55,12 +68,14 @@ map_calls : (seat : Seat) (made : List Noted) → map (seat_as seat) (as_moves m
 map_calls seat [] = refl
 map_calls seat (noted ∷ made) = ap (λ more. Makes noted ∷ more) (map_calls seat made)
 
-cleaned_as : (there : Bool) (dev : Option ℕ) (spare : Bool) (size : ℕ → ℕ) (vs : List Move) (y : Seat) → IsCleaned there dev spare size vs → IsCleaned there dev spare size (map (seat_as y) vs)
+cleaned_as : (there : Bool) (dev : Option ℕ) (spare : Bool) (size : ℕ → ℕ) (vs : List Move) (y : Seat) → IsCleaned there dev spare size vs
+    → IsCleaned there dev spare size (map (seat_as y) vs)
 cleaned_as true (Some d) spare size vs y row = (row.0, row.1, row.2, ap (map (seat_as y)) row.3 ∙ ap (λ more. Lose d ∷ more) (map_calls y row.0))
 cleaned_as true None spare size vs y row = ap (map (seat_as y)) row
 cleaned_as false dev spare size vs y row = ap (map (seat_as y)) row
 
-behind_as : (turn : TurnReply) (size : ℕ → ℕ) (s : PoolState) (name : List ℕ) (leaf : LeafSeen) (x y : Seat) (vs : List Move) (reply : DetachReply) → DetachBehind turn size s name leaf x vs reply
+behind_as : (turn : TurnReply) (size : ℕ → ℕ) (s : PoolState) (name : List ℕ) (leaf : LeafSeen) (x y : Seat) (vs : List Move) (reply : DetachReply)
+    → DetachBehind turn size s name leaf x vs reply
     → DetachBehind turn size s name leaf y (map (seat_as y) vs) reply
 behind_as (Committed number) size s name leaf x y vs reply row = (cleaned_as (is_there leaf.own.mode) leaf.dev (is_spare s leaf) size vs y row.0, row.1)
 behind_as (Suspended group top faults) size s name leaf x y vs reply row = (ap (map (seat_as y)) row.0, row.1)
@@ -69,7 +84,8 @@ behind_as Write size s name leaf x y vs reply row = row
 behind_as Flush size s name leaf x y vs reply row = row
 behind_as (Round number) size s name leaf x y vs reply row = row
 
-for_as : (refusal : Option FreezeRefusal) (c : Codec) (size : ℕ → ℕ) (s : PoolState) (name : List ℕ) (leaf : LeafSeen) (x y : Seat) (vs : List Move) (reply : DetachReply)
+for_as : (refusal : Option FreezeRefusal) (c : Codec) (size : ℕ → ℕ) (s : PoolState) (name : List ℕ) (leaf : LeafSeen) (x y : Seat) (vs : List Move)
+    (reply : DetachReply)
     → DetachFor refusal c size s name leaf x vs reply → DetachFor refusal c size s name leaf y (map (seat_as y) vs) reply
 for_as (Some refusal) c size s name leaf x y vs reply row = (ap (map (seat_as y)) row.0, row.1)
 for_as None c size s name leaf x y vs reply row = record {
@@ -81,21 +97,25 @@ for_as None c size s name leaf x y vs reply row = record {
   moves = ap (map (seat_as y)) row.moves ∙ (map_more (seat_as y) (goes_out s name leaf) (row.part ++ row.rest)
       ∙ ap (λ more. goes_out s name leaf ++ more) (map_more (seat_as y) row.part row.rest
       ∙ ap (λ part. part ++ map (seat_as y) row.rest) (map_all y row.part
-      (all_commits (IsSeatless y) (seatless_kind y) (λ cells board. refl) c size (steps (goes_out s name leaf) s) row.part row.turn (λ bad. refl) row.commit))));
+      (all_commits (IsSeatless y) (seatless_kind y) (λ cells board. refl) c size (steps (goes_out s name leaf) s) row.part row.turn
+      (λ bad. refl) row.commit))));
 }
 
-leaf_as : (frozen : Bool) (c : Codec) (size : ℕ → ℕ) (s : PoolState) (name : List ℕ) (leaf : LeafSeen) (x y : Seat) (vs : List Move) (reply : DetachReply) → DetachLeaf frozen c size s name leaf x vs reply
+leaf_as : (frozen : Bool) (c : Codec) (size : ℕ → ℕ) (s : PoolState) (name : List ℕ) (leaf : LeafSeen) (x y : Seat) (vs : List Move) (reply : DetachReply)
+    → DetachLeaf frozen c size s name leaf x vs reply
     → DetachLeaf frozen c size s name leaf y (map (seat_as y) vs) reply
 leaf_as true c size s name leaf x y vs reply row = (ap (map (seat_as y)) row.0, row.1)
 leaf_as false c size s name leaf x y vs reply (inl row) = inl (row.0, row.1, ap (map (seat_as y)) row.2, row.3)
 leaf_as false c size s name leaf x y vs reply (inr row) = inr (row.0, (row.1.0, row.1.1, for_as row.1.0 c size s name leaf x y vs reply row.1.2))
 
-detach_by_as : (found : Option LeafSeen) (c : Codec) (size : ℕ → ℕ) (s : PoolState) (name : List ℕ) (x y : Seat) (vs : List Move) (reply : DetachReply) → DetachBy found c size s name x vs reply
+detach_by_as : (found : Option LeafSeen) (c : Codec) (size : ℕ → ℕ) (s : PoolState) (name : List ℕ) (x y : Seat) (vs : List Move) (reply : DetachReply)
+    → DetachBy found c size s name x vs reply
     → DetachBy found c size s name y (map (seat_as y) vs) reply
 detach_by_as None c size s name x y vs reply row = (ap (map (seat_as y)) row.0, row.1)
 detach_by_as (Some leaf) c size s name x y vs reply row = leaf_as s.core.group.frozen c size s name leaf x y vs reply row
 
-pub detach_as : (c : Codec) (size : ℕ → ℕ) (s : PoolState) (name : List ℕ) (x y : Seat) (vs : List Move) (reply : DetachReply) → RowDetach c size s name x vs reply
+pub detach_as : (c : Codec) (size : ℕ → ℕ) (s : PoolState) (name : List ℕ) (x y : Seat) (vs : List Move) (reply : DetachReply)
+    → RowDetach c size s name x vs reply
     → RowDetach c size s name y (map (seat_as y) vs) reply
 detach_as c size s name x y vs reply row = detach_by_as (leaf_named name s.core.leaves) c size s name x y vs reply row
 
@@ -108,7 +128,8 @@ same_host : (g : ℕ) (seat : Seat) (v : Move) (h : Host) → host_by (Does g (s
 same_host g seat (Returns i other leaf) h = refl
 same_host g seat v h = refl
 
-pub may_as : (c : Codec) (h : Host) (p : Pool) (g : ℕ) (seat : Seat) (vs : List Move) → MayActs c h p (does g (map (seat_as seat) vs)) → MayActs c h p (does g vs)
+pub may_as : (c : Codec) (h : Host) (p : Pool) (g : ℕ) (seat : Seat) (vs : List Move) → MayActs c h p (does g (map (seat_as seat) vs))
+    → MayActs c h p (does g vs)
 may_as c h p g seat [] may = tt
 may_as c h p g seat (v ∷ vs) may = λ fair. let now = may tt in
     let same = same_events g seat v p in
@@ -121,7 +142,8 @@ may_as c h p g seat (v ∷ vs) may = λ fair. let now = may tt in
 
 pub own_as : (h : Host) (g : ℕ) (seat : Seat) (vs : List Move) → AreOwnActs g h (does g vs) → AreOwnActs g h (does g (map (seat_as seat) vs))
 own_as h g seat [] own = tt
-own_as h g seat (v ∷ vs) own = (one v own.0, subst (λ x. AreOwnActs g x (does g (map (seat_as seat) vs))) (sym (same_host g seat v h)) (own_as (host_by (Does g v) h) g seat vs own.1))
+own_as h g seat (v ∷ vs) own =
+    (one v own.0, subst (λ x. AreOwnActs g x (does g (map (seat_as seat) vs))) (sym (same_host g seat v h)) (own_as (host_by (Does g v) h) g seat vs own.1))
   where
     one : (v : Move) → IsOwnAct g h (Does g v) → IsOwnAct g h (Does g (seat_as seat v))
     one (Returns i other leaf) own = own
@@ -147,5 +169,5 @@ some_seat c s t name other kept = of (leaf_named name s.core.leaves) refl
     of (Some leaf) is =
         let leaves : s.core.leaves ≡ map (leaf_seen t.pool.group.frozen t.pool.scan.running (told t.pool)) t.seats = ap (λ core. core.leaves) kept.core in
         let found = seat_at (leaf_seen t.pool.group.frozen t.pool.scan.running (told t.pool)) (λ x. bytes_eq x.own.name name) t.seats leaf
-            (subst (λ l. leaf_named name l ≡ Some leaf) leaves is) in
+        (subst (λ l. leaf_named name l ≡ Some leaf) leaves is) in
         (found.0, λ x same. subst (λ l. slice_get t.seats (place_named name l) ≡ Some found.0) (sym leaves) found.1)

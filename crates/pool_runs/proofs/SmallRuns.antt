@@ -1,5 +1,44 @@
 -- A small run is one.
-use Rattle.std.proofs.Common.{◌≡◌, ◌≢◌, ◌⊎◌, inl, inr, ℕ, zero, suc, ◌+◌, ◌*◌, ◌≤◌, ◌<◌, ◌^◌, nat_lt, ◌%◌, ◌/◌, ◌==◌, ◌&&◌, Bool, true, false, cond, List, [], ◌∷◌, ◌++◌, map, length, take, append-nil, Option, Some, None, refl, sym, ap, ◌∙◌, subst, arith}
+use Rattle.std.proofs.Common.{
+  ◌≡◌,
+  ◌≢◌,
+  inl,
+  inr,
+  ℕ,
+  zero,
+  suc,
+  ◌+◌,
+  ◌*◌,
+  ◌≤◌,
+  ◌<◌,
+  ◌^◌,
+  nat_lt,
+  ◌%◌,
+  ◌/◌,
+  ◌==◌,
+  ◌&&◌,
+  Bool,
+  true,
+  false,
+  cond,
+  List,
+  [],
+  ◌∷◌,
+  ◌++◌,
+  map,
+  length,
+  take,
+  append-nil,
+  Option,
+  Some,
+  None,
+  refl,
+  sym,
+  ap,
+  ◌∙◌,
+  subst,
+  arith,
+}
 use Rattle.std.specs.List.{AllByRecursion, list_all}
 use Rattle.std.specs.Option.{option_map}
 use Rattle.std.specs.Str.{bytes_eq}
@@ -8,25 +47,22 @@ use Rattle.std.proofs.lemmas.Bool.Decides.{nat_tests}
 use Rattle.std.proofs.lemmas.Bool.{and_parts}
 use Rattle.std.proofs.lemmas.Slice.Eq.{bytes_eq-Decides}
 use Rattle.std.proofs.lemmas.List.{length-replicate}
-use Rattle.sha2.specs.Sha256.{sha256}
 use Rattle.sha2.proofs.Facts256.{length-sha256}
-use Rattle.bank_core.specs.Asks.{Ask, Reads, Writes, Flushes, Admits, Ejects, ask_of, IsPart}
+use Rattle.bank_core.specs.Asks.{Ask, Writes, Flushes, ask_of, IsPart}
 use Rattle.bank_core.specs.Calls.{device_of, fault_of}
-use Rattle.bank_core.specs.Disk.{Call, Read, Write, Flush, Admit, Eject, Noted, Sectors, AllAnswer, run, sector_size, sectors_in}
+use Rattle.bank_core.specs.Disk.{Call, Write, Flush, Noted, Sectors, AllAnswer, run, sector_size}
 use Rattle.label_store.specs.declared.member.Member.{Member}
 use Rattle.label_store.specs.declared.rule.Head.{Head}
 use Rattle.label_store.specs.Layout.{config_sectors}
-use Rattle.label_store.specs.Plans.{stamp_plan}
 use Rattle.mp_base.specs.declared.place.Key.{Key}
 use Rattle.label_store.specs.Records.{IsRecord}
 use Rattle.label_store.specs.Rounds.{uberblock_of, config_of, first_plan, second_plan, third_plan}
-use Rattle.txg_history.specs.Branches.{Branch, cell_on, branch_cells}
+use Rattle.txg_history.specs.Branches.{cell_on, branch_cells}
 use Rattle.txg_history.specs.Pages.{Sum, Codec, span, IsOfVolume, sum_of}
 use Rattle.txg_history.specs.Events.{Accepts}
 use Rattle.txg_history.specs.Pools.{Pool, pool_after}
 use Rattle.txg_history.specs.Records.{Cell, key}
 use Rattle.txg_history.proofs.Branching.{branch_is, branch_has, keys_one}
-use Rattle.txg_history.specs.Groups.{same_key}
 use Rattle.txg_history.specs.Turns.{write_plan, flush_plan}
 use Rattle.txg_history.proofs.Logging.{by_bool, true_not_false}
 use Rattle.pool_moves.specs.AwayRows.{Taken, RowWrite}
@@ -37,24 +73,62 @@ use Rattle.pool_moves.specs.Boards.{board_of, board_under, emptied}
 use Rattle.pool_moves.specs.CommitRows.{RowFound}
 use Rattle.pool_moves.specs.Drafts.{draft_of}
 use Rattle.pool_moves.specs.FreezeRow.{up_devs, joins, IsBefore, IsPlaceBefore, IsGivenBefore, ArePlacesGiven, AreDirtyKeys, RowFreeze}
-use Rattle.pool_moves.specs.LineRows.{TurnReply, Write as WriteTurn, Flush as FlushTurn, Committed, EndsBy, IsTurnOf, StartsBy, TurnBy, RowTurn, moves_in, Ended, RowSync}
+use Rattle.pool_moves.specs.LineRows.{Write as WriteTurn, Flush as FlushTurn, Committed, EndsBy, IsTurnOf, StartsBy, TurnBy, RowTurn, moves_in, Ended, RowSync}
 use Rattle.pool_moves.specs.Moves.{Draft, Move, Makes, Puts, Comes, Freeze, Wrote_key, Flushed_all, Copies, Copied, sum_over, sums_over, steps}
 use Rattle.pool_moves.specs.ReadRow.{Gives, RowRead}
 use Rattle.pool_moves.specs.Refusing.{IsUsed, CountsOpen}
-use Rattle.pool_moves.specs.StampRow.{NewLeaf, room_or_none, AreStamps, CommitsFirst, Created}
+use Rattle.pool_moves.specs.StampRow.{room_or_none, AreStamps, CommitsFirst, Created}
 use Rattle.pool_moves.specs.States.{PoolSeen, PoolState}
-use Rattle.pool_moves.specs.TurnRows.{turn_moves, RowWriteTurn, RowFlushTurn, FitsState, IsThirdMoves, RowRound}
+use Rattle.pool_moves.specs.TurnRows.{turn_moves, RowWriteTurn, FitsState, IsThirdMoves, RowRound}
 use Rattle.pool_moves.specs.Walking.{as_moves}
 use Rattle.pool_runs.specs.Acts.{Act, Gives_for, Hears, Bare, Does, Marks, Names, Takes, Bears, does, bare, calls_along, pool_by, pool_along, history}
-use Rattle.pool_runs.specs.Creating.{create_refusal, leaves_of, MayCreate, host_stamped, commit_acts, Creates}
+use Rattle.pool_runs.specs.Creating.{create_refusal, leaves_of, host_stamped, commit_acts, Creates}
 use Rattle.pool_runs.specs.Devices.{number_in, name_in, size_in}
 use Rattle.pool_runs.specs.Fairness.{AreFair}
 use Rattle.pool_runs.specs.Headline.{Headline}
 use Rattle.pool_runs.specs.HostRows.{AreMade, HostRow, acts_of, acts_in, IsRun}
-use Rattle.pool_runs.specs.Hosts.{Host, moved, host_by, host_along}
+use Rattle.pool_runs.specs.Hosts.{Host, host_by, host_along}
 use Rattle.pool_runs.specs.Pasts.{pool_of, then_all, Left, BeginsRun, next_past}
-use Rattle.pool_runs.specs.Knowing.{IsOwnCall, IsOwnMove, IsOwnAct, AreOwnActs}
-use Rattle.pool_runs.specs.SmallRuns.{small_table, small_host, small_name, small_pool, small_tops, small_birth, small_state, small_member, small_stamp, small_head, small_pointer, small_codec, small_commit, small_draft, small_first, small_round, small_founding, small_made, small_written, small_freeze, small_turn, small_flush, small_flushed, small_last, small_turns, small_sync, small_bytes, small_branch, answered, all_answered, small_device, small_create, small_later, small_born, small_rest, small_past, small_images, small_next}
+use Rattle.pool_runs.specs.Knowing.{IsOwnCall, IsOwnAct, AreOwnActs}
+use Rattle.pool_runs.specs.SmallRuns.{
+  small_table,
+  small_host,
+  small_name,
+  small_pool,
+  small_tops,
+  small_birth,
+  small_state,
+  small_member,
+  small_stamp,
+  small_head,
+  small_pointer,
+  small_codec,
+  small_commit,
+  small_draft,
+  small_first,
+  small_round,
+  small_founding,
+  small_made,
+  small_written,
+  small_freeze,
+  small_turn,
+  small_flush,
+  small_last,
+  small_turns,
+  small_sync,
+  small_bytes,
+  small_branch,
+  answered,
+  all_answered,
+  small_device,
+  small_create,
+  small_later,
+  small_born,
+  small_rest,
+  small_past,
+  small_images,
+  small_next,
+}
 use Rattle.pool_runs.proofs.Acting.{same_number}
 use Rattle.pool_runs.proofs.Bearing.{born_headline}
 use Rattle.pool_runs.proofs.Knowing.{acts_number}
@@ -70,7 +144,25 @@ small_call (Flush dev None) = dev == 0
 small_call call = false
 
 stamped : AreStamps (size_in small_table) small_pool (leaves_of small_table small_tops) (small_stamp ∷ []) None
-stamped = (refl, inl ((refl, inl (refl, (refl, inl (refl, (refl, inl (refl, (refl, inl (refl, (refl, inl (refl, (refl, inl (refl, (refl, inl (refl, (refl, inl (refl, (refl, inl (refl, refl)))))))))))))))))), refl))
+stamped = (
+  refl,
+  inl (
+    (
+      refl,
+      inl (
+        refl,
+        (
+          refl,
+          inl (
+            refl,
+            (refl, inl (refl, (refl, inl (refl, (refl, inl (refl, (refl, inl (refl, (refl, inl (refl, (refl, inl (refl, (refl, inl (refl, refl)))))))))))))),
+          ),
+        ),
+      ),
+    ),
+    refl,
+  ),
+)
 
 -- Calls that answered Ok on the device, told by a test.
 answer_one : (sectors : Sectors) (noted : Noted) → small_call noted.call ≡ true → (device_of noted.call ≡ 0) × AllAnswer sectors (noted ∷ [])
@@ -87,7 +179,8 @@ all_made h calls table is = record { here = here calls is; answer = answer calls
     on_device : (d : ℕ) → d ≡ 0 → 1 ≤ size_in h.table d
     on_device d zero_is = subst (λ t. 1 ≤ size_in t d) (sym table) (subst (λ e. 1 ≤ size_in small_table e) (sym zero_is) (omega arith))
 
-    here : (calls : List Noted) → list_all (λ noted. small_call noted.call) calls ≡ true → AllByRecursion (λ noted. 1 ≤ size_in h.table (device_of noted.call)) calls
+    here : (calls : List Noted) → list_all (λ noted. small_call noted.call) calls ≡ true
+        → AllByRecursion (λ noted. 1 ≤ size_in h.table (device_of noted.call)) calls
     here [] is = tt
     here (noted ∷ calls) is = let both = and_parts (small_call noted.call) (list_all (λ noted. small_call noted.call) calls) is in
         (on_device (device_of noted.call) (answer_one h.disk noted both.0).0, here calls both.1)
@@ -128,7 +221,8 @@ same_seven g is = grind (arith, nat_tests)
 
 own_act : (h : Host) (act : Act) → h.owner 0 ≡ Some 7 → small_act act ≡ true → IsOwnAct 7 h act × ((host_by act h).owner 0 ≡ Some 7)
 own_act h (Bare noted) mine is = (own_call h.owner noted.call mine is, mine)
-own_act h (Does g (Makes noted)) mine is = let both = and_parts (g == 7) (small_call noted.call) is in ((same_seven g both.0, own_call h.owner noted.call mine both.1), mine)
+own_act h (Does g (Makes noted)) mine is = let both = and_parts (g == 7) (small_call noted.call) is in
+    ((same_seven g both.0, own_call h.owner noted.call mine both.1), mine)
 own_act h (Does g (Comes i d m top own)) mine is = absurd (cc)
 own_act h (Does g v) mine is = ((same_seven g is, tt), mine)
 own_act h (Marks g mark) mine is = (same_seven g is, mine)
@@ -192,7 +286,13 @@ phase (ask ∷ plan) is = let both = and_parts (small_ask ask) (list_all small_a
 -- A round over the device.
 one_phase : (plan : Member → List Ask) → list_all small_ask (plan small_member) ≡ true
     → IsPhase plan (small_member ∷ []) (true ∷ []) (true ∷ []) (all_answered (plan small_member))
-one_phase plan is = (all_answered (plan small_member), [], sym (append-nil (all_answered (plan small_member))), (None, phase (plan small_member) is, refl), refl)
+one_phase plan is = (
+  all_answered (plan small_member),
+  [],
+  sym (append-nil (all_answered (plan small_member))),
+  (None, phase (plan small_member) is, refl),
+  refl,
+)
 
 one_seated : AreSeated (size_in small_table) (small_member ∷ [])
 one_seated zero m is = subst (λ x. 320 ≤ size_in small_table x.dev) (same_member small_member m is) (omega arith)
@@ -201,8 +301,13 @@ one_seated (suc i) m is = absurd (no_member m is)
 thirds_made : (draft : Draft) → list_all small_ask (third_plan (size_in small_table) draft.commit small_member) ≡ true
     → IsThirdMoves (third_plan (size_in small_table) draft.commit) draft (small_member ∷ []) (true ∷ []) (true ∷ [])
     (Copies draft 0 ∷ (as_moves (all_answered (third_plan (size_in small_table) draft.commit small_member)) ++ (Copied draft 0 ∷ [])))
-thirds_made draft is = (all_answered (third_plan (size_in small_table) draft.commit small_member), [], refl,
-    (None, phase (third_plan (size_in small_table) draft.commit small_member) is, refl), refl)
+thirds_made draft is = (
+  all_answered (third_plan (size_in small_table) draft.commit small_member),
+  [],
+  refl,
+  (None, phase (third_plan (size_in small_table) draft.commit small_member) is, refl),
+  refl,
+)
 
 round_made : (c : Codec) (s : PoolSeen) (draft : Draft) → s.group.frozen ≡ true → s.group.flushed ≡ true → s.group.fresh ≡ true → emptied s.leaves ≡ None
     → board_of s.leaves ≡ small_member ∷ [] → draft ≡ draft_of draft.commit s.leaves → FitsState c s draft
@@ -229,9 +334,11 @@ round_made c s draft frozen flushed fresh boards board leaves fits one two three
   configs = subst (λ ms. IsPhase (first_plan (size_in small_table) draft.commit) ms (map (λ m. true) ms) (true ∷ [])
       (all_answered (first_plan (size_in small_table) draft.commit small_member))) (sym board) (one_phase (first_plan (size_in small_table) draft.commit) one);
   uberblocks = subst (λ ms. IsPhase (second_plan (size_in small_table) draft.commit) ms (true ∷ []) (true ∷ [])
-      (all_answered (second_plan (size_in small_table) draft.commit small_member))) (sym board) (one_phase (second_plan (size_in small_table) draft.commit) two);
+      (all_answered (second_plan (size_in small_table) draft.commit small_member))) (sym board)
+      (one_phase (second_plan (size_in small_table) draft.commit) two);
   copies = subst (λ ms. IsThirdMoves (third_plan (size_in small_table) draft.commit) draft ms (true ∷ []) (true ∷ [])
-      (Copies draft 0 ∷ (as_moves (all_answered (third_plan (size_in small_table) draft.commit small_member)) ++ (Copied draft 0 ∷ [])))) (sym board) (thirds_made draft three);
+      (Copies draft 0 ∷ (as_moves (all_answered (third_plan (size_in small_table) draft.commit small_member)) ++ (Copied draft 0 ∷ [])))) (sym board)
+      (thirds_made draft three);
   moves = refl;
 }
 
@@ -240,7 +347,8 @@ founded block = record {
   first = Freeze (λ k. None) (up_devs small_state.core.leaves) ∷ joins small_state.core.leaves;
   freeze = record { idle = refl; unwritten = λ a. refl; tops = (omega arith, tt); moves = refl };
   round = small_round (small_draft 1 (steps small_first small_state));
-  ends = round_made (small_codec block) (steps small_first small_state).core (small_draft 1 (steps small_first small_state)) refl refl refl refl refl refl (fits_first block) refl refl refl;
+  ends = round_made (small_codec block) (steps small_first small_state).core (small_draft 1 (steps small_first small_state)) refl refl refl refl refl refl
+      (fits_first block) refl refl refl;
   own = record { volume = refl; top_numbers = refl; next = refl };
   moves = refl;
 }
@@ -260,8 +368,14 @@ creates block = record {
   answer = Created;
   row = first_commit block;
   all = refl;
-  own = (refl, ((refl, λ s is. absurd is), own_acts (host_by (Takes 7 0) (host_by (Names 7) (host_by (Hears 1) small_host)))
-      (bare small_stamp.made ++ (Bears small_birth ∷ does 7 small_founding)) refl refl));
+  own = (
+    refl,
+    (
+      (refl, λ s is. absurd is),
+      own_acts (host_by (Takes 7 0) (host_by (Names 7) (host_by (Hears 1) small_host)))
+          (bare small_stamp.made ++ (Bears small_birth ∷ does 7 small_founding)) refl refl,
+    ),
+  );
   says = refl;
 }
 
@@ -370,7 +484,11 @@ small_dirty : (block : List ℕ) → length block ≡ 4096 → AreDirtyKeys (sma
 small_dirty block long = record {
   takes = λ a. taken_by (a == 0) (cell_on (small_branch block) 0) ∙ ap (λ t. cond t (Some block) None) (one_test a);
   up = λ level index j cell low below is. let has = branch_is (small_branch block) (key level (64 * index + j)) cell is in
-      let none = has.0 in (cell_on (small_branch block) (suc level), branch_has (small_branch block) (suc level) index (omega (arith, none)) (omega (arith, low)));
+      let none = has.0 in (
+        cell_on (small_branch block) (suc level),
+        branch_has (small_branch block) (suc level) index (omega (arith, none))
+            (omega (arith, low)),
+      );
   only = λ level index cell low is. let has = branch_is (small_branch block) (key (suc level) index) cell is in record {
     j = 0;
     below = omega arith;
@@ -439,8 +557,10 @@ turn_part block level s low frozen unflushed cells undone done board = record {
   made = all_answered (write_plan (cell_on (small_branch block) level) small_member);
   results = true ∷ [];
   calls = subst (λ ms. IsPhase (write_plan (cell_on (small_branch block) level)) ms (map (λ m. true) ms) (true ∷ [])
-      (all_answered (write_plan (cell_on (small_branch block) level) small_member))) (sym board) (one_phase (write_plan (cell_on (small_branch block) level)) refl);
-  moves = subst (λ ms. small_turn block level ≡ turn_moves (all_answered (write_plan (cell_on (small_branch block) level) small_member)) ms (true ∷ []) (Wrote_key (key level 0)))
+      (all_answered (write_plan (cell_on (small_branch block) level) small_member))) (sym board)
+      (one_phase (write_plan (cell_on (small_branch block) level)) refl);
+  moves = subst (λ ms. small_turn block level ≡ turn_moves (all_answered (write_plan (cell_on (small_branch block) level) small_member)) ms (true ∷ [])
+      (Wrote_key (key level 0)))
       (sym board) refl;
 }
   where
@@ -482,7 +602,8 @@ small_flush_turn block c s frozen unflushed cells done board some still =
             subst (λ j. s.core.group.done j ≡ true) (sym (level_key k has.0)) (done k.level has.1);
         made = all_answered (flush_plan small_member);
         results = true ∷ [];
-        calls = subst (λ ms. IsPhase flush_plan ms (map (λ m. true) ms) (true ∷ []) (all_answered (flush_plan small_member))) (sym board) (one_phase flush_plan refl);
+        calls = subst (λ ms. IsPhase flush_plan ms (map (λ m. true) ms) (true ∷ []) (all_answered (flush_plan small_member))) (sym board)
+            (one_phase flush_plan refl);
         moves = subst (λ ms. small_flush ≡ turn_moves (all_answered (flush_plan small_member)) ms (true ∷ []) Flushed_all) (sym board) refl;
       };
       turn = subst (λ ms. IsTurnOf s small_flush ms (true ∷ []) [] FlushTurn small_flush FlushTurn) (sym board) (record {
@@ -512,7 +633,8 @@ none_done : (block : List ℕ) → AreDone block 0
 none_done block i less = absurd (omega (arith, less))
 
 one_done : (block : List ℕ) → AreDone block 1
-one_done block = each_low 1 (λ i. (small_at block 1).core.group.done (key i 0) ≡ true) (λ l. refl) (λ l. absurd (omega (arith, l))) (λ l. absurd (omega (arith, l)))
+one_done block = each_low 1 (λ i. (small_at block 1).core.group.done (key i 0) ≡ true) (λ l. refl) (λ l. absurd (omega (arith, l)))
+    (λ l. absurd (omega (arith, l)))
     (λ l. absurd (omega (arith, l))) (omega arith)
 
 two_done : (block : List ℕ) → AreDone block 2
@@ -520,7 +642,8 @@ two_done block = each_low 2 (λ i. (small_at block 2).core.group.done (key i 0) 
     (λ l. absurd (omega (arith, l))) (omega arith)
 
 three_done : (block : List ℕ) → AreDone block 3
-three_done block = each_low 3 (λ i. (small_at block 3).core.group.done (key i 0) ≡ true) (λ l. refl) (λ l. refl) (λ l. refl) (λ l. absurd (omega (arith, l))) (omega arith)
+three_done block = each_low 3 (λ i. (small_at block 3).core.group.done (key i 0) ≡ true) (λ l. refl) (λ l. refl) (λ l. refl) (λ l. absurd (omega (arith, l)))
+    (omega arith)
 
 all_done : (block : List ℕ) → AreDone block 4
 all_done block = each_low 4 (λ i. (small_at block 4).core.group.done (key i 0) ≡ true) (λ l. refl) (λ l. refl) (λ l. refl) (λ l. refl) (omega arith)
@@ -556,7 +679,8 @@ unfolding round_made
 small_round_turn block = inr (inr (record {
   part = small_last block;
   whole = true;
-  row = round_made (small_codec block) (steps small_flush (small_at block 4)).core (small_draft 2 (steps small_flush (small_at block 4))) refl refl refl refl refl refl
+  row = round_made (small_codec block) (steps small_flush (small_at block 4)).core
+      (small_draft 2 (steps small_flush (small_at block 4))) refl refl refl refl refl refl
       (small_fits block) refl refl refl;
   own = record { volume = refl; top_numbers = refl; next = refl };
   behind = small_last block;
@@ -566,23 +690,47 @@ small_round_turn block = inr (inr (record {
   moves = refl;
 }))
 
-sync_row : (block : List ℕ) → length block ≡ 4096 → RowSync (small_codec block) (size_in small_table) (small_written block) (small_sync block) (Ended (Committed 2))
-sync_row block long = (None, (64, small_open, refl), (Committed 2, record {
-  first = small_freeze block;
-  freeze = small_frozen block long;
-  rest = moves_in (small_turns block);
-  ends = record {
-    turns = small_turns block;
-    are = (small_write_turn block 0 (small_codec block) (small_at block 0) (omega arith) refl refl refl refl (none_done block) refl refl refl, refl,
-        (small_write_turn block 1 (small_codec block) (small_at block 1) (omega arith) refl refl refl refl (one_done block) refl refl refl, refl,
-        (small_write_turn block 2 (small_codec block) (small_at block 2) (omega arith) refl refl refl refl (two_done block) refl refl refl, refl,
-        (small_write_turn block 3 (small_codec block) (small_at block 3) (omega arith) refl refl refl refl (three_done block) refl refl refl, refl,
-        (small_flush_turn block (small_codec block) (small_at block 4) refl refl refl (all_done block) refl refl refl, refl,
-        (small_round_turn block, refl, refl))))));
-    moves = refl;
-  };
-  moves = refl;
-}, refl))
+sync_row : (block : List ℕ) → length block ≡ 4096 → RowSync (small_codec block) (size_in small_table) (small_written block) (small_sync block)
+    (Ended (Committed 2))
+sync_row block long = (
+  None,
+  (64, small_open, refl),
+  (
+    Committed 2,
+    record {
+      first = small_freeze block;
+      freeze = small_frozen block long;
+      rest = moves_in (small_turns block);
+      ends = record {
+        turns = small_turns block;
+        are = (
+          small_write_turn block 0 (small_codec block) (small_at block 0) (omega arith) refl refl refl refl (none_done block) refl refl refl,
+          refl,
+          (
+            small_write_turn block 1 (small_codec block) (small_at block 1) (omega arith) refl refl refl refl (one_done block) refl refl refl,
+            refl,
+            (
+              small_write_turn block 2 (small_codec block) (small_at block 2) (omega arith) refl refl refl refl (two_done block) refl refl refl,
+              refl,
+              (
+                small_write_turn block 3 (small_codec block) (small_at block 3) (omega arith) refl refl refl refl (three_done block) refl refl refl,
+                refl,
+                (
+                  small_flush_turn block (small_codec block) (small_at block 4) refl refl refl (all_done block) refl refl refl,
+                  refl,
+                  (small_round_turn block, refl, refl),
+                ),
+              ),
+            ),
+          ),
+        );
+        moves = refl;
+      };
+      moves = refl;
+    },
+    refl,
+  ),
+)
 
 -- The lines, one after another.
 abbrev host_written : (block : List ℕ) → Host
@@ -592,27 +740,55 @@ abbrev host_read : (block : List ℕ) → Host
 host_read block = host_along (Hears 3 ∷ (Marks 7 (Gives_for 0 (Gives block)) ∷ [])) (host_written block)
 
 pub small_runs : (block : List ℕ) → length block ≡ 4096 → IsRun (small_codec block) small_host (small_create ∷ small_later block)
-small_runs block long = (create_row block, (
-  inl ((Taken, refl, record { moves = Puts 0 block ∷ []; row = write_row block; are = refl; own = own_acts (host_by (Hears 2) host_made) (does 7 (Puts 0 block ∷ [])) refl refl }),
-      all_made (host_by (Hears 2) host_made) [] refl refl),
+small_runs block long = (
+  create_row block,
   (
-    inl ((Gives block, refl, record {
-      moves = [];
-      row = read_row block;
-      are = refl;
-      own = own_acts (host_by (Hears 3) (host_written block)) (Marks 7 (Gives_for 0 (Gives block)) ∷ []) refl refl;
-    }), all_made (host_by (Hears 3) (host_written block)) [] refl refl),
+    inl (
+      (
+        Taken,
+        refl,
+        record {
+          moves = Puts 0 block ∷ [];
+          row = write_row block;
+          are = refl;
+          own = own_acts (host_by (Hears 2) host_made) (does 7 (Puts 0 block ∷ [])) refl refl;
+        },
+      ),
+      all_made (host_by (Hears 2) host_made) [] refl refl,
+    ),
     (
-      inl ((Ended (Committed 2), refl, record {
-        moves = small_sync block;
-        row = sync_row block long;
-        are = refl;
-        own = own_acts (host_by (Hears 4) (host_read block)) (does 7 (small_sync block)) refl refl;
-      }), all_made (host_by (Hears 4) (host_read block)) (calls_along (does 7 (small_sync block))) refl refl),
-      tt,
+      inl (
+        (
+          Gives block,
+          refl,
+          record {
+            moves = [];
+            row = read_row block;
+            are = refl;
+            own = own_acts (host_by (Hears 3) (host_written block)) (Marks 7 (Gives_for 0 (Gives block)) ∷ []) refl refl;
+          },
+        ),
+        all_made (host_by (Hears 3) (host_written block)) [] refl refl,
+      ),
+      (
+        inl (
+          (
+            Ended (Committed 2),
+            refl,
+            record {
+              moves = small_sync block;
+              row = sync_row block long;
+              are = refl;
+              own = own_acts (host_by (Hears 4) (host_read block)) (does 7 (small_sync block)) refl refl;
+            },
+          ),
+          all_made (host_by (Hears 4) (host_read block)) (calls_along (does 7 (small_sync block))) refl refl,
+        ),
+        tt,
+      ),
     ),
   ),
-))
+)
 
 -- Nothing that is assumed of its acts fails.
 fair_more : (c : Codec) (first second : List Act) (p : Pool) → AreFair c p first → AreFair c (pool_along first p) second → AreFair c p (first ++ second)
@@ -635,10 +811,23 @@ put_written block p number = ap (λ t. (pool_after (cond t (Accepts 0 block ∷ 
 
 pub small_fair : (block : List ℕ) → AreFair (small_codec block) (pool_of small_born) (small_rest block)
 small_fair block = fair_more (small_codec block) (commit_acts Created 7 small_founding) (acts_in (small_later block)) (pool_of small_born)
-    (does_fair (small_codec block) 7 small_founding (pool_of small_born))
-    (tt, (tt, (tt, ((λ number clash. clash.other (sym (put_written block pool_made made_number))),
-    (tt, fair_more (small_codec block) (does 7 (small_sync block)) [] (pool_by (Does 7 (Puts 0 block)) pool_made)
-    (does_fair (small_codec block) 7 (small_sync block) (pool_by (Does 7 (Puts 0 block)) pool_made)) tt)))))
+    (does_fair (small_codec block) 7 small_founding (pool_of small_born)) (
+      tt,
+      (
+        tt,
+        (
+          tt,
+          (
+            (λ number clash. clash.other (sym (put_written block pool_made made_number))),
+            (
+              tt,
+              fair_more (small_codec block) (does 7 (small_sync block)) [] (pool_by (Does 7 (Puts 0 block)) pool_made)
+                  (does_fair (small_codec block) 7 (small_sync block) (pool_by (Does 7 (Puts 0 block)) pool_made)) tt,
+            ),
+          ),
+        ),
+      ),
+    )
 
 -- The stop.
 one_name : (name : List ℕ) (d : ℕ) → number_in name small_table ≡ Some d → name_in small_table d ≡ name
@@ -661,7 +850,8 @@ small_headline : (block : List ℕ) → length block ≡ 4096
     → Headline (small_codec block) small_born (host_by (Bears small_birth) (host_stamped (host_by (Hears 1) small_host) 7 (small_stamp ∷ [])))
     (commit_acts Created 7 small_founding) (small_later block)
 unfolding creates
-small_headline block long = born_headline (small_codec block) (host_by (Hears 1) small_host) small_name 1 small_tops small_create.acts small_create.reply (small_later block) (creates block)
+small_headline block long = born_headline (small_codec block) (host_by (Hears 1) small_host) small_name 1 small_tops small_create.acts small_create.reply
+    (small_later block) (creates block)
     (record { number = λ s is. absurd is; names = one_name }) (small_runs block long).1
 
 take_all : {A : Type 0} (xs : List A) → take (length xs) xs ≡ xs

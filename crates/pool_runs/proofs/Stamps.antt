@@ -8,4 +8,3 @@ use Rattle.pool_runs.proofs.Importing.{bare_calls}
 pub stamp_calls : (g : ℕ) (stamps : List Stamp) → calls_along (stamp_acts g stamps) ≡ calls_of_stamps stamps
 stamp_calls g [] = refl
 stamp_calls g (stamp ∷ stamps) = bare_calls stamp.made (stamp_acts g stamps) ∙ ap (λ more. stamp.made ++ more) (stamp_calls g stamps)
-

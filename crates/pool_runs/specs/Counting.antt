@@ -1,5 +1,5 @@
 -- How lines end by the counts of failed calls.
-use Rattle.std.specs.Prelude.{◌≡◌, ◌⊎◌, ℕ, Bool, true, List, Option, Some}
+use Rattle.std.specs.Prelude.{◌≡◌, ◌⊎◌, ℕ, Bool, true, List, Some}
 use Rattle.std.specs.List.{list_any}
 use Rattle.mp_base.specs.declared.number.Guid.{Guid}
 use Rattle.mp_base.specs.Outside.{Rose}
@@ -17,7 +17,23 @@ use Rattle.pool_runs.specs.Devices.{number_in}
 use Rattle.pool_moves.specs.TreeRows.{Graft, DeviceFault, Undone}
 use Rattle.pool_runs.specs.Creating.{leaves_of, has_leaf_at}
 use Rattle.pool_runs.specs.Hosts.{Host, named}
-use Rattle.pool_runs.specs.Lines.{Asks_turn, Asks_sync, Asks_graft, Asks_detach, Asks_import, Asks_create, Reply, To_turn, To_sync, To_graft, To_detach, To_import, To_create, Unopened, Entry}
+use Rattle.pool_runs.specs.Lines.{
+  Asks_turn,
+  Asks_sync,
+  Asks_graft,
+  Asks_detach,
+  Asks_import,
+  Asks_create,
+  Reply,
+  To_turn,
+  To_sync,
+  To_graft,
+  To_detach,
+  To_import,
+  To_create,
+  Unopened,
+  Entry,
+}
 
 -- the count of one of these devices rose
 abbrev pub RoseAt : (own : ℕ → Bool) → (before after : ℕ → ℕ) → Type 0
@@ -45,7 +61,8 @@ Suspends reply = ⊥
 
 -- a top of the record that is opened has no leaf that was found and is readable
 abbrev pub LacksTop : Codec → Opening → Type 0
-LacksTop c opening = (top : ℕ) × (lacking_of (opened_leaves (c.leaves opening.found.blob.items) opening.devs) (opened_leaves (c.leaves opening.found.blob.items) opening.devs) ≡ Some top)
+LacksTop c opening = (top : ℕ) ×
+    (lacking_of (opened_leaves (c.leaves opening.found.blob.items) opening.devs) (opened_leaves (c.leaves opening.found.blob.items) opening.devs) ≡ Some top)
 
 -- An opening was suspended: the count of a device on which it found a leaf rose, or a top has no leaf that was found and is readable.
 pub record FailsOpening (c : Codec) (acts : List Act) (from to : ℕ → ℕ) : Type 0 where
@@ -65,5 +82,6 @@ pub record IsCounted (c : Codec) (h : Host) (e : Entry) (from to : ℕ → ℕ) 
       → (d : ℕ) × (number_in new h.table ≡ Some d) × Rose (from d) (to d)
   pub imports : (name : List ℕ) (group : ℕ) (top : Guid) (faults : ℕ) → e.asked ≡ Asks_import name → e.reply ≡ To_import (Unopened group top faults)
       → FailsOpening c e.acts from to
-  pub creates : (name : List ℕ) (blocks : ℕ) (tops : List (List (List ℕ))) (device : List ℕ) → e.asked ≡ Asks_create name blocks tops → e.reply ≡ To_create (FaultOn device)
+  pub creates : (name : List ℕ) (blocks : ℕ) (tops : List (List (List ℕ))) (device : List ℕ) → e.asked ≡ Asks_create name blocks tops
+      → e.reply ≡ To_create (FaultOn device)
       → RoseAt (λ d. is_leaf_at (leaf_at d (leaves_of h.table tops))) from to

@@ -1,5 +1,29 @@
 -- `create` as a row: its refusals, its stamps, and the pool that begins behind them.
-use Rattle.std.specs.Prelude.{◌≡◌, ◌≢◌, ◌⊎◌, ℕ, ◌+◌, ◌<◌, ◌≤◌, ◌^◌, ◌==◌, ◌||◌, nat_lt, Bool, true, false, cond, List, [], ◌∷◌, ◌++◌, map, length, Option, Some, None}
+use Rattle.std.specs.Prelude.{
+  ◌≡◌,
+  ◌≢◌,
+  ◌⊎◌,
+  ℕ,
+  ◌+◌,
+  ◌<◌,
+  ◌≤◌,
+  ◌^◌,
+  ◌==◌,
+  ◌||◌,
+  nat_lt,
+  Bool,
+  true,
+  false,
+  cond,
+  List,
+  [],
+  ◌∷◌,
+  ◌++◌,
+  length,
+  Option,
+  Some,
+  None,
+}
 use Rattle.std.specs.List.{AllByRecursion, list_any, find}
 use Rattle.std.specs.Option.{is_some}
 use Rattle.std.specs.Str.{bytes_eq}
@@ -7,7 +31,24 @@ use Rattle.mp_base.specs.declared.number.Guid.{Guid}
 use Rattle.txg_history.specs.Pages.{Codec}
 use Rattle.pool_moves.specs.FreezeRow.{is_dev}
 use Rattle.pool_moves.specs.Moves.{Move}
-use Rattle.pool_moves.specs.StampRow.{NewMember, NewLeaf, new_leaves, new_room, leaf_at, is_leaf_at, guid_of, top_of, AreDevicesApart, Stamp, AreStamps, new_state, CreateReply, Created, FaultOn, CommitsFirst}
+use Rattle.pool_moves.specs.StampRow.{
+  NewMember,
+  NewLeaf,
+  new_leaves,
+  new_room,
+  leaf_at,
+  is_leaf_at,
+  guid_of,
+  top_of,
+  AreDevicesApart,
+  Stamp,
+  AreStamps,
+  new_state,
+  CreateReply,
+  Created,
+  FaultOn,
+  CommitsFirst,
+}
 use Rattle.pool_moves.specs.States.{PoolState}
 use Rattle.pool_runs.specs.Acts.{Act, Birth, Names, Takes, Bears, Closes, does, bare}
 use Rattle.pool_runs.specs.Devices.{Device, number_in, name_in, size_in}
@@ -88,7 +129,8 @@ used pools (leaf ∷ leaves) = or_else (used_by (find (has_leaf_at leaf.dev) poo
 
 abbrev pub too_small : List Device → List NewLeaf → Option Refusal
 too_small table [] = None
-too_small table (leaf ∷ leaves) = or_else (cond (nat_lt (size_in table leaf.dev) 320) (Some (TooSmall 320 (size_in table leaf.dev))) None) (too_small table leaves)
+too_small table (leaf ∷ leaves) = or_else (cond (nat_lt (size_in table leaf.dev) 320) (Some (TooSmall 320 (size_in table leaf.dev))) None)
+    (too_small table leaves)
 
 abbrev pub refused_if : Bool → Refusal → Option Refusal
 refused_if true refusal = Some refusal
@@ -163,7 +205,8 @@ host_stamped h g stamps = host_along (stamp_acts g stamps) h
 
 -- `create`
 abbrev pub RowCreate : Codec → Host → (name : List ℕ) → (blocks : ℕ) → (tops : List (List (List ℕ))) → List Act → Reply → Type 0
-RowCreate c h name blocks tops acts reply = ((refusal : Refusal) × (create_refusal h name blocks tops ≡ Some refusal) × (acts ≡ []) × (reply ≡ To_refused refusal))
+RowCreate c h name blocks tops acts reply =
+    ((refusal : Refusal) × (create_refusal h name blocks tops ≡ Some refusal) × (acts ≡ []) × (reply ≡ To_refused refusal))
     ⊎ (FailsStamp h name blocks tops acts reply ⊎ Creates c h name blocks tops acts reply)
 
 -- The pool number of a create is no open pool's, and no two names of the host have one device, as its look-ups leave it.

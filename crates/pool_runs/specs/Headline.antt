@@ -1,5 +1,5 @@
 -- The headline: what a run is to a pool that the devices had when it began, or that it made.
-use Rattle.std.specs.Prelude.{◌≡◌, ◌≢◌, ◌⊎◌, ℕ, Bool, true, false, List, [], ◌∷◌, ◌++◌, Some, take}
+use Rattle.std.specs.Prelude.{◌≡◌, ◌⊎◌, ℕ, Bool, true, false, List, [], ◌∷◌, ◌++◌, Some, take}
 use Rattle.bank_core.specs.Calls.{AllCaused}
 use Rattle.bank_core.specs.Disk.{Noted, run}
 use Rattle.txg_history.specs.Copies.{IsCopiedGroup, MayTakeGroup}
@@ -14,7 +14,7 @@ use Rattle.pool_moves.specs.Missing.{AllMissed}
 use Rattle.pool_moves.specs.ReadRow.{Gives, Exhausted}
 use Rattle.pool_moves.specs.States.{PoolState}
 use Rattle.pool_moves.specs.TreeRows.{Required as DetachRequired}
-use Rattle.pool_runs.specs.Acts.{Act, calls_along, pool_along, history}
+use Rattle.pool_runs.specs.Acts.{Act, calls_along, history}
 use Rattle.pool_runs.specs.Committing.{AcksAs, FindsPool}
 use Rattle.pool_runs.specs.Counting.{IsCounted}
 use Rattle.pool_runs.specs.Fairness.{AreFair}
@@ -68,21 +68,25 @@ pub record Headline (c : Codec) (past : Past) (h : Host) (acts : List Act) (entr
   -- an import of its name finds a live record, not below the acknowledged one, and opens it above, or some page of it has no good leaf
   pub opens : (l : LineOf c past acts entries) → l.entry.asked ≡ Asks_import (pool_before l).name → AreFair c (pool_before l) l.entry.acts
       → FindsPool c (pool_before l) (pool_behind l) l.entry.acts l.entry.reply
-  -- a turn or a sync that answers a number acknowledged that record, and a sync's has each block as it was written last
+  -- a turn, a sync or a detach that answers a number acknowledged that record, and a sync's has each block as it was written last
   pub acks : (l : LineOf c past acts entries) (name : List ℕ) (s : PoolState) (n : ℕ) → IsOpenAs (pool_before l) (host_before h l) name s
       → AcksAs (pool_before l) (pool_behind l) name l.entry n
   -- what was written last to each block changes by a write that was taken, and by an import of the pool alone
   pub writes : (l : LineOf c past acts entries) → WritesJust (pool_before l) (pool_behind l) (host_before h l) l.entry
   -- a read gives the block that was written last, or it and the bytes that it gave clash; and none only where each readable leaf of its top missed it
-  pub reads : (l : LineOf c past acts entries) (name : List ℕ) (a : ℕ) (s : PoolState) → l.entry.asked ≡ Asks_read name a → IsOpenAs (pool_before l) (host_before h l) name s
+  pub reads : (l : LineOf c past acts entries) (name : List ℕ) (a : ℕ) (s : PoolState) → l.entry.asked ≡ Asks_read name a
+      → IsOpenAs (pool_before l) (host_before h l) name s
       → IsReadRight (pool_before l) s a (calls_in_line l) l.entry.reply
   -- a leaf is required just where the outage rule says so
-  pub required : (l : LineOf c past acts entries) (name device : List ℕ) (s : PoolState) (leaf : LeafSeen) (group : ℕ) → IsOpenAs (pool_before l) (host_before h l) name s
+  pub required : (l : LineOf c past acts entries) (name device : List ℕ) (s : PoolState) (leaf : LeafSeen) (group : ℕ)
+      → IsOpenAs (pool_before l) (host_before h l) name s
       → leaf_named device s.core.leaves ≡ Some leaf → IsRequiredRight l.entry name device s leaf group
   -- scans clear only copied groups, and else a group leaves a log only where its number is burned, at an opening, or with its leaf
-  pub scans : (m : Moment c past acts entries) (before : List Event) (v : Event) (d g : ℕ) → events_at m ≡ before ++ (v ∷ []) → (pool_after before (pool_of past)).member d ≡ true
+  pub scans : (m : Moment c past acts entries) (before : List Event) (v : Event) (d g : ℕ) → events_at m ≡ before ++ (v ∷ [])
+      → (pool_after before (pool_of past)).member d ≡ true
       → (pool_after before (pool_of past)).owes d g ≡ true → (pool_at m).owes d g ≡ false → TakesFor (pool_of past) before v d g
   -- a member stays one, unless this very line wasn't refused, and makes a pool or brings in a leaf on its device, or takes its leaf out
-  pub keeps : (l : LineOf c past acts entries) (d : ℕ) → (pool_before l).member d ≡ true → ((pool_behind l).member d ≡ true) ⊎ IsTakenBy (pool_before l) (host_before h l) l.entry d
+  pub keeps : (l : LineOf c past acts entries) (d : ℕ) → (pool_before l).member d ≡ true
+      → ((pool_behind l).member d ≡ true) ⊎ IsTakenBy (pool_before l) (host_before h l) l.entry d
   -- a line is suspended, or told a device that failed, only where the count of a device of its own rose in that very line, or nobody was left before
   pub counts : (l : LineOf c past acts entries) (from to : ℕ → ℕ) → AllCaused (calls_in_line l) from to → IsCounted c (host_before h l) l.entry from to

@@ -1,8 +1,8 @@
 -- Each line of a host as a row: which acts it is made of, by the host before it, and what it answers.
-use Rattle.std.specs.Prelude.{◌≡◌, ◌⊎◌, ℕ, ◌≤◌, ◌&&◌, Bool, true, false, not, cond, List, [], ◌∷◌, ◌++◌, Option, Some, None}
+use Rattle.std.specs.Prelude.{◌≡◌, ◌⊎◌, ℕ, ◌≤◌, ◌&&◌, Bool, true, false, not, List, [], ◌∷◌, ◌++◌, Option, Some, None}
 use Rattle.std.specs.List.{AllByRecursion, find}
 use Rattle.bank_core.specs.Calls.{device_of, fault_of}
-use Rattle.bank_core.specs.Disk.{Call, Read, Write, Flush, Admit, Eject, Noted, AllAnswer}
+use Rattle.bank_core.specs.Disk.{Call, Read, Noted, AllAnswer}
 use Rattle.label_store.specs.Newest.{AreReads}
 use Rattle.txg_history.specs.Pages.{Codec}
 use Rattle.pool_moves.specs.AwayRows.{WriteReply, RowWrite, OfflineReply, is_listed, leaf_named, RowOffline}
@@ -15,13 +15,52 @@ use Rattle.pool_moves.specs.ReadRow.{ReadReply, RowRead, made_in}
 use Rattle.pool_moves.specs.ScanRows.{StepReply, RowStep, ScrubReply, RowScrub, StopReply, RowStopScrub}
 use Rattle.pool_moves.specs.States.{PoolState}
 use Rattle.pool_moves.specs.TreeRows.{Graft, TreeRefusal, graft_refusal, GraftReply, GraftRefused, RowGraft, DetachReply, RowDetach}
-use Rattle.pool_runs.specs.Acts.{Act, Mark, Gives_for, Steps_by, Seeks_by, Hears, Bare, Does, Marks, Looked, Shows, Reads_as, Enters, Names, Takes, Bears, Closes, does, calls_along}
+use Rattle.pool_runs.specs.Acts.{Act, Mark, Gives_for, Steps_by, Seeks_by, Hears, Does, Marks, Enters, Takes, Bears, Closes, does, calls_along}
 use Rattle.pool_runs.specs.Creating.{has_leaf_at, RowCreate}
 use Rattle.pool_runs.specs.Devices.{number_in, size_in}
 use Rattle.pool_runs.specs.Hosts.{Host, is_of, named, host_by, host_along}
 use Rattle.pool_runs.specs.Importing.{read_in, all_shown, RowImport}
 use Rattle.pool_runs.specs.Knowing.{AreOwnActs}
-use Rattle.pool_runs.specs.Lines.{Refusal, UnknownDevice, InUse, Asked, Asks_nothing, Asks_write, Asks_read, Asks_freeze, Asks_turn, Asks_sync, Asks_offline, Asks_online, Asks_logs, Asks_graft, Asks_detach, Asks_step, Asks_scrub, Asks_stop, Asks_import, Asks_create, Reply, To_nothing, To_write, To_read, To_freeze, To_turn, To_sync, To_offline, To_online, To_logs, To_graft, To_detach, To_step, To_scrub, To_stop, To_refused, No_pool, No_memory, Entry}
+use Rattle.pool_runs.specs.Lines.{
+  UnknownDevice,
+  InUse,
+  Asked,
+  Asks_nothing,
+  Asks_write,
+  Asks_read,
+  Asks_freeze,
+  Asks_turn,
+  Asks_sync,
+  Asks_offline,
+  Asks_online,
+  Asks_logs,
+  Asks_graft,
+  Asks_detach,
+  Asks_step,
+  Asks_scrub,
+  Asks_stop,
+  Asks_import,
+  Asks_create,
+  Reply,
+  To_nothing,
+  To_write,
+  To_read,
+  To_freeze,
+  To_turn,
+  To_sync,
+  To_offline,
+  To_online,
+  To_logs,
+  To_graft,
+  To_detach,
+  To_step,
+  To_scrub,
+  To_stop,
+  To_refused,
+  No_pool,
+  No_memory,
+  Entry,
+}
 
 -- Device calls that a line made: each on a device that the run has, with an answer by the disk model.
 pub record AreMade (h : Host) (calls : List Noted) : Type 0 where
@@ -197,7 +236,8 @@ MayRewrite (Asks_import name) acts = AllByRecursion ChangesNone acts
 MayRewrite asked acts = ⊥
 
 -- A line for which there was no memory: it did what some row of this line begins with. Each call so far answered Ok; none of them wrote or
--- flushed, and no pool changed, but where a read rewrote copies and counted, or an import rewrote pages. (A sync that ended a group before is a row of its own.)
+-- flushed, and no pool changed, but where a read rewrote copies and counted, or an import rewrote pages. (A sync that ended a group before is a row of its
+-- own.)
 pub record RunsOut (c : Codec) (h : Host) (e : Entry) : Type 0 where
   pub rest : List Act
   pub reply : Reply

@@ -1,8 +1,8 @@
 -- A host: its devices, its open pools, and whose each device is.
-use Rattle.std.specs.Prelude.{◌≡◌, ◌⊎◌, ℕ, ◌==◌, Bool, not, cond, List, [], ◌∷◌, map, Option, Some, None}
+use Rattle.std.specs.Prelude.{◌≡◌, ◌⊎◌, ℕ, ◌==◌, Bool, not, cond, List, [], ◌∷◌, map, Option, Some}
 use Rattle.std.specs.List.{filter, find}
 use Rattle.std.specs.Str.{bytes_eq}
-use Rattle.bank_core.specs.Disk.{Noted, Sectors, run}
+use Rattle.bank_core.specs.Disk.{Sectors, run}
 use Rattle.txg_history.specs.Groups.{at_device}
 use Rattle.pool_moves.specs.Moves.{Move, state_step}
 use Rattle.pool_moves.specs.ReadRow.{made_in}

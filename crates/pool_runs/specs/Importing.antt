@@ -1,22 +1,19 @@
 -- `import` as a row: its refusals, its looks at all labels, what it finds and reads, and its commit.
-use Rattle.std.specs.Prelude.{◌≡◌, ◌⊎◌, ℕ, ◌+◌, nat_le, Bool, true, false, List, [], ◌∷◌, ◌++◌, length, Option, Some, None}
+use Rattle.std.specs.Prelude.{◌≡◌, ℕ, ◌+◌, nat_le, Bool, true, false, List, [], ◌∷◌, ◌++◌, length, Option, Some, None}
 use Rattle.bank_core.specs.Disk.{Noted, run}
 use Rattle.label_store.specs.declared.found.Found.{Found}
-use Rattle.mp_base.specs.declared.number.Guid.{Guid}
-use Rattle.mp_base.specs.declared.place.Key.{Key}
 use Rattle.txg_history.specs.Events.{Known}
 use Rattle.txg_history.specs.Looks.{known_by}
 use Rattle.txg_history.specs.Pages.{Codec}
-use Rattle.pool_moves.specs.LineRows.{TurnReply, Idle, Write, Flush, Round, Committed, Suspended}
+use Rattle.pool_moves.specs.LineRows.{TurnReply, Committed, Suspended}
 use Rattle.pool_moves.specs.Moves.{Move}
 use Rattle.pool_moves.specs.OpeningRow.{SeekReply, NoRecord, NumbersEnd, TakesRecord, RowSeek, OpenReply, Opens_state, NoPage, RowOpen, RowResume, read_of}
-use Rattle.pool_moves.specs.PageReads.{LeafShown}
 use Rattle.pool_moves.specs.States.{PoolState}
-use Rattle.pool_runs.specs.Acts.{Act, Opening, Looked, Shows, Reads_as, Enters, Closes, does, bare}
+use Rattle.pool_runs.specs.Acts.{Act, Looked, Shows, Reads_as, Enters, Closes, does, bare}
 use Rattle.pool_runs.specs.Devices.{number_in, size_in, handed}
 use Rattle.pool_runs.specs.Hosts.{Host, named}
 use Rattle.pool_runs.specs.Knowing.{AreOwnActs}
-use Rattle.pool_runs.specs.Lines.{Reply, To_import, ImportReply, Opened, NameOpen, TooManyPools, NothingFound, LastNumber, PageLost, Unopened}
+use Rattle.pool_runs.specs.Lines.{Reply, To_import, Opened, NameOpen, TooManyPools, NothingFound, LastNumber, PageLost, Unopened}
 
 -- what was read by these calls of single sectors
 abbrev pub first_of : Option (List ℕ) → Option (List ℕ) → Option (List ℕ)

@@ -1,7 +1,7 @@
 -- What a host knows of a pool, open or closed, and which acts keep it.
-use Rattle.std.specs.Prelude.{◌≡◌, ◌≢◌, ℕ, ◌≤◌, ◌<◌, Bool, false, List, [], ◌∷◌, Option, Some}
+use Rattle.std.specs.Prelude.{◌≡◌, ◌≢◌, ℕ, ◌≤◌, ◌<◌, false, List, [], ◌∷◌, Option, Some}
 use Rattle.std.specs.List.{AllByRecursion}
-use Rattle.bank_core.specs.Disk.{Call, Read, Write, Flush, Admit, Eject, Noted, Sectors}
+use Rattle.bank_core.specs.Disk.{Call, Read, Write, Flush, Admit, Eject}
 use Rattle.label_store.specs.Records.{place_at}
 use Rattle.label_store.specs.Uberblock.{IsUberblock}
 use Rattle.label_store.specs.declared.uberblock.Uberblock.{Uberblock}
@@ -12,7 +12,7 @@ use Rattle.txg_history.specs.Pools.{Pool}
 use Rattle.txg_history.specs.Survival.{Survives}
 use Rattle.pool_moves.specs.FreezeRow.{is_dev}
 use Rattle.pool_moves.specs.Keeping.{Kept}
-use Rattle.pool_moves.specs.Leaves.{Seat, LeafSeen}
+use Rattle.pool_moves.specs.Leaves.{Seat}
 use Rattle.pool_moves.specs.Moves.{Move, Makes, Comes}
 use Rattle.pool_moves.specs.Rosters.{IsRoster}
 use Rattle.pool_moves.specs.States.{PoolState}
@@ -29,7 +29,8 @@ HasSeats c s p = (seats : List Seat) × Kept c s (record { pool = p; seats = sea
 abbrev pub HasRoster : Pool → Type 0
 HasRoster p = (devs : List ℕ) × IsRoster p devs
 
--- A pool in a host. Its history has its invariant, and its members stand on a list; where it is open its state is what its history says, and it is open once; no device that
+-- A pool in a host. Its history has its invariant, and its members stand on a list; where it is open its state is what its history says, and it is open once;
+-- no device that
 -- another pool owns is its member; and each device that this run has is as the history has it, in its size and its sectors.
 pub record Knows (c : Codec) (h : Host) (p : Pool) : Type 0 where
   pub survives : Survives c p

@@ -1,6 +1,6 @@
 -- The moments of a run and its lines, as a pool meets them.
 use Rattle.std.specs.Prelude.{◌≡◌, ℕ, List, ◌∷◌, ◌++◌, Some, take}
-use Rattle.bank_core.specs.Disk.{Noted, run}
+use Rattle.bank_core.specs.Disk.{Noted}
 use Rattle.txg_history.specs.Events.{Event}
 use Rattle.txg_history.specs.Pages.{Codec}
 use Rattle.txg_history.specs.Pools.{Pool}

@@ -1,8 +1,8 @@
 -- The past of a pool, over any number of runs.
-use Rattle.std.specs.Prelude.{◌≡◌, ◌⊎◌, ℕ, ◌≤◌, nat_le, Bool, true, false, cond, List, [], ◌∷◌, Option, Some, None}
+use Rattle.std.specs.Prelude.{◌≡◌, ◌⊎◌, ℕ, ◌≤◌, nat_le, Bool, true, false, cond, List, [], ◌∷◌, Some, None}
 use Rattle.mp_base.specs.Block.{zero_block}
-use Rattle.bank_core.specs.Disk.{Sector, Sectors, Pending, Nothing, IsImage, after_crash}
-use Rattle.txg_history.specs.Events.{Event, Accepts, Freezes, Begins, Stops}
+use Rattle.bank_core.specs.Disk.{Sector, Sectors, Nothing, IsImage, after_crash}
+use Rattle.txg_history.specs.Events.{Event, Freezes, Begins, Stops}
 use Rattle.txg_history.specs.Moves.{May, AreUnforged}
 use Rattle.txg_history.specs.Numbering.{renumbered}
 use Rattle.txg_history.specs.Pages.{Codec}
@@ -10,7 +10,7 @@ use Rattle.txg_history.specs.Pools.{Pool, after}
 use Rattle.txg_history.specs.Records.{Rec, block_at}
 use Rattle.txg_history.specs.Stamps.{AreStamped}
 use Rattle.pool_runs.specs.Acts.{Birth, born}
-use Rattle.pool_runs.specs.Devices.{Device, number_in, size_in}
+use Rattle.pool_runs.specs.Devices.{number_in, size_in}
 use Rattle.pool_moves.specs.States.{PoolState}
 use Rattle.pool_runs.specs.Hosts.{Host, IsOpen}
 use Rattle.pool_runs.specs.Knowing.{HasSeats, HasRoster}
@@ -42,7 +42,8 @@ KeepsNumbers p was = (now : ℕ → ℕ) × ((d : ℕ) → p.member (was d) ≡ 
 abbrev pub IsAllowed : Codec → Past → Type 0
 IsAllowed c (Born birth sectors) = AreStamped birth.pool birth.member birth.guid birth.size birth.room birth.home sectors × HasRoster (born birth sectors)
 IsAllowed c (Then past v) = IsAllowed c past × May c (pool_of past) v
-IsAllowed c (Numbered past was called) = IsAllowed c past × KeepsNumbers (pool_of past) was × ((d : ℕ) → (pool_of past).member (was d) ≡ true → called d ≡ called_in past (was d))
+IsAllowed c (Numbered past was called) = IsAllowed c past × KeepsNumbers (pool_of past) was
+    × ((d : ℕ) → (pool_of past).member (was d) ≡ true → called d ≡ called_in past (was d))
 
 -- more events behind it
 abbrev pub then_all : Past → List Event → Past

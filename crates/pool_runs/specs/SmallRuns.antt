@@ -1,5 +1,5 @@
 -- A small run: a pool is made on one device, a block is written, read and synced.
-use Rattle.std.specs.Prelude.{ℕ, zero, suc, ◌==◌, Bool, true, false, cond, List, [], ◌∷◌, ◌++◌, map, replicate, length, Option, Some, None}
+use Rattle.std.specs.Prelude.{ℕ, zero, suc, ◌==◌, true, false, cond, List, [], ◌∷◌, ◌++◌, map, replicate, length, Option, Some, None}
 use Rattle.bank_core.specs.Asks.{Ask, Writes}
 use Rattle.bank_core.specs.Disk.{Write, Flush, Noted, Nothing, sector_size, after_crash}
 use Rattle.label_store.specs.declared.member.Member.{Member}
@@ -18,7 +18,7 @@ use Rattle.pool_moves.specs.FreezeRow.{up_devs, joins}
 use Rattle.pool_moves.specs.LineRows.{TurnReply, Write as WriteTurn, Flush as FlushTurn, Committed, Ended, moves_in}
 use Rattle.pool_moves.specs.Moves.{Draft, Move, Puts, Freeze, Wrote_key, Flushed_all, Starts, Copies, Copied, Commits, steps}
 use Rattle.pool_moves.specs.ReadRow.{Gives}
-use Rattle.pool_moves.specs.StampRow.{new_leaves, new_room, new_top_number, next_from, new_leaf_seen, Stamp, new_state, Created}
+use Rattle.pool_moves.specs.StampRow.{new_room, new_top_number, next_from, new_leaf_seen, Stamp, new_state, Created}
 use Rattle.pool_moves.specs.States.{PoolState}
 use Rattle.pool_moves.specs.Walking.{as_moves}
 use Rattle.pool_runs.specs.Acts.{Act, Birth, Gives_for, Marks, Hears, Names, Bears, does, history}
@@ -37,7 +37,13 @@ abbrev pub small_table : List Device
 small_table = record { name = small_device; number = Some 0; sectors = 320 } ∷ []
 
 abbrev pub small_host : Host
-small_host = record { table = small_table; pools = []; owner = λ d. None; second = 0; disk = λ d s. record { stable = zeros sector_size; pending = Nothing; damaged = false } }
+small_host = record {
+  table = small_table;
+  pools = [];
+  owner = λ d. None;
+  second = 0;
+  disk = λ d s. record { stable = zeros sector_size; pending = Nothing; damaged = false };
+}
 
 -- The pool that it makes: a volume of one block on the device.
 abbrev pub small_name : List ℕ
@@ -106,7 +112,8 @@ small_commit number = record { pool = small_pool; number = record { 0 = number }
 abbrev pub small_round : (draft : Draft) → List Move
 small_round draft = Starts draft ∷ (as_moves (all_answered (first_plan (size_in small_table) draft.commit small_member))
     ++ (as_moves (all_answered (second_plan (size_in small_table) draft.commit small_member))
-    ++ ((Copies draft 0 ∷ (as_moves (all_answered (third_plan (size_in small_table) draft.commit small_member)) ++ (Copied draft 0 ∷ []))) ++ (Commits draft ∷ []))))
+    ++ ((Copies draft 0 ∷ (as_moves (all_answered (third_plan (size_in small_table) draft.commit small_member)) ++ (Copied draft 0 ∷ []))) ++
+    (Commits draft ∷ []))))
 
 -- Its creation.
 abbrev pub small_first : List Move
