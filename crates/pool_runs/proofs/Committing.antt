@@ -302,7 +302,8 @@ walk_second : (c : Codec) (vs ws : List Move) (t : Side) → Walks c t (vs ++ ws
 walk_second c [] ws t walks = walks
 walk_second c (v ∷ vs) ws t walks = walk_second c vs ws (after_move v t) walks.1
 
-pub turn_all : (c : Codec) (size : ℕ → ℕ) (s : PoolState) (t : Side) (vs : List Move) (n : ℕ) → Kept c s t → Walks c t vs → RowTurn c size s vs (Committed n) → CommitsGroup t.pool (after_moves vs t).pool n
+pub turn_all : (c : Codec) (size : ℕ → ℕ) (s : PoolState) (t : Side) (vs : List Move) (n : ℕ) → Kept c s t → Walks c t vs
+    → RowTurn c size s vs (Committed n) → CommitsGroup t.pool (after_moves vs t).pool n
 turn_all c size s t vs n kept walks row =
     let e = (turn_commits c size s vs n row).ends in
     let ending = Commits e.draft ∷ e.sets in

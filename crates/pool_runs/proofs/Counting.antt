@@ -42,10 +42,10 @@ use Rattle.pool_runs.proofs.GroupMoves.{IsKind, more, all_group, all_empty}
 same_test : (m n : ℕ) → m ≡ n → (m == n) ≡ true
 same_test m n is = grind (arith, nat_tests)
 
-rose_more : (a b d : ℕ) → Rose a b → b ≤ d → Rose a d
+pub rose_more : (a b d : ℕ) → Rose a b → b ≤ d → Rose a d
 rose_more a b d rose up = omega (arith, rose, up)
 
-caused_up : (made : List Noted) (from to : ℕ → ℕ) → AllCaused made from to → (d : ℕ) → from d ≤ to d
+pub caused_up : (made : List Noted) (from to : ℕ → ℕ) → AllCaused made from to → (d : ℕ) → from d ≤ to d
 caused_up [] from to caused d = omega (arith, caused d)
 caused_up (noted ∷ made) from to caused d = let one = caused.1.counts d in let rest = caused_up made caused.0 to caused.2 d in omega (arith, one, rest)
 

@@ -156,7 +156,8 @@ steps_name : (vs : List Move) (s : PoolState) → (steps vs s).core.name ≡ s.c
 steps_name [] s = refl
 steps_name (v ∷ vs) s = steps_name vs (state_step v s) ∙ step_name v s
 
-enters_named : (name : List ℕ) (g : ℕ) (first acts : List Act) (s : PoolState) (vs : List Move) (h : Host) → acts ≡ first ++ (Enters s ∷ does g vs) → s.core.pool.0 ≡ g → s.core.name ≡ name
+enters_named : (name : List ℕ) (g : ℕ) (first acts : List Act) (s : PoolState) (vs : List Move) (h : Host) → acts ≡ first ++ (Enters s ∷ does g vs)
+    → s.core.pool.0 ≡ g → s.core.name ≡ name
     → named name (host_along acts h).pools ≡ Some (steps vs s)
 enters_named name g first acts s vs h is number called =
     let at = host_along first h in
@@ -172,7 +173,8 @@ record OpensAs (before behind : Pool) (after : Host) (name : List ℕ) (n : ℕ)
   at : IsOpenAs behind after name state
 
 opens_live : (c : Codec) (h : Host) (p before : Pool) (name : List ℕ) (found : Found) (acts : List Act) (reply : Reply) (n : ℕ) → Knows c h p → Looked_live p before found → p.name ≡ name
-    → AreMade h (calls_along acts) → AreFair c p acts → OpensFound c h name found acts reply → reply ≡ To_import (Opened n) → OpensAs before (pool_along acts p) (host_along acts h) name n
+    → AreMade h (calls_along acts) → AreFair c p acts → OpensFound c h name found acts reply → reply ≡ To_import (Opened n)
+    → OpensAs before (pool_along acts p) (host_along acts h) name n
 opens_live c h p before name found acts reply n knows live titled made fair opens says = follow opens.outcome refl opens.follows
   where
     opening : Opening
@@ -247,7 +249,8 @@ opens_live c h p before name found acts reply n knows live titled made fair open
           };
         }
 
-    by_turn : (turn : TurnReply) (s : PoolState) (vs : List Move) → opens.outcome ≡ Opens_state s → RowResume c (size_in h.table) s vs turn → OpensBy turn g s vs opens.rest reply → OpensAs before (pool_along acts p) (host_along acts h) name n
+    by_turn : (turn : TurnReply) (s : PoolState) (vs : List Move) → opens.outcome ≡ Opens_state s → RowResume c (size_in h.table) s vs turn
+        → OpensBy turn g s vs opens.rest reply → OpensAs before (pool_along acts p) (host_along acts h) name n
     by_turn (Committed m) s vs out row by = committed s vs m out row by.0 by.1
     by_turn (Suspended group top faults) s vs out row by = absurd (let no = sym by.1 ∙ says in cc)
     by_turn Idle s vs out row by = absurd by
@@ -255,7 +258,8 @@ opens_live c h p before name found acts reply n knows live titled made fair open
     by_turn Flush s vs out row by = absurd by
     by_turn (Round m) s vs out row by = absurd by
 
-    follow : (outcome : OpenReply) → opens.outcome ≡ outcome → FollowsMap outcome c (size_in h.table) g opens.rest reply → OpensAs before (pool_along acts p) (host_along acts h) name n
+    follow : (outcome : OpenReply) → opens.outcome ≡ outcome → FollowsMap outcome c (size_in h.table) g opens.rest reply
+        → OpensAs before (pool_along acts p) (host_along acts h) name n
     follow (Opens_state s) out row = by_turn row.1 s row.0 out row.2 row.3
     follow (NoPage page shown) out row = absurd (let no = sym row.1 ∙ says in cc)
 
@@ -352,7 +356,9 @@ opens_loses c h p before name found acts reply page shown knows live made fair o
     follow (NoPage k ks) out row = lost k ks out row.0
 
 -- By what the looks found.
-not_opened : (c : Codec) (before behind : Pool) (after : Host) (acts : List Act) (reply : Reply) (other : ImportReply) → reply ≡ To_import other → (other ≡ NothingFound → ⊥) → ((n : ℕ) → other ≡ Opened n → ⊥)
+not_opened : (c : Codec) (before behind : Pool) (after : Host) (acts : List Act) (reply : Reply) (other : ImportReply) → reply ≡ To_import other
+    → (other ≡ NothingFound → ⊥)
+    → ((n : ℕ) → other ≡ Opened n → ⊥)
     → ((page : Key) (shown : List LeafShown) → other ≡ PageLost page shown → ⊥) → FindsPool c before behind after acts reply
 not_opened c before behind after acts reply other is some none loses = record {
   some = λ says. some (same other NothingFound (sym is ∙ says));
@@ -383,7 +389,8 @@ never_none : (ended : Bool) (found : Found) → NoRecord ≡ taken_by ended foun
 never_none true found e = cc
 never_none false found e = cc
 
-found_finds : (seek : SeekReply) (c : Codec) (h : Host) (before p : Pool) (name : List ℕ) (acts : List Act) (reply : Reply) → Knows c h p → p.name ≡ name → before.name ≡ name → AreMade h (calls_along acts)
+found_finds : (seek : SeekReply) (c : Codec) (h : Host) (before p : Pool) (name : List ℕ) (acts : List Act) (reply : Reply) → Knows c h p
+    → p.name ≡ name → before.name ≡ name → AreMade h (calls_along acts)
     → AreFair c p acts → (seek ≡ NoRecord → ⊥) → ((found : Found) → seek ≡ TakesRecord found → Looked_live p before found) → ImportBy seek c h name acts reply
     → FindsPool c before (pool_along acts p) (host_along acts h) acts reply
 found_finds NoRecord c h before p name acts reply knows titled called made fair some live row = absurd (some refl)

@@ -1,5 +1,7 @@
 -- The headline, from what a host knows of a pool and from the rows of a run.
 use Rattle.std.proofs.Common.{◌≡◌, ◌⊎◌, inl, inr, ℕ, ◌<◌, Bool, true, false, List, [], ◌∷◌, ◌++◌, take, Some, refl, sym, ap, ◌∙◌, subst, arith}
+use Rattle.mp_base.specs.Outside.{Rose}
+use Rattle.mp_base.specs.declared.number.Guid.{Guid}
 use Rattle.bank_core.specs.Calls.{AllCaused}
 use Rattle.bank_core.specs.Disk.{run}
 use Rattle.txg_history.specs.Events.{Event, Clears}
@@ -14,21 +16,20 @@ use Rattle.txg_history.proofs.Surviving.{survives_sound}
 use Rattle.pool_moves.specs.AwayRows.{OfflineReply, Gone, Required, LeastOut, is_offline, is_spare, leaf_named, siblings, OfflineLeaf, OfflineHere, OfflineBy}
 use Rattle.pool_moves.specs.Keeping.{Kept}
 use Rattle.pool_moves.specs.Leaves.{LeafSeen}
-use Rattle.pool_moves.specs.LineRows.{TurnReply, SyncReply, Ended, Committed, RowTurn, RowSync}
+use Rattle.pool_moves.specs.LineRows.{TurnReply, SyncReply, Ended, Committed, Suspended, RowTurn, RowSync}
 use Rattle.pool_moves.specs.Missing.{AllMissed}
 use Rattle.pool_moves.specs.Moves.{Move, steps, after_moves}
 use Rattle.pool_moves.specs.ReadRow.{ReadReply, Gives, Exhausted, RowRead, made_in}
 use Rattle.pool_moves.specs.Showing.{LeafShown}
 use Rattle.pool_moves.specs.StampRow.{leaf_at, is_leaf_at, FaultOn}
 use Rattle.pool_moves.specs.States.{PoolState, Side}
-use Rattle.mp_base.specs.declared.number.Guid.{Guid}
 use Rattle.pool_moves.proofs.Keeping.{walk_keeps}
 use Rattle.pool_moves.proofs.LineWalks.{turn_walks, sync_walks}
 use Rattle.pool_moves.proofs.Missing.{exhausted_missed}
 use Rattle.pool_moves.proofs.ReadWalks.{read_right}
 use Rattle.pool_runs.specs.Acts.{Act, Gives_for, Marks, Hears, calls_along, pool_along}
 use Rattle.pool_runs.specs.Committing.{CommitsAll, FindsPool, CommitsGroup}
-use Rattle.pool_runs.specs.Counting.{has_leaf_at, RoseAt, HasLostBoard, Suspends, FailsOpening, IsCounted}
+use Rattle.pool_runs.specs.Counting.{has_leaf_at, RoseAt, HasLostBoard, Suspends, FailsOpening, IsCounted, LosesTop}
 use Rattle.pool_runs.specs.Creating.{leaves_of}
 use Rattle.pool_runs.specs.Devices.{number_in, size_in}
 use Rattle.pool_runs.specs.Fairness.{AreFair}
@@ -46,6 +47,7 @@ use Rattle.pool_runs.proofs.Suspending.{turn_counts, sync_counts, import_counts,
 use Rattle.pool_runs.proofs.Known.{Knows, MayActs}
 use Rattle.pool_runs.proofs.Finding.{import_finds}
 use Rattle.pool_runs.proofs.Knowing.{may_more, acts_keep}
+use Rattle.pool_runs.proofs.Losing.{turn_loses}
 use Rattle.pool_runs.proofs.Members.{entry_keeps}
 use Rattle.pool_runs.proofs.Moments.{has_moments, acts_mays, keeps_all, may_take, acts_table, host_more, run_at, run_front}
 use Rattle.pool_runs.proofs.Pasting.{begins_known, then_pool, then_called, then_allowed, live_frozen}
@@ -181,7 +183,8 @@ line_loses c h p e name a s shown met asked at is = of met.row
     of (inr out) = read_not_memory (Exhausted shown) (sym is ∙ out.says)
 
 -- An import finds the pool.
-line_opens : (c : Codec) (h : Host) (p : Pool) (e : Entry) → Meets c h p e → e.asked ≡ Asks_import p.name → AreFair c p e.acts → FindsPool c p (pool_along e.acts p) (host_along e.acts h) e.acts e.reply
+line_opens : (c : Codec) (h : Host) (p : Pool) (e : Entry) → Meets c h p e → e.asked ≡ Asks_import p.name → AreFair c p e.acts
+    → FindsPool c p (pool_along e.acts p) (host_along e.acts h) e.acts e.reply
 line_opens c h p e met asked fair = of met.row
   where
     of : HostRow c h e → FindsPool c p (pool_along e.acts p) (host_along e.acts h) e.acts e.reply
@@ -210,7 +213,8 @@ line_syncs c h p e name s n met asked at is = of met.row
     of (inr out) = sync_not_memory (Ended (Committed n)) (sym is ∙ out.says)
 
 -- A turn acknowledges its group.
-line_turns : (c : Codec) (h : Host) (p : Pool) (e : Entry) (name : List ℕ) (s : PoolState) (n : ℕ) → Meets c h p e → e.asked ≡ Asks_turn name → IsOpenAs p h name s
+line_turns : (c : Codec) (h : Host) (p : Pool) (e : Entry) (name : List ℕ) (s : PoolState) (n : ℕ) → Meets c h p e → e.asked ≡ Asks_turn name
+    → IsOpenAs p h name s
     → e.reply ≡ To_turn (Committed n) → CommitsGroup p (pool_along e.acts p) n
 line_turns c h p e name s n met asked at is = of met.row
   where
@@ -268,6 +272,7 @@ line_required c h p e name device temporary s leaf group met asked at is plain u
 line_counts : (c : Codec) (h : Host) (p : Pool) (e : Entry) (from to : ℕ → ℕ) → Meets c h p e → AllCaused (calls_along e.acts) from to → IsCounted c h e from to
 line_counts c h p e from to met caused = record {
   turns = λ name s asked found bad. turns name s asked found bad met.row asked;
+  tops = λ name s group top faults asked found says. tops name s group top faults asked found says met.row;
   imports = λ name group top faults asked says. imports name group top faults asked says met.row;
   creates = λ name blocks tops device asked says. creates name blocks tops device asked says met.row;
 }
@@ -281,6 +286,14 @@ line_counts c h p e from to met caused = record {
         sync_counts c h s line.2.moves line.0 from to line.2.row
         (subst (λ calls. AllCaused calls from to) (ap calls_along line.2.are ∙ does_calls s.core.pool.0 line.2.moves) caused) (subst Suspends line.1 bad)
     turns name s asks found bad (inr out) asked = absurd (subst Suspends out.says bad)
+
+    tops : (name : List ℕ) (s : PoolState) (group : ℕ) (top : Guid) (faults : ℕ) → e.asked ≡ Asks_turn name → named name h.pools ≡ Some s
+        → e.reply ≡ To_turn (Suspended group top faults) → HostRow c h e → LosesTop s (λ d. Rose (from d) (to d)) top
+    tops name s group top faults asked found says (inl row) =
+        let line = on_open h name s (TurnLine c h) e.acts e.reply found (subst (λ x. RowOf c h x e.acts e.reply) asked row.0) in
+        turn_loses c (size_in h.table) s line.2.moves (calls_along e.acts) group top faults from to (ap calls_along line.2.are ∙ does_calls s.core.pool.0 line.2.moves) caused
+        (subst (RowTurn c (size_in h.table) s line.2.moves) (turn_reply line.0 (Suspended group top faults) (sym line.1 ∙ says)) line.2.row)
+    tops name s group top faults asked found says (inr out) = turn_not_memory (Suspended group top faults) (sym says ∙ out.says)
 
     imports : (name : List ℕ) (group : ℕ) (top : Guid) (faults : ℕ) → e.asked ≡ Asks_import name → e.reply ≡ To_import (Unopened group top faults) → HostRow c h e → FailsOpening c e.acts from to
     imports name group top faults asked says (inl row) = import_counts c h name e.acts e.reply from to group top faults (subst (λ x. RowOf c h x e.acts e.reply) asked row.0) caused says

@@ -264,7 +264,8 @@ follows_may (Opens_state s) c h p name found r made row h2 rest reply table has 
     (subst (λ t. RowResume c (size_in t) s follows.0 follows.1) (sym table) follows.2) own follows.3
 
 -- the state that an opening comes to is what the pool's history has then
-opens_seats : (c : Codec) (h : Host) (p : Pool) (name : List ℕ) (found : Found) (r : Rec) (made : List Noted) (outcome : OpenReply) → (row : RowOpen c (size_in h.table) (free_in h) name found made outcome)
+opens_seats : (c : Codec) (h : Host) (p : Pool) (name : List ℕ) (found : Found) (r : Rec) (made : List Noted) (outcome : OpenReply)
+    → (row : RowOpen c (size_in h.table) (free_in h) name found made outcome)
     → Knows c h p → p.name ≡ name → IsLiveOne p found r → AllAnswer p.sectors made → HasNoTwin p r (claims_of (c.leaves found.blob.items) row.devs) → (ClashesAt r.cells row.bytes → ⊥)
     → (s : PoolState) → outcome ≡ Opens_state s → HasSeats c s (pool_after (as_events made) (after (Opens r) p))
 opens_seats c h p name found r made (Opens_state x) row knows same is answers twin pages s out = subst (λ y. HasSeats c y (pool_after (as_events made) (after (Opens r) p))) (one x s out) (of opened)

@@ -11,6 +11,7 @@ pub mod Importing
 pub mod Knowing
 pub mod Known
 pub mod LineMoves
+pub mod Losing
 pub mod Members
 pub mod Moments
 pub mod Numbers

@@ -90,22 +90,26 @@ module _ (P : Move → Type 0) (k : IsLineKind P) where
   line_drop_if true None = tt
   line_drop_if false dev = tt
 
-  line_offline_leaf : (already : Bool) (s : PoolState) (leaf : LeafSeen) (temporary : Bool) (vs : List Move) (reply : OfflineReply) → OfflineLeaf already s leaf temporary vs reply → All vs
+  line_offline_leaf : (already : Bool) (s : PoolState) (leaf : LeafSeen) (temporary : Bool) (vs : List Move) (reply : OfflineReply)
+      → OfflineLeaf already s leaf temporary vs reply → All vs
   line_offline_leaf true s leaf temporary vs reply row = subst All (sym row.0) (k.kind.set _ _, tt)
   line_offline_leaf false s leaf temporary vs reply (inl row) = subst All (sym row.2) tt
   line_offline_leaf false s leaf temporary vs reply (inr row) = let goes = row.1 in subst All (sym goes.moves)
       (more P (drop_if leaf.eligible leaf.dev) (goes.leaving ++ (Sets leaf.guid (gone temporary leaf.own) ∷ [])) (line_drop_if leaf.eligible leaf.dev)
       (more P goes.leaving (Sets leaf.guid (gone temporary leaf.own) ∷ []) (line_leave_if leaf.on leaf.dev (seen_along (drop_if leaf.eligible leaf.dev) s.core) goes.leaving goes.leaves) (k.kind.set _ _, tt)))
 
-  line_offline_here : (spare : Bool) (s : PoolState) (leaf : LeafSeen) (temporary : Bool) (vs : List Move) (reply : OfflineReply) → OfflineHere spare s leaf temporary vs reply → All vs
+  line_offline_here : (spare : Bool) (s : PoolState) (leaf : LeafSeen) (temporary : Bool) (vs : List Move) (reply : OfflineReply)
+      → OfflineHere spare s leaf temporary vs reply → All vs
   line_offline_here true s leaf temporary vs reply row = subst All (sym row.0) tt
   line_offline_here false s leaf temporary vs reply row = line_offline_leaf (is_offline leaf.own.mode) s leaf temporary vs reply row
 
-  line_offline : (found : Option LeafSeen) (s : PoolState) (name : List ℕ) (temporary : Bool) (vs : List Move) (reply : OfflineReply) → OfflineBy found s name temporary vs reply → All vs
+  line_offline : (found : Option LeafSeen) (s : PoolState) (name : List ℕ) (temporary : Bool) (vs : List Move) (reply : OfflineReply)
+      → OfflineBy found s name temporary vs reply → All vs
   line_offline None s name temporary vs reply row = subst All (sym row.0) tt
   line_offline (Some leaf) s name temporary vs reply row = line_offline_here (is_spare s leaf) s leaf temporary vs reply row
 
-  line_freeze_for : (refusal : Option FreezeRefusal) (c : Codec) (s : PoolState) (vs : List Move) (reply : FreezeReply) → FreezeFor refusal c s vs reply → All vs
+  line_freeze_for : (refusal : Option FreezeRefusal) (c : Codec) (s : PoolState) (vs : List Move) (reply : FreezeReply) → FreezeFor refusal c s vs reply
+      → All vs
   line_freeze_for (Some refusal) c s vs reply row = subst All (sym row.0) tt
   line_freeze_for None c s vs reply row = all_freeze P k.kind k.freezes c s vs row.0
 
@@ -130,13 +134,15 @@ module _ (P : Move → Type 0) (k : IsLineKind P) where
   line_resumes (Round number) s vs row = subst All (sym row) tt
   line_resumes (Suspended group top faults) s vs row = subst All (sym row) tt
 
-  pub line_resume : (top : Option ℕ) (c : Codec) (size : ℕ → ℕ) (s : PoolState) (vs : List Move) (turn : TurnReply) → ResumesUnless top c size s vs turn → All vs
+  pub line_resume : (top : Option ℕ) (c : Codec) (size : ℕ → ℕ) (s : PoolState) (vs : List Move) (turn : TurnReply) → ResumesUnless top c size s vs turn
+      → All vs
   line_resume (Some top) c size s vs turn row = subst All (sym row.0) tt
   line_resume None c size s vs turn row = subst All (sym row.moves) (more P row.first row.rest (all_reopen P k.kind k.freezes c size s row.first turn (λ bad. k.burns) row.row)
       (line_resumes turn (steps row.first s) row.rest row.resumes))
 
   -- a leaf that comes back
-  line_search : (result : Result Bool Fault) (leaf : LeafSeen) (e : ℕ) (made : List Noted) (vs : List Move) (reply : OnlineReply) → SearchEnds result leaf e made vs reply → All vs
+  line_search : (result : Result Bool Fault) (leaf : LeafSeen) (e : ℕ) (made : List Noted) (vs : List Move) (reply : OnlineReply)
+      → SearchEnds result leaf e made vs reply → All vs
   line_search (Ok true) leaf e made vs reply row = subst All (sym row.0)
       (more P (as_moves made) (Finds leaf.guid e ∷ (Sets leaf.guid (brought_own (searched_own made leaf.own)) ∷ [])) (line_calls made) (k.finds _ _, (k.kind.set _ _, tt)))
   line_search (Ok false) leaf e made vs reply row = subst All (sym row.0) (more P (as_moves made) (Sets leaf.guid (searched_own made leaf.own) ∷ []) (line_calls made) (k.kind.set _ _, tt))
@@ -152,16 +158,19 @@ module _ (P : Move → Type 0) (k : IsLineKind P) where
   line_scans FaultOnDevice s vs row = subst All (sym row) tt
   line_scans WrongLabel s vs row = subst All (sym row) tt
 
-  line_roomy : (roomy : Bool) (size : ℕ → ℕ) (s : PoolState) (leaf : LeafSeen) (e : ℕ) (vs : List Move) (reply : OnlineReply) → OnlineRoomy roomy size s leaf e vs reply → All vs
+  line_roomy : (roomy : Bool) (size : ℕ → ℕ) (s : PoolState) (leaf : LeafSeen) (e : ℕ) (vs : List Move) (reply : OnlineReply)
+      → OnlineRoomy roomy size s leaf e vs reply → All vs
   line_roomy false size s leaf e vs reply row = subst All (sym row.0) tt
   line_roomy true size s leaf e vs reply row = subst All (sym row.moves)
       (more P row.first row.rest (line_search row.result leaf e row.made row.first reply row.ends) (line_scans reply (steps row.first s) row.rest row.scans))
 
-  line_away : (away : Bool) (size : ℕ → ℕ) (s : PoolState) (leaf : LeafSeen) (e : ℕ) (vs : List Move) (reply : OnlineReply) → OnlineAway away size s leaf e vs reply → All vs
+  line_away : (away : Bool) (size : ℕ → ℕ) (s : PoolState) (leaf : LeafSeen) (e : ℕ) (vs : List Move) (reply : OnlineReply)
+      → OnlineAway away size s leaf e vs reply → All vs
   line_away false size s leaf e vs reply row = subst All (sym row.moves) (k.kind.set _ _, line_resilver (steps (Sets leaf.guid (marked_own leaf.own) ∷ []) s).core row.rest row.scans)
   line_away true size s leaf e vs reply row = line_roomy (nat_le (s.core.room leaf.top + 256) (size e)) size s leaf e vs reply row
 
-  line_on : (device : HostDevice) (size : ℕ → ℕ) (s : PoolState) (leaf : LeafSeen) (vs : List Move) (reply : OnlineReply) → OnlineOn device size s leaf vs reply → All vs
+  line_on : (device : HostDevice) (size : ℕ → ℕ) (s : PoolState) (leaf : LeafSeen) (vs : List Move) (reply : OnlineReply)
+      → OnlineOn device size s leaf vs reply → All vs
   line_on NoneFound size s leaf vs reply row = subst All (sym row.0) tt
   line_on (HeldBy by) size s leaf vs reply row = subst All (sym row.0) tt
   line_on (Handed e) size s leaf vs reply row = line_away (is_away leaf.own.mode) size s leaf e vs reply row
@@ -210,7 +219,8 @@ module _ (P : Move → Type 0) (k : IsLineKind P) where
     line_does g [] all = tt
     line_does g (v ∷ vs) all = (a.does g v all.0, line_does g vs all.1)
 
-    line_marked_first : (reading : Bool) (g : ℕ) (mark : Mark) (v : Move) (vs : List Move) (rest : List Act) → All (v ∷ vs) → AllActs rest → AllActs (marked_behind reading (Marks g mark) g v vs rest)
+    line_marked_first : (reading : Bool) (g : ℕ) (mark : Mark) (v : Move) (vs : List Move) (rest : List Act) → All (v ∷ vs) → AllActs rest
+        → AllActs (marked_behind reading (Marks g mark) g v vs rest)
     line_marked_first true g mark v vs rest all more = (a.does g v all.0, more)
     line_marked_first false g mark v vs rest all more = (a.marks g mark, line_does g (v ∷ vs) all)
 
@@ -227,14 +237,17 @@ module _ (P : Move → Type 0) (k : IsLineKind P) where
     line_shown g known (None ∷ devs) = line_shown g known devs
     line_shown g known (Some e ∷ devs) = (a.shows g e known, line_shown g known devs)
 
-    on_lines : (found : Option PoolState) (Line : PoolState → List Act → Reply → Type 0) (acts : List Act) (reply : Reply) → ((s : PoolState) → Line s acts reply → AllActs acts) → OnPool found Line acts reply → AllActs acts
+    on_lines : (found : Option PoolState) (Line : PoolState → List Act → Reply → Type 0) (acts : List Act) (reply : Reply)
+        → ((s : PoolState) → Line s acts reply → AllActs acts) → OnPool found Line acts reply → AllActs acts
     on_lines None Line acts reply line row = subst AllActs (sym row.0) tt
     on_lines (Some s) Line acts reply line row = line s row
 
-    by_moves : (h : Host) (s : PoolState) (Row : List Move → Type 0) (acts : List Act) → ((vs : List Move) → Row vs → All vs) → ByMoves h s Row acts → AllActs acts
+    by_moves : (h : Host) (s : PoolState) (Row : List Move → Type 0) (acts : List Act) → ((vs : List Move) → Row vs → All vs) → ByMoves h s Row acts
+        → AllActs acts
     by_moves h s Row acts all line = subst AllActs (sym line.are) (line_does s.core.pool.0 line.moves (all line.moves line.row))
 
-    by_marked : (h : Host) (s : PoolState) (mark : List Move → Mark) (Row : List Move → Type 0) (acts : List Act) → ((vs : List Move) → Row vs → All vs) → ByMarked h s mark Row acts → AllActs acts
+    by_marked : (h : Host) (s : PoolState) (mark : List Move → Mark) (Row : List Move → Type 0) (acts : List Act) → ((vs : List Move) → Row vs → All vs)
+        → ByMarked h s mark Row acts → AllActs acts
     by_marked h s mark Row acts all line = subst AllActs (sym line.are) (line_marked s.core.pool.0 (mark line.moves) line.moves (all line.moves line.row))
 
     by_online : (h : Host) (s : PoolState) (device : List ℕ) (reply : OnlineReply) (acts : List Act) → ByOnline h s device reply acts → AllActs acts

@@ -158,7 +158,8 @@ write_asked d at bytes (FlushCall dev fault) is = absurd (cc)
 write_asked d at bytes (Admit dev holds) is = absurd (cc)
 write_asked d at bytes (Eject dev) is = absurd (cc)
 
-stamp_wrote : (d size : ℕ) (pool member : Guid) (made : List Noted) (outcome : Option Fault) → IsPart (stamp_plan d size pool member) made outcome → HasWriteTo d made
+stamp_wrote : (d size : ℕ) (pool member : Guid) (made : List Noted) (outcome : Option Fault) → IsPart (stamp_plan d size pool member) made outcome
+    → HasWriteTo d made
 stamp_wrote d size pool member [] outcome part = absurd part
 stamp_wrote d size pool member (noted ∷ made) outcome part = inl (write_asked d (0 + ring_offset) zero_ring noted.call part.0)
 
@@ -187,7 +188,8 @@ record IsStampedOn (P : NewLeaf → Type 0) (d : ℕ) (acts : List Act) : Type 0
   dev : leaf.dev ≡ d
   wrote : HasWriteTo d (calls_along acts)
 
-first_stamp : (P : NewLeaf → Type 0) (d size : ℕ) (pool : Guid) (leaf : NewLeaf) (stamp : Stamp) (stamps : List Stamp) (outcome : Option Fault) → stamp.dev ≡ leaf.dev → P leaf
+first_stamp : (P : NewLeaf → Type 0) (d size : ℕ) (pool : Guid) (leaf : NewLeaf) (stamp : Stamp) (stamps : List Stamp) (outcome : Option Fault)
+    → stamp.dev ≡ leaf.dev → P leaf
     → IsPart (stamp_plan leaf.dev size pool leaf.guid) stamp.made outcome → Keep d (stamp_acts pool.0 stamps) ⊎ IsStampedOn P d (stamp_acts pool.0 stamps)
     → Keep d (stamp_acts pool.0 (stamp ∷ stamps)) ⊎ IsStampedOn P d (stamp_acts pool.0 (stamp ∷ stamps))
 first_stamp P d size pool leaf stamp stamps outcome dev has part rest = by_bool (stamp.dev == d)
@@ -200,7 +202,8 @@ first_stamp P d size pool leaf stamp stamps outcome dev has part rest = by_bool 
     (λ away. ⊎_elim (λ keeps. inl (away, keep_bare d stamp.made (stamp_acts pool.0 stamps) keeps))
     (λ on. inr (record { leaf = on.leaf; has = on.has; dev = on.dev; wrote = wrote_behind d stamp.made (stamp_acts pool.0 stamps) on.wrote })) rest)
 
-keep_stamps : (P : NewLeaf → Type 0) (d : ℕ) (pool : Guid) (size : ℕ → ℕ) (leaves : List NewLeaf) (stamps : List Stamp) (failed : Option NewLeaf) → AreStamps size pool leaves stamps failed
+keep_stamps : (P : NewLeaf → Type 0) (d : ℕ) (pool : Guid) (size : ℕ → ℕ) (leaves : List NewLeaf) (stamps : List Stamp) (failed : Option NewLeaf)
+    → AreStamps size pool leaves stamps failed
     → AllByRecursion P leaves → Keep d (stamp_acts pool.0 stamps) ⊎ IsStampedOn P d (stamp_acts pool.0 stamps)
 keep_stamps P d pool size [] [] failed are all = inl tt
 keep_stamps P d pool size [] (stamp ∷ stamps) failed are all = absurd are
@@ -268,7 +271,8 @@ all_named table (names ∷ tops) next top known =
     (all_named table tops (suc next + length (members_of table names)) (suc top) (unknown_right table names (all_names tops) known)))
 
 -- the device of a stamp was taken by its create
-taken_by : (h : Host) (e : Entry) (d : ℕ) (name : List ℕ) (blocks : ℕ) (tops : List (List (List ℕ))) (answer : CreateReply) → e.asked ≡ Asks_create name blocks tops
+taken_by : (h : Host) (e : Entry) (d : ℕ) (name : List ℕ) (blocks : ℕ) (tops : List (List (List ℕ))) (answer : CreateReply)
+    → e.asked ≡ Asks_create name blocks tops
     → IsStampedOn (HasName h.table (all_names tops)) d e.acts → e.reply ≡ To_create answer → IsTakenBy h e d
 taken_by h e d name blocks tops answer asked on reply = record {
   name = name;
@@ -351,7 +355,8 @@ keep_unless (Some s) c h name acts reply d row = subst (Keep d) (sym row.0) tt
 keep_unless None c h name acts reply d row = keep_for (nat_le 16 (length h.pools)) c h name acts reply d row
 
 -- a row's acts keep the device, but those of a create that takes it
-keep_written : (d : ℕ) (h : Host) (a : ℕ) (block : List ℕ) (found : Option PoolState) (acts : List Act) (reply : Reply) → OnPool found (WriteLine h a block) acts reply → Keep d acts
+keep_written : (d : ℕ) (h : Host) (a : ℕ) (block : List ℕ) (found : Option PoolState) (acts : List Act) (reply : Reply)
+    → OnPool found (WriteLine h a block) acts reply → Keep d acts
 keep_written d h a block None acts reply row = subst (Keep d) (sym row.0) tt
 keep_written d h a block (Some s) acts reply row = subst (Keep d) (sym row.2.are) (keep_does d s.core.pool.0 row.2.moves (keep_write s a block row.2.moves row.0 row.2.row))
 

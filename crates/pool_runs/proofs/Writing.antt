@@ -1,29 +1,34 @@
 -- Which lines leave what was written last.
-use Rattle.std.proofs.Common.{◌≡◌, ◌⊎◌, inl, inr, ⊎_elim, ℕ, ◌==◌, Bool, true, false, cond, List, [], ◌∷◌, ◌++◌, Option, Some, None, refl, sym, ap, ◌∙◌, subst}
+use Rattle.std.proofs.Common.{◌≡◌, ◌⊎◌, inl, inr, ⊎_elim, ℕ, ◌==◌, Bool, true, false, cond, List, [], ◌∷◌, ◌++◌, Option, Some, None, refl, sym, ap, ◌∙◌, subst, nat_le, length}
 use Rattle.std.specs.List.{AllByRecursion}
 use Rattle.std.specs.Str.{bytes_eq}
 use Rattle.bank_core.specs.Disk.{Noted}
 use Rattle.label_store.specs.Newest.{AreReads}
-use Rattle.txg_history.specs.Events.{Calls, Looks, Loses, as_events}
+use Rattle.txg_history.specs.Events.{Calls, Looks, Loses, as_events, Known, Opens}
 use Rattle.txg_history.specs.Pages.{Codec}
 use Rattle.txg_history.specs.Pools.{Pool, after, pool_after}
+use Rattle.txg_history.proofs.Folding.{name_kept}
 use Rattle.txg_history.proofs.Logging.{by_bool}
 use Rattle.pool_moves.specs.AwayRows.{WriteReply, Taken, BadAddress, Full, NoSpace, WriteFits, WriteBy, RowWrite}
+use Rattle.pool_moves.specs.LineRows.{TurnReply, Idle, Write, Flush, Round, Committed, Suspended}
 use Rattle.pool_moves.specs.Moves.{Move, Makes, Puts, events_of}
+use Rattle.pool_moves.specs.OpeningRow.{SeekReply, NoRecord, NumbersEnd, TakesRecord, OpenReply, Opens_state, NoPage, lacking_of}
 use Rattle.pool_moves.specs.ReadRow.{made_in}
 use Rattle.pool_moves.specs.StampRow.{Stamp, CreateReply, Created, FaultOn, new_state}
 use Rattle.pool_moves.specs.States.{PoolState}
-use Rattle.pool_runs.specs.Acts.{Act, Bare, Does, Looked, Reads_as, Takes, Bears, Closes, does, bare, calls_along, pool_by, pool_along}
+use Rattle.pool_runs.specs.Acts.{Act, Bare, Does, Looked, Reads_as, Takes, Bears, Closes, does, bare, calls_along, pool_by, pool_along, read_by, events_for}
 use Rattle.pool_runs.specs.Creating.{tops_of, stamp_acts, new_birth, commit_acts, RowCreate}
 use Rattle.pool_runs.specs.Devices.{size_in}
 use Rattle.pool_runs.specs.HostRows.{WriteLine, OnPool, RowOf, ChangesNone, MayRewrite, HostRow}
+use Rattle.pool_runs.specs.Fairness.{IsFairOpening, IsFair, AreFair}
 use Rattle.pool_runs.specs.Hosts.{Host, named}
+use Rattle.pool_runs.specs.Importing.{read_in, all_shown, OpensBy, FollowsMap, ImportBy, host_behind, ImportFor, ImportUnless}
 use Rattle.pool_runs.specs.Lines.{Asked, Asks_write, Asks_import, Asks_create, Reply, To_write, No_memory, Entry}
 use Rattle.pool_runs.specs.Writing.{IsTakenWrite, IsImport, KeepsWrites}
 use Rattle.pool_runs.proofs.Acting.{number_of_test, own_events}
 use Rattle.pool_runs.proofs.Committing.{KeepsWritten, written_kind, move_written}
 use Rattle.pool_runs.proofs.GroupMoves.{all_found}
-use Rattle.pool_runs.proofs.LineMoves.{IsLineKind, IsActKind, line_does, both_acts, plain_line}
+use Rattle.pool_runs.proofs.LineMoves.{IsLineKind, IsActKind, line_resume, line_does, both_acts, plain_line}
 
 -- Acts that leave what was written.
 calls_written : (made : List Noted) (p : Pool) → (pool_after (as_events made) p).written ≡ p.written
@@ -96,7 +101,8 @@ still_commit : (answer : CreateReply) (g : ℕ) (vs : List Move) → AllByRecurs
 still_commit Created g vs all = line_does KeepsWritten written_line StillAt still_acts g vs all
 still_commit (FaultOn device) g vs all = both_acts KeepsWritten written_line StillAt still_acts (does g vs) (Closes g ∷ []) (line_does KeepsWritten written_line StillAt still_acts g vs all) (tt, tt)
 
-still_create : (c : Codec) (h : Host) (name : List ℕ) (blocks : ℕ) (tops : List (List (List ℕ))) (acts : List Act) (reply : Reply) → RowCreate c h name blocks tops acts reply → AllStill acts
+still_create : (c : Codec) (h : Host) (name : List ℕ) (blocks : ℕ) (tops : List (List (List ℕ))) (acts : List Act) (reply : Reply)
+    → RowCreate c h name blocks tops acts reply → AllStill acts
 still_create c h name blocks tops acts reply (inl row) = subst AllStill (sym row.2) tt
 still_create c h name blocks tops acts reply (inr (inl row)) = subst AllStill (sym row.all) (tt, still_stamps row.pool.0 row.stamps)
 still_create c h name blocks tops acts reply (inr (inr row)) =
@@ -111,15 +117,18 @@ still_create c h name blocks tops acts reply (inr (inr row)) =
     )
 
 -- A write.
-puts_one : (short : Bool) (need free a : ℕ) (block : List ℕ) (vs : List Move) (reply : WriteReply) → WriteFits short need free a block vs reply → ((vs ≡ Puts a block ∷ []) × (reply ≡ Taken)) ⊎ (vs ≡ [])
+puts_one : (short : Bool) (need free a : ℕ) (block : List ℕ) (vs : List Move) (reply : WriteReply) → WriteFits short need free a block vs reply
+    → ((vs ≡ Puts a block ∷ []) × (reply ≡ Taken)) ⊎ (vs ≡ [])
 puts_one true need free a block vs reply row = inr row.0
 puts_one false need free a block vs reply row = inl row
 
-puts_by : (full : Bool) (s : PoolState) (a : ℕ) (block : List ℕ) (vs : List Move) (reply : WriteReply) → WriteBy full s a block vs reply → ((vs ≡ Puts a block ∷ []) × (reply ≡ Taken)) ⊎ (vs ≡ [])
+puts_by : (full : Bool) (s : PoolState) (a : ℕ) (block : List ℕ) (vs : List Move) (reply : WriteReply) → WriteBy full s a block vs reply
+    → ((vs ≡ Puts a block ∷ []) × (reply ≡ Taken)) ⊎ (vs ≡ [])
 puts_by true s a block vs reply row = inr row.0
 puts_by false s a block vs reply row = puts_one _ _ row.0 a block vs reply row.2
 
-puts_or : (s : PoolState) (a : ℕ) (block : List ℕ) (vs : List Move) (reply : WriteReply) → RowWrite s a block vs reply → ((vs ≡ Puts a block ∷ []) × (reply ≡ Taken)) ⊎ (vs ≡ [])
+puts_or : (s : PoolState) (a : ℕ) (block : List ℕ) (vs : List Move) (reply : WriteReply) → RowWrite s a block vs reply
+    → ((vs ≡ Puts a block ∷ []) × (reply ≡ Taken)) ⊎ (vs ≡ [])
 puts_or s a block vs reply (inl row) = inr row.1
 puts_or s a block vs reply (inr row) = puts_by _ s a block vs reply row.1
 
@@ -138,7 +147,8 @@ taken_moves s a block vs (inr row) = full _ row.1
     full true row = absurd (let no : Taken ≡ Full = row.1 in cc)
     full false row = fits _ _ row.0 row.2
 
-put_written : (g a : ℕ) (block : List ℕ) (p : Pool) → p.pool.0 ≡ g → (x : ℕ) → (pool_along (does g (Puts a block ∷ [])) p).written x ≡ cond (a == x) block (p.written x)
+put_written : (g a : ℕ) (block : List ℕ) (p : Pool) → p.pool.0 ≡ g → (x : ℕ)
+    → (pool_along (does g (Puts a block ∷ [])) p).written x ≡ cond (a == x) block (p.written x)
 put_written g a block p is x = ap (λ vs. (pool_after vs p).written x) (own_events g (Puts a block) p is)
 
 write_puts : (c : Codec) (h : Host) (p : Pool) (e : Entry) (a : ℕ) (block : List ℕ) → HostRow c h e → IsTakenWrite h p e a block → (x : ℕ)
@@ -151,19 +161,20 @@ write_puts c h p e a block (inl row) w x =
     ap (λ acts. (pool_along acts p).written x) acts ∙ put_written w.s.core.pool.0 a block p (sym w.at.ours) x
 
 -- what each line leaves
-abbrev Leaves : Host → Pool → Entry → Type 0
-Leaves h p e = (((a : ℕ) × (block : List ℕ) × IsTakenWrite h p e a block) ⊎ IsImport e) ⊎ ((x : ℕ) → (pool_along e.acts p).written x ≡ p.written x)
+abbrev Leaves : Codec → Host → Pool → Entry → Type 0
+Leaves c h p e = (((a : ℕ) × (block : List ℕ) × IsTakenWrite h p e a block) ⊎ IsImport c p e) ⊎ ((x : ℕ) → (pool_along e.acts p).written x ≡ p.written x)
 
-leaves_still : (h : Host) (p : Pool) (e : Entry) → AllStill e.acts → Leaves h p e
-leaves_still h p e all = inr (λ x. ap (λ f. f x) (acts_still e.acts p all))
+leaves_still : (c : Codec) (h : Host) (p : Pool) (e : Entry) → AllStill e.acts → Leaves c h p e
+leaves_still c h p e all = inr (λ x. ap (λ f. f x) (acts_still e.acts p all))
 
 other_put : (g a : ℕ) (block : List ℕ) (p : Pool) → (p.pool.0 == g) ≡ false → (pool_along (does g (Puts a block ∷ [])) p).written ≡ p.written
 other_put g a block p off = ap (λ t. (pool_after (cond t (events_of (Puts a block) p) []) p).written) off
 
-write_leaves : (h : Host) (p : Pool) (e : Entry) (name : List ℕ) (a : ℕ) (block : List ℕ) (found : Option PoolState) → named name h.pools ≡ found → e.asked ≡ Asks_write name a block
-    → OnPool found (WriteLine h a block) e.acts e.reply → Leaves h p e
-write_leaves h p e name a block None at asked row = leaves_still h p e (subst AllStill (sym row.0) tt)
-write_leaves h p e name a block (Some s) at asked line = ⊎_elim
+write_leaves : (c : Codec) (h : Host) (p : Pool) (e : Entry) (name : List ℕ) (a : ℕ) (block : List ℕ) (found : Option PoolState) → named name h.pools ≡ found
+    → e.asked ≡ Asks_write name a block
+    → OnPool found (WriteLine h a block) e.acts e.reply → Leaves c h p e
+write_leaves c h p e name a block None at asked row = leaves_still c h p e (subst AllStill (sym row.0) tt)
+write_leaves c h p e name a block (Some s) at asked line = ⊎_elim
     (λ put. let acts : e.acts ≡ does s.core.pool.0 (Puts a block ∷ []) = line.2.are ∙ ap (does s.core.pool.0) put.0 in by_bool (p.pool.0 == s.core.pool.0)
     (λ ours. inl (inl (
       a,
@@ -177,14 +188,96 @@ write_leaves h p e name a block (Some s) at asked line = ⊎_elim
       },
     )))
     (λ off. inr (λ x. ap (λ acts. (pool_along acts p).written x) acts ∙ ap (λ f. f x) (other_put s.core.pool.0 a block p off))))
-    (λ none. leaves_still h p e (subst AllStill (sym (line.2.are ∙ ap (does s.core.pool.0) none)) tt))
+    (λ none. leaves_still c h p e (subst AllStill (sym (line.2.are ∙ ap (does s.core.pool.0) none)) tt))
     (puts_or s a block line.2.moves line.0 line.2.row)
 
-row_leaves : (c : Codec) (h : Host) (p : Pool) (e : Entry) (asked : Asked) → e.asked ≡ asked → RowOf c h asked e.acts e.reply → Leaves h p e
-row_leaves c h p e (Asks_write name a block) is row = write_leaves h p e name a block (named name h.pools) refl is row
-row_leaves c h p e (Asks_import name) is row = inl (inr (record { name = name; asked = is }))
-row_leaves c h p e (Asks_create name blocks tops) is row = leaves_still h p e (still_create c h name blocks tops e.acts e.reply row)
-row_leaves c h p e asked is row = leaves_still h p e (plain_line KeepsWritten written_line StillAt still_acts c h asked e.acts e.reply tt row)
+-- An import: it changes what was written of the pool of its name alone, as far as it is fair.
+abbrev NamedAt : (name : List ℕ) → Act → Type 0
+NamedAt name (Does g v) = KeepsWritten v
+NamedAt name (Reads_as opening) = opening.name ≡ name
+NamedAt name act = Unit {0}
+
+abbrev AllNamed : (name : List ℕ) → List Act → Type 0
+AllNamed name acts = AllByRecursion (NamedAt name) acts
+
+named_front : (name : List ℕ) (first second : List Act) → AllNamed name (first ++ second) → AllNamed name first
+named_front name [] second all = tt
+named_front name (act ∷ first) second all = (all.0, named_front name first second all.1)
+
+named_acts : (name : List ℕ) → IsActKind KeepsWritten (NamedAt name)
+named_acts name = record { does = λ g v is. is; marks = λ g mark. tt; shows = λ g e known. tt }
+
+named_bare : (name : List ℕ) (made : List Noted) (rest : List Act) → AllNamed name rest → AllNamed name (bare made ++ rest)
+named_bare name [] rest all = all
+named_bare name (noted ∷ made) rest all = (tt, named_bare name made rest all)
+
+named_shown : (name : List ℕ) (g : ℕ) (known : Known) (devs : List (Option ℕ)) (rest : List Act) → AllNamed name rest → AllNamed name (all_shown g known devs ++ rest)
+named_shown name g known [] rest all = all
+named_shown name g known (None ∷ devs) rest all = named_shown name g known devs rest all
+named_shown name g known (Some e ∷ devs) rest all = (tt, named_shown name g known devs rest all)
+
+named_does : (name : List ℕ) (g : ℕ) (vs : List Move) → AllByRecursion KeepsWritten vs → AllNamed name (does g vs)
+named_does name g vs all = line_does KeepsWritten written_line (NamedAt name) (named_acts name) g vs all
+
+named_opens : (turn : TurnReply) (name : List ℕ) (g : ℕ) (s : PoolState) (vs : List Move) (acts : List Act) (reply : Reply) → AllByRecursion KeepsWritten vs
+    → OpensBy turn g s vs acts reply → AllNamed name acts
+named_opens (Committed number) name g s vs acts reply all by = subst (AllNamed name) (sym by.0) (tt, named_does name g vs all)
+named_opens (Suspended group top faults) name g s vs acts reply all by = subst (AllNamed name) (sym by.0)
+    (tt, both_acts KeepsWritten written_line (NamedAt name) (named_acts name) (does g vs) (Closes g ∷ []) (named_does name g vs all) (tt, tt))
+named_opens Idle name g s vs acts reply all by = absurd by
+named_opens Write name g s vs acts reply all by = absurd by
+named_opens Flush name g s vs acts reply all by = absurd by
+named_opens (Round number) name g s vs acts reply all by = absurd by
+
+named_follows : (outcome : OpenReply) (c : Codec) (size : ℕ → ℕ) (name : List ℕ) (g : ℕ) (acts : List Act) (reply : Reply) → FollowsMap outcome c size g acts reply
+    → AllNamed name acts
+named_follows (NoPage page shown) c size name g acts reply row = subst (AllNamed name) (sym row.0) tt
+named_follows (Opens_state s) c size name g acts reply row = named_opens row.1 name g s row.0 acts reply
+    (line_resume KeepsWritten written_line (lacking_of s.core.leaves s.core.leaves) c size s row.0 row.1 row.2) row.3
+
+named_import_by : (seek : SeekReply) (c : Codec) (h : Host) (name : List ℕ) (acts : List Act) (reply : Reply) → ImportBy seek c h name acts reply → AllNamed name acts
+named_import_by NoRecord c h name acts reply row = subst (AllNamed name) (sym row.0) tt
+named_import_by (NumbersEnd limit count) c h name acts reply row = subst (AllNamed name) (sym row.0) tt
+named_import_by (TakesRecord found) c h name acts reply row = subst (AllNamed name) (sym row.are) (
+  refl,
+  named_bare name row.row.ids (all_shown found.pool.0 (read_in row.row.ids) row.row.devs ++ (bare row.row.pages ++ row.rest))
+      (named_shown name found.pool.0 (read_in row.row.ids) row.row.devs (bare row.row.pages ++ row.rest)
+      (named_bare name row.row.pages row.rest (named_follows row.outcome c (size_in h.table) name found.pool.0 row.rest reply row.follows))),
+)
+
+named_for : (full : Bool) (c : Codec) (h : Host) (name : List ℕ) (acts : List Act) (reply : Reply) → ImportFor full c h name acts reply → AllNamed name acts
+named_for true c h name acts reply row = subst (AllNamed name) (sym row.0) tt
+named_for false c h name acts reply row = subst (AllNamed name) (sym row.are)
+    (named_bare name row.made (Looked name _ ∷ row.rest) (tt, named_import_by row.seek c (host_behind row.made h) name row.rest reply row.follows))
+
+named_import : (found : Option PoolState) (c : Codec) (h : Host) (name : List ℕ) (acts : List Act) (reply : Reply) → ImportUnless found c h name acts reply → AllNamed name acts
+named_import (Some s) c h name acts reply row = subst (AllNamed name) (sym row.0) tt
+named_import None c h name acts reply row = named_for (nat_le 16 (length h.pools)) c h name acts reply row
+
+act_named : (c : Codec) (name : List ℕ) (act : Act) (p : Pool) → NamedAt name act → (IsFair c p act → p.name ≡ name) ⊎ ((pool_by act p).written ≡ p.written)
+act_named c name (Reads_as opening) p is = by (p.pool.0 == opening.found.pool.0) refl
+  where
+    by : (t : Bool) → (p.pool.0 == opening.found.pool.0) ≡ t
+        → ((p.pool.0 ≡ opening.found.pool.0 → IsFairOpening c p opening) → p.name ≡ name) ⊎ ((pool_after (cond t (Opens (read_by opening p) ∷ []) []) p).written ≡ p.written)
+    by true same = inl (λ fair. (fair (number_of_test p.pool.0 opening.found.pool.0 same)).named ∙ is)
+    by false off = inr refl
+act_named c name (Does g v) p is = inr (act_still (Does g v) p is)
+act_named c name act p is = inr (act_still act p tt)
+
+acts_named : (c : Codec) (name : List ℕ) (acts : List Act) (p : Pool) → AllNamed name acts → (AreFair c p acts → p.name ≡ name) ⊎ ((pool_along acts p).written ≡ p.written)
+acts_named c name [] p all = inr refl
+acts_named c name (act ∷ acts) p all = ⊎_elim (λ ours. inl (λ fair. ours fair.0))
+    (λ one. ⊎_elim (λ ours. inl (λ fair. sym (name_kept (events_for act p) p) ∙ ours fair.1)) (λ rest. inr (rest ∙ one)) (acts_named c name acts (pool_by act p) all.1))
+    (act_named c name act p all.0)
+
+import_leaves : (c : Codec) (h : Host) (p : Pool) (e : Entry) (name : List ℕ) → e.asked ≡ Asks_import name → AllNamed name e.acts → Leaves c h p e
+import_leaves c h p e name is all = ⊎_elim (λ ours. inl (inr (record { name = name; asked = is; ours = ours }))) (λ same. inr (λ x. ap (λ f. f x) same)) (acts_named c name e.acts p all)
+
+row_leaves : (c : Codec) (h : Host) (p : Pool) (e : Entry) (asked : Asked) → e.asked ≡ asked → RowOf c h asked e.acts e.reply → Leaves c h p e
+row_leaves c h p e (Asks_write name a block) is row = write_leaves c h p e name a block (named name h.pools) refl is row
+row_leaves c h p e (Asks_import name) is row = import_leaves c h p e name is (named_import (named name h.pools) c h name e.acts e.reply row)
+row_leaves c h p e (Asks_create name blocks tops) is row = leaves_still c h p e (still_create c h name blocks tops e.acts e.reply row)
+row_leaves c h p e asked is row = leaves_still c h p e (plain_line KeepsWritten written_line StillAt still_acts c h asked e.acts e.reply tt row)
 
 -- Where there was no memory.
 abbrev NoReading : Act → Type 0
@@ -209,22 +302,25 @@ all_still : (acts : List Act) → AllByRecursion ChangesNone acts → AllByRecur
 all_still [] none off = tt
 all_still (act ∷ acts) none off = (none_still act none.0 off.0, all_still acts none.1 off.1)
 
-write_none : (h : Host) (a : ℕ) (block : List ℕ) (found : Option PoolState) (acts : List Act) (reply : Reply) → OnPool found (WriteLine h a block) acts reply → AllByRecursion NoReading acts
+write_none : (h : Host) (a : ℕ) (block : List ℕ) (found : Option PoolState) (acts : List Act) (reply : Reply)
+    → OnPool found (WriteLine h a block) acts reply → AllByRecursion NoReading acts
 write_none h a block None acts reply row = subst (AllByRecursion NoReading) (sym row.0) tt
 write_none h a block (Some s) acts reply row = subst (AllByRecursion NoReading) (sym row.2.are) (moves_none s.core.pool.0 row.2.moves)
 
-short_leaves : (c : Codec) (h : Host) (p : Pool) (e : Entry) (rest : List Act) (reply : Reply) (asked : Asked) → e.asked ≡ asked → RowOf c h asked (e.acts ++ rest) reply
-    → (AllByRecursion ChangesNone e.acts × AreReads (calls_along e.acts)) ⊎ MayRewrite asked e.acts → Leaves h p e
+short_leaves : (c : Codec) (h : Host) (p : Pool) (e : Entry) (rest : List Act) (reply : Reply) (asked : Asked) → e.asked ≡ asked
+    → RowOf c h asked (e.acts ++ rest) reply
+    → (AllByRecursion ChangesNone e.acts × AreReads (calls_along e.acts)) ⊎ MayRewrite asked e.acts → Leaves c h p e
 short_leaves c h p e rest reply (Asks_write name a block) is row (inl early) =
-    leaves_still h p e (all_still e.acts early.0 (none_front e.acts rest (write_none h a block (named name h.pools) (e.acts ++ rest) reply row)))
+    leaves_still c h p e (all_still e.acts early.0 (none_front e.acts rest (write_none h a block (named name h.pools) (e.acts ++ rest) reply row)))
 short_leaves c h p e rest reply (Asks_write name a block) is row (inr none) = absurd none
-short_leaves c h p e rest reply (Asks_import name) is row early = inl (inr (record { name = name; asked = is }))
-short_leaves c h p e rest reply (Asks_create name blocks tops) is row early = leaves_still h p e (still_front e.acts rest (still_create c h name blocks tops (e.acts ++ rest) reply row))
-short_leaves c h p e rest reply asked is row early = leaves_still h p e (still_front e.acts rest (plain_line KeepsWritten written_line StillAt still_acts c h asked (e.acts ++ rest) reply tt row))
+short_leaves c h p e rest reply (Asks_import name) is row early =
+    import_leaves c h p e name is (named_front name e.acts rest (named_import (named name h.pools) c h name (e.acts ++ rest) reply row))
+short_leaves c h p e rest reply (Asks_create name blocks tops) is row early = leaves_still c h p e (still_front e.acts rest (still_create c h name blocks tops (e.acts ++ rest) reply row))
+short_leaves c h p e rest reply asked is row early = leaves_still c h p e (still_front e.acts rest (plain_line KeepsWritten written_line StillAt still_acts c h asked (e.acts ++ rest) reply tt row))
 
-entry_leaves : (c : Codec) (h : Host) (p : Pool) (e : Entry) → HostRow c h e → Leaves h p e
+entry_leaves : (c : Codec) (h : Host) (p : Pool) (e : Entry) → HostRow c h e → Leaves c h p e
 entry_leaves c h p e (inl row) = row_leaves c h p e e.asked refl row.0
 entry_leaves c h p e (inr out) = short_leaves c h p e out.rest out.reply e.asked refl out.goes_on out.early
 
-pub entry_writes : (c : Codec) (h : Host) (p : Pool) (e : Entry) → HostRow c h e → KeepsWrites h p (pool_along e.acts p) e
+pub entry_writes : (c : Codec) (h : Host) (p : Pool) (e : Entry) → HostRow c h e → KeepsWrites c h p (pool_along e.acts p) e
 entry_writes c h p e row = record { puts = λ a block w x. write_puts c h p e a block row w x; leaves = entry_leaves c h p e row }

@@ -58,8 +58,8 @@ pub record Headline (c : Codec) (past : Past) (h : Host) (acts : List Act) (entr
       → FindsPool c (pool_before l) (pool_behind l) (host_after h l) l.entry.acts l.entry.reply
   -- a sync or a turn that answers a number acknowledged that record; it has each block as it was written last, before the turn's group was frozen
   pub commits : (l : LineOf c past acts entries) → Acknowledges (host_before h l) (pool_before l) (pool_behind l) l.entry
-  -- a write that is taken puts its block where it says, and nothing else but an import changes what was written last
-  pub writes : (l : LineOf c past acts entries) → KeepsWrites (host_before h l) (pool_before l) (pool_behind l) l.entry
+  -- a write that is taken puts its block where it says, and nothing else but an import of the pool changes what was written last
+  pub writes : (l : LineOf c past acts entries) → KeepsWrites c (host_before h l) (pool_before l) (pool_behind l) l.entry
   -- a read gives the block that was written last, up to a clash, and none only where each readable leaf of the block's top missed it in this line
   pub reads : (l : LineOf c past acts entries) (name : List ℕ) (a : ℕ) (s : PoolState) → l.entry.asked ≡ Asks_read name a
       → IsOpenAs (pool_before l) (host_before h l) name s → ReadsWritten (pool_before l) s a (calls_in_line l) l.entry.reply
@@ -72,5 +72,6 @@ pub record Headline (c : Codec) (past : Past) (h : Host) (acts : List Act) (entr
       → (pool_after before (pool_of past)).owes d g ≡ true → (pool_at m).owes d g ≡ false → TakesFor (pool_of past) before v d g
   -- a member stays one, unless this very line is a create that names its device, wasn't refused, and wrote to it
   pub keeps : (l : LineOf c past acts entries) (d : ℕ) → (pool_before l).member d ≡ true → ((pool_behind l).member d ≡ true) ⊎ IsTakenBy (host_before h l) l.entry d
-  -- a line is suspended, or told a device that failed, only where the count of a device of its own rose in that very line, or nobody was left before
+  -- a line is suspended, or told a device that failed, only where the count of a device of its own rose in that very line, or nobody was left before;
+  -- and a turn only where each leaf of the lost top that was still on its board failed in it, as its device's count tells
   pub counts : (l : LineOf c past acts entries) (from to : ℕ → ℕ) → AllCaused (calls_in_line l) from to → IsCounted c (host_before h l) l.entry from to

@@ -1,7 +1,7 @@
 -- What a line leaves of what was written last to each block, and what a read answers of it.
 use Rattle.std.specs.Prelude.{◌≡◌, ◌⊎◌, ℕ, ◌==◌, cond, List}
 use Rattle.bank_core.specs.Disk.{Noted, run}
-use Rattle.txg_history.specs.Pages.{IsClash}
+use Rattle.txg_history.specs.Pages.{Codec, IsClash}
 use Rattle.txg_history.specs.Pools.{Pool}
 use Rattle.txg_history.specs.Records.{key}
 use Rattle.pool_moves.specs.AwayRows.{Taken}
@@ -9,6 +9,7 @@ use Rattle.pool_moves.specs.Missing.{AllMissed}
 use Rattle.pool_moves.specs.ReadRow.{Gives, Exhausted}
 use Rattle.pool_moves.specs.Showing.{LeafShown}
 use Rattle.pool_moves.specs.States.{PoolState}
+use Rattle.pool_runs.specs.Fairness.{AreFair}
 use Rattle.pool_runs.specs.Hosts.{Host}
 use Rattle.pool_runs.specs.Lines.{Asks_write, Asks_import, Reply, To_write, To_read, Entry}
 use Rattle.pool_runs.specs.Moments.{IsOpenAs}
@@ -21,16 +22,17 @@ pub record IsTakenWrite (h : Host) (p : Pool) (e : Entry) (a : ℕ) (block : Lis
   pub at : IsOpenAs p h name s
   pub reply : e.reply ≡ To_write Taken
 
--- The line is an import.
-pub record IsImport (e : Entry) : Type 0 where
+-- The line is an import, and one of this pool by its name, as far as it is fair.
+pub record IsImport (c : Codec) (p : Pool) (e : Entry) : Type 0 where
   pub name : List ℕ
   pub asked : e.asked ≡ Asks_import name
+  pub ours : AreFair c p e.acts → p.name ≡ name
 
 -- A write that is taken puts its block where it says, and leaves each other block as it was written; and so does each other line leave all of them,
--- but an import, which begins with those of the record that it finds.
-pub record KeepsWrites (h : Host) (before behind : Pool) (e : Entry) : Type 0 where
+-- but an import of the pool, which begins with those of the record that it finds.
+pub record KeepsWrites (c : Codec) (h : Host) (before behind : Pool) (e : Entry) : Type 0 where
   pub puts : (a : ℕ) (block : List ℕ) → IsTakenWrite h before e a block → (x : ℕ) → behind.written x ≡ cond (a == x) block (before.written x)
-  pub leaves : (((a : ℕ) × (block : List ℕ) × IsTakenWrite h before e a block) ⊎ IsImport e) ⊎ ((x : ℕ) → behind.written x ≡ before.written x)
+  pub leaves : (((a : ℕ) × (block : List ℕ) × IsTakenWrite h before e a block) ⊎ IsImport c before e) ⊎ ((x : ℕ) → behind.written x ≡ before.written x)
 
 -- A read gives the block that was written last, or that block and the bytes that it gave are two byte strings with one SHA-256 sum; and it gives
 -- none only where each readable leaf of the block's top missed it in these calls of the line.
