@@ -381,7 +381,6 @@ none_keeps d (act ∷ acts) all = (one act all.0, none_keeps d acts all.1)
     one act is = tt
 
 rewrite_front : (c : Codec) (h : Host) (asked : Asked) (acts rest : List Act) (reply : Reply) (d : ℕ) → MayRewrite asked acts → RowOf c h asked (acts ++ rest) reply → Keep d acts
-rewrite_front c h (Asks_read name a) acts rest reply d is row = keep_front d acts rest (row_keeps c h (Asks_read name a) (acts ++ rest) reply d (λ name blocks tops e. absurd (cc)) row)
 rewrite_front c h (Asks_import name) acts rest reply d is row = none_keeps d acts is
 rewrite_front c h asked acts rest reply d is row = absurd is
 
