@@ -12,4 +12,5 @@ pub mod NewMaps
 pub mod PageBytes
 pub mod DirtyPages
 pub mod ReadPages
+pub mod PagesFound
 pub mod CountedPlaces

@@ -12,9 +12,9 @@ use Rattle.std.specs.Prelude.{◌==◌, if◌then◌else◌}
 use Rattle.std.specs.Option.{is_some}
 use Rattle.block_map.proofs.PlaceNumbers.{is_place_of, place_of}
 use Rattle.block_map.specs.Map.{Map, pointer_at, is_free, PointerIs, FreeIs, IsEmpty}
-use Rattle.block_map.specs.Reading.{IsWritten, IsReadBefore, IsUnread, MayStand, MayBeRead, AreRead, NextPage, NamesPlaces, IsReading, IsPut}
+use Rattle.block_map.specs.Reading.{IsWritten, IsReadBefore, IsUnread, MayStand, MayBeRead, AreRead, NextPage, NamesPlaces, HasHolesBelow, IsReading, IsPut}
 
-same_key : (l m i j : ℕ) → l ≡ m → i ≡ j → ◌≡◌ {A = Key} (record { level = l; index = i }) (record { level = m; index = j })
+pub same_key : (l m i j : ℕ) → l ≡ m → i ≡ j → ◌≡◌ {A = Key} (record { level = l; index = i }) (record { level = m; index = j })
 same_key l m i j e f = cc
 
 same_parts : (t u s r : ℕ) → t ≡ u → s ≡ r → ◌≡◌ {A = Place} (record { top = t; sector = s }) (record { top = u; sector = r })
@@ -229,6 +229,32 @@ module _ (old new : Map) (number : ℕ) (page : Key) (pointers : List Pointer) (
     new_unread None last q j lq at less = absurd at
     new_unread (Some next) is q j lq at less = still_hole q j lq (then_before next q is.behind at) less
 
+  -- what was written stays, and below a hole are holes still
+  module _ (level : 1 ≤ page.level) (stored : IsWritten (pointer_at old page)) (holes : (j : ℕ) → j < 64 → pointer_at old (child page j) ≡ hole) where
+    pub still_written : (key : Key) → IsWritten (pointer_at old key) → pointer_at new key ≡ pointer_at old key
+    still_written key written =
+        ⊎_elim (λ (j, less, is).
+        let empty : pointer_at old key ≡ hole = ap (pointer_at old) (sym is) ∙ holes j less in
+        absurd (let birth : (pointer_at old key).birth.0 ≡ 0 = ap (λ p. p.birth.0) empty in omega arith))
+        (λ none. read.others key none)
+        (child_cases page key)
+
+    not_the_page : (q : Key) → pointer_at new q ≡ hole → page ≢ q
+    not_the_page q none same =
+        let empty : pointer_at old page ≡ hole = sym (still_written page stored) ∙ ap (pointer_at new) same ∙ none in
+        let birth : (pointer_at old page).birth.0 ≡ 0 = ap (λ p. p.birth.0) empty in omega arith
+
+    hole_before : (q : Key) → pointer_at new q ≡ hole → pointer_at old q ≡ hole
+    hole_before q none =
+        ⊎_elim (λ (j, less, is). ap (pointer_at old) (sym is) ∙ holes j less)
+        (λ others. sym (read.others q others) ∙ none)
+        (child_cases page q)
+
+    pub new_holes : HasHolesBelow old → HasHolesBelow new
+    new_holes below q j low high less none =
+        read.others (child q j) (λ i li same. not_the_page q none (one_page page q i j level low li less same))
+        ∙ below q j low high less (hole_before q none)
+
 pub next_stored : (map : Map) (page : Key) (next : Option Key) → NextPage map page next → IfSome next (λ n. IsPage map.blocks n × IsWritten (pointer_at map n))
 next_stored map page None last = tt
 next_stored map page (Some next) is = (is.inside, is.stored)
@@ -242,9 +268,11 @@ reading_on old new number page pointers next reading may read is = record {
   born = new_born old new number page pointers may read reading.born;
   page = next_stored new page next is;
   unread = new_unread old new number page pointers may read reading.page.0.level reading.unread next is;
+  holes = new_holes old new number page pointers may read reading.page.0.level reading.page.1
+      (λ j less. reading.unread page j reading.page.0.level (inl refl) less) reading.holes;
 }
 
-key_cases : (one other : Key) → (one ≡ other) ⊎ (one ≢ other)
+pub key_cases : (one other : Key) → (one ≡ other) ⊎ (one ≢ other)
 key_cases one other =
     ⊎_elim (λ level. ⊎_elim (λ index. inl (same_key one.level other.level one.index other.index level index)) (λ differs. inr (λ same. differs (ap (λ x. x.index) same))) (cases_eq one.index other.index))
     (λ differs. inr (λ same. differs (ap (λ x. x.level) same)))
@@ -321,6 +349,7 @@ module _ (blocks : ℕ) (sectors : List ℕ) (old new : Map) (pointer : Pointer)
     born = begin_born;
     page = begin_page volume next is;
     unread = λ q j _ at _. alone (child q j) (below_root next is q j at);
+    holes = λ q j low high _ _. alone (child q j) (λ same. let l : q.level - 1 ≡ 3 = ap (λ x. x.level) same in omega arith);
   }
 
 -- what was written is no hole

@@ -7,7 +7,7 @@ use Rattle.block_map.specs.Keys.{IsVolume, IsKey, IsPage, root, child}
 use Rattle.block_map.specs.Places.{IsPlace}
 use Rattle.block_map.specs.Pointers.{hole, IsPointer}
 use Rattle.block_map.specs.Pages.{page_bytes, AreInForm}
-use Rattle.block_map.specs.Map.{Map, pointer_at, is_free, is_pinned, SameVolume}
+use Rattle.block_map.specs.Map.{Map, pointer_at, is_free, is_pinned, children, SameVolume}
 
 -- the map as far as it is read, the number of the record, and the page to read next
 pub record Reading : Type 0 where
@@ -86,6 +86,11 @@ pub record NamesPlaces (map : Map) : Type 0 where
       → (key : Key) × IsWritten (pointer_at map key) × ((pointer_at map key).place ≡ place)
   pub unpinned : (place : Place) → is_pinned map place ≡ false
 
+-- below a page that is a hole are holes
+abbrev pub HasHolesBelow : Map → Type 0
+HasHolesBelow map = (page : Key) (j : ℕ) → 1 ≤ page.level → page.level ≤ 3 → j < 64 → pointer_at map page ≡ hole
+    → pointer_at map (child page j) ≡ hole
+
 -- a map that is being read: what lies below pages that weren't read yet are holes
 pub record IsReading (map : Map) (number : ℕ) (next : Option Key) : Type 0 where
   pub volume : IsVolume map.blocks
@@ -94,6 +99,7 @@ pub record IsReading (map : Map) (number : ℕ) (next : Option Key) : Type 0 whe
   pub page : IfSome next (λ page. IsPage map.blocks page × IsWritten (pointer_at map page))
   pub unread : (page : Key) (j : ℕ) → 1 ≤ page.level → IsUnread next page → j < 64
       → pointer_at map (child page j) ≡ hole
+  pub holes : HasHolesBelow map
 
 -- a page was read: its bytes are those of its pointers
 pub record IsRead (old new : Reading) (page : Key) (bytes : List ℕ) : Type 0 where
@@ -123,6 +129,42 @@ pub record BeginsReading (blocks : ℕ) (sectors : List ℕ) (number : ℕ) (poi
   pub there : pointer_at reading.map root ≡ pointer
   pub others : (key : Key) → key ≢ root → pointer_at reading.map key ≡ hole
   pub next : reading.next ≡ (if pointer.birth.0 == 0 then None else Some root)
+
+-- what a record tells of its map: the volume's blocks, the sectors of each top, the record's number, and the root's pointer
+pub record RecordedMap : Type 0 where
+  pub blocks : ℕ
+  pub sectors : List ℕ
+  pub number : ℕ
+  pub pointer : Pointer
+
+-- the page is stored, and no more to be read
+abbrev pub WasRead : Reading → Key → Type 0
+WasRead reading page = (1 ≤ page.level) × IsWritten (pointer_at reading.map page) × (¬ (IsUnread reading.next page))
+
+-- the bytes found of the page are those of the pointers of its 64 keys
+pub record IsFound (found : Key → Option (List ℕ)) (map : Map) (page : Key) : Type 0 where
+  pub form : AreInForm (children (pointer_at map) page)
+  pub bytes_are : found page ≡ Some (page_bytes (children (pointer_at map) page))
+
+-- these bytes are found besides, of one page
+pub record FindsPage (before after : Key → Option (List ℕ)) (page : Key) (bytes : List ℕ) : Type 0 where
+  pub there : after page ≡ Some bytes
+  pub others : (key : Key) → key ≢ page → after key ≡ before key
+
+-- a record's map is being read, and of each page that was read these bytes were found
+pub record IsReadFrom (recorded : RecordedMap) (found : Key → Option (List ℕ)) (reading : Reading) : Type 0 where
+  pub blocks : reading.map.blocks ≡ recorded.blocks
+  pub sectors : reading.map.sectors ≡ recorded.sectors
+  pub number : reading.number ≡ recorded.number
+  pub pointer : pointer_at reading.map root ≡ recorded.pointer
+  pub pages : (page : Key) → WasRead reading page → IsFound found reading.map page
+
+-- a record's map is read, and each stored page's 64 keys have the pointers of the bytes found of it
+pub record IsReadBack (recorded : RecordedMap) (found : Key → Option (List ℕ)) (map : Map) : Type 0 where
+  pub blocks : map.blocks ≡ recorded.blocks
+  pub sectors : map.sectors ≡ recorded.sectors
+  pub pointer : pointer_at map root ≡ recorded.pointer
+  pub pages : (page : Key) → 1 ≤ page.level → IsWritten (pointer_at map page) → IsFound found map page
 
 -- no page of the level is stored from an index on
 abbrev pub NoneStored : Map → ℕ → ℕ → Type 0

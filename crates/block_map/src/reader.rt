@@ -1,5 +1,6 @@
 //! The reading of a whole map, page by page.
-ghost use Rattle.std.specs.Prelude.{◌≡◌, ◌≢◌, ℕ, ◌^◌, ◌<◌, ◌≤◌, true, false, List, length, slice_index_or, Some, None, IfOk, IfSome, IsSome, ◌==◌, if◌then◌else◌};
+ghost use Rattle.std.specs.Prelude.{◌≡◌, ◌≢◌, ℕ, ◌^◌, ◌<◌, ◌≤◌, true, false, List, length, slice_index_or, Option};
+ghost use Rattle.std.specs.Prelude.{Some, None, IfOk, IfSome, IsSome, ◌==◌, if◌then◌else◌};
 ghost use Rattle.mp_base.specs.declared.place.Key.{Key};
 ghost use Rattle.mp_base.specs.declared.place.Place.{Place};
 ghost use Rattle.mp_base.specs.declared.place.Pointer.{Pointer};
@@ -8,7 +9,8 @@ ghost use Rattle.block_map.specs.Places.{AreTops};
 ghost use Rattle.block_map.specs.Pointers.{hole, IsPointer};
 ghost use Rattle.block_map.specs.Pages.{page_bytes, AreInForm};
 ghost use Rattle.block_map.specs.Map.{pointer_at};
-ghost use Rattle.block_map.specs.Reading.{IsWritten, MayStand, MayBeRead, AreRead, IsRead, NextPage, NamesPlaces, IsPut, IsNamedFirst, BeginsReading};
+ghost use Rattle.block_map.specs.Reading.{IsWritten, MayStand, MayBeRead, AreRead, IsRead, NextPage, NamesPlaces, HasHolesBelow};
+ghost use Rattle.block_map.specs.Reading.{IsPut, IsNamedFirst, BeginsReading, RecordedMap, FindsPage, IsReadFrom, IsReadBack};
 
 use crate::map::BlockMap;
 use crate::next_page::next_page;
@@ -23,7 +25,8 @@ const ROOT: Key = Key { level: 3, index: 0 };
 
 /// The reading of the map of a record from the bytes of its pages, which are handed in one by one, in the order in
 /// which an opening reads them: from level 3 down to level 1, and on each level by rising index. A page that is a hole
-/// isn't read.
+/// isn't read. Which bytes a caller found of each page it says itself: the clauses `from` follow it page by page
+/// (`IsReadFrom`), and at the end each stored page has just the pointers of its bytes (`IsReadBack`).
 #[derive(Drop)]
 pub struct MapReader {
     map: BlockMap,
@@ -57,6 +60,12 @@ impl MapReader {
         requires born { root.birth.0 ≤ number.0 }
         ensures begun { IfOk result (λ reader. BeginsReading blocks sectors.now number.0 root reader) }
         ensures places { IfOk result (λ reader. NamesPlaces reader.map) }
+        ensures from { IfOk result (λ reader. (found : Key → Option (List ℕ)) → IsReadFrom (record {
+          blocks = blocks;
+          sectors = sectors.now;
+          number = number.0;
+          pointer = root;
+        }) found reader) }
     {
         let mut map = BlockMap::new(alloc, blocks, sectors)?;
         put(&mut map, ROOT, root);
@@ -86,6 +95,11 @@ impl MapReader {
         requires next { IsSome self.old.next }
         ensures read { result ≡ true → IfSome self.old.next (λ page. IsRead self.old self.new page bytes.now) }
         ensures places { NamesPlaces self.new.map }
+        ensures stays { (key : Key) → IsWritten (pointer_at self.old.map key)
+            → pointer_at self.new.map key ≡ pointer_at self.old.map key }
+        ensures from { result ≡ true → IfSome self.old.next (λ page. (recorded : RecordedMap)
+            (before after : Key → Option (List ℕ)) → IsReadFrom recorded before self.old
+            → FindsPage before after page bytes.now → IsReadFrom recorded after self.new) }
         ensures unchanged { result ≡ false → self.new ≡ self.old }
         ensures wrong { result ≡ false → IfSome self.old.next (λ page. (pointers : List Pointer) → AreInForm pointers
             → bytes.now ≡ page_bytes pointers → MayBeRead self.old.map self.old.number page pointers → ⊥) }
@@ -105,11 +119,16 @@ impl MapReader {
         true
     }
 
-    /// The map, once every page is read.
+    /// The map, once every page is read: no birth is above the record's number, below a hole are holes, and each stored
+    /// page has the pointers of the bytes that were found of it.
     pub fn finish(self) -> BlockMap
         requires { self.next ≡ None }
         ensures map { result ≡ self.map }
         ensures places { NamesPlaces result }
+        ensures born { (key : Key) → (pointer_at result key).birth.0 ≤ self.number }
+        ensures holes { HasHolesBelow result }
+        ensures back { (recorded : RecordedMap) (found : Key → Option (List ℕ)) → IsReadFrom recorded found self
+            → IsReadBack recorded found result }
     {
         self.map
     }

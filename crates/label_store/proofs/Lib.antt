@@ -6,6 +6,7 @@ pub mod Fields
 pub mod Keeping
 pub mod Looking
 pub mod Openings
+pub mod Passed
 pub mod Phasing
 pub mod Pieces
 pub mod Places

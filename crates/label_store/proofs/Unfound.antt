@@ -29,7 +29,7 @@ stamp_bare pool member zero p m = blank_bare pool member p m
 stamp_bare pool member (suc slot) p m = zeros_bare
 
 -- What is held of a sector on which bytes stand is these.
-standing_held : (x : Sector) (stood bytes : List ℕ) → Stands x stood → IsHeld x bytes → bytes ≡ stood
+pub standing_held : (x : Sector) (stood bytes : List ℕ) → Stands x stood → IsHeld x bytes → bytes ≡ stood
 standing_held x stood bytes st (inl e) = e ∙ st.stable
 standing_held x stood bytes st (inr way) = absurd (subst (λ p. IsOnTheWay p bytes) st.still way)
 
@@ -170,7 +170,7 @@ pub stamp_elsewhere : (dev size : ℕ) (pool member : Guid) (made : List Noted) 
 stamp_elsewhere dev size pool member made outcome d s off part =
     part_spares (stamp_plan dev size pool member) made outcome d s part (stamp_spares dev size pool member d s off)
 
-config_off : (size label i : ℕ) → 320 ≤ size → label < 4 → i < 28 → IsOffRings size (get_or (labels_of size) label 0 + (4 + i))
+pub config_off : (size label i : ℕ) → 320 ≤ size → label < 4 → i < 28 → IsOffRings size (get_or (labels_of size) label 0 + (4 + i))
 config_off size label i big few small other slot few' inside = λ same.
     let a = get_or (labels_of size) label 0 in
     let b = get_or (labels_of size) other 0 in

@@ -1,7 +1,7 @@
 -- Rings from which every record was taken, by a stamp or a wipe, and what stands there at each moment of it.
-use Rattle.std.specs.Prelude.{◌≡◌, ◌≢◌, ◌⊎◌, ℕ, zero, suc, ◌+◌, ◌<◌, ◌≤◌, false, List, Option, Some, slice_index}
+use Rattle.std.specs.Prelude.{◌≡◌, ◌≢◌, ◌⊎◌, ℕ, zero, suc, ◌+◌, ◌<◌, ◌≤◌, true, false, List, [], ◌∷◌, Option, Some, None, slice_index}
 use Rattle.mp_base.specs.declared.number.Guid.{Guid}
-use Rattle.bank_core.specs.Disk.{Sector, Pending, Nothing, Written, Failing, sector_of, IsImage}
+use Rattle.bank_core.specs.Disk.{Sector, Sectors, Pending, Nothing, Written, Failing, Read, Noted, sector_of, run, IsImage}
 use Rattle.bank_core.specs.Memory.{zero_sector}
 use Rattle.bank_core.specs.Standing.{Stands}
 use Rattle.label_store.specs.declared.rule.Head.{Head}
@@ -58,6 +58,20 @@ abbrev pub ShowsOnly : (least : ℕ) → (ring : List ℕ) → (bytes : ℕ → 
 ShowsOnly least ring bytes = (slot : ℕ) (u : Uberblock) → slot < ring_slots → IsUberblock u (sector_of slot ring)
     → least ≤ u.number.0
     → sector_of slot ring ≡ bytes slot
+
+-- one of these calls read these bytes there
+abbrev pub WasRead : (dev at : ℕ) → (bytes : List ℕ) → List Noted → Type 0
+WasRead dev at bytes [] = ⊥
+WasRead dev at bytes (noted ∷ more) = (noted.call ≡ Read dev at bytes None) ⊎ WasRead dev at bytes more
+
+-- The reads among these calls forge no uberblock of the number `least` or more: of these a damaged slot of the device's
+-- rings shows only what stands there or is on the way. So it is where no label sector is damaged behind the calls.
+abbrev pub AreUnforged : (least dev size : ℕ) → Sectors → List Noted → Type 0
+AreUnforged least dev size sectors made = (label slot : ℕ) (ring : List ℕ) (u : Uberblock) → label < 4 → slot < ring_slots
+    → WasRead dev (slice_index (labels_of size) label + 32) ring made
+    → (run made sectors dev (slice_index (labels_of size) label + (32 + slot))).damaged ≡ true
+    → IsUberblock u (sector_of slot ring) → least ≤ u.number.0
+    → IsHeld (sectors dev (slice_index (labels_of size) label + (32 + slot))) (sector_of slot ring)
 
 -- no sector of the configurations was damaged in between
 abbrev pub AreConfigsUnhurt : (size : ℕ) → (old new : ℕ → Sector) → Type 0

@@ -1,19 +1,20 @@
 //! What a stamp, a mark and a wipe leave of a device's records.
-ghost use Rattle.std.specs.Prelude.{◌≡◌, ◌⊎◌, ℕ, ◌+◌, ◌*◌, ◌^◌, ◌<◌, ◌≤◌, false, List, take, Option, Some, None, slice_get, slice_index};
+ghost use Rattle.std.specs.Prelude.{◌≡◌, ◌⊎◌, ℕ, ◌+◌, ◌*◌, ◌/◌, ◌^◌, ◌<◌, ◌≤◌, true, false, List, take, Option, Some, None, Ok, slice_get, slice_index};
 ghost use Rattle.mp_base.specs.declared.number.Guid.{Guid};
 ghost use Rattle.bank_core.specs.declared.bank.Fault.{Fault};
 ghost use Rattle.bank_core.specs.Asks.{IsPart};
-ghost use Rattle.bank_core.specs.Disk.{Sector, Sectors, Noted, run, sectors_in, sector_of, IsImage, ShowsStable};
+ghost use Rattle.bank_core.specs.Disk.{Sector, Sectors, Noted, run, sectors_in, sector_of, AllAnswer, IsImage, ShowsStable};
 ghost use Rattle.bank_core.specs.Memory.{zero_sector};
 ghost use Rattle.bank_core.specs.Standing.{Untouched};
 ghost use Rattle.label_store.specs.declared.rule.Head.{Head};
 ghost use Rattle.label_store.specs.declared.uberblock.Uberblock.{Uberblock};
-ghost use Rattle.label_store.specs.Clearing.{IsBare, RingsHold, IsOffRings, IsHeld, IsUnforged, IsReadUnforged, ShowsOnly, AreConfigsUnhurt, MayShow, stamp_sector};
-ghost use Rattle.label_store.specs.Identities.{HasIdentity};
-ghost use Rattle.label_store.specs.Layout.{labels_of};
-ghost use Rattle.label_store.specs.Newest.{Parts, IsVerifiedBy};
+ghost use Rattle.label_store.specs.Clearing.{IsBare, RingsHold, IsOffRings, IsHeld, IsUnforged, IsReadUnforged};
+ghost use Rattle.label_store.specs.Clearing.{AreUnforged, ShowsOnly, AreConfigsUnhurt, MayShow, stamp_sector};
+ghost use Rattle.label_store.specs.Identities.{HasIdentity, IsSearch};
+ghost use Rattle.label_store.specs.Layout.{labels_of, config_sectors};
+ghost use Rattle.label_store.specs.Newest.{Parts, IsVerifiedBy, IsCandidate, IsLook};
 ghost use Rattle.label_store.specs.Plans.{blank_uberblock, stamp_plan, wipe_plan};
-ghost use Rattle.label_store.specs.Records.{AreUnhurt, IsVerified, place_at};
+ghost use Rattle.label_store.specs.Records.{AreUnhurt, IsVerified, config_at, place_at};
 ghost use Rattle.label_store.specs.Uberblock.{IsUberblock};
 
 /// What the calls of a wipe, and of a stamp, leave of a device of 320 sectors or more. A mark of a spare is
@@ -22,7 +23,8 @@ ghost use Rattle.label_store.specs.Uberblock.{IsUberblock};
 /// `wiped`, `stamped`: where no call failed, each of the 128 places of uberblocks holds zeros, and behind a stamp
 /// the first one of each ring the uberblock of its identity, flushed. `stays`: further calls that put nothing
 /// there leave it so. `elsewhere_wiped`, `elsewhere_stamped`: however far they came, they put nothing on another
-/// sector: the configurations, the data and the other devices are as they were.
+/// sector: the configurations (`configs`), what lies between the labels (`between`) and the other devices are as they
+/// were.
 pub fn cleared_rings_hold()
     ensures wiped { (dev size : ℕ) (made : List Noted) (sectors : Sectors) → 320 ≤ size → IsPart (wipe_plan dev size) made None
         → RingsHold size (run made sectors dev) (λ slot. zero_sector) }
@@ -35,6 +37,8 @@ pub fn cleared_rings_hold()
         → IsPart (wipe_plan dev size) made outcome → Untouched made d s }
     ensures elsewhere_stamped { (dev size : ℕ) (pool member : Guid) (made : List Noted) (outcome : Option Fault) (d s : ℕ)
         → (d ≡ dev → IsOffRings size s) → IsPart (stamp_plan dev size pool member) made outcome → Untouched made d s }
+    ensures configs { (size label i : ℕ) → 320 ≤ size → label < 4 → i < config_sectors → IsOffRings size (config_at size label + i) }
+    ensures between { (size s : ℕ) → 128 ≤ s → s + 128 < size → IsOffRings size s }
 {}
 
 /// On a device whose rings hold zeros, or what a stamp brought, no record is found. It computes nothing: its
@@ -79,6 +83,35 @@ pub fn cleared_rings_give_one_identity()
     ensures no_other { (pool member : Guid) (ring : List ℕ) (pool' member' : Guid) → pool.0 < 2 ^ 64 → member.0 < 2 ^ 64
         → ShowsOnly 0 ring (stamp_sector pool member) → HasIdentity pool' member' ring
         → (pool' ≡ pool) × (member' ≡ member) }
+{}
+
+/// Openings and searches pass a device whose rings hold zeros, or what a stamp brought. It computes nothing: its
+/// clauses are the law.
+///
+/// `records`: a look at any devices finds no record of any name on this one. `wiped`: no search gives a wiped device
+/// an identity. `stamped`: one gives a stamped device no other than the stamp's. `own`: one that reads each ring gives
+/// it this one, unless the first slot of each ring is damaged. `records`, `wiped` and `stamped` hold as long as no
+/// damaged slot happens to show a correct uberblock, which none does where none is damaged (`unhurt`).
+pub fn openings_pass_cleared_rings()
+    ensures records { (head_of : List ℕ → Option Head) (size : ℕ → ℕ) (devs : List ℕ) (looks : List Parts)
+        (made : List Noted) (sectors : Sectors) (bytes : ℕ → List ℕ) (dev : ℕ)
+        → ((slot : ℕ) → slot < 32 → IsBare (bytes slot)) → RingsHold (size dev) (sectors dev) bytes
+        → IsLook size devs looks made → AllAnswer sectors made → AreUnforged 1 dev (size dev) sectors made
+        → (name : List ℕ) (n : ℕ) (u : Uberblock) (config : List ℕ) → slice_get devs (n / 128) ≡ Some dev
+        → ¬ (IsCandidate head_of looks name n u config) }
+    ensures wiped { (pool member : Guid) (dev size : ℕ) (made : List Noted) (sectors : Sectors)
+        → RingsHold size (sectors dev) (λ slot. zero_sector) → AllAnswer sectors made
+        → AreUnforged 0 dev size sectors made → ¬ (IsSearch pool member dev size made (Ok true)) }
+    ensures stamped { (pool member : Guid) (dev size : ℕ) (made : List Noted) (sectors : Sectors) (pool' member' : Guid)
+        → pool.0 < 2 ^ 64 → member.0 < 2 ^ 64 → RingsHold size (sectors dev) (stamp_sector pool member)
+        → IsSearch pool' member' dev size made (Ok true) → AllAnswer sectors made → AreUnforged 0 dev size sectors made
+        → (pool' ≡ pool) × (member' ≡ member) }
+    ensures own { (pool member : Guid) (dev size : ℕ) (made : List Noted) (sectors : Sectors) (label : ℕ)
+        → pool.0 < 2 ^ 64 → member.0 < 2 ^ 64 → RingsHold size (sectors dev) (stamp_sector pool member)
+        → IsSearch pool member dev size made (Ok false) → AllAnswer sectors made → label < 4
+        → (run made sectors dev (slice_index (labels_of size) label + 32)).damaged ≡ true }
+    ensures unhurt { (least dev size : ℕ) (made : List Noted) (sectors : Sectors)
+        → AreUnhurt size (run made sectors dev) → AreUnforged least dev size sectors made }
 {}
 
 /// A stop in the middle of a wipe or a stamp, also behind a failed call, leaves no record and no identity that a stop

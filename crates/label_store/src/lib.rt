@@ -20,7 +20,7 @@ mod uberblock;
 
 pub use cleared::{
     cleared_rings_give_one_identity, cleared_rings_hold, cleared_rings_show_no_record,
-    half_cleared_rings_show_old_records,
+    half_cleared_rings_show_old_records, openings_pass_cleared_rings,
 };
 pub use commit::commit_record;
 pub use found::Found;

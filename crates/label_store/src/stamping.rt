@@ -17,7 +17,8 @@ pub(crate) const RING_BYTES: usize = 131_072;
 
 /// Gives a device the identity of this member of this pool, and takes every record from it: zeros go
 /// over each ring, and then an uberblock of number 0 into each. It stops at its first failed call. At
-/// `Ok` all of it stands whatever crash comes; after an `Err` nothing is said of the rings.
+/// `Ok` all of it stands whatever crash comes; after an `Err` the device may have some of its uberblocks
+/// still, and none that it hadn't but those of the new identity.
 pub fn stamp<B: Bank>(bank: &mut B, dev: u32, pool: Guid, member: Guid) -> Result<(), Fault>
     requires device { 320 ≤ (B.view bank.old).size dev }
     ensures { Part dev (stamp_plan dev ((B.view bank.old).size dev) pool member)
@@ -48,7 +49,7 @@ pub fn mark_spare<B: Bank>(bank: &mut B, dev: u32) -> Result<(), Fault>
 
 /// Takes every record and the identity from a device: zeros go over each ring, one call each, and then a
 /// flush. It stops at its first failed call. At `Ok` no record is found on the device any more, whatever
-/// crash comes; after an `Err` it has some of its uberblocks still, and none that it hadn't.
+/// crash comes; after an `Err` it may have some of its uberblocks still, and none that it hadn't.
 pub fn wipe<B: Bank>(bank: &mut B, dev: u32) -> Result<(), Fault>
     requires device { 320 ≤ (B.view bank.old).size dev }
     ensures { Part dev (wipe_plan dev ((B.view bank.old).size dev)) (B.view bank.old) (B.view bank.new) (fault_in result) }

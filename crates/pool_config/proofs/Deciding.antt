@@ -1,5 +1,5 @@
 -- Which bytes are a configuration, and how long it is.
-use Rattle.std.proofs.Common.{◌≡◌, ℕ, zero, suc, ◌+◌, ◌*◌, ◌≤◌, Bool, true, false, cond, ◌&&◌, List, [], ◌∷◌, ◌++◌}
+use Rattle.std.proofs.Common.{◌≡◌, ℕ, zero, suc, ◌+◌, ◌*◌, ◌<◌, ◌≤◌, Bool, true, false, cond, ◌&&◌, List, [], ◌∷◌, ◌++◌}
 use Rattle.std.proofs.Common.{length, take, refl, sym, ap, ◌∙◌, subst, arith, length-append, append_assoc, Some, None}
 use Rattle.std.proofs.Common.{All}
 use Rattle.std.specs.List.{flat_map}
@@ -203,7 +203,7 @@ all_spares_short c v =
       v.few_spares,
     )
 
-pub short : (c : ConfigSeen) → IsValid c → length (config_bytes c) ≤ 72000
+pub short : (c : ConfigSeen) → IsValid c → length (config_bytes c) < 72000
 unfolding config_bytes
 short c v =
     omega (

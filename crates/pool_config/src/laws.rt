@@ -1,5 +1,5 @@
 //! What holds of every configuration, whatever code there is.
-ghost use Rattle.std.specs.Prelude.{◌≡◌, ◌↔◌, ℕ, ◌≤◌, List, length, Some, IsTrue};
+ghost use Rattle.std.specs.Prelude.{◌≡◌, ◌↔◌, ℕ, ◌<◌, List, length, Some, IsTrue};
 ghost use Rattle.vdev_tree.specs.declared.vdev.Vdev.{Vdev};
 ghost use Rattle.vdev_tree.specs.Tree.{is_top};
 ghost use Rattle.pool_config.specs.declared.config.Config.{Config};
@@ -11,12 +11,12 @@ ghost use Rattle.pool_config.specs.Spelling.{config_bytes};
 ghost use Rattle.pool_config.specs.Validity.{IsValid, is_valid};
 
 /// What is written is read back, and what is read is written so. So each valid configuration has one
-/// spelling, of at most 72,000 bytes, and no other configuration has it.
+/// spelling, of fewer than 72,000 bytes, and no other configuration has it.
 pub fn each_has_one_spelling()
     ensures back { (c : ConfigSeen) → IsValid c → config_in (config_bytes c) ≡ Some c }
     ensures valid { (bytes : List ℕ) (c : ConfigSeen) → config_in bytes ≡ Some c → IsValid c }
     ensures spelled { (bytes : List ℕ) (c : ConfigSeen) → config_in bytes ≡ Some c → bytes ≡ config_bytes c }
-    ensures fits { (c : ConfigSeen) → IsValid c → length (config_bytes c) ≤ 72000 }
+    ensures fits { (c : ConfigSeen) → IsValid c → length (config_bytes c) < 72000 }
     ensures one { (a b : Config) → IsValid (config_seen a) → IsValid (config_seen b) → SpelledAlike a b ↔ ConfigsAlike a b }
 {}
 

@@ -6,14 +6,16 @@ use Rattle.std.proofs.lemmas.Bool.Decides.{nat_tests}
 use Rattle.txg_history.specs.Pages.{Codec}
 use Rattle.txg_history.specs.Pools.{Pool}
 use Rattle.txg_history.proofs.Logging.{by_bool, same_device, true_not_false}
-use Rattle.pool_moves.specs.AwayRows.{WriteReply, WriteFits, WriteBy, RowWrite, OfflineReply, is_offline, is_spare, leave_if, drop_if, gone, away_moves, OfflineLeaf, OfflineHere, OfflineBy, leaf_named, RowOffline}
+use Rattle.pool_moves.specs.AwayRows.{WriteReply, WriteFits, WriteBy, RowWrite, OfflineReply, is_offline, is_spare, LeaveIf, drop_if, gone, GoesAway, OfflineLeaf, OfflineHere, OfflineBy, leaf_named, RowOffline}
 use Rattle.pool_moves.specs.Keeping.{IsElsewhere, AreSeatsApart, IsAway, IsOfFound, IsFoundAt, HasFound, Kept, Walks}
 use Rattle.pool_moves.specs.Leaves.{LeafSeen, Seat, At, Adrift, told, dev_if, leaf_seen}
-use Rattle.pool_moves.specs.Moves.{Move, Leave, Sets, after_moves}
+use Rattle.pool_moves.specs.Moves.{Move, Leave, Drop, Sets, steps, seat_step, after_moves}
 use Rattle.pool_moves.specs.Refusing.{count_below, keys_needed, written_with, dirty_with}
 use Rattle.pool_moves.specs.States.{PoolState, Side}
 use Rattle.pool_moves.proofs.Boarding.{found_alone}
-use Rattle.pool_moves.proofs.FreeWalks.{walks_more, found_stays}
+use Rattle.pool_moves.proofs.FreeWalks.{walks_more}
+use Rattle.pool_moves.proofs.Keeping.{all_map, seat_cases, walk_keeps}
+use Rattle.pool_moves.proofs.Widenings.{widened_walk, seen_of}
 use Rattle.pool_moves.proofs.FreezeWalks.{found_elsewhere}
 
 -- A write is taken.
@@ -90,12 +92,11 @@ only_found d (At e found own ∷ seats) apart (inr has) = (
 only_found d (Adrift leaf ∷ seats) apart (inl is) = absurd is
 only_found d (Adrift leaf ∷ seats) apart (inr has) = (tt, only_found d seats apart has)
 
-leave_walk : (c : Codec) (t : Side) (on : Bool) (dev : Option ℕ) → AreSeatsApart t.seats
-    → (on ≡ true → (t.pool.group.frozen ≡ true) × ((d : ℕ) → dev ≡ Some d → HasFound d t.seats))
-    → Walks c t (leave_if on dev)
-leave_walk c t true (Some d) apart is = let at = is refl in (((at.0, tt), (at.0, only_found d t.seats apart (at.1 d refl))), tt)
-leave_walk c t true None apart is = tt
-leave_walk c t false dev apart is = tt
+leave_walk : (c : Codec) (s : PoolState) (t : Side) (on : Bool) (dev : Option ℕ) (vs : List Move) → Kept c s t
+    → (on ≡ true → (d : ℕ) → dev ≡ Some d → (t.pool.group.frozen ≡ true) × AllByRecursion (IsOfFound (λ e. d == e)) t.seats) → LeaveIf on dev s.core vs → Walks c t vs
+leave_walk c s t true (Some d) vs kept is leaves = let at = is refl d refl in widened_walk c (Leave d) vs s t kept (((at.0, tt), at), tt) leaves
+leave_walk c s t true None vs kept is leaves = subst (Walks c t) (sym leaves) tt
+leave_walk c s t false dev vs kept is leaves = subst (Walks c t) (sym leaves) tt
 
 drop_walk : (c : Codec) (t : Side) (on : Bool) (dev : Option ℕ) → (on ≡ true → (d : ℕ) → dev ≡ Some d
     → (t.pool.scan.running ≡ true) × AllByRecursion (IsOfFound (λ e. d == e)) t.seats)
@@ -104,37 +105,39 @@ drop_walk c t true (Some d) is = (((tt, tt), is refl d refl), tt)
 drop_walk c t true None is = tt
 drop_walk c t false dev is = tt
 
--- behind a leaf that left the board its scan goes on, and no other leaf is found
-leave_scan : (on : Bool) (dev : Option ℕ) (t : Side) → (after_moves (leave_if on dev) t).pool.scan.running ≡ t.pool.scan.running
-leave_scan true (Some d) t = refl
-leave_scan true None t = refl
-leave_scan false dev t = refl
+-- behind a leaf that left the scan its group is still frozen, and the same leaves are found
+drop_frozen : (on : Bool) (dev : Option ℕ) (t : Side) → (after_moves (drop_if on dev) t).pool.group.frozen ≡ t.pool.group.frozen
+drop_frozen true (Some d) t = refl
+drop_frozen true None t = refl
+drop_frozen false dev t = refl
 
-leave_found : (on : Bool) (dev : Option ℕ) (t : Side) (e : ℕ) → (on ≡ true → (d : ℕ) → dev ≡ Some d → AllByRecursion (IsOfFound (λ x. d == x)) t.seats)
-    → AllByRecursion (IsOfFound (λ x. e == x)) t.seats → AllByRecursion (IsOfFound (λ x. e == x)) (after_moves (leave_if on dev) t).seats
-leave_found true (Some d) t e free all = found_stays (λ x. e == x) (Leave d) t (free refl d refl) all
-leave_found true None t e free all = all
-leave_found false dev t e free all = all
+drop_found : (which : ℕ → Bool) (on : Bool) (dev : Option ℕ) (t : Side) → AllByRecursion (IsOfFound which) t.seats → AllByRecursion (IsOfFound which) (after_moves (drop_if on dev) t).seats
+drop_found which true (Some d) t all = all_map (IsOfFound which) (IsOfFound which) (seat_step (Drop d) t.pool)
+    (seat_cases (λ seat. IsOfFound which seat → IsOfFound which (seat_step (Drop d) t.pool seat)) (λ e found own is. is) (λ leaf is. tt)) t.seats all
+drop_found which true None t all = all
+drop_found which false dev t all = all
 
-away_walk : (c : Codec) (t : Side) (leaf : LeafSeen) (temporary : Bool) → AreSeatsApart t.seats → IsAt t.pool.group.frozen t.pool.scan.running t.seats leaf
-    → Walks c t (away_moves temporary leaf)
-away_walk c t leaf temporary apart at =
-    walks_more c (leave_if leaf.on leaf.dev) (drop_if leaf.eligible leaf.dev ++ (Sets leaf.guid (gone temporary leaf.own) ∷ [])) t
-    (leave_walk c t leaf.on leaf.dev apart at.0)
-    (walks_more c (drop_if leaf.eligible leaf.dev) (Sets leaf.guid (gone temporary leaf.own) ∷ []) behind
-    (drop_walk c behind leaf.eligible leaf.dev (λ on d dev. (
-      leave_scan leaf.on leaf.dev t ∙ (at.1 on d dev).0,
-      leave_found leaf.on leaf.dev t d (λ out e is. only_found e t.seats apart ((at.0 out).1 e is)) (only_found d t.seats apart (at.1 on d dev).1),
-    ))) ((tt, tt), tt))
+away_walk : (c : Codec) (s : PoolState) (t : Side) (leaf : LeafSeen) (temporary : Bool) (vs : List Move) → Kept c s t → IsAt t.pool.group.frozen t.pool.scan.running t.seats leaf
+    → GoesAway s leaf temporary vs → Walks c t vs
+away_walk c s t leaf temporary vs kept at goes = subst (Walks c t) (sym goes.moves)
+    (walks_more c (drop_if leaf.eligible leaf.dev) (goes.leaving ++ (Sets leaf.guid (gone temporary leaf.own) ∷ [])) t dropped
+    (walks_more c goes.leaving (Sets leaf.guid (gone temporary leaf.own) ∷ []) behind
+    (leave_walk c (steps (drop_if leaf.eligible leaf.dev) s) behind leaf.on leaf.dev goes.leaving (walk_keeps c (drop_if leaf.eligible leaf.dev) s t dropped kept) (λ on d dev. (
+      drop_frozen leaf.eligible leaf.dev t ∙ (at.0 on).0,
+      drop_found (λ e. d == e) leaf.eligible leaf.dev t (only_found d t.seats kept.apart ((at.0 on).1 d dev)),
+    )) (subst (λ core. LeaveIf leaf.on leaf.dev core goes.leaving) (sym (seen_of (drop_if leaf.eligible leaf.dev) s)) goes.leaves)) ((tt, tt), tt)))
   where
+    dropped : Walks c t (drop_if leaf.eligible leaf.dev)
+    dropped = drop_walk c t leaf.eligible leaf.dev (λ on d dev. ((at.1 on d dev).0, only_found d t.seats kept.apart (at.1 on d dev).1))
+
     behind : Side
-    behind = after_moves (leave_if leaf.on leaf.dev) t
+    behind = after_moves (drop_if leaf.eligible leaf.dev) t
 
 offline_leaf : (c : Codec) (already : Bool) (s : PoolState) (t : Side) (leaf : LeafSeen) (temporary : Bool) (vs : List Move) (reply : OfflineReply) → Kept c s t
     → IsAt t.pool.group.frozen t.pool.scan.running t.seats leaf → OfflineLeaf already s leaf temporary vs reply → Walks c t vs
 offline_leaf c true s t leaf temporary vs reply kept at row = subst (Walks c t) (sym row.0) ((tt, tt), tt)
 offline_leaf c false s t leaf temporary vs reply kept at (inl row) = subst (Walks c t) (sym row.2) tt
-offline_leaf c false s t leaf temporary vs reply kept at (inr row) = subst (Walks c t) (sym row.1) (away_walk c t leaf temporary kept.apart at)
+offline_leaf c false s t leaf temporary vs reply kept at (inr row) = away_walk c s t leaf temporary vs kept at row.1
 
 offline_here : (c : Codec) (spare : Bool) (s : PoolState) (t : Side) (leaf : LeafSeen) (temporary : Bool) (vs : List Move) (reply : OfflineReply) → Kept c s t
     → IsAt t.pool.group.frozen t.pool.scan.running t.seats leaf → OfflineHere spare s leaf temporary vs reply → Walks c t vs

@@ -1,5 +1,6 @@
 -- Openings and creates may commit their groups without keys.
 use Rattle.std.proofs.Common.{◌≡◌, ℕ, Bool, true, false, cond, Some, None, List, [], ◌∷◌, ◌++◌, refl, sym, ap, ◌∙◌, subst}
+use Rattle.std.specs.List.{AllByRecursion}
 use Rattle.mp_base.specs.declared.place.Key.{Key}
 use Rattle.txg_history.specs.Events.{Opens}
 use Rattle.txg_history.specs.Moves.{MayFlush}
@@ -8,16 +9,18 @@ use Rattle.txg_history.specs.Pools.{Pool}
 use Rattle.txg_history.specs.Records.{Cell, Cells, block_in}
 use Rattle.txg_history.specs.Survival.{Survives}
 use Rattle.txg_history.proofs.Moving.{event_survives}
-use Rattle.pool_moves.specs.CommitRows.{IsOpened, RowReopen, RowFound, NamedLog, RowLogs}
-use Rattle.pool_moves.specs.FreezeRow.{RowEmptyFreeze, up_devs, joins}
+use Rattle.pool_moves.specs.CommitRows.{IsOpened, uncounts, RowReopen, RowFound, NamedLog, RowLogs}
+use Rattle.pool_moves.specs.FreezeRow.{RowEmptyFreeze, up_devs}
 use Rattle.pool_moves.specs.Keeping.{over, Kept, Walks}
+use Rattle.pool_moves.specs.Leaves.{LeafSeen}
 use Rattle.pool_moves.specs.LineRows.{IsSized, TurnReply}
-use Rattle.pool_moves.specs.Moves.{Move, Freeze, Flushed_all, steps, after_move, after_moves}
+use Rattle.pool_moves.specs.Moves.{Move, Freeze, Flushed_all, steps, step, after_move, after_moves}
 use Rattle.pool_moves.specs.States.{PoolState, Side}
 use Rattle.pool_moves.proofs.FreeWalks.{walks_more}
-use Rattle.pool_moves.proofs.FreezeWalks.{empty_freeze_walks, joins_stay}
+use Rattle.pool_moves.proofs.Widenings.{IsLike, widens_like}
+use Rattle.pool_moves.proofs.FreezeWalks.{empty_freeze_walks}
 use Rattle.pool_moves.proofs.Keeping.{walk_keeps}
-use Rattle.pool_moves.proofs.LineWalks.{group_walks, sized_along}
+use Rattle.pool_moves.proofs.LineWalks.{IsSet, sets_walk, group_walks, sized_along}
 use Rattle.pool_moves.proofs.RoundWalks.{round_walks}
 
 pub opened_kept : (c : Codec) (s : PoolState) (t : Side) → IsOpened c s t → Kept c s t
@@ -40,38 +43,40 @@ opened_kept c s t o = record {
   survives = subst (Survives c) (sym o.is) (event_survives c o.before (Opens o.r) o.survives o.live);
 }
 
+-- counts that begin anew
+pub uncounts_set : (leaves : List LeafSeen) → AllByRecursion IsSet (uncounts leaves)
+uncounts_set [] = tt
+uncounts_set (leaf ∷ leaves) = (tt, uncounts_set leaves)
+
 pub reopen_walks : (c : Codec) (size : ℕ → ℕ) (s : PoolState) (t : Side) (vs : List Move) (reply : TurnReply) → Kept c s t → IsSized size t → RowReopen c size s vs reply → Walks c t vs
-reopen_walks c size s t vs reply kept same row = let walks = empty_freeze_walks c s t row.first kept row.freeze in
-    subst (Walks c t) (sym row.moves) (walks_more c row.first row.rest t walks
-    (group_walks c size (steps row.first s) (after_moves row.first t) row.rest reply (walk_keeps c row.first s t walks kept) (sized_along size row.first t same) row.ends))
+reopen_walks c size s t vs reply kept same row =
+    let walks = empty_freeze_walks c s t row.first kept row.freeze in
+    let ending = group_walks c size (steps row.first s) (after_moves row.first t) row.rest reply (walk_keeps c row.first s t walks kept) (sized_along size row.first t same) row.ends in
+    subst (Walks c t) (sym row.moves) (walks_more c row.first (row.rest ++ uncounts (steps row.rest (steps row.first s)).core.leaves) t walks
+    (walks_more c row.rest (uncounts (steps row.rest (steps row.first s)).core.leaves) (after_moves row.first t) ending
+    (sets_walk c (uncounts (steps row.rest (steps row.first s)).core.leaves) (after_moves row.rest (after_moves row.first t)) (uncounts_set (steps row.rest (steps row.first s)).core.leaves))))
 
 -- a group without keys has nothing to flush
 no_key : {A : Type 0} (cells : Cells) (k : Key) (cell : Cell) → cells ≡ (λ k. None) → cells k ≡ Some cell → A
 no_key cells k cell none is = absurd (let no : None ≡ Some cell = sym (ap (λ f. f k) none) ∙ is in cc)
 
-empty_flush : (p : Pool) → p.group.frozen ≡ true → p.group.cells ≡ (λ k. None) → MayFlush p
-empty_flush p frozen none = record {
+empty_flush : (b p : Pool) → IsLike b p → b.group.frozen ≡ true → b.group.cells ≡ (λ k. None) → MayFlush p
+empty_flush b p like frozen none = subst MayFlush (sym like.1) (record {
   frozen = frozen;
-  all = λ k cell is. no_key p.group.cells k cell none is;
-  held = λ d s bytes is n. no_key p.group.cells n.k n.cell none n.cell_is;
-}
+  all = λ k cell is. no_key b.group.cells k cell none is;
+  held = λ d s bytes is n. no_key b.group.cells n.k n.cell none n.cell_is;
+})
 
 found_first : (c : Codec) (s : PoolState) (t : Side) (first : List Move) → Kept c s t → RowEmptyFreeze s first → Walks c t (first ++ (Flushed_all ∷ []))
 found_first c s t first kept row = walks_more c first (Flushed_all ∷ []) t (empty_freeze_walks c s t first kept row)
-    (subst (λ vs. Walks c (after_moves vs t) (Flushed_all ∷ [])) (sym row.moves) (((flush behind refl refl, tt), is_frozen), tt))
+    (subst (λ vs. Walks c (after_moves vs t) (Flushed_all ∷ [])) (sym row.moves.moves)
+    (((empty_flush frozen.pool (after_moves row.moves.widens frozen).pool like refl refl, tt), ap (λ p. p.group.frozen) like.1), tt))
   where
     frozen : Side
     frozen = after_move (Freeze (λ k. None) (up_devs s.core.leaves)) t
 
-    behind : (after_moves (joins s.core.leaves) (after_move (Freeze (λ k. None) (up_devs s.core.leaves)) t)).pool
-        ≡ (after_move (Freeze (λ k. None) (up_devs s.core.leaves)) t).pool
-    behind = joins_stay s.core.leaves frozen
-
-    flush : {p q : Pool} → p ≡ q → q.group.frozen ≡ true → q.group.cells ≡ (λ k. None) → MayFlush p
-    flush same f none = subst MayFlush (sym same) (empty_flush _ f none)
-
-    is_frozen : (after_moves (joins s.core.leaves) (after_move (Freeze (λ k. None) (up_devs s.core.leaves)) t)).pool.group.frozen ≡ true
-    is_frozen = ap (λ p. p.group.frozen) behind
+    like : IsLike (after_move (Freeze (λ k. None) (up_devs s.core.leaves)) t).pool (after_moves row.moves.widens (after_move (Freeze (λ k. None) (up_devs s.core.leaves)) t)).pool
+    like = widens_like row.moves.widens (step (Freeze (λ k. None) (up_devs s.core.leaves)) s.core) frozen frozen.pool row.moves.are (frozen.pool.owes, refl)
 
 pub found_walks : (c : Codec) (size : ℕ → ℕ) (s : PoolState) (t : Side) (vs : List Move) (whole : Bool) → Kept c s t → IsSized size t → RowFound c size s vs whole → Walks c t vs
 found_walks c size s t vs whole kept same row = let walks = found_first c s t row.first kept row.freeze in

@@ -1,5 +1,5 @@
 -- A leaf may be taken out: the walk of `detach` from its row.
-use Rattle.std.proofs.Common.{◌≡◌, inl, inr, ℕ, ◌≤◌, ◌==◌, ◌&&◌, Bool, true, false, cond, Option, Some, None, List, [], ◌∷◌, ◌++◌, refl, sym, ap, ◌∙◌, subst, arith}
+use Rattle.std.proofs.Common.{◌≡◌, ⊎_elim, inl, inr, ℕ, ◌≤◌, ◌==◌, ◌&&◌, Bool, true, false, cond, Option, Some, None, List, [], ◌∷◌, ◌++◌, refl, sym, ap, ◌∙◌, subst, arith}
 use Rattle.std.specs.Prelude.{slice_get}
 use Rattle.std.specs.List.{AllByRecursion, remove}
 use Rattle.std.specs.Str.{bytes_eq}
@@ -13,7 +13,7 @@ use Rattle.txg_history.specs.Survival.{Survives}
 use Rattle.txg_history.proofs.Logging.{by_bool, same_device, true_not_false}
 use Rattle.txg_history.proofs.Losing.{stamps_may}
 use Rattle.pool_moves.specs.AwayRows.{IsRequired, is_spare, leaf_named}
-use Rattle.pool_moves.specs.Keeping.{IsElsewhere, AreSeatsApart, IsAway, IsSeated, IsOwnNumber, IsUnder, HasUnder, IsOfFound, IsNotFoundAt, MayReturn, MayGo, Kept, Walks}
+use Rattle.pool_moves.specs.Keeping.{IsElsewhere, AreSeatsApart, IsAway, IsSeated, IsOwnNumber, HasOtherNumber, IsUnder, HasUnder, IsOfFound, IsNotFoundAt, MayReturn, MayGo, Kept, Walks}
 use Rattle.pool_moves.specs.Leaves.{OwnLeaf, LeafSeen, Seat, At, Adrift, dev_if, told, leaf_seen}
 use Rattle.pool_moves.specs.LineRows.{IsSized, TurnReply, Idle, Write, Flush, Round, Committed, Suspended, CommitsOpen}
 use Rattle.pool_moves.specs.Moves.{Move, Freeze, Burn, Lose, steps, after_move, after_moves}
@@ -25,9 +25,10 @@ use Rattle.pool_moves.proofs.FreeWalks.{walks_more, moves_more}
 use Rattle.pool_moves.proofs.FreezeWalks.{is_idle}
 use Rattle.pool_moves.proofs.Keeping.{walk_keeps}
 use Rattle.pool_moves.proofs.LineWalks.{IsWithin, open_walks, sized_along}
-use Rattle.pool_moves.proofs.Leaving.{leaf_there, not_required, sibling_left, under_kept, top_is_one, apart_others, elsewhere_along, Aside, aside, aside_along, AsideIn, aside_stays, aside_frozen, aside_burnt}
+use Rattle.pool_moves.proofs.Leaving.{leaf_there, not_required, sibling_left, under_kept, top_is_one, apart_others, others_map, elsewhere_along, Aside, aside, aside_along, AsideIn, aside_stays, aside_frozen, aside_burnt}
 use Rattle.pool_moves.proofs.ReadWalks.{calls_walk}
 use Rattle.pool_moves.proofs.Shaping.{IsOfCommit, IsFreeze, commit_moves}
+use Rattle.pool_moves.proofs.Widenings.{nothing_more}
 
 -- The leaf of a name, by the history: where it is in the list, and that it has a sibling.
 record IsThere (t : Side) (i : ℕ) (leaf : LeafSeen) (seat : Seat) : Type 0 where
@@ -196,14 +197,28 @@ commit_of c size s part turn commit = let are = commit_moves c size s part turn 
 record IsKeptAside (t behind : Side) : Type 0 where
   pub same : aside behind.pool ≡ aside t.pool
   pub over : behind.pool.group.frozen ≡ false
-  pub logs : (d : ℕ) → t.pool.member d ≡ true → 1 ≤ t.pool.in_top d → (behind.pool.owes d ≡ t.pool.owes d) × (behind.pool.settled d ≡ t.pool.settled d)
+  pub logs : (d : ℕ) → t.pool.member d ≡ true → 1 ≤ t.pool.in_top d → AllByRecursion (HasOtherNumber t.pool.guid (t.pool.guid d)) t.seats
+      → (behind.pool.owes d ≡ t.pool.owes d) × (behind.pool.settled d ≡ t.pool.settled d)
 
-kept_aside : (c : Codec) (t : Side) (part : List Move) → Survives c t.pool → AreSuspended part → IsKeptAside t (after_moves part t)
-kept_aside c t part sv are = subst (IsKeptAside t) (sym there) (record {
+freeze_others : (v : Move) (t : Side) (d : ℕ) → IsFreeze v → AllByRecursion (HasOtherNumber t.pool.guid (t.pool.guid d)) t.seats
+    → AllByRecursion (HasOtherNumber (after_move v t).pool.guid ((after_move v t).pool.guid d)) (after_move v t).seats
+freeze_others (Freeze cells board) t d is all = others_map (Freeze cells board) t.pool (t.pool.guid d) t.seats (λ leaf. refl) (λ e found own is. is) all
+freeze_others v t d is all = absurd is
+
+-- a member that no leaf of the list is at has a number of its own
+others_of : (guid : ℕ → Guid) (d : ℕ) (seats : List Seat) → AllByRecursion (IsOwnNumber guid d) seats → AllByRecursion (IsElsewhere d) seats
+    → AllByRecursion (HasOtherNumber guid (guid d)) seats
+others_of guid d [] own off = tt
+others_of guid d (At e found mine ∷ seats) own off = (⊎_elim (λ one. absurd (true_not_false (d == e) one off.0)) (λ other. other) own.0, others_of guid d seats own.1 off.1)
+others_of guid d (Adrift leaf ∷ seats) own off = (own.0, others_of guid d seats own.1 off.1)
+
+kept_aside : (c : Codec) (t : Side) (part : List Move) → Survives c t.pool → Walks c t part → AreSuspended part → IsKeptAside t (after_moves part t)
+kept_aside c t part sv walks are = subst (IsKeptAside t) (sym there) (record {
   same = aside_along are.body frozen are.within ∙ freeze_aside are.freeze t are.is_freeze;
   over = refl;
-  logs = λ d mine top. aside_burnt (t.pool.owes d) (t.pool.settled d) d (after_moves are.body frozen)
-      (aside_stays (t.pool.owes d) (t.pool.settled d) d are.body frozen are.within (freeze_logs c are.freeze t d are.is_freeze sv mine top));
+  logs = λ d mine top others. aside_burnt (t.pool.owes d) (t.pool.settled d) d (after_moves are.body frozen)
+      (aside_stays c (t.pool.owes d) (t.pool.settled d) d are.body frozen (nothing_more c are.body Burn frozen (subst (Walks c t) are.moves walks).1) are.within
+      (freeze_others are.freeze t d are.is_freeze others) (freeze_logs c are.freeze t d are.is_freeze sv mine top));
 })
   where
     frozen : Side
@@ -278,13 +293,14 @@ commits_walk c size s t name leaf seat vs reply kept sized idle there row =
         → Walks c (after_moves row.part (after_moves (goes_out s name leaf) t)) row.rest
     behind_walk (Committed number) commit ends = cleaned_walk c size (is_there leaf.own.mode) (is_spare s leaf) leaf.dev behind row.rest off_dev ends.0
     behind_walk (Suspended group top faults) commit ends =
-        let back = kept_aside c without row.part kept_without.survives
+        let back = kept_aside c without row.part kept_without.survives commits
         (suspended_are c size (steps (goes_out s name leaf) s) row.part group top faults commit) in
         subst (Walks c behind) (sym ends.0) (
           (
             tt,
             may_return c s t behind i leaf seat kept idle there back.same back.over kept_behind.apart off_seat
-                (λ d found own is. back.logs d (mine d found own is) (top_one d found own is)),
+                (λ d found own is. back.logs d (mine d found own is) (top_one d found own is)
+                (others_of without.pool.guid d without.seats (kept_without.numbered d (mine d found own is)) (apart_others t.seats i d found own kept.apart (there.at ∙ ap Some is)))),
           ),
           ((tt, tt), tt),
         )

@@ -9,13 +9,12 @@ use Rattle.mp_base.specs.declared.number.Guid.{Guid}
 use Rattle.txg_history.specs.Moves.{IsLeafOf, HasBoard, IsDrawnUp}
 use Rattle.txg_history.specs.Pages.{kept_top, kept_log, Codec, Sum, sum_of}
 use Rattle.txg_history.specs.Pools.{Pool}
-use Rattle.txg_history.specs.Records.{Rec, Cell, IsNoLeaf, key}
-use Rattle.txg_history.specs.Survival.{Fits}
+use Rattle.txg_history.specs.Records.{Cell, IsNoLeaf, key}
 use Rattle.txg_history.proofs.Logging.{by_bool, same_device, not_true, true_not_false}
-use Rattle.pool_moves.specs.Boards.{is_on_under, has_on, emptied_of, emptied}
+use Rattle.pool_moves.specs.Boards.{has_on, emptied_of, emptied}
 use Rattle.pool_moves.specs.Drafts.{kept_leaf, top_in, owes_in, draft_of}
-use Rattle.pool_moves.specs.Keeping.{IsElsewhere, IsAway, IsSeated, IsOwnNumber, IsFoundAt, HasFound, IsUnder, HasUnder, HasOtherNumber, KnowsJust, Kept}
-use Rattle.pool_moves.specs.Leaves.{OwnLeaf, LeafSeen, Seat, At, Adrift, told, leaf_seen}
+use Rattle.pool_moves.specs.Keeping.{IsElsewhere, IsAway, IsSeated, IsOwnNumber, HasFound, HasUnder, HasOtherNumber, KnowsJust, Kept}
+use Rattle.pool_moves.specs.Leaves.{LeafSeen, Seat, At, Adrift}
 use Rattle.pool_moves.specs.Making.{HasSeat}
 use Rattle.pool_moves.specs.Moves.{Draft, rec_of}
 use Rattle.pool_moves.specs.States.{PoolState, Side}

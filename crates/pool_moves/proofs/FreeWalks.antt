@@ -1,20 +1,17 @@
 -- Free moves, one after another, and what the history gets of them.
-use Rattle.std.proofs.Common.{◌≡◌, ℕ, ◌==◌, Bool, true, false, List, [], ◌∷◌, ◌++◌, refl, sym, ap, ◌∙◌, append-nil, append_assoc}
+use Rattle.std.proofs.Common.{◌≡◌, ℕ, ◌==◌, Bool, true, List, [], ◌∷◌, ◌++◌, refl, sym, ap, ◌∙◌, append_assoc}
 use Rattle.std.specs.List.{AllByRecursion}
 use Rattle.bank_core.specs.Disk.{Noted}
-use Rattle.label_store.specs.declared.member.Member.{Member}
-use Rattle.txg_history.specs.Events.{Event, Calls, Leaves, as_events}
+use Rattle.txg_history.specs.Events.{Calls, as_events}
 use Rattle.txg_history.specs.Moves.{Mays}
 use Rattle.txg_history.specs.Pages.{Codec}
-use Rattle.txg_history.specs.Pools.{Pool, pool_after}
-use Rattle.txg_history.specs.Turns.{leavers}
+use Rattle.txg_history.specs.Pools.{pool_after}
 use Rattle.txg_history.proofs.Folding.{mays_first, mays_second, pool_more}
 use Rattle.pool_moves.specs.Keeping.{IsOfFound, Admits, Walks}
 use Rattle.pool_moves.specs.Leaves.{Seat}
 use Rattle.pool_moves.specs.Moves.{Move, Makes, Puts, Wrote_key, Flushed_all, Draw, Leave, Copies, Copied, Sets, seat_step, seats_by, events_of, after_move, after_moves}
 use Rattle.pool_moves.specs.States.{Side}
-use Rattle.pool_moves.specs.TurnRows.{turn_moves}
-use Rattle.pool_moves.specs.Walking.{events_along, AreAdmitted, IsFree, as_moves, leave_moves}
+use Rattle.pool_moves.specs.Walking.{events_along, AreAdmitted, IsFree, as_moves}
 use Rattle.pool_moves.proofs.Keeping.{all_map, all_same, seat_cases}
 
 -- A walk is moves that the history allows and the state admits.
@@ -123,34 +120,12 @@ pub all_append : {A : Type 0} (P : A → Type 0) (xs ys : List A) → AllByRecur
 all_append P [] ys a b = b
 all_append P (x ∷ xs) ys a b = (a.0, all_append P xs ys a.1 b)
 
--- Calls are free, and so are leaves of members whose devices are no unfound leaf's.
+-- Calls are free.
 pub calls_free : (seats : List Seat) (made : List Noted) → AllByRecursion (IsFree seats) (as_moves made)
 calls_free seats [] = tt
 calls_free seats (noted ∷ made) = (tt, calls_free seats made)
 
-pub leaves_free : (seats : List Seat) (ms : List Member) (results : List Bool) → AllByRecursion (λ m. AllByRecursion (IsOfFound (λ e. m.dev == e)) seats) ms
-    → AllByRecursion (IsFree seats) (leave_moves ms results)
-leaves_free seats [] results all = tt
-leaves_free seats (m ∷ ms) [] all = tt
-leaves_free seats (m ∷ ms) (true ∷ results) all = leaves_free seats ms results all.1
-leaves_free seats (m ∷ ms) (false ∷ results) all = (all.0, leaves_free seats ms results all.1)
-
--- What the history gets of calls and of leaves, and of more moves behind them.
+-- What the history gets of calls, and of more moves behind them.
 pub calls_along : (made : List Noted) (ws : List Move) (t : Side) → events_along (as_moves made ++ ws) t ≡ as_events made ++ events_along ws (after_moves (as_moves made) t)
 calls_along [] ws t = refl
 calls_along (noted ∷ made) ws t = ap (λ l. Calls noted ∷ l) (calls_along made ws (after_move (Makes noted) t))
-
-pub leaves_along : (ms : List Member) (results : List Bool) (ws : List Move) (t : Side)
-    → events_along (leave_moves ms results ++ ws) t ≡ leavers ms results ++ events_along ws (after_moves (leave_moves ms results) t)
-leaves_along [] results ws t = refl
-leaves_along (m ∷ ms) [] ws t = refl
-leaves_along (m ∷ ms) (true ∷ results) ws t = leaves_along ms results ws t
-leaves_along (m ∷ ms) (false ∷ results) ws t = ap (λ l. Leaves m.dev ∷ l) (leaves_along ms results ws (after_move (Leave m.dev) t))
-
--- a turn's moves are a turn's events
-pub turn_along : (made : List Noted) (ms : List Member) (results : List Bool) (mark : Move) (v : Event) (t : Side) → ((p : Pool) → events_of mark p ≡ v ∷ [])
-    → events_along (turn_moves made ms results mark) t ≡ as_events made ++ (leavers ms results ++ (v ∷ []))
-turn_along made ms results mark v t is =
-    calls_along made (leave_moves ms results ++ (mark ∷ [])) t
-    ∙ ap (λ l. as_events made ++ l) (leaves_along ms results (mark ∷ []) (after_moves (as_moves made) t)
-    ∙ ap (λ l. leavers ms results ++ l) (append-nil (events_of mark (after_moves (leave_moves ms results) (after_moves (as_moves made) t)).pool) ∙ is (after_moves (leave_moves ms results) (after_moves (as_moves made) t)).pool))

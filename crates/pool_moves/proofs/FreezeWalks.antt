@@ -1,6 +1,6 @@
 -- A freeze may be made: its walk from its row.
 use Rattle.std.proofs.Common.{◌≡◌, ◌⊎◌, inl, inr, ⊎_elim, ℕ, ◌+◌, ◌*◌, ◌≤◌, ◌==◌, ◌&&◌, ◌||◌, Bool, true, false, cond, Option, Some, None, List, [], ◌∷◌, map, refl, sym, ap, ◌∙◌, subst, arith}
-use Rattle.std.specs.Option.{option_map, is_some}
+use Rattle.std.specs.Option.{option_map}
 use Rattle.std.specs.List.{AllByRecursion}
 use Rattle.std.proofs.lemmas.Bool.{and_parts}
 use Rattle.std.proofs.lemmas.Bool.Decides.{nat_tests}
@@ -12,10 +12,12 @@ use Rattle.txg_history.specs.Pools.{Pool}
 use Rattle.txg_history.specs.Records.{Cell, Cells, block_of, block_in, cell_over, key}
 use Rattle.txg_history.proofs.Freezing.{empty_freeze}
 use Rattle.txg_history.proofs.Logging.{by_bool, same_device, true_not_false}
-use Rattle.pool_moves.specs.FreezeRow.{is_dev, up_devs, joined_own, joins, IsAtPlace, IsAtPinned, RowFreeze, RowEmptyFreeze}
+use Rattle.pool_moves.specs.FreezeRow.{is_dev, up_devs, IsAtPlace, IsAtPinned, RowFreeze, RowEmptyFreeze}
 use Rattle.pool_moves.specs.Keeping.{IsElsewhere, AreSeatsApart, IsAway, HasFound, IsOfFound, over, Admits, Kept, Walks}
 use Rattle.pool_moves.specs.Leaves.{OwnLeaf, LeafSeen, Seat, At, Adrift, dev_if, told, leaf_seen}
-use Rattle.pool_moves.specs.Moves.{Move, Freeze, Sets, after_move, after_moves}
+use Rattle.pool_moves.specs.Moves.{Move, Freeze}
+use Rattle.pool_moves.specs.Widening.{IsWidened}
+use Rattle.pool_moves.proofs.Widenings.{widened_walk}
 use Rattle.pool_moves.specs.States.{sums, PoolSeen, PoolState, Side, seen, seen_by}
 use Rattle.pool_moves.proofs.Seeing.{laid_sum}
 
@@ -141,28 +143,17 @@ freeze_may c own t vs kept core idle row = record {
 freeze_admitted : (c : Codec) (s : PoolState) (t : Side) (cells : Cells) → Kept c s t → Admits t (Freeze cells (up_devs (seen t).leaves))
 freeze_admitted c s t cells kept = (up_of_found t.pool.group.frozen t.pool t.seats kept.away kept.apart, λ d mine on. up_found t.pool.group.frozen t.pool d t.seats kept.away on)
 
--- what is kept of the leaves for their group
-joins_walk : (c : Codec) (leaves : List LeafSeen) (t : Side) → Walks c t (joins leaves)
-joins_walk c [] t = tt
-joins_walk c (leaf ∷ leaves) t =
-    ((tt, tt), joins_walk c leaves (after_move (Sets leaf.guid (joined_own (is_up leaf.own.mode && is_some leaf.dev) leaf.own)) t))
-
-pub joins_stay : (leaves : List LeafSeen) (t : Side) → (after_moves (joins leaves) t).pool ≡ t.pool
-joins_stay [] t = refl
-joins_stay (leaf ∷ leaves) t = joins_stay leaves (after_move (Sets leaf.guid (joined_own (is_up leaf.own.mode && is_some leaf.dev) leaf.own)) t)
-
 freeze_at : (c : Codec) (s : PoolState) (t : Side) (vs : List Move) → Kept c s t → t.pool.group.frozen ≡ false → RowFreeze c (record { own = s.own; core = seen t }) vs → Walks c t vs
-freeze_at c s t vs kept idle row = subst (Walks c t) (sym row.moves) (
-  ((freeze_may c s t vs kept kept.core idle row, tt), freeze_admitted c s t row.cells kept),
-  joins_walk c (seen t).leaves (after_move (Freeze row.cells (up_devs (seen t).leaves)) t),
-)
+freeze_at c s t vs kept idle row = widened_walk c (Freeze row.cells (up_devs (seen t).leaves)) vs s t kept
+    (((freeze_may c s t vs kept kept.core idle row, tt), freeze_admitted c s t row.cells kept), tt)
+    (subst (λ core. IsWidened core (Freeze row.cells (up_devs (seen t).leaves)) vs) (sym kept.core) row.moves)
 
 pub freeze_walks : (c : Codec) (s : PoolState) (t : Side) (vs : List Move) → Kept c s t → RowFreeze c s vs → Walks c t vs
 freeze_walks c s t vs kept row = freeze_at c s t vs kept (is_idle c s t kept row.idle)
     (subst (λ core. RowFreeze c (record { own = s.own; core = core }) vs) kept.core row)
 
 empty_at : (c : Codec) (s : PoolState) (t : Side) (vs : List Move) → Kept c s t → t.pool.group.frozen ≡ false → RowEmptyFreeze (record { own = s.own; core = seen t }) vs → Walks c t vs
-empty_at c s t vs kept idle row = subst (Walks c t) (sym row.moves) (
+empty_at c s t vs kept idle row = widened_walk c (Freeze (λ k. None) (up_devs (seen t).leaves)) vs s t kept (
   (
     (
       empty_freeze c t.pool (up_devs (seen t).leaves) idle
@@ -172,8 +163,9 @@ empty_at c s t vs kept idle row = subst (Walks c t) (sym row.moves) (
     ),
     freeze_admitted c s t (λ k. None) kept,
   ),
-  joins_walk c (seen t).leaves (after_move (Freeze (λ k. None) (up_devs (seen t).leaves)) t),
+  tt,
 )
+    (subst (λ core. IsWidened core (Freeze (λ k. None) (up_devs (seen t).leaves)) vs) (sym kept.core) row.moves)
 
 pub empty_freeze_walks : (c : Codec) (s : PoolState) (t : Side) (vs : List Move) → Kept c s t → RowEmptyFreeze s vs → Walks c t vs
 empty_freeze_walks c s t vs kept row = empty_at c s t vs kept (is_idle c s t kept row.idle)

@@ -25,9 +25,10 @@ use Rattle.pool_moves.specs.Moves.{Move, Makes, Lose, Comes, Rest, Shapes, seat_
 use Rattle.pool_moves.specs.ScanRows.{starts_scan}
 use Rattle.pool_moves.specs.States.{PoolState, Side}
 use Rattle.pool_moves.specs.Trees.{Child}
-use Rattle.pool_moves.specs.TreeRows.{Graft, Attach, Replace, TreeRefusal, limit_if, last_member, numbers_limit, leaves_limit, limits_of, graft_limits, refusal_at, graft_refusal, has_place, new_number, grafted, new_place, new_own, GraftReply, comes_in, graft_first, GraftEnds, GraftOn, GraftAt, GraftFor, RowGraft}
+use Rattle.pool_moves.specs.TreeRows.{Graft, Attach, Replace, TreeRefusal, limit_if, last_member, numbers_limit, leaves_limit, limits_of, graft_limits, refusal_at, graft_refusal, has_place, new_number, grafted, new_place, new_own, GraftReply, comes_in, graft_first, graft_moves, GraftEnds, GraftOn, GraftAt, GraftFor, RowGraft}
 use Rattle.pool_moves.specs.Walking.{as_moves}
 use Rattle.pool_moves.proofs.FreeWalks.{walks_more, moves_more}
+use Rattle.pool_moves.proofs.Widenings.{widens_walk}
 use Rattle.pool_moves.proofs.Keeping.{all_map, walk_keeps, other_numbers, elsewhere_kept, place_kept, here}
 use Rattle.pool_moves.proofs.ReadWalks.{calls_walk}
 use Rattle.pool_moves.proofs.ScanEnds.{start_walk}
@@ -192,8 +193,9 @@ graft_ends : (c : Codec) (size : ℕ → ℕ) (outcome : Option Fault) (graft : 
 graft_ends c size (Some fault) graft s t name leaf new d made vs reply kept sized opened off big rooms left calls ends =
     subst (Walks c t) (sym ends.0) (stamp_walk c s t d (size d) s.core.pool (new_number graft s) made (Some fault) kept off calls)
 graft_ends c size None graft s t name leaf new d made vs reply kept sized opened off big rooms left calls ends =
-    subst (Walks c t) (sym ends.0) (walks_more c first (starts_scan (steps first s) ∷ []) t walk
-    (start_walk c (steps first s) (after_moves first t) behind (pool_opened c (steps first s) (after_moves first t) behind ∙ still_opened)))
+    subst (Walks c t) (sym ends.0.moves) (walks_more c (graft_moves graft s name leaf new d made) ends.0.widens t all
+    (widens_walk c ends.0.widens (steps (graft_moves graft s name leaf new d made) s) (after_moves (graft_moves graft s name leaf new d made) t)
+    (walk_keeps c (graft_moves graft s name leaf new d made) s t all kept) ends.0.are))
   where
     first : List Move
     first = graft_first graft s name leaf new d made
@@ -217,6 +219,10 @@ graft_ends c size None graft s t name leaf new d made vs reply kept sized opened
     still_opened : (after_moves (graft_first graft s name leaf new d made) t).pool.opened ≡ true
     still_opened = ap (λ x. x.pool.opened) (moves_more (as_moves made) (comes_in graft s name leaf new d) (after_move (Lose d) t))
         ∙ (opened_calls made (after_move (Lose d) t) ∙ now_opened)
+
+    all : Walks c t (graft_moves graft s name leaf new d made)
+    all = walks_more c first (starts_scan (steps first s) ∷ []) t walk
+        (start_walk c (steps first s) (after_moves first t) behind (pool_opened c (steps first s) (after_moves first t) behind ∙ still_opened))
 
 -- `attach` and `replace`
 graft_on : (c : Codec) (small : Bool) (size : ℕ → ℕ) (graft : Graft) (s : PoolState) (t : Side) (name : List ℕ) (leaf : LeafSeen) (new : List ℕ) (d : ℕ)

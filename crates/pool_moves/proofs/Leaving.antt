@@ -15,12 +15,13 @@ use Rattle.txg_history.specs.Scans.{Scan}
 use Rattle.txg_history.specs.Survival.{Survives}
 use Rattle.txg_history.proofs.Logging.{by_bool, same_device, true_not_false, is_between, of_between}
 use Rattle.pool_moves.specs.AwayRows.{all_out, is_sibling, siblings, IsRequired}
-use Rattle.pool_moves.specs.Keeping.{IsElsewhere, AreSeatsApart, IsUnder, HasUnder}
+use Rattle.pool_moves.specs.Keeping.{IsElsewhere, AreSeatsApart, IsUnder, HasUnder, HasNumbered, HasOtherNumber, Admits, Walks}
 use Rattle.pool_moves.specs.Leaves.{OwnLeaf, LeafSeen, Seat, At, Adrift, told, leaf_seen}
-use Rattle.pool_moves.specs.Moves.{Move, Makes, Freeze, Wrote_key, Flushed_all, Draw, Leave, Burn, Starts, Copies, Copied, Commits, Sets, seats_by, after_move, after_moves}
+use Rattle.pool_moves.specs.Moves.{Move, Makes, Freeze, Wrote_key, Flushed_all, Draw, Leave, Widen, Burn, Starts, Copies, Copied, Commits, Sets, leaf_step, seat_step, seats_by, after_move, after_moves}
 use Rattle.pool_moves.specs.States.{Side}
 use Rattle.pool_moves.specs.TreeRows.{place_where}
 use Rattle.pool_moves.proofs.GraftWalks.{step_elsewhere}
+use Rattle.pool_moves.proofs.Keeping.{all_map, seat_cases}
 use Rattle.pool_moves.proofs.LineWalks.{IsWithin}
 use Rattle.pool_moves.proofs.Shaping.{IsOfCommit}
 
@@ -145,6 +146,7 @@ elsewhere_step (Copies draft e) t d is all = all
 elsewhere_step (Copied draft e) t d is all = all
 elsewhere_step (Freeze cells board) t d is all = step_elsewhere (Freeze cells board) t.pool d t.seats all
 elsewhere_step Draw t d is all = step_elsewhere Draw t.pool d t.seats all
+elsewhere_step (Widen m low high) t d is all = step_elsewhere (Widen m low high) t.pool d t.seats all
 elsewhere_step (Leave e) t d is all = step_elsewhere (Leave e) t.pool d t.seats all
 elsewhere_step Burn t d is all = step_elsewhere Burn t.pool d t.seats all
 elsewhere_step (Commits draft) t d is all = step_elsewhere (Commits draft) t.pool d t.seats all
@@ -172,6 +174,7 @@ aside_step (Wrote_key k) t is = refl
 aside_step Flushed_all t is = refl
 aside_step Draw t is = refl
 aside_step (Leave d) t is = refl
+aside_step (Widen m low high) t is = refl
 aside_step (Starts draft) t is = refl
 aside_step (Copies draft d) t is = refl
 aside_step (Copied draft d) t is = refl
@@ -208,11 +211,50 @@ grown_off : (t u v : Bool) → u ≡ false → cond (t && u) true v ≡ v
 grown_off true u v out = ap (λ x. cond x true v) out
 grown_off false u v out = refl
 
-aside_within : (log settled : ℕ → Bool) (d : ℕ) (v : Move) (t : Side) → IsWithin v → AsideIn log settled d t.pool → AsideIn log settled d (after_move v t).pool
-aside_within log settled d (Makes noted) t is a = a
-aside_within log settled d (Wrote_key k) t is a = a
-aside_within log settled d Flushed_all t is a = a
-aside_within log settled d Draw t is a = record {
+number_off : (t u w v : Bool) → u ≡ false → cond ((t && u) && w) true v ≡ v
+number_off true u w v off = ap (λ x. cond (x && w) true v) off
+number_off false u w v off = refl
+
+-- A log that is widened is of a leaf of the list, so of another number than a leaf that was put aside.
+differs : (guid : ℕ → Guid) (m n : Guid) (seats : List Seat) → HasNumbered guid m seats → AllByRecursion (HasOtherNumber guid n) seats → (n.0 == m.0) ≡ false
+differs guid m n [] has others = absurd has
+differs guid m n (At e found own ∷ seats) (inl is) others = by_bool (n.0 == m.0)
+    (λ same. absurd (let other : ((guid e).0 == n.0) ≡ false = others.0 in let yes : ((guid e).0 == n.0) ≡ true = grind (arith, nat_tests) in cc)) (λ off. off)
+differs guid m n (Adrift leaf ∷ seats) (inl is) others = by_bool (n.0 == m.0)
+    (λ same. absurd (let other : (leaf.guid.0 == n.0) ≡ false = others.0 in let yes : (leaf.guid.0 == n.0) ≡ true = grind (arith, nat_tests) in cc)) (λ off. off)
+differs guid m n (seat ∷ seats) (inr has) others = differs guid m n seats has others.1
+
+pub others_map : (v : Move) (p : Pool) (n : Guid) (seats : List Seat) → ((leaf : LeafSeen) → (leaf_step v p.highest p.group.first p.scan.hi leaf).guid ≡ leaf.guid)
+    → ((d : ℕ) (found : Bool) (own : OwnLeaf) → HasOtherNumber p.guid n (At d found own) → HasOtherNumber p.guid n (seat_step v p (At d found own)))
+    → AllByRecursion (HasOtherNumber p.guid n) seats → AllByRecursion (HasOtherNumber p.guid n) (map (seat_step v p) seats)
+others_map v p n seats same stays all = all_map (HasOtherNumber p.guid n) (HasOtherNumber p.guid n) (seat_step v p)
+    (seat_cases (λ seat. HasOtherNumber p.guid n seat → HasOtherNumber p.guid n (seat_step v p seat)) stays
+    (λ leaf is. subst (λ g. (g.0 == n.0) ≡ false) (sym (same leaf)) is)) seats all
+
+set_guid : (m : Guid) (own : OwnLeaf) (t : Bool) (leaf : LeafSeen) → (cond t (record leaf { own = own }) leaf).guid ≡ leaf.guid
+set_guid m own true leaf = refl
+set_guid m own false leaf = refl
+
+others_within : (v : Move) (t : Side) (d : ℕ) → IsWithin v → AllByRecursion (HasOtherNumber t.pool.guid (t.pool.guid d)) t.seats
+    → AllByRecursion (HasOtherNumber (after_move v t).pool.guid ((after_move v t).pool.guid d)) (seats_by v t)
+others_within (Makes noted) t d is all = all
+others_within (Wrote_key k) t d is all = all
+others_within Flushed_all t d is all = all
+others_within (Starts draft) t d is all = all
+others_within (Copies draft e) t d is all = all
+others_within (Copied draft e) t d is all = all
+others_within Draw t d is all = others_map Draw t.pool (t.pool.guid d) t.seats (λ leaf. refl) (λ e found own is. is) all
+others_within (Leave e) t d is all = others_map (Leave e) t.pool (t.pool.guid d) t.seats (λ leaf. refl) (λ x found own is. is) all
+others_within (Widen m low high) t d is all = others_map (Widen m low high) t.pool (t.pool.guid d) t.seats (λ leaf. refl) (λ x found own is. is) all
+others_within (Sets m own) t d is all = others_map (Sets m own) t.pool (t.pool.guid d) t.seats (λ leaf. set_guid m own (leaf.guid.0 == m.0) leaf) (λ x found was is. is) all
+others_within v t d is all = absurd is
+
+aside_within : (log settled : ℕ → Bool) (d : ℕ) (v : Move) (t : Side) → IsWithin v → Admits t v
+    → AllByRecursion (HasOtherNumber t.pool.guid (t.pool.guid d)) t.seats → AsideIn log settled d t.pool → AsideIn log settled d (after_move v t).pool
+aside_within log settled d (Makes noted) t is ok others a = a
+aside_within log settled d (Wrote_key k) t is ok others a = a
+aside_within log settled d Flushed_all t is ok others a = a
+aside_within log settled d Draw t is ok others a = record {
   order = let o = a.order in omega (arith, o);
   low = a.low;
   settled_low = a.settled_low;
@@ -220,23 +262,31 @@ aside_within log settled d Draw t is a = record {
       grown_off (off t.pool.group.board d) (between (t.pool.highest + 1) (t.pool.highest + 1) g) (t.pool.owes d g) outs.1 ∙ a.log_is g outs.0;
   settled_is = a.settled_is;
 }
-aside_within log settled d (Leave e) t is a = record {
+aside_within log settled d (Leave e) t is ok others a = record {
   order = a.order;
   low = a.low;
   settled_low = a.settled_low;
   log_is = λ g out. grown_off (e == d) (between t.pool.group.first t.pool.highest g) (t.pool.owes d g) out ∙ a.log_is g out;
   settled_is = a.settled_is;
 }
-aside_within log settled d (Starts draft) t is a = a
-aside_within log settled d (Copies draft e) t is a = a
-aside_within log settled d (Copied draft e) t is a = a
-aside_within log settled d (Sets m own) t is a = a
-aside_within log settled d v t is a = absurd is
+aside_within log settled d (Widen m low high) t is ok others a = record {
+  order = a.order;
+  low = a.low;
+  settled_low = a.settled_low;
+  log_is = λ g out. number_off (t.pool.member d) ((t.pool.guid d).0 == m.0) (between low high g) (t.pool.owes d g) (differs t.pool.guid m (t.pool.guid d) t.seats ok others) ∙ a.log_is g out;
+  settled_is = a.settled_is;
+}
+aside_within log settled d (Starts draft) t is ok others a = a
+aside_within log settled d (Copies draft e) t is ok others a = a
+aside_within log settled d (Copied draft e) t is ok others a = a
+aside_within log settled d (Sets m own) t is ok others a = a
+aside_within log settled d v t is ok others a = absurd is
 
-pub aside_stays : (log settled : ℕ → Bool) (d : ℕ) (vs : List Move) (t : Side) → AllByRecursion IsWithin vs → AsideIn log settled d t.pool
-    → AsideIn log settled d (after_moves vs t).pool
-aside_stays log settled d [] t all a = a
-aside_stays log settled d (v ∷ vs) t all a = aside_stays log settled d vs (after_move v t) all.1 (aside_within log settled d v t all.0 a)
+pub aside_stays : (c : Codec) (log settled : ℕ → Bool) (d : ℕ) (vs : List Move) (t : Side) → Walks c t vs → AllByRecursion IsWithin vs
+    → AllByRecursion (HasOtherNumber t.pool.guid (t.pool.guid d)) t.seats → AsideIn log settled d t.pool → AsideIn log settled d (after_moves vs t).pool
+aside_stays c log settled d [] t walks all others a = a
+aside_stays c log settled d (v ∷ vs) t walks all others a = aside_stays c log settled d vs (after_move v t) walks.1 all.1 (others_within v t d all.0 others)
+    (aside_within log settled d v t all.0 walks.0.1 others a)
 
 -- at the freeze
 pub aside_frozen : (c : Codec) (p : Pool) (cells : Cells) (board : ℕ → Bool) (d : ℕ) → Survives c p → p.member d ≡ true → 1 ≤ p.in_top d

@@ -31,3 +31,4 @@ pub mod StampWalks
 pub mod TreeEdits
 pub mod TreeLeaves
 pub mod TurnWalks
+pub mod Widenings

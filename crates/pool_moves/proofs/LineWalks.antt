@@ -9,17 +9,19 @@ use Rattle.txg_history.specs.Pages.{Codec}
 use Rattle.pool_moves.specs.Boards.{board_of, board_under, emptied}
 use Rattle.pool_moves.specs.Keeping.{Kept, Walks}
 use Rattle.pool_moves.specs.Leaves.{LeafSeen}
-use Rattle.pool_moves.specs.LineRows.{IsSized, TurnReply, Write, Flush, Round, Committed, sets_failed, has_number, count_moves, EndsBy, EndsTurn, IsTurnOf, IsWritePart, IsFlushPart, IsRoundPart, StartsBy, TurnBy, RowTurn, AreTurns, moves_in, EndsGroup, CommitsOpen, FreezeReply, FreezeFor, FreezeBy, RowFreezeLine, SyncReply, CommitsFor, SyncOpen, SyncBehind, SyncBy, RowSync}
-use Rattle.pool_moves.specs.Moves.{Draft, Move, Makes, Wrote_key, Flushed_all, Draw, Leave, Burn, Starts, Copies, Copied, Sets, steps, after_move, after_moves}
+use Rattle.pool_moves.specs.LineRows.{IsSized, TurnReply, Write, Flush, Round, Committed, sets_failed, has_number, count_moves, Draws, EndsBy, EndsTurn, IsTurnOf, IsWritePart, IsFlushPart, IsRoundPart, StartsBy, TurnBy, RowTurn, AreTurns, moves_in, EndsGroup, CommitsOpen, FreezeReply, FreezeFor, FreezeBy, RowFreezeLine, SyncReply, CommitsFor, SyncOpen, SyncBehind, SyncBy, RowSync}
+use Rattle.pool_moves.specs.Moves.{Draft, Move, Makes, Wrote_key, Flushed_all, Burn, Draw, Leave, Widen, Starts, Copies, Copied, Sets, step, steps, after_move, after_moves}
 use Rattle.pool_moves.specs.Refusing.{FreezeRefusal}
 use Rattle.pool_moves.specs.States.{PoolSeen, PoolState, Side}
-use Rattle.pool_moves.specs.TurnRows.{turn_moves, ended, IsThirdMoves, RowRound}
-use Rattle.pool_moves.specs.Walking.{as_moves, leave_moves}
+use Rattle.pool_moves.specs.TurnRows.{turn_moves, round_moves, ended, IsThirdMoves, RowRound}
+use Rattle.pool_moves.specs.Walking.{as_moves}
+use Rattle.pool_moves.specs.Widening.{AreWidens, AreLeaves, seen_along}
 use Rattle.pool_moves.proofs.Boarding.{is_frozen}
 use Rattle.pool_moves.proofs.FreeWalks.{walks_more, all_append}
 use Rattle.pool_moves.proofs.FreezeWalks.{freeze_walks}
 use Rattle.pool_moves.proofs.Keeping.{walk_keeps}
 use Rattle.pool_moves.proofs.RoundWalks.{round_walks}
+use Rattle.pool_moves.proofs.Widenings.{widened_walk}
 use Rattle.pool_moves.proofs.TurnWalks.{write_turn_walks, flush_turn_walks}
 
 -- The run has the devices as the history has them, behind moves too.
@@ -65,6 +67,7 @@ IsWithin (Wrote_key k) = Unit {0}
 IsWithin Flushed_all = Unit {0}
 IsWithin Draw = Unit {0}
 IsWithin (Leave d) = Unit {0}
+IsWithin (Widen m low high) = Unit {0}
 IsWithin (Starts draft) = Unit {0}
 IsWithin (Copies draft d) = Unit {0}
 IsWithin (Copied draft d) = Unit {0}
@@ -77,6 +80,7 @@ within_step (Wrote_key k) t is = refl
 within_step Flushed_all t is = refl
 within_step Draw t is = refl
 within_step (Leave d) t is = refl
+within_step (Widen m low high) t is = refl
 within_step (Starts draft) t is = refl
 within_step (Copies draft d) t is = refl
 within_step (Copied draft d) t is = refl
@@ -91,11 +95,18 @@ pub calls_within : (made : List Noted) → AllByRecursion IsWithin (as_moves mad
 calls_within [] = tt
 calls_within (noted ∷ made) = (tt, calls_within made)
 
-pub leaves_within : (ms : List Member) (results : List Bool) → AllByRecursion IsWithin (leave_moves ms results)
-leaves_within [] results = tt
-leaves_within (m ∷ ms) [] = tt
-leaves_within (m ∷ ms) (true ∷ results) = leaves_within ms results
-leaves_within (m ∷ ms) (false ∷ results) = (tt, leaves_within ms results)
+pub widens_within : (s : PoolSeen) (vs : List Move) → AreWidens s vs → AllByRecursion IsWithin vs
+widens_within s [] are = tt
+widens_within s (Widen m low high ∷ vs) are = (tt, widens_within (step (Widen m low high) s) vs are.2)
+widens_within s (v ∷ vs) are = absurd are
+
+pub leaves_within : (s : PoolSeen) (ms : List Member) (results : List Bool) (vs : List Move) → AreLeaves s ms results vs → AllByRecursion IsWithin vs
+leaves_within s [] results vs are = subst (AllByRecursion IsWithin) (sym are) tt
+leaves_within s (m ∷ ms) [] vs are = subst (AllByRecursion IsWithin) (sym are) tt
+leaves_within s (m ∷ ms) (true ∷ results) vs are = leaves_within s ms results vs are
+leaves_within s (m ∷ ms) (false ∷ results) vs are = subst (AllByRecursion IsWithin) (sym are.2) (all_append IsWithin are.0 are.1
+    (subst (AllByRecursion IsWithin) (sym are.3.moves) (tt, widens_within (step (Leave m.dev) s) are.3.widens are.3.are))
+    (leaves_within (seen_along are.0 s) ms results are.1 are.4))
 
 pub sets_within : (vs : List Move) → AllByRecursion IsSet vs → AllByRecursion IsWithin vs
 sets_within [] all = tt
@@ -119,18 +130,20 @@ thirds_within plan draft [] (b ∷ was) is vs r = absurd r
 thirds_within plan draft (m ∷ ms) [] is vs r = absurd r
 thirds_within plan draft (m ∷ ms) (b ∷ was) [] vs r = absurd r
 
-pub turn_within : (made : List Noted) (ms : List Member) (results : List Bool) (mark : Move) → IsWithin mark → AllByRecursion IsWithin (turn_moves made ms results mark)
-turn_within made ms results mark is = all_append IsWithin (as_moves made) (leave_moves ms results ++ (mark ∷ [])) (calls_within made)
-    (all_append IsWithin (leave_moves ms results) (mark ∷ []) (leaves_within ms results) (is, tt))
+pub turn_within : (s : PoolSeen) (made : List Noted) (ms : List Member) (results : List Bool) (leaving : List Move) (mark : Move) → AreLeaves s ms results leaving → IsWithin mark
+    → AllByRecursion IsWithin (turn_moves made leaving mark)
+turn_within s made ms results leaving mark are is = all_append IsWithin (as_moves made) (leaving ++ (mark ∷ [])) (calls_within made)
+    (all_append IsWithin leaving (mark ∷ []) (leaves_within s ms results leaving are) (is, tt))
 
 pub round_within : (c : Codec) (size : ℕ → ℕ) (s : PoolSeen) (vs : List Move) → RowRound c size s vs false → AllByRecursion IsWithin vs
-round_within c size s vs row = subst (AllByRecursion IsWithin) (sym row.moves) (
-  tt,
-  all_append IsWithin (as_moves row.first) (as_moves row.second ++ (row.thirds ++ leave_moves (board_of s.leaves) row.results))
-      (calls_within row.first) (all_append IsWithin (as_moves row.second) (row.thirds ++ leave_moves (board_of s.leaves) row.results) (calls_within row.second)
-      (all_append IsWithin row.thirds (leave_moves (board_of s.leaves) row.results)
-      (thirds_within (third_plan size row.draft.commit) row.draft (board_of s.leaves) row.in_second row.results row.thirds row.copies) (leaves_within (board_of s.leaves) row.results))),
-)
+round_within c size s vs row = subst (AllByRecursion IsWithin) (sym row.moves)
+    (all_append IsWithin (round_moves row.draft row.first row.second row.thirds) row.ending (
+      tt,
+      all_append IsWithin (as_moves row.first) (as_moves row.second ++ row.thirds) (calls_within row.first)
+          (all_append IsWithin (as_moves row.second) row.thirds (calls_within row.second)
+          (thirds_within (third_plan size row.draft.commit) row.draft (board_of s.leaves) row.in_second row.results row.thirds row.copies)),
+    )
+    (leaves_within (seen_along (round_moves row.draft row.first row.second row.thirds) s) (board_of s.leaves) row.results row.ending row.ends))
 
 pub counted_within : (part : List Move) (leaves : List LeafSeen) (ms : List Member) (results : List Bool) → AllByRecursion IsWithin part → AllByRecursion IsWithin (part ++ count_moves leaves ms results)
 counted_within part leaves ms results all = all_append IsWithin part (count_moves leaves ms results) all (sets_within (count_moves leaves ms results) (counts_set leaves ms results))
@@ -139,31 +152,36 @@ counted_within part leaves ms results all = all_append IsWithin part (count_move
 burn_walk : (c : Codec) (t : Side) → t.pool.group.frozen ≡ true → Walks c t (Burn ∷ [])
 burn_walk c t f = (((f, tt), f), tt)
 
-draw_walk : (c : Codec) (t : Side) → t.pool.group.frozen ≡ true → Walks c t (Draw ∷ [])
-draw_walk c t f = (((f, tt), f), tt)
+draws_walk : (c : Codec) (draws : Bool) (s : PoolState) (t : Side) (vs : List Move) → Kept c s t → t.pool.group.frozen ≡ true → Draws draws s.core vs → Walks c t vs
+draws_walk c true s t vs kept f is = widened_walk c Draw vs s t kept (((f, tt), f), tt) is
+draws_walk c false s t vs kept f is = subst (Walks c t) (sym is) tt
 
-ends_walk : (c : Codec) (top : Option ℕ) (s : PoolState) (t : Side) (more : List Move) (going : TurnReply) (vs : List Move) (reply : TurnReply) → t.pool.group.frozen ≡ true
-    → Walks c t more → EndsBy top s more going vs reply → Walks c t vs
-ends_walk c (Some top) s t more going vs reply f walks ends = subst (Walks c t) (sym ends.0) (burn_walk c t f)
-ends_walk c None s t more going vs reply f walks ends = subst (Walks c t) (sym ends.0) walks
+ends_walk : (c : Codec) (top : Option ℕ) (s : PoolState) (t : Side) (draws : Bool) (going : TurnReply) (vs : List Move) (reply : TurnReply) → Kept c s t → t.pool.group.frozen ≡ true
+    → EndsBy top s draws going vs reply → Walks c t vs
+ends_walk c (Some top) s t draws going vs reply kept f ends = subst (Walks c t) (sym ends.0) (burn_walk c t f)
+ends_walk c None s t draws going vs reply kept f ends = draws_walk c draws s t vs kept f ends.0
 
-turn_of_walk : (c : Codec) (s : PoolState) (t : Side) (part : List Move) (ms : List Member) (results : List Bool) (going : TurnReply) (vs : List Move) (reply : TurnReply)
-    → t.pool.group.frozen ≡ true → Walks c t part → AllByRecursion IsWithin part → IsTurnOf s part ms results [] going vs reply → Walks c t vs
-turn_of_walk c s t part ms results going vs reply f walks within turn = subst (Walks c t) (sym turn.moves)
-    (walks_more c (part ++ count_moves s.core.leaves ms results) turn.ending t (counted c t part s.core.leaves ms results walks)
-    (ends_walk c (emptied (steps (part ++ count_moves s.core.leaves ms results) s).core.leaves) (steps (part ++ count_moves s.core.leaves ms results) s)
-    (after_moves (part ++ count_moves s.core.leaves ms results) t) [] going turn.ending reply
-    (still_frozen (part ++ count_moves s.core.leaves ms results) t (counted_within part s.core.leaves ms results within) ∙ f) tt turn.ends))
+turn_of_walk : (c : Codec) (s : PoolState) (t : Side) (part : List Move) (ms : List Member) (results : List Bool) (going : TurnReply) (vs : List Move) (reply : TurnReply) → Kept c s t
+    → t.pool.group.frozen ≡ true → Walks c t part → AllByRecursion IsWithin part → IsTurnOf s part ms results going vs reply → Walks c t vs
+turn_of_walk c s t part ms results going vs reply kept f walks within turn = subst (Walks c t) (sym turn.moves) (walks_more c behind turn.ending t behind_walks
+    (ends_walk c (emptied (steps behind s).core.leaves) (steps behind s) (after_moves behind t) false going turn.ending reply (walk_keeps c behind s t behind_walks kept)
+    (still_frozen behind t (counted_within part s.core.leaves ms results within) ∙ f) turn.ends))
+  where
+    behind : List Move
+    behind = part ++ count_moves s.core.leaves ms results
+
+    behind_walks : Walks c t (part ++ count_moves s.core.leaves ms results)
+    behind_walks = counted c t part s.core.leaves ms results walks
 
 write_part_walk : (c : Codec) (s : PoolState) (t : Side) (vs : List Move) (reply : TurnReply) → Kept c s t → IsWritePart s vs reply → Walks c t vs
-write_part_walk c s t vs reply kept is = turn_of_walk c s t is.part (board_under is.row.cell.top s.core.leaves) is.row.results Write vs reply (is_frozen c s t kept is.row.frozen)
+write_part_walk c s t vs reply kept is = turn_of_walk c s t is.part (board_under is.row.cell.top s.core.leaves) is.row.results Write vs reply kept (is_frozen c s t kept is.row.frozen)
     (write_turn_walks c s t is.part kept is.row)
-    (subst (AllByRecursion IsWithin) (sym is.row.moves) (turn_within is.row.made (board_under is.row.cell.top s.core.leaves) is.row.results (Wrote_key is.row.key) tt)) is.turn
+    (subst (AllByRecursion IsWithin) (sym is.row.moves) (turn_within s.core is.row.made (board_under is.row.cell.top s.core.leaves) is.row.results is.row.leaving (Wrote_key is.row.key) is.row.leaves tt)) is.turn
 
 flush_part_walk : (c : Codec) (s : PoolState) (t : Side) (vs : List Move) (reply : TurnReply) → Kept c s t → IsFlushPart s vs reply → Walks c t vs
-flush_part_walk c s t vs reply kept is = turn_of_walk c s t is.part (board_of s.core.leaves) is.row.results Flush vs reply (is_frozen c s t kept is.row.frozen)
+flush_part_walk c s t vs reply kept is = turn_of_walk c s t is.part (board_of s.core.leaves) is.row.results Flush vs reply kept (is_frozen c s t kept is.row.frozen)
     (flush_turn_walks c s t is.part kept is.row)
-    (subst (AllByRecursion IsWithin) (sym is.row.moves) (turn_within is.row.made (board_of s.core.leaves) is.row.results Flushed_all tt)) is.turn
+    (subst (AllByRecursion IsWithin) (sym is.row.moves) (turn_within s.core is.row.made (board_of s.core.leaves) is.row.results is.row.leaving Flushed_all is.row.leaves tt)) is.turn
 
 round_part_walk : (c : Codec) (size : ℕ → ℕ) (s : PoolState) (t : Side) (vs : List Move) (reply : TurnReply) → Kept c s t → IsSized size t → IsRoundPart c size s vs reply → Walks c t vs
 round_part_walk c size s t vs reply kept same is = subst (Walks c t) (sym is.moves) (walks_more c is.behind is.ending t behind_walks (ends is.whole is.row is.ends))
@@ -172,10 +190,10 @@ round_part_walk c size s t vs reply kept same is = subst (Walks c t) (sym is.mov
     behind_walks = subst (Walks c t) (sym is.counted) (counted c t is.part s.core.leaves (board_of s.core.leaves) is.row.results (round_walks c size s t is.part is.whole kept same is.row))
 
     ends : (whole : Bool) → (row : RowRound c size s.core is.part whole) → cond whole ((is.ending ≡ []) × (reply ≡ Committed s.core.number))
-        (EndsTurn (steps is.behind s) (Draw ∷ []) (Round s.core.number) is.ending reply) → Walks c (after_moves is.behind t) is.ending
+        (EndsTurn (steps is.behind s) true (Round s.core.number) is.ending reply) → Walks c (after_moves is.behind t) is.ending
     ends true row e = subst (Walks c (after_moves is.behind t)) (sym e.0) tt
-    ends false row e = ends_walk c (emptied (steps is.behind s).core.leaves) (steps is.behind s) (after_moves is.behind t) (Draw ∷ []) (Round s.core.number) is.ending reply
-        (frozen row) (draw_walk c (after_moves is.behind t) (frozen row)) e
+    ends false row e = ends_walk c (emptied (steps is.behind s).core.leaves) (steps is.behind s) (after_moves is.behind t) true (Round s.core.number) is.ending reply
+        (walk_keeps c is.behind s t behind_walks kept) (frozen row) e
       where
         frozen : RowRound c size s.core is.part false → (after_moves is.behind t).pool.group.frozen ≡ true
         frozen row = still_frozen is.behind t (subst (AllByRecursion IsWithin) (sym is.counted)

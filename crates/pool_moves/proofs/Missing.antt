@@ -23,6 +23,7 @@ use Rattle.pool_moves.specs.Leaves.{LeafSeen}
 use Rattle.pool_moves.specs.Missing.{Lacked, Missed, AllMissed}
 use Rattle.pool_moves.specs.Moves.{Move}
 use Rattle.pool_moves.specs.ReadRow.{copy_at, copy_of, stands_under, copies_of, count_reads, RowCopies, Gives, Exhausted, NoAddress, reply_by, ReadRecord, ReadGroup, ReadOpen, RowRead, made_in}
+use Rattle.pool_moves.specs.Showing.{LeafShown, leaf_shown}
 use Rattle.pool_moves.specs.States.{PoolState, Side, seen}
 use Rattle.pool_moves.proofs.Keeping.{all_same}
 use Rattle.pool_moves.proofs.ReadWalks.{IsCopy, IsReadOrWrite, none_heals, read_one, plain_one, hurt_one, copies_on, tried_all, made_calls, sum_of_cell}
@@ -156,11 +157,11 @@ exhausted_copies c s t a cell vs kept at answers row = subst (λ made. AllMissed
     calls : made_in vs ≡ row.reads
     calls = exhausted_calls (record { own = s.own; core = seen t }) (sum_of_cell cell) vs row
 
-exhausted_record : (c : Codec) (s : PoolState) (t : Side) (a : ℕ) (sum : Option Sum) (vs : List Move) → Kept c s t → sum ≡ sum_of (t.pool.reads.cells (key 0 a))
-    → AllAnswer t.pool.sectors (made_in vs) → ReadRecord sum (seen t) vs Exhausted
+exhausted_record : (c : Codec) (s : PoolState) (t : Side) (a : ℕ) (sum : Option Sum) (vs : List Move) (shown : List LeafShown) → Kept c s t → sum ≡ sum_of (t.pool.reads.cells (key 0 a))
+    → AllAnswer t.pool.sectors (made_in vs) → ReadRecord sum (seen t) vs (Exhausted shown)
     → AllMissed sum (made_in vs) (run (made_in vs) t.pool.sectors) (seen t).leaves
-exhausted_record c s t a None vs kept is answers row = absurd (let no : Exhausted ≡ Gives zero_block = row.1 in cc)
-exhausted_record c s t a (Some sum) vs kept is answers row = by_outcome row.0 row.1 row.2
+exhausted_record c s t a None vs shown kept is answers row = absurd (let no : Exhausted shown ≡ Gives zero_block = row.1 in cc)
+exhausted_record c s t a (Some sum) vs shown kept is answers row = by_outcome (map (leaf_shown row.1.reads) (copies_of sum (seen t).leaves)) row.0 row.1 row.2
   where
     some_same : (x y : Sum) → Some x ≡ Some y → x ≡ y
     some_same x y e = cc
@@ -172,33 +173,33 @@ exhausted_record c s t a (Some sum) vs kept is answers row = by_outcome row.0 ro
         subst (λ x. AllMissed (Some x) (made_in vs) (run (made_in vs) t.pool.sectors) (seen t).leaves) same
         (exhausted_copies c s t a cell vs kept at answers (subst (λ x. RowCopies (seen t) x vs None) (sym same) row))
 
-    by_outcome : (outcome : Option (List ℕ)) → RowCopies (seen t) sum vs outcome → Exhausted ≡ reply_by outcome
+    by_outcome : (found : List LeafShown) (outcome : Option (List ℕ)) → RowCopies (seen t) sum vs outcome → Exhausted shown ≡ reply_by found outcome
         → AllMissed (Some sum) (made_in vs) (run (made_in vs) t.pool.sectors) (seen t).leaves
-    by_outcome None row says = by_cell row (t.pool.reads.cells (key 0 a)) refl
-    by_outcome (Some bytes) row says = absurd (cc)
+    by_outcome found None row says = by_cell row (t.pool.reads.cells (key 0 a)) refl
+    by_outcome found (Some bytes) row says = absurd (cc)
 
-exhausted_group : (c : Codec) (s : PoolState) (t : Side) (a : ℕ) (cell : Option Cell) (vs : List Move) → Kept c s t → AllAnswer t.pool.sectors (made_in vs)
-    → ReadGroup cell ((seen t).committed (key 0 a)) (seen t) vs Exhausted
+exhausted_group : (c : Codec) (s : PoolState) (t : Side) (a : ℕ) (cell : Option Cell) (vs : List Move) (shown : List LeafShown) → Kept c s t → AllAnswer t.pool.sectors (made_in vs)
+    → ReadGroup cell ((seen t).committed (key 0 a)) (seen t) vs (Exhausted shown)
     → AllMissed ((seen t).committed (key 0 a)) (made_in vs) (run (made_in vs) t.pool.sectors) (seen t).leaves
-exhausted_group c s t a (Some cell) vs kept answers row = absurd (let no : Exhausted ≡ Gives cell.block = row.1 in cc)
-exhausted_group c s t a None vs kept answers row = exhausted_record c s t a ((seen t).committed (key 0 a)) vs kept refl answers row
+exhausted_group c s t a (Some cell) vs shown kept answers row = absurd (let no : Exhausted shown ≡ Gives cell.block = row.1 in cc)
+exhausted_group c s t a None vs shown kept answers row = exhausted_record c s t a ((seen t).committed (key 0 a)) vs shown kept refl answers row
 
-exhausted_open : (c : Codec) (s : PoolState) (t : Side) (a : ℕ) (write : Option (List ℕ)) (vs : List Move) → Kept c s t → AllAnswer t.pool.sectors (made_in vs)
-    → ReadOpen write ((seen t).group.cells (key 0 a)) ((seen t).committed (key 0 a)) (seen t) vs Exhausted
+exhausted_open : (c : Codec) (s : PoolState) (t : Side) (a : ℕ) (write : Option (List ℕ)) (vs : List Move) (shown : List LeafShown) → Kept c s t → AllAnswer t.pool.sectors (made_in vs)
+    → ReadOpen write ((seen t).group.cells (key 0 a)) ((seen t).committed (key 0 a)) (seen t) vs (Exhausted shown)
     → AllMissed ((seen t).committed (key 0 a)) (made_in vs) (run (made_in vs) t.pool.sectors) (seen t).leaves
-exhausted_open c s t a (Some block) vs kept answers row = absurd (let no : Exhausted ≡ Gives block = row.1 in cc)
-exhausted_open c s t a None vs kept answers row = exhausted_group c s t a ((seen t).group.cells (key 0 a)) vs kept answers row
+exhausted_open c s t a (Some block) vs shown kept answers row = absurd (let no : Exhausted shown ≡ Gives block = row.1 in cc)
+exhausted_open c s t a None vs shown kept answers row = exhausted_group c s t a ((seen t).group.cells (key 0 a)) vs shown kept answers row
 
-exhausted_at : (c : Codec) (s : PoolState) (t : Side) (a : ℕ) (vs : List Move) → Kept c s t → AllAnswer t.pool.sectors (made_in vs)
-    → RowRead (record { own = s.own; core = seen t }) a vs Exhausted
+exhausted_at : (c : Codec) (s : PoolState) (t : Side) (a : ℕ) (vs : List Move) (shown : List LeafShown) → Kept c s t → AllAnswer t.pool.sectors (made_in vs)
+    → RowRead (record { own = s.own; core = seen t }) a vs (Exhausted shown)
     → AllMissed ((seen t).committed (key 0 a)) (made_in vs) (run (made_in vs) t.pool.sectors) (seen t).leaves
-exhausted_at c s t a vs kept answers (inl row) = absurd (let no : Exhausted ≡ NoAddress s.own.blocks = row.2 in cc)
-exhausted_at c s t a vs kept answers (inr row) = exhausted_open c s t a (s.own.writes a) vs kept answers row.1
+exhausted_at c s t a vs shown kept answers (inl row) = absurd (let no : Exhausted shown ≡ NoAddress s.own.blocks = row.2 in cc)
+exhausted_at c s t a vs shown kept answers (inr row) = exhausted_open c s t a (s.own.writes a) vs shown kept answers row.1
 
 -- The law of an exhausted read.
-pub exhausted_missed : (c : Codec) (s : PoolState) (t : Side) (a : ℕ) (vs : List Move) → Kept c s t → AllAnswer t.pool.sectors (made_in vs)
-    → RowRead s a vs Exhausted
+pub exhausted_missed : (c : Codec) (s : PoolState) (t : Side) (a : ℕ) (vs : List Move) (shown : List LeafShown) → Kept c s t → AllAnswer t.pool.sectors (made_in vs)
+    → RowRead s a vs (Exhausted shown)
     → AllMissed (s.core.committed (key 0 a)) (made_in vs) (run (made_in vs) t.pool.sectors) s.core.leaves
-exhausted_missed c s t a vs kept answers row =
+exhausted_missed c s t a vs shown kept answers row =
     subst (λ core. AllMissed (core.committed (key 0 a)) (made_in vs) (run (made_in vs) t.pool.sectors) core.leaves) (sym kept.core)
-    (exhausted_at c s t a vs kept answers (subst (λ core. RowRead (record { own = s.own; core = core }) a vs Exhausted) kept.core row))
+    (exhausted_at c s t a vs shown kept answers (subst (λ core. RowRead (record { own = s.own; core = core }) a vs (Exhausted shown)) kept.core row))

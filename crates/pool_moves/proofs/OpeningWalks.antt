@@ -1,42 +1,6 @@
 -- An opening reads a live record: its calls may be made, and the state that it comes to is what the history has; or a page's bytes
 -- clash.
-use Rattle.std.proofs.Common.{
-  ◌≡◌,
-  ◌⊎◌,
-  inl,
-  inr,
-  ⊎_elim,
-  ℕ,
-  zero,
-  suc,
-  ◌+◌,
-  ◌*◌,
-  ◌/◌,
-  ◌%◌,
-  ◌≤◌,
-  ◌<◌,
-  ◌==◌,
-  ◌&&◌,
-  ◌||◌,
-  not,
-  is_none,
-  Bool,
-  true,
-  false,
-  Option,
-  Some,
-  None,
-  List,
-  [],
-  ◌∷◌,
-  ◌++◌,
-  refl,
-  sym,
-  ap,
-  ◌∙◌,
-  subst,
-  arith,
-}
+use Rattle.std.proofs.Common.{◌≡◌, ◌⊎◌, inl, inr, ⊎_elim, ℕ, zero, suc, ◌+◌, ◌*◌, ◌/◌, ◌%◌, ◌≤◌, ◌<◌, ◌==◌, ◌&&◌, ◌||◌, not, is_none, Bool, true, false, Option, Some, None, List, [], ◌∷◌, ◌++◌, refl, sym, ap, ◌∙◌, subst, arith}
 use mathlib.Core.Path.{fun_ext}
 use Rattle.std.specs.List.{AllByRecursion}
 use Rattle.std.proofs.lemmas.Bool.{and_parts}
@@ -61,13 +25,13 @@ use Rattle.pool_moves.specs.CommitRows.{IsOpened}
 use Rattle.pool_moves.specs.FreezeRow.{is_dev, up_devs}
 use Rattle.pool_moves.specs.Keeping.{HasNumberBelow, Walks}
 use Rattle.pool_moves.specs.Leaves.{LeafSeen, Seat}
-use Rattle.pool_moves.specs.Opened.{ShapeKept, AreValidLeaves, opened_leaf, opened_leaves, opened_state, opened_seats, claims_of}
-use Rattle.pool_moves.specs.OpeningRow.{HasSizes, IsLiveOne, OpenReply, Opens_state, NoPage, reading_of, RowOpen}
-use Rattle.pool_moves.specs.PageReads.{Reading, is_read_before, IsBelow, IsKnown, PageTurn, page_of, calls_of_turns, IsPageTurn, IsReadTo, ReadsMap, LeafShown, StopsAt, failed_on, answers_in}
+use Rattle.pool_moves.specs.Opened.{opened_leaves, opened_state, opened_seats, claims_of}
+use Rattle.pool_moves.specs.OpeningRow.{IsLiveOne, OpenReply, Opens_state, NoPage, reading_of, RowOpen}
+use Rattle.pool_moves.specs.PageReads.{Reading, is_read_before, IsKnown, PageTurn, page_of, calls_of_turns, IsPageTurn, IsReadTo, ReadsMap, LeafShown, StopsAt, failed_on, answers_in}
 use Rattle.pool_moves.specs.Rosters.{IsRoster}
 use Rattle.pool_moves.specs.States.{Sums, sums, no_group_seen, no_scan_seen, PoolSeen, PoolState, Side, seen}
-use Rattle.pool_moves.proofs.OpenedSeats.{IsIn as IsKeptIn, kept_in_record, ArePaired, AreSeatsOf, seats_are, opened_seated, opened_away, opened_apart, opened_below, opened_numbered, opened_topped, seats_seen}
-use Rattle.pool_moves.proofs.PagesBack.{of_volume_or, volume_width, IsClosed, below_known, known_right, before_more, above_before, closed_before, IsReadOf}
+use Rattle.pool_moves.proofs.OpenedSeats.{IsIn as IsKeptIn, kept_in_record, AreSeatsOf, seats_are, opened_seated, opened_away, opened_apart, opened_below, opened_numbered, opened_topped, seats_seen}
+use Rattle.pool_moves.proofs.PagesBack.{of_volume_or, volume_width, below_known, known_right, before_more, above_before, closed_before}
 use Rattle.pool_moves.proofs.PageTurns.{IsTrueLeaf, IsOn, on_behind, IsRightTurn, answers_behind, turns_may, stop_may, stop_never}
 use Rattle.pool_moves.specs.Walking.{as_moves}
 use Rattle.pool_moves.proofs.ReadWalks.{answers_front, calls_walk}
@@ -258,8 +222,9 @@ module _ (c : Codec) (size : ℕ → ℕ) (handed : List ℕ → Option ℕ) (na
   seated roster ros = seats_are p r roster leaves o.row.devs ros kept
       (sought_paired found.pool size (c.room config) handed leaves o.row.ids o.row.devs o.row.sought) o.home
 
-  core_seen : (roster : List ℕ) → IsRoster p roster → ((k : Key) → x.got k ≡ sum_of (r.cells k)) → (shape : ShapeKept) → (opened_state c shape name found o.row.devs o.row.got).core ≡ seen (side roster)
-  core_seen roster ros right shape =
+  core_seen : (roster : List ℕ) → IsRoster p roster → ((k : Key) → x.got k ≡ sum_of (r.cells k))
+      → (opened_state c name found o.row.devs o.row.got).core ≡ seen (side roster)
+  core_seen roster ros right =
       ap (λ n. core_of n found.pool found.number.0 o.row.got (c.room config) (opened_leaves leaves o.row.devs)) (sym o.named)
       ∙ (ap (λ g. core_of p.name g found.number.0 o.row.got (c.room config) (opened_leaves leaves o.row.devs)) o.is.pool_is
       ∙ (ap (λ n. core_of p.name p.pool n o.row.got (c.room config) (opened_leaves leaves o.row.devs)) (ap (λ n. n.0) o.is.number_is)
@@ -268,8 +233,9 @@ module _ (c : Codec) (size : ℕ → ℕ) (handed : List ℕ → Option ℕ) (na
       ∙ ap (core_of p.name p.pool (number_of r) (sums r.cells) p.room)
       (sym (seats_seen p r roster p.group.board p.scan.eligible p.scan.scrub leaves o.row.devs kept (seated roster ros)))))))
 
-  opened_at : (roster : List ℕ) (s : PoolState) → IsRoster p roster → (shape : ShapeKept) → s ≡ opened_state c shape name found o.row.devs o.row.got → ((k : Key) → x.got k ≡ sum_of (r.cells k)) → IsOpened c s (side roster)
-  opened_at roster s ros shape is right = record {
+  opened_at : (roster : List ℕ) (s : PoolState) → IsRoster p roster → s ≡ opened_state c name found o.row.devs o.row.got
+      → ((k : Key) → x.got k ≡ sum_of (r.cells k)) → IsOpened c s (side roster)
+  opened_at roster s ros is right = record {
     before = p;
     r = r;
     survives = o.survives;
@@ -282,7 +248,7 @@ module _ (c : Codec) (size : ℕ → ℕ) (handed : List ℕ → Option ℕ) (na
     topped = λ d mine one. opened_topped p r leaves (seats roster) d kept tops (seated roster ros) one;
     below = subst (λ n. AllByRecursion (HasNumberBelow q.guid n) (seats roster)) (sym (ap (λ u. u.own.next_member) is))
         (opened_below p (c.next_member config) leaves (seats roster) (seated roster ros) o.row.valid.below);
-    core = ap (λ u. u.core) is ∙ core_seen roster ros right shape;
+    core = ap (λ u. u.core) is ∙ core_seen roster ros right;
     unwritten = λ a. ap (λ u. u.own.writes a) is;
   }
 
@@ -383,7 +349,7 @@ module _ (c : Codec) (size : ℕ → ℕ) (handed : List ℕ → Option ℕ) (na
         failed_second (noted ∷ first) second d is = failed_second first second d
             (or_last ((device_of noted.call == d) && not (is_none (fault_of noted.call))) (failed_on (first ++ second) d) is)
 
-    stopped_never : HasGoodPages (pool_after (as_events made) q) r (answers_in x.leaves o.row.pages) → ClashesAt r.cells x.found
+    stopped_never : HasGoodPages (pool_after (as_events made) q) r (λ k. answers_in x.leaves o.row.pages) → ClashesAt r.cells x.found
     stopped_never good = ⊎_elim (λ right. ⊎_elim (λ may. absurd (stop_never x r stopped level index st.sum st.reads st.wrong (answers_in x.leaves o.row.pages)
         (on_behind x r behind (calls_of_turns st.turns) on may) st.low st.sum_is (stop_turn right) reads_answer st.tried none_failed
         (λ cell at. subst (λ u. HasGoodLeaf u r cell (answers_in x.leaves o.row.pages)) end_is
@@ -399,9 +365,12 @@ pub opening_opens : (c : Codec) (size : ℕ → ℕ) (handed : List ℕ → Opti
     × Walks c (record { pool = after (Opens r) p; seats = opened_seats p roster (c.leaves found.blob.items) row.devs }) (as_moves made))
     ⊎ ClashesAt r.cells row.bytes
 opening_opens c size handed name p r roster found made s sv named is ros row answers home = ⊎_elim
-    (λ right. ⊎_elim (λ may. inl (opened_at c size handed name p r found made (Opens_state s) o roster s ros row.ends.0 row.ends.2 right, calls_walk c made (side c size handed name p r found made (Opens_state s) o roster) may))
-    (λ clash. inr clash) (map_may c size handed name p r found made (Opens_state s) o row.ends.1 right))
-    (λ clash. inr clash) (map_right c size handed name p r found made (Opens_state s) o row.ends.1.back)
+    (λ right. ⊎_elim (λ may. inl (
+      opened_at c size handed name p r found made (Opens_state s) o roster s ros row.ends.1 right,
+      calls_walk c made (side c size handed name p r found made (Opens_state s) o roster) may,
+    ))
+    (λ clash. inr clash) (map_may c size handed name p r found made (Opens_state s) o row.ends.0 right))
+    (λ clash. inr clash) (map_right c size handed name p r found made (Opens_state s) o row.ends.0.back)
   where
     o : Opening c size handed name p r found made (Opens_state s)
     o = record { survives = sv; named = named; is = is; row = row; answers = answers; home = home }
@@ -413,7 +382,8 @@ pub opening_may : (c : Codec) (size : ℕ → ℕ) (handed : List ℕ → Option
     → HasNoTwin p r (claims_of (c.leaves found.blob.items) row.devs)
     → Mays c (after (Opens r) p) (as_events made) ⊎ ClashesAt r.cells row.bytes
 opening_may c size handed name p r found made (Opens_state s) sv named is row answers home =
-    ⊎_elim (λ right. map_may c size handed name p r found made (Opens_state s) o row.ends.1 right) (λ clash. inr clash) (map_right c size handed name p r found made (Opens_state s) o row.ends.1.back)
+    ⊎_elim (λ right. map_may c size handed name p r found made (Opens_state s) o row.ends.0 right) (λ clash. inr clash)
+    (map_right c size handed name p r found made (Opens_state s) o row.ends.0.back)
   where
     o : Opening c size handed name p r found made (Opens_state s)
     o = record { survives = sv; named = named; is = is; row = row; answers = answers; home = home }
@@ -424,12 +394,9 @@ opening_may c size handed name p r found made (NoPage page shown) sv named is ro
     o = record { survives = sv; named = named; is = is; row = row; answers = answers; home = home }
 
 -- Where each page has a good leaf, each is found.
-pub opening_finds : (c : Codec) (size : ℕ → ℕ) (handed : List ℕ → Option ℕ) (name : List ℕ) (p : Pool) (r : Rec) (found : Found) (made : List Noted)
-    (page : Key) (shown : List LeafShown) → Survives c p → p.name ≡ name
-    → IsLiveOne p found r → (row : RowOpen c size handed name found made (NoPage page shown)) → AllAnswer p.sectors made
-    → HasNoTwin p r (claims_of (c.leaves found.blob.items) row.devs)
-    → HasGoodPages (pool_after (as_events made) (after (Opens r) p)) r (answers_in (opened_leaves (c.leaves found.blob.items) row.devs) row.pages)
-    → ClashesAt r.cells row.bytes
+pub opening_finds : (c : Codec) (size : ℕ → ℕ) (handed : List ℕ → Option ℕ) (name : List ℕ) (p : Pool) (r : Rec) (found : Found) (made : List Noted) (page : Key) (shown : List LeafShown) → Survives c p → p.name ≡ name
+    → IsLiveOne p found r → (row : RowOpen c size handed name found made (NoPage page shown)) → AllAnswer p.sectors made → HasNoTwin p r (claims_of (c.leaves found.blob.items) row.devs)
+    → HasGoodPages (pool_after (as_events made) (after (Opens r) p)) r (λ k. answers_in (opened_leaves (c.leaves found.blob.items) row.devs) row.pages) → ClashesAt r.cells row.bytes
 opening_finds c size handed name p r found made page shown sv named is row answers home good =
     stopped_never c size handed name p r found made (NoPage page shown) o row.ends.0 page.index shown row.ends.2 good
   where

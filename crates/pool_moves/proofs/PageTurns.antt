@@ -1,40 +1,5 @@
 -- The pages of a map may be read back, and wrong copies of them rewritten; and where each has a good leaf, each is found.
-use Rattle.std.proofs.Common.{
-  ◌≡◌,
-  ◌≢◌,
-  ◌⊎◌,
-  inl,
-  inr,
-  ⊎_elim,
-  ℕ,
-  suc,
-  ◌+◌,
-  ◌<◌,
-  ◌==◌,
-  ◌&&◌,
-  ◌||◌,
-  not,
-  is_none,
-  Bool,
-  true,
-  false,
-  cond,
-  Option,
-  Some,
-  None,
-  List,
-  [],
-  ◌∷◌,
-  ◌++◌,
-  map,
-  length,
-  refl,
-  sym,
-  ap,
-  ◌∙◌,
-  subst,
-  arith,
-}
+use Rattle.std.proofs.Common.{◌≡◌, ◌≢◌, ◌⊎◌, inl, inr, ⊎_elim, ℕ, suc, ◌+◌, ◌<◌, ◌==◌, ◌&&◌, ◌||◌, not, is_none, Bool, true, false, cond, Option, Some, None, List, [], ◌∷◌, ◌++◌, map, length, refl, sym, ap, ◌∙◌, subst, arith}
 use Rattle.std.specs.List.{AllByRecursion, filter}
 use Rattle.std.proofs.lemmas.Bool.{and_parts}
 use Rattle.std.proofs.lemmas.Bool.Decides.{nat_tests}
@@ -66,19 +31,7 @@ use Rattle.pool_moves.specs.Leaves.{LeafSeen}
 use Rattle.pool_moves.specs.ReadRow.{copy_at, copy_of, stands_under, copies_of}
 use Rattle.pool_moves.proofs.FreeWalks.{all_append}
 use Rattle.pool_moves.proofs.PagesBack.{same_bytes_or, IsReadOf, page_here}
-use Rattle.pool_moves.proofs.ReadWalks.{
-  IsCopy,
-  IsHurt,
-  IsReadOrWrite,
-  none_heals,
-  AreRead,
-  read_one,
-  plain_one,
-  heals_may,
-  all_filter,
-  answers_front,
-  sum_of_cell,
-}
+use Rattle.pool_moves.proofs.ReadWalks.{IsCopy, IsHurt, IsReadOrWrite, none_heals, AreRead, read_one, plain_one, heals_may, all_filter, answers_front, sum_of_cell}
 
 -- Reads of copies, by what bytes are good: the record's own block always is.
 hurt_by : (c : Codec) (p : Pool) (k : Key) (cell : Cell) (copy : CopyOf) (noted : Noted) (bytes : List ℕ) → Survives c p

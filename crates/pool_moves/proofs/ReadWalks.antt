@@ -33,6 +33,7 @@ use Rattle.pool_moves.specs.Keeping.{IsAway, IsSeated, over, beneath, Kept, Walk
 use Rattle.pool_moves.specs.Leaves.{LeafSeen, Seat, At, Adrift, told, leaf_seen}
 use Rattle.pool_moves.specs.Moves.{Move, Makes, after_move, after_moves}
 use Rattle.pool_moves.specs.ReadRow.{copy_at, copy_of, stands_under, copies_of, count_reads, RowCopies, ReadReply, Gives, NoAddress, reply_by, ReadRecord, ReadGroup, ReadOpen, RowRead, ClashesWith, made_in}
+use Rattle.pool_moves.specs.Showing.{LeafShown, leaf_shown}
 use Rattle.pool_moves.specs.States.{group_seen, PoolState, Side, seen}
 use Rattle.pool_moves.specs.Walking.{as_moves}
 use Rattle.pool_moves.proofs.FreeWalks.{walks_more, all_append}
@@ -305,7 +306,7 @@ read_record c a (Some sum) s t vs reply kept is answers row = by_cell (t.pool.re
         (copies_at c t (key 0 a) cell sum vs row.0 s kept at (sym (is ∙ ap sum_of at)) row.1 (answers_first row.1.reads row.1.rewrites
         (count_reads sum.sum (row.1.reads ++ row.1.rewrites) (filter (stands_under sum.top) (seen t).leaves)) t.pool.sectors (subst (λ l. AllAnswer t.pool.sectors (made_in l)) row.1.moves answers)))
       where
-        clash_of : (outcome : Option (List ℕ)) → reply ≡ reply_by outcome → ClashBy cell outcome → ClashesWith (block_in t.pool.reads.cells a) reply
+        clash_of : (outcome : Option (List ℕ)) → reply ≡ reply_by (map (leaf_shown row.1.reads) (copies_of sum (seen t).leaves)) outcome → ClashBy cell outcome → ClashesWith (block_in t.pool.reads.cells a) reply
         clash_of None says clash = absurd clash
         clash_of (Some bytes) says clash = subst (ClashesWith (block_in t.pool.reads.cells a)) (sym says) (subst (λ o. IsClash (block_of o) bytes) (sym at) clash)
 
@@ -361,15 +362,15 @@ right_record a (Some sum) t vs bytes is row = by_cell (t.pool.reads.cells (key 0
     some_same : (a b : Sum) → Some a ≡ Some b → a ≡ b
     some_same a b e = cc
 
-    given : (outcome : Option (List ℕ)) → Gives bytes ≡ reply_by outcome → (row : RowCopies (seen t) sum vs outcome) → sha256 bytes ≡ sum.sum
-    given None says row = absurd (cc)
-    given (Some found) says row = ap sha256 (gives_same bytes found says)
+    given : (shown : List LeafShown) (outcome : Option (List ℕ)) → Gives bytes ≡ reply_by shown outcome → (row : RowCopies (seen t) sum vs outcome) → sha256 bytes ≡ sum.sum
+    given shown None says row = absurd (cc)
+    given shown (Some found) says row = ap sha256 (gives_same bytes found says)
         ∙ outcome_sum (data_start + sum.sector) sum.sum (tries (copies_of sum (seen t).leaves)) row.reads row.wrong found row.is_read
 
     by_cell : (cell : Option Cell) → t.pool.reads.cells (key 0 a) ≡ cell → (bytes ≡ block_in t.pool.reads.cells a) ⊎ IsClash (block_in t.pool.reads.cells a) bytes
     by_cell None at = absurd (let no : Some sum ≡ None = is ∙ ap sum_of at in cc)
     by_cell (Some cell) at = subst (λ o. (bytes ≡ block_of o) ⊎ IsClash (block_of o) bytes) (sym at)
-        (same_block cell.block bytes (given row.0 row.2 row.1 ∙ ap (λ x. x.sum) (some_same sum (sum_of_cell cell) (is ∙ ap sum_of at))))
+        (same_block cell.block bytes (given (map (leaf_shown row.1.reads) (copies_of sum (seen t).leaves)) row.0 row.2 row.1 ∙ ap (λ x. x.sum) (some_same sum (sum_of_cell cell) (is ∙ ap sum_of at))))
 
 right_group : (c : Codec) (a : ℕ) (cell : Option Cell) (s : PoolState) (t : Side) (vs : List Move) (bytes : List ℕ) → Kept c s t → (seen t).group.cells (key 0 a) ≡ cell
     → t.pool.written a ≡ cond t.pool.group.frozen (t.pool.group.content a) (block_in t.pool.reads.cells a)

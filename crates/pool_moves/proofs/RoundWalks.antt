@@ -10,25 +10,28 @@ use Rattle.label_store.specs.Rounds.{first_plan, second_plan, third_plan, uberbl
 use Rattle.label_store.specs.Layout.{even_labels, odd_labels}
 use Rattle.label_store.specs.Plans.{config_plan, ring_plan}
 use Rattle.label_store.specs.Seats.{AreSeated}
-use Rattle.txg_history.specs.Events.{Begins, Third, Ends, Acks, as_events}
+use Rattle.txg_history.specs.Events.{Event, Begins, Third, Ends, Acks, as_events}
 use Rattle.txg_history.specs.Groups.{Logs}
 use Rattle.txg_history.specs.Moves.{Mays}
 use Rattle.txg_history.specs.Pages.{Codec}
-use Rattle.txg_history.specs.Pools.{Pool}
+use Rattle.txg_history.specs.Pools.{Pool, pool_after}
 use Rattle.txg_history.specs.Records.{Rec, Cells, laid_over}
 use Rattle.txg_history.specs.Rounds.{all_true, ends_if, acks_or, IsThirds, IsRoundEvents}
-use Rattle.txg_history.specs.Turns.{leavers}
+use Rattle.txg_history.proofs.Folding.{mays_first, mays_second}
 use Rattle.txg_history.proofs.RoundMoves.{round_may}
 use Rattle.pool_moves.specs.Boards.{board_of}
 use Rattle.pool_moves.specs.Keeping.{IsOfFound, IsDraftedBy, Kept, Walks}
 use Rattle.pool_moves.specs.Leaves.{Seat, At, Adrift}
-use Rattle.pool_moves.specs.Moves.{Draft, Move, Makes, Starts, Copies, Copied, rec_of, after_move, after_moves}
+use Rattle.pool_moves.specs.Moves.{Draft, Move, Makes, Starts, Copies, Copied, rec_of, steps, after_move, after_moves}
 use Rattle.pool_moves.specs.States.{PoolState, Side}
-use Rattle.pool_moves.specs.TurnRows.{ended, IsThirdMoves, round_end, RowRound}
-use Rattle.pool_moves.specs.Walking.{events_along, AreAdmitted, IsFree, as_moves, leave_moves}
+use Rattle.pool_moves.specs.TurnRows.{ended, IsThirdMoves, EndsRound, round_moves, RowRound}
+use Rattle.pool_moves.specs.Walking.{events_along, IsFree, as_moves}
+use Rattle.pool_moves.specs.Widening.{AreLeaves, seen_along}
 use Rattle.pool_moves.proofs.Boarding.{frozen_core, is_frozen, seen_frozen, board_just, board_apart, board_found}
 use Rattle.pool_moves.proofs.Drafting.{HasDraftTop, drawn_up, draft_tops, draft_knows}
-use Rattle.pool_moves.proofs.FreeWalks.{walk_of, free_walk, free_then, all_append, leaves_free, calls_along, leaves_along, events_more, frozen_along}
+use Rattle.pool_moves.proofs.FreeWalks.{walk_of, walks_more, free_walk, all_append, calls_along, frozen_along, pool_along}
+use Rattle.pool_moves.proofs.Keeping.{walk_keeps}
+use Rattle.pool_moves.proofs.Widenings.{seen_of, leaves_walk}
 
 -- Calls, and marks of labels.
 abbrev IsLabelMove : Move → Type 0
@@ -138,12 +141,6 @@ thirds_along plan draft q [] (b ∷ was) is vs t same r = absurd r
 thirds_along plan draft q (m ∷ ms) [] is vs t same r = absurd r
 thirds_along plan draft q (m ∷ ms) (b ∷ was) [] vs t same r = absurd r
 
-end_along : (whole : Bool) (draft : Draft) (q : Rec) (ms : List Member) (results : List Bool) (t : Side) → rec_of t.pool draft ≡ q
-    → events_along (round_end whole draft ms results) t ≡ acks_or whole q ms results
-end_along true draft q ms results t same = ap (λ r. Acks r ∷ []) same
-end_along false draft q ms results t same =
-    ap (λ l. events_along l t) (sym (append-nil (leave_moves ms results))) ∙ (leaves_along ms results [] t ∙ append-nil (leavers ms results))
-
 -- Plans that are the same for each member of a list.
 same_phase : (plan other : Member → List Ask) (ms : List Member) (was is : List Bool) (made : List Noted) → AllByRecursion (λ m. plan m ≡ other m) ms
     → IsPhase plan ms was is made → IsPhase other ms was is made
@@ -189,18 +186,9 @@ started_drafted p draft (Adrift leaf ∷ seats) all = (tt, started_drafted p dra
 three_more : {A : Type 0} (a b c d : List A) → (a ++ (b ++ c)) ++ d ≡ a ++ (b ++ (c ++ d))
 three_more a b c d = append_assoc a (b ++ c) d ∙ ap (λ l. a ++ l) (append_assoc b c d)
 
--- how a round ends is admitted
-end_admitted : (whole : Bool) (draft : Draft) (ms : List Member) (results : List Bool) (t : Side) → t.pool.group.frozen ≡ true → Drafted draft (face t)
-    → AllByRecursion (λ m. AllByRecursion (IsOfFound (λ e. m.dev == e)) t.seats) ms → AreAdmitted t (round_end whole draft ms results)
-end_admitted true draft ms results t f drafted found = ((f, drafted), tt)
-end_admitted false draft ms results t f drafted found = free_walk (leave_moves ms results) t f (leaves_free t.seats ms results found)
-
 round_at : (c : Codec) (size : ℕ → ℕ) (s : PoolState) (t : Side) (vs : List Move) (whole : Bool) → Kept c s t → t.pool.group.frozen ≡ true
     → ((d : ℕ) → 1 ≤ size d → t.pool.size d ≡ size d) → RowRound c size (frozen_core t) vs whole → Walks c t vs
-round_at c size s t vs whole kept f same row = subst (Walks c t) (sym row.moves) (walk_of c moves t
-    (subst (Mays c p) (sym all_along) (round_may c p q ms row.results (Begins q ∷ (as_events row.first ++ (as_events row.second ++ (events_along row.thirds third ++ acks_or (all_true row.results) q ms row.results))))
-    kept.survives (drawn_up c s t draft kept f row.flushed row.fresh row.boards row.leaves row.fits) (board_just c s t kept f) (board_apart c s t kept) as_round))
-    ((f, draft_knows t.pool draft t.seats row.leaves), admitted))
+round_at c size s t vs whole kept f same row = subst (Walks c t) (sym row.moves) (walks_more c pre row.ending t pre_walk (end whole row.whole_is row.ends))
   where
     p : Pool
     p = t.pool
@@ -226,8 +214,8 @@ round_at c size s t vs whole kept f same row = subst (Walks c t) (sym row.moves)
     ending : Side
     ending = after_moves row.thirds (after_moves (as_moves row.second) (after_moves (as_moves row.first) (after_move (Starts row.draft) t)))
 
-    moves : List Move
-    moves = Starts row.draft ∷ (as_moves row.first ++ (as_moves row.second ++ (row.thirds ++ round_end whole row.draft (board_of (frozen_core t).leaves) row.results)))
+    pre : List Move
+    pre = round_moves row.draft row.first row.second row.thirds
 
     third_same : rec_of (after_moves (as_moves row.second) (after_moves (as_moves row.first) (after_move (Starts row.draft) t))).pool row.draft ≡ rec_of t.pool row.draft
     third_same = same_rec row.draft (as_moves row.second) (after_moves (as_moves row.first) (after_move (Starts row.draft) t)) (calls_label row.second)
@@ -242,11 +230,14 @@ round_at c size s t vs whole kept f same row = subst (Walks c t) (sym row.moves)
         ∙ (same_rec row.draft (as_moves row.second) (after_moves (as_moves row.first) (after_move (Starts row.draft) t)) (calls_label row.second)
         ∙ same_rec row.draft (as_moves row.first) (after_move (Starts row.draft) t) (calls_label row.first))
 
-    all_along : events_along moves t ≡ Begins q ∷ (as_events row.first ++ (as_events row.second ++ (events_along row.thirds third ++ acks_or (all_true row.results) q ms row.results)))
-    all_along = ap (λ l. Begins q ∷ l) (calls_along row.first (as_moves row.second ++ (row.thirds ++ round_end whole draft ms row.results)) begun
-        ∙ ap (λ l. as_events row.first ++ l) (calls_along row.second (row.thirds ++ round_end whole draft ms row.results) second
-        ∙ ap (λ l. as_events row.second ++ l) (events_more row.thirds (round_end whole draft ms row.results) third
-        ∙ ap (λ l. events_along row.thirds third ++ l) (end_along whole draft q ms row.results ending ending_same ∙ ap (λ w. acks_or w q ms row.results) row.whole_is))))
+    pre_events : List Event
+    pre_events = Begins q ∷ (as_events row.first ++ (as_events row.second ++ events_along row.thirds third))
+
+    pre_along : events_along (round_moves row.draft row.first row.second row.thirds) t
+        ≡ Begins (rec_of t.pool row.draft) ∷ (as_events row.first ++ (as_events row.second
+        ++ events_along row.thirds (after_moves (as_moves row.second) (after_moves (as_moves row.first) (after_move (Starts row.draft) t)))))
+    pre_along = ap (λ l. Begins q ∷ l) (calls_along row.first (as_moves row.second ++ row.thirds) begun
+        ∙ ap (λ l. as_events row.first ++ l) (calls_along row.second row.thirds second))
 
     sizes : AllByRecursion (λ m. size m.dev ≡ t.pool.size m.dev) (board_of (frozen_core t).leaves)
     sizes = sized size t.pool.size (board_of (frozen_core t).leaves) same row.seated
@@ -278,12 +269,44 @@ round_at c size s t vs whole kept f same row = subst (Walks c t) (sym row.moves)
     end_face : face (after_moves (as_moves row.first ++ (as_moves row.second ++ row.thirds)) (after_move (Starts row.draft) t)) ≡ face (after_move (Starts row.draft) t)
     end_face = face_along middle begun middle_label
 
-    admitted : AreAdmitted begun (as_moves row.first ++ (as_moves row.second ++ (row.thirds ++ round_end whole draft ms row.results)))
-    admitted = subst (AreAdmitted begun) (three_more (as_moves row.first) (as_moves row.second) row.thirds (round_end whole draft ms row.results))
-        (free_then middle (round_end whole draft ms row.results) begun f (labels_free begun.seats middle middle_label)
-        (end_admitted whole draft ms row.results (after_moves middle begun) (frozen_along middle begun (labels_free begun.seats middle middle_label) ∙ f)
-        (subst (Drafted draft) (sym end_face) (started_drafted p draft t.seats (draft_tops c s t draft kept row.leaves)))
-        (subst (λ seats. AllByRecursion (λ m. AllByRecursion (IsOfFound (λ e. m.dev == e)) seats) ms) (sym (ap (λ x. x.seats) end_face)) (board_found c s t kept))))
+    may : Mays c t.pool ((Begins (rec_of t.pool row.draft) ∷ (as_events row.first ++ (as_events row.second
+        ++ events_along row.thirds (after_moves (as_moves row.second) (after_moves (as_moves row.first) (after_move (Starts row.draft) t))))))
+        ++ acks_or (all_true row.results) (rec_of t.pool row.draft) (board_of (frozen_core t).leaves) row.results)
+    may = subst (λ l. Mays c p (Begins q ∷ l)) (sym (three_more (as_events row.first) (as_events row.second) (events_along row.thirds third) (acks_or (all_true row.results) q ms row.results)))
+        (round_may c p q ms row.results (Begins q ∷ (as_events row.first ++ (as_events row.second ++ (events_along row.thirds third ++ acks_or (all_true row.results) q ms row.results))))
+        kept.survives (drawn_up c s t draft kept f row.flushed row.fresh row.boards row.leaves row.fits) (board_just c s t kept f) (board_apart c s t kept) as_round)
+
+    pre_walk : Walks c t (round_moves row.draft row.first row.second row.thirds)
+    pre_walk = walk_of c pre t (subst (Mays c p) (sym pre_along) (mays_first c pre_events (acks_or (all_true row.results) q ms row.results) p may))
+        ((f, draft_knows t.pool draft t.seats row.leaves), free_walk middle begun f (labels_free begun.seats middle middle_label))
+
+    ended_side : Side
+    ended_side = after_moves (round_moves row.draft row.first row.second row.thirds) t
+
+    ended_frozen : (after_moves (round_moves row.draft row.first row.second row.thirds) t).pool.group.frozen ≡ true
+    ended_frozen = frozen_along middle begun (labels_free begun.seats middle middle_label) ∙ f
+
+    ended_found : AllByRecursion (λ m. AllByRecursion (IsOfFound (λ e. m.dev == e)) (after_moves (round_moves row.draft row.first row.second row.thirds) t).seats) (board_of (frozen_core t).leaves)
+    ended_found = subst (λ seats. AllByRecursion (λ m. AllByRecursion (IsOfFound (λ e. m.dev == e)) seats) ms) (sym (ap (λ x. x.seats) end_face)) (board_found c s t kept)
+
+    ended_same : rec_of (after_moves (round_moves row.draft row.first row.second row.thirds) t).pool row.draft ≡ rec_of t.pool row.draft
+    ended_same = same_rec row.draft middle begun middle_label
+
+    end : (w : Bool) → w ≡ all_true row.results → EndsRound w (seen_along (round_moves row.draft row.first row.second row.thirds) (frozen_core t)) row.draft (board_of (frozen_core t).leaves) row.results row.ending
+        → Walks c (after_moves (round_moves row.draft row.first row.second row.thirds) t) row.ending
+    end true is e = subst (Walks c ended_side) (sym e) (
+      (
+        (subst (λ r. Mays c ended_side.pool (Acks r ∷ [])) (sym ended_same)
+            (subst (λ x. Mays c x (Acks q ∷ [])) (sym (pool_along pre t ∙ ap (λ l. pool_after l p) pre_along))
+            (subst (λ w. Mays c (pool_after pre_events p) (acks_or w q ms row.results)) (sym is)
+            (mays_second c pre_events (acks_or (all_true row.results) q ms row.results) p may)))),
+        (ended_frozen, subst (Drafted draft) (sym end_face) (started_drafted p draft t.seats (draft_tops c s t draft kept row.leaves))),
+      ),
+      tt,
+    )
+    end false is e = subst (Walks c ended_side) (append-nil row.ending)
+        (leaves_walk c ms row.results row.ending [] (steps pre s) ended_side ended_side.pool (walk_keeps c pre s t pre_walk kept) (ended_side.pool.owes, refl) ended_frozen ended_found
+        (subst (λ core. AreLeaves core ms row.results row.ending) (sym (seen_of pre s ∙ ap (λ core. seen_along pre core) (seen_frozen c s t kept f))) e) (λ u like g. tt))
 
 pub round_walks : (c : Codec) (size : ℕ → ℕ) (s : PoolState) (t : Side) (vs : List Move) (whole : Bool) → Kept c s t
     → ((d : ℕ) → 1 ≤ size d → t.pool.size d ≡ size d) → RowRound c size s.core vs whole → Walks c t vs

@@ -8,30 +8,30 @@ use Rattle.bank_core.specs.Asks.{Flushes, ask_of}
 use Rattle.bank_core.specs.Calls.{fault_of}
 use Rattle.bank_core.specs.Disk.{Call, Read, Write, Flush, Admit, Eject, Noted, AllAnswer}
 use Rattle.label_store.specs.declared.member.Member.{Member}
-use Rattle.txg_history.specs.Events.{Calls, Drops, Clears}
+use Rattle.txg_history.specs.Events.{Calls, Clears}
 use Rattle.txg_history.specs.Groups.{at_device}
 use Rattle.txg_history.specs.Moves.{Mays}
 use Rattle.txg_history.specs.Pages.{Codec, sum_of}
-use Rattle.txg_history.specs.Pools.{Pool}
+use Rattle.txg_history.specs.Pools.{Pool, after}
 use Rattle.txg_history.specs.Records.{Cell}
-use Rattle.txg_history.specs.Survival.{Survives}
 use Rattle.txg_history.proofs.Showing.{clear_may}
 use Rattle.txg_history.proofs.Sparing.{part_may}
-use Rattle.txg_history.proofs.Surviving.{history_survives}
 use Rattle.txg_history.proofs.Turning.{flush_sparing}
 use Rattle.pool_moves.specs.Boards.{members_where}
 use Rattle.pool_moves.specs.Keeping.{IsElsewhere, AreSeatsApart, IsAway, HasFound, IsOfFound, Kept, Walks}
 use Rattle.pool_moves.specs.Leaves.{LeafSeen, Seat, At, Adrift, dev_if, told, leaf_seen}
 use Rattle.pool_moves.specs.LineRows.{has_number, write_failed, sets_failed}
-use Rattle.pool_moves.specs.Moves.{Move, Makes, Sets, Drop, Clear, Rest, Scrubs, after_move}
+use Rattle.pool_moves.specs.Moves.{Move, Makes, Sets, Drop, Clear, Rest, Scrubs, step, steps, state_step, after_move, after_moves}
 use Rattle.pool_moves.specs.ReadRow.{made_in}
-use Rattle.pool_moves.specs.ScanRows.{flush_end, AreFlushed, is_eligible, RowScanEnd, StepReply, StepBy, RowStep, FoundClash, starts_scan, ScrubReply, ScrubBy, RowScrub, StopReply, StopBy, RowStopScrub}
-use Rattle.pool_moves.specs.States.{PoolState, Side}
+use Rattle.pool_moves.specs.ScanRows.{FlushEnds, AreFlushed, is_eligible, RowScanEnd, StepReply, StepBy, RowStep, FoundClash, starts_scan, ScrubReply, ScrubBy, RowScrub, StopReply, StopBy, RowStopScrub}
+use Rattle.pool_moves.specs.States.{PoolSeen, PoolState, Side}
+use Rattle.pool_moves.specs.Widening.{IsWidened, seen_along}
 use Rattle.pool_moves.proofs.AwayWalks.{only_found}
 use Rattle.pool_moves.proofs.Boarding.{before_all, no_dev, dev_is}
 use Rattle.pool_moves.proofs.FreeWalks.{walks_more}
 use Rattle.pool_moves.proofs.FreezeWalks.{up_of_found}
-use Rattle.pool_moves.proofs.Keeping.{all_same, of_found_step}
+use Rattle.pool_moves.proofs.Keeping.{all_same, of_found_step, move_keeps, walk_keeps}
+use Rattle.pool_moves.proofs.Widenings.{IsLike, widened_walk, widens_like, widens_found, seen_of}
 use Rattle.pool_moves.proofs.ReadWalks.{sum_of_cell}
 use Rattle.pool_moves.proofs.ScanSteps.{scan_core, is_running, seen_running, key_walks}
 
@@ -86,8 +86,8 @@ eligible_apart f p (Adrift leaf ∷ seats) away apart = before_all AreDevicesApa
 abbrev IsPassed : Pool → Type 0
 IsPassed p = (k : Key) (cell : Cell) → p.reads.cells k ≡ Some cell → cell.birth ≤ p.scan.hi → p.scan.passed k ≡ true
 
-record AreLeft (c : Codec) (t : Side) (ms : List Member) : Type 0 where
-  pub survives : Survives c t.pool
+record AreLeft (c : Codec) (s : PoolState) (t : Side) (ms : List Member) : Type 0 where
+  pub kept : Kept c s t
   pub running : t.pool.scan.running ≡ true
   pub passed : IsPassed t.pool
   pub eligible : AllByRecursion (λ m. t.pool.scan.eligible m.dev ≡ true) ms
@@ -116,37 +116,53 @@ still_eligible : (d : ℕ) (eligible : ℕ → Bool) (ms : List Member) → AllB
 still_eligible d eligible [] off all = tt
 still_eligible d eligible (m ∷ ms) off all = (ap (λ t. cond t false (eligible m.dev)) off.0 ∙ all.0, still_eligible d eligible ms off.1 all.1)
 
+-- what comes behind the end of a leaf's part
+abbrev Later : Codec → PoolSeen → List Member → (ending rest : List Move) → Type 0
+Later c s ms ending rest = (u : PoolState) (t : Side) → u.core ≡ seen_along ending s → AreLeft c u t ms → Walks c t rest
+
 -- a leaf whose flush answered Ok
-cleared_walk : (c : Codec) (t : Side) (m : Member) (ms : List Member) (noted : Noted) (rest : List Move) → AreLeft c t (m ∷ ms) → noted.call ≡ Flush m.dev None
-    → ((t : Side) → AreLeft c t ms → Walks c t rest) → Walks c t (Makes noted ∷ (Clear m.dev ∷ rest))
-cleared_walk c t m ms noted rest left call next = (
+cleared_walk : (c : Codec) (s : PoolState) (t : Side) (m : Member) (ms : List Member) (noted : Noted) (ending rest : List Move) → AreLeft c s t (m ∷ ms)
+    → noted.call ≡ Flush m.dev None → IsWidened s.core (Clear m.dev) ending → Later c s.core ms ending rest → Walks c t (Makes noted ∷ (ending ++ rest))
+cleared_walk c s t m ms noted ending rest left call is next = (
   ((may.0, tt), tt),
-  (
-    ((may.1.0, tt), (left.running, left.found.0, left.eligible.0)),
-    next (after_move (Clear m.dev) (after_move (Makes noted) t)) (record {
-      survives = history_survives c (Calls noted ∷ (Clears m.dev ∷ [])) t.pool left.survives may;
-      running = left.running;
-      passed = left.passed;
-      eligible = left.eligible.1;
-      apart = left.apart.1;
-      found = found_mapped (Clear m.dev) t ms (after_move (Clear m.dev) (after_move (Makes noted) t)).seats
-          (λ which all. of_found_step which (Clear m.dev) (after_move (Makes noted) t).pool (λ d found own is. is) t.seats all) left.found.1;
-    }),
-  ),
+  walks_more c ending rest behind walk (next (steps ending s) (after_moves ending behind) (seen_of ending s) (record {
+    kept = walk_keeps c ending s behind walk kept;
+    running = ap (λ p. p.scan.running) like.1 ∙ left.running;
+    passed = subst IsPassed (sym like.1) left.passed;
+    eligible = subst (λ p. AllByRecursion (λ m. p.scan.eligible m.dev ≡ true) ms) (sym like.1) left.eligible.1;
+    apart = left.apart.1;
+    found = found_mapped (Clear m.dev) t ms (after_moves ending behind).seats
+        (λ which all. subst (λ l. AllByRecursion (IsOfFound which) (after_moves l behind).seats) (sym is.moves)
+        (widens_found which is.widens (step (Clear m.dev) s.core) (after_move (Clear m.dev) behind) is.are
+        (of_found_step which (Clear m.dev) behind.pool (λ d found own is. is) t.seats all))) left.found.1;
+  })),
 )
   where
     may : Mays c t.pool (Calls noted ∷ (Clears m.dev ∷ []))
-    may = clear_may c t.pool m.dev noted left.survives left.running left.eligible.0 left.passed call
+    may = clear_may c t.pool m.dev noted left.kept.survives left.running left.eligible.0 left.passed call
+
+    behind : Side
+    behind = after_move (Makes noted) t
+
+    kept : Kept c s (after_move (Makes noted) t)
+    kept = move_keeps c (Makes noted) s t (may.0, tt) tt left.kept
+
+    walk : Walks c (after_move (Makes noted) t) ending
+    walk = widened_walk c (Clear m.dev) ending s behind kept (((may.1.0, tt), (left.running, left.found.0, left.eligible.0)), tt) is
+
+    like : IsLike (after (Clears m.dev) (after (Calls noted) t.pool)) (after_moves ending (after_move (Makes noted) t)).pool
+    like = subst (λ l. IsLike (after (Clears m.dev) (after (Calls noted) t.pool)) (after_moves l behind).pool) (sym is.moves)
+        (widens_like is.widens (step (Clear m.dev) s.core) (after_move (Clear m.dev) behind) (after (Clears m.dev) (after (Calls noted) t.pool)) is.are
+        ((after (Clears m.dev) (after (Calls noted) t.pool)).owes, refl))
 
 -- one whose flush failed, and its count
-failed_walk : (c : Codec) (t : Side) (ms : List Member) (leaf : Option LeafSeen) (rest : List Move) → AreLeft c t ms
-    → ((t : Side) → AreLeft c t ms → Walks c t rest)
-    → Walks c t (sets_failed leaf ++ rest)
-failed_walk c t ms None rest left next = next t left
-failed_walk c t ms (Some leaf) rest left next = (
-  (tt, tt),
-  next (after_move (Sets leaf.guid (write_failed leaf.own)) t) (record {
-    survives = left.survives;
+failed_walk : (c : Codec) (s : PoolState) (t : Side) (ms : List Member) (leaf : Option LeafSeen) (rest : List Move) → AreLeft c s t ms
+    → Later c s.core ms (sets_failed leaf) rest → Walks c t (sets_failed leaf ++ rest)
+failed_walk c s t ms None rest left next = next s t refl left
+failed_walk c s t ms (Some leaf) rest left next = (
+  ((tt, tt)),
+  next (state_step (Sets leaf.guid (write_failed leaf.own)) s) (after_move (Sets leaf.guid (write_failed leaf.own)) t) refl (record {
+    kept = move_keeps c (Sets leaf.guid (write_failed leaf.own)) s t tt tt left.kept;
     running = left.running;
     passed = left.passed;
     eligible = left.eligible;
@@ -156,22 +172,22 @@ failed_walk c t ms (Some leaf) rest left next = (
   }),
 )
 
-dropped_walk : (c : Codec) (t : Side) (m : Member) (ms : List Member) (noted : Noted) (fault : Fault) (leaf : Option LeafSeen) (rest : List Move)
-    → AreLeft c t (m ∷ ms)
-    → ask_of noted.call ≡ Flushes m.dev → fault_of noted.call ≡ Some fault → ((t : Side) → AreLeft c t ms → Walks c t rest)
-    → Walks c t (Makes noted ∷ (Drop m.dev ∷ (sets_failed leaf ++ rest)))
-dropped_walk c t m ms noted fault leaf rest left ask fails next = (
-  ((may.0, tt), tt),
+dropped_walk : (c : Codec) (s : PoolState) (t : Side) (m : Member) (ms : List Member) (noted : Noted) (fault : Fault) (leaf : Option LeafSeen) (rest : List Move)
+    → AreLeft c s t (m ∷ ms)
+    → ask_of noted.call ≡ Flushes m.dev → fault_of noted.call ≡ Some fault → Later c s.core ms (Drop m.dev ∷ sets_failed leaf) rest
+    → Walks c t (Makes noted ∷ ((Drop m.dev ∷ sets_failed leaf) ++ rest))
+dropped_walk c s t m ms noted fault leaf rest left ask fails next = (
+  ((may, tt)),
   (
     ((tt, tt), (left.running, left.found.0)),
-    failed_walk c (after_move (Drop m.dev) (after_move (Makes noted) t)) ms leaf rest (record {
-      survives = history_survives c (Calls noted ∷ (Drops m.dev ∷ [])) t.pool left.survives (may.0, (tt, tt));
+    failed_walk c (state_step (Drop m.dev) s) dropped ms leaf rest (record {
+      kept = move_keeps c (Drop m.dev) s behind (tt, tt) (left.running, left.found.0) (move_keeps c (Makes noted) s t may tt left.kept);
       running = left.running;
       passed = left.passed;
       eligible = still_eligible m.dev t.pool.scan.eligible ms left.apart.0 left.eligible.1;
       apart = left.apart.1;
-      found = found_mapped (Drop m.dev) t ms (after_move (Drop m.dev) (after_move (Makes noted) t)).seats
-          (λ which all. of_found_step which (Drop m.dev) (after_move (Makes noted) t).pool (λ d found own is. is) t.seats all) left.found.1;
+      found = found_mapped (Drop m.dev) t ms dropped.seats
+          (λ which all. of_found_step which (Drop m.dev) behind.pool (λ d found own is. is) t.seats all) left.found.1;
     }) next,
   ),
 )
@@ -179,21 +195,29 @@ dropped_walk c t m ms noted fault leaf rest left ask fails next = (
     may : Mays c t.pool (Calls noted ∷ [])
     may = part_may c (Flushes m.dev ∷ []) (noted ∷ []) (Some fault) t.pool (flush_sparing t.pool m.dev) (ask, inr (fault, fails, refl, refl))
 
-flush_walk : (c : Codec) (leaves : List LeafSeen) (ms : List Member) (vs : List Move) (t : Side) → AreLeft c t ms → AreFlushed leaves ms vs → Walks c t vs
-flush_walk c leaves [] vs t left flushed = subst (Walks c t) (sym flushed) tt
-flush_walk c leaves (m ∷ ms) vs t left (noted, rest, ask, vs_is, later) =
-    subst (Walks c t) (sym vs_is) (by_fault (fault_of noted.call) refl (λ t left. flush_walk c leaves ms rest t left later))
+    behind : Side
+    behind = after_move (Makes noted) t
+
+    dropped : Side
+    dropped = after_move (Drop m.dev) (after_move (Makes noted) t)
+
+flush_walk : (c : Codec) (ms : List Member) (vs : List Move) (s : PoolState) (t : Side) → AreLeft c s t ms → AreFlushed s.core ms vs → Walks c t vs
+flush_walk c [] vs s t left flushed = subst (Walks c t) (sym flushed) tt
+flush_walk c (m ∷ ms) vs s t left (noted, ending, rest, ask, vs_is, ends, later) =
+    subst (Walks c t) (sym vs_is) (by_fault (fault_of noted.call) refl ends
+    (λ u t same left. flush_walk c ms rest u t left (subst (λ core. AreFlushed core ms rest) (sym same) later)))
   where
-    by_fault : (fault : Option Fault) → fault_of noted.call ≡ fault → ((t : Side) → AreLeft c t ms → Walks c t rest)
-        → Walks c t (Makes noted ∷ (flush_end fault leaves m ++ rest))
-    by_fault None ok next = cleared_walk c t m ms noted rest left (flush_call noted.call m.dev ask ∙ ap (Flush m.dev) ok) next
-    by_fault (Some fault) fails next = dropped_walk c t m ms noted fault (find (has_number m.guid) leaves) rest left ask fails next
+    by_fault : (fault : Option Fault) → fault_of noted.call ≡ fault → FlushEnds fault s.core m ending → Later c s.core ms ending rest
+        → Walks c t (Makes noted ∷ (ending ++ rest))
+    by_fault None ok is next = cleared_walk c s t m ms noted ending rest left (flush_call noted.call m.dev ask ∙ ap (Flush m.dev) ok) is next
+    by_fault (Some fault) fails is next = subst (λ l. Walks c t (Makes noted ∷ (l ++ rest))) (sym is)
+        (dropped_walk c s t m ms noted fault (find (has_number m.guid) s.core.leaves) rest left ask fails (subst (λ l. Later c s.core ms l rest) is next))
 
 -- The end of a scan.
 end_at : (c : Codec) (s : PoolState) (t : Side) (vs : List Move) → Kept c s t → t.pool.scan.running ≡ true → RowScanEnd (scan_core t) vs → Walks c t vs
 end_at c s t vs kept running row = subst (Walks c t) (sym row.moves)
-    (walks_more c row.part (Rest ∷ []) t (flush_walk c (scan_core t).leaves (eligible_of t.pool.group.frozen t.pool t.seats) row.part t (record {
-      survives = kept.survives;
+    (walks_more c row.part (Rest ∷ []) t (flush_walk c (eligible_of t.pool.group.frozen t.pool t.seats) row.part s t (record {
+      kept = kept;
       running = running;
       passed = λ k cell is low. row.none k (sum_of_cell cell) (ap sum_of is) low;
       eligible = all_same (IsEligible t.pool t.seats) (λ m. t.pool.scan.eligible m.dev ≡ true) (λ m is. is.0)
@@ -201,7 +225,7 @@ end_at c s t vs kept running row = subst (Walks c t) (sym row.moves)
       apart = eligible_apart t.pool.group.frozen t.pool t.seats kept.away kept.apart;
       found = all_same (IsEligible t.pool t.seats) (λ m. AllByRecursion (IsOfFound (λ e. m.dev == e)) t.seats)
           (λ m is. only_found m.dev t.seats kept.apart is.1) (eligible_of t.pool.group.frozen t.pool t.seats) are;
-    }) row.flushed) (((tt, tt), tt), tt))
+    }) (subst (λ core. AreFlushed core (eligible_of t.pool.group.frozen t.pool t.seats) row.part) (sym (seen_running c s t kept running)) row.flushed)) (((tt, tt), tt), tt))
   where
     are : AllByRecursion (IsEligible t.pool t.seats) (eligible_of t.pool.group.frozen t.pool t.seats)
     are = eligible_are t.pool.group.frozen t.pool t.seats t.seats kept.away (λ d has. has)

@@ -15,7 +15,7 @@ use Rattle.txg_history.specs.Scans.{scanned_log}
 use Rattle.txg_history.proofs.Logging.{same_device}
 use Rattle.pool_moves.specs.Keeping.{IsElsewhere, IsSeated, IsOwnNumber, IsOfFound, IsDrafted, MayCome, MayReturn, Admits, Kept}
 use Rattle.pool_moves.specs.Leaves.{OwnLeaf, LeafSeen, Seat, At, Adrift, dev_if, told, leaf_seen}
-use Rattle.pool_moves.specs.Moves.{Draft, Move, Makes, Puts, Freeze, Wrote_key, Flushed_all, Draw, Leave, Widen, Burn, Starts, Copies, Copied, Commits, Sets, Finds, Lose, Comes, Goes, Returns, Scan_from, Pass, Drop, Clear, Rest, Scrubs, Shapes, log_grown, log_scanned, leaf_cleared, leaf_step, step, sum_over, sums_over, rec_of, of_number, seat_step, seats_by, after_move, new_leaf}
+use Rattle.pool_moves.specs.Moves.{Draft, Move, Makes, Puts, Freeze, Wrote_key, Flushed_all, Draw, Leave, Widen, Burn, Starts, Copies, Copied, Commits, Sets, Finds, Lose, Comes, Goes, Returns, Scan_from, Pass, Drop, Clear, Rest, Scrubs, Shapes, joined_own, log_grown, log_scanned, leaf_cleared, leaf_step, step, sum_over, sums_over, rec_of, of_number, seat_step, seats_by, after_move, new_leaf}
 use Rattle.pool_moves.specs.States.{sums, seen_by, Side, seen, PoolState}
 
 -- What is so of each seat is so of the list.
@@ -38,6 +38,7 @@ freeze_leaf : (f r : Bool) (p : Pool) (cells : Cells) (board : ℕ → Bool) (fi
     → leaf_seen true r (told (after (Freezes cells board) p)) (seat_step (Freeze cells board) p seat) ≡ leaf_step (Freeze cells board) p.highest first hi (leaf_seen f r (told p) seat)
 freeze_leaf f r p cells board first hi (At d true own) fits = refl
 freeze_leaf f r p cells board first hi (At d false own) fits = ap (λ t. record (leaf_seen f r (told p) (At d false own)) {
+  own = joined_own false own;
   owes = log_grown (not t) (p.highest + 1) (p.highest + 1) (p.owes d);
   on = t;
 }) (fits refl)
@@ -154,8 +155,8 @@ commit_leaf : (r : Bool) (p : Pool) (draft : Draft) (hi : ℕ) (seat : Seat) →
     → leaf_seen false r (told (after (Acks (rec_of p draft)) p)) (seat_step (Commits draft) p seat)
     ≡ leaf_step (Commits draft) p.highest p.group.first hi (leaf_seen true r (told p) seat)
 commit_leaf r p draft hi (At d found own) fits =
-    ap (λ log. record (leaf_seen false r (told p) (At d found own)) { top = draft.tops (p.guid d); settled = log }) fits.0
-    ∙ ap (λ top. record (leaf_seen false r (told p) (At d found own)) { top = top; settled = p.owes d }) fits.1
+    ap (λ log. record (leaf_seen false r (told p) (At d found own)) { own = joined_own false own; top = draft.tops (p.guid d); settled = log }) fits.0
+    ∙ ap (λ top. record (leaf_seen false r (told p) (At d found own)) { own = joined_own false own; top = top; settled = p.owes d }) fits.1
 commit_leaf r p draft hi (Adrift leaf) fits = refl
 
 commit_seen : (t : Side) (draft : Draft) → t.pool.group.frozen ≡ true → AllByRecursion (IsDrafted t.pool draft) t.seats

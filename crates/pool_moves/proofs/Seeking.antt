@@ -1,46 +1,5 @@
 -- What an opening's looks come to: of a pool of the name, a live record.
-use Rattle.std.proofs.Common.{
-  ◌≡◌,
-  inl,
-  inr,
-  ℕ,
-  ◌+◌,
-  ◌-◌,
-  ◌*◌,
-  ◌/◌,
-  ◌%◌,
-  ◌≤◌,
-  ◌<◌,
-  ◌==◌,
-  ◌&&◌,
-  ◌||◌,
-  nat_le,
-  nat_lt,
-  zero,
-  suc,
-  Bool,
-  true,
-  false,
-  cond,
-  Option,
-  Some,
-  None,
-  List,
-  [],
-  ◌∷◌,
-  ◌++◌,
-  length,
-  take,
-  Result,
-  Ok,
-  Err,
-  refl,
-  sym,
-  ap,
-  ◌∙◌,
-  subst,
-  arith,
-}
+use Rattle.std.proofs.Common.{◌≡◌, inl, inr, ℕ, ◌+◌, ◌-◌, ◌*◌, ◌/◌, ◌%◌, ◌≤◌, ◌<◌, ◌==◌, ◌&&◌, ◌||◌, nat_le, nat_lt, zero, suc, Bool, true, false, cond, Option, Some, None, List, [], ◌∷◌, ◌++◌, length, take, Result, Ok, Err, refl, sym, ap, ◌∙◌, subst, arith}
 use Rattle.std.specs.Prelude.{slice_index}
 use Rattle.std.specs.List.{AllByRecursion}
 use Rattle.std.proofs.lemmas.Bool.{and_parts}
@@ -74,21 +33,7 @@ use Rattle.txg_history.proofs.Surviving.{history_survives}
 use Rattle.txg_history.proofs.Yields.{identity_whole, finds_some, yield_live}
 use Rattle.pool_moves.specs.FreezeRow.{is_dev}
 use Rattle.pool_moves.specs.Opened.{claims_of}
-use Rattle.pool_moves.specs.OpeningRow.{
-  SeekReply,
-  seek_reply,
-  RowSeek,
-  HasSizes,
-  IsLiveOne,
-  SeeksLive,
-  read_of,
-  AreWholeReads,
-  IsSoughtOn,
-  IsSought,
-  AreSought,
-  OpenReply,
-  RowOpen,
-}
+use Rattle.pool_moves.specs.OpeningRow.{SeekReply, seek_reply, RowSeek, HasSizes, IsLiveOne, SeeksLive, read_of, AreWholeReads, IsSoughtOn, IsSought, AreSought, OpenReply, RowOpen}
 use Rattle.pool_moves.proofs.OpenedSeats.{ArePaired}
 use Rattle.pool_moves.proofs.ReadWalks.{read_sparing}
 
@@ -282,7 +227,7 @@ claimed p size room handed (leaf ∷ leaves) made (dev ∷ devs) d m is claim = 
     same_guid : (a b : Guid) → (a.0 == b.0) ≡ true → a ≡ b
     same_guid a b is = let at : ℕ → Guid = λ n. record { 0 = n } in ap at (same_device a.0 b.0 is)
 
-sought_no_twin : (c : Codec) (p : Pool) (r : Rec) (size room : ℕ → ℕ) (handed : List ℕ → Option ℕ) (leaves : List LeafKept) (made : List Noted)
+pub sought_no_twin : (c : Codec) (p : Pool) (r : Rec) (size room : ℕ → ℕ) (handed : List ℕ → Option ℕ) (leaves : List LeafKept) (made : List Noted)
     (devs : List (Option ℕ)) → Survives c p → HasSizes size p
     → AreSought p.pool size room handed leaves made devs → AreWholeReads p made
     → ((d : ℕ) (m : Guid) → claims_of leaves devs d m ≡ true → p.member d ≡ true) → HasNoTwin p r (claims_of leaves devs)
@@ -385,10 +330,9 @@ seeks_live c size devs name made p reply sv sized named answers row premises = s
     named answers row.distinct row.room row.look row.is_best row.replies
     (subst (λ x. Premises c.head_of x (known_by size devs row.looks)) (calls_after made p) premises)
 
-pub row_no_twin : (c : Codec) (size : ℕ → ℕ) (handed : List ℕ → Option ℕ) (name : List ℕ) (p : Pool) (r : Rec) (found : Found) (made : List Noted)
-    (reply : OpenReply) → Survives c p → HasSizes size p → IsLiveOne p found r → (row : RowOpen c size handed name found made reply) → AreWholeReads p row.ids
-    → ((d : ℕ) (m : Guid) → claims_of (c.leaves found.blob.items) row.devs d m ≡ true → p.member d ≡ true)
-    → HasNoTwin p r (claims_of (c.leaves found.blob.items) row.devs)
+pub row_no_twin : (c : Codec) (size : ℕ → ℕ) (handed : List ℕ → Option ℕ) (name : List ℕ) (p : Pool) (r : Rec) (found : Found) (made : List Noted) (reply : OpenReply)
+    → Survives c p → HasSizes size p → IsLiveOne p found r → (row : RowOpen c size handed name found made reply) → AreWholeReads p row.ids
+    → ((d : ℕ) (m : Guid) → claims_of (c.leaves found.blob.items) row.devs d m ≡ true → p.member d ≡ true) → HasNoTwin p r (claims_of (c.leaves found.blob.items) row.devs)
 row_no_twin c size handed name p r found made reply sv sized is row whole members =
     sought_no_twin c p r size (c.room found.blob.items) handed (c.leaves found.blob.items) row.ids row.devs sv sized
     (subst (λ g. AreSought g size (c.room found.blob.items) handed (c.leaves found.blob.items) row.ids row.devs) is.pool_is row.sought) whole members

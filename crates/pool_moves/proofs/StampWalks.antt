@@ -1,38 +1,5 @@
 -- A create whose stamps all answered makes a pool, and what stamps cost other pools.
-use Rattle.std.proofs.Common.{
-  ◌≡◌,
-  ◌⊎◌,
-  inl,
-  inr,
-  ℕ,
-  suc,
-  ◌+◌,
-  ◌-◌,
-  ◌*◌,
-  ◌≤◌,
-  ◌<◌,
-  ◌^◌,
-  ◌==◌,
-  Bool,
-  true,
-  false,
-  cond,
-  Option,
-  Some,
-  None,
-  List,
-  [],
-  ◌∷◌,
-  ◌++◌,
-  map,
-  length,
-  refl,
-  sym,
-  ap,
-  ◌∙◌,
-  subst,
-  arith,
-}
+use Rattle.std.proofs.Common.{◌≡◌, ◌⊎◌, inl, inr, ℕ, suc, ◌+◌, ◌-◌, ◌*◌, ◌≤◌, ◌<◌, ◌^◌, ◌==◌, Bool, true, false, cond, Option, Some, None, List, [], ◌∷◌, ◌++◌, map, length, refl, sym, ap, ◌∙◌, subst, arith}
 use Rattle.std.specs.List.{AllByRecursion}
 use Rattle.std.proofs.lemmas.Bool.Decides.{nat_tests}
 use Rattle.mp_base.specs.declared.number.Guid.{Guid}
@@ -60,37 +27,7 @@ use Rattle.pool_moves.specs.Leaves.{LeafSeen, leaf_seen, told}
 use Rattle.pool_moves.specs.Making.{HasSeat, IsHere, IsMade}
 use Rattle.pool_moves.specs.Moves.{Move}
 use Rattle.pool_moves.specs.Rosters.{IsListed}
-use Rattle.pool_moves.specs.StampRow.{
-  NewMember,
-  NewLeaf,
-  top_leaves,
-  leaves_from,
-  next_from,
-  new_leaves,
-  least_with,
-  least_room,
-  room_or_none,
-  new_room,
-  leaf_at,
-  is_leaf_at,
-  guid_of,
-  top_of,
-  AreDevicesApart,
-  IsNew,
-  Stamp,
-  calls_of_stamps,
-  AreStamps,
-  stamp_events,
-  stamped_devices,
-  new_pool,
-  new_own,
-  new_leaf_seen,
-  new_seat,
-  new_state,
-  CreateReply,
-  CreateBy,
-  RowCreate,
-}
+use Rattle.pool_moves.specs.StampRow.{NewMember, NewLeaf, top_leaves, leaves_from, next_from, new_leaves, least_with, least_room, room_or_none, new_room, leaf_at, is_leaf_at, guid_of, top_of, AreDevicesApart, IsNew, Stamp, calls_of_stamps, AreStamps, stamp_events, stamped_devices, new_pool, new_own, new_leaf_seen, new_seat, new_state, CreateReply, CreateBy, RowCreate}
 use Rattle.pool_moves.specs.States.{PoolState, Side}
 use Rattle.pool_moves.proofs.CommitWalks.{found_walks}
 use Rattle.pool_moves.proofs.Making.{made_kept}
@@ -332,15 +269,15 @@ seats_seated : (all leaves : List NewLeaf) → AreDevicesApart all → AllByRecu
 seats_seated all [] apart are = tt
 seats_seated all (leaf ∷ leaves) apart are = (ap is_leaf_at (leaf_is_at all leaf apart are.0), seats_seated all leaves apart are.1)
 
-seats_below : (all : List NewLeaf) (next : ℕ) (leaves : List NewLeaf) → AreDevicesApart all → AllByRecursion (λ leaf. IsOneOf leaf all) leaves
-    → AllByRecursion (IsNumbered 2 next) leaves → AllByRecursion (HasNumberBelow (λ d. guid_of (leaf_at d all)) next) (map new_seat leaves)
-seats_below all next [] apart are low = tt
-seats_below all next (leaf ∷ leaves) apart are low =
-    (subst (λ at. (guid_of at).0 < next) (sym (leaf_is_at all leaf apart are.0)) low.0.1, seats_below all next leaves apart are.1 low.1)
-
 seats_here : (leaves : List NewLeaf) → AllByRecursion IsHere (map new_seat leaves)
 seats_here [] = tt
 seats_here (leaf ∷ leaves) = (refl, seats_here leaves)
+
+seats_below : (all : List NewLeaf) (next : ℕ) (leaves : List NewLeaf) → AreDevicesApart all → AllByRecursion (λ leaf. IsOneOf leaf all) leaves
+    → AllByRecursion (λ leaf. leaf.guid.0 < next) leaves → AllByRecursion (HasNumberBelow (λ d. guid_of (leaf_at d all)) next) (map new_seat leaves)
+seats_below all next [] apart are low = tt
+seats_below all next (leaf ∷ leaves) apart are low =
+    (subst (λ at. (guid_of at).0 < next) (sym (leaf_is_at all leaf apart are.0)) low.0, seats_below all next leaves apart are.1 low.1)
 
 seats_has : (leaves : List NewLeaf) (leaf : NewLeaf) → IsOneOf leaf leaves → HasSeat leaf.dev (map new_seat leaves)
 seats_has [] leaf is = absurd is
@@ -409,11 +346,10 @@ stamps_make size name pool blocks tops stamps sectors new range are = record {
   apart = seats_apart leaves new.apart;
   seated = seats_seated leaves leaves new.apart (ones leaves leaves (λ leaf is. is));
   here = seats_here leaves;
-  each = λ d is. let leaf = leaf_of d leaves is in let one = leaf_found d leaves leaf.0 leaf.1 in subst (λ n. HasSeat n (map new_seat leaves)) one.1
-      (seats_has leaves leaf.0 one.0);
-  below = seats_below leaves (next_from 1 tops) leaves new.apart (ones leaves leaves (λ leaf is. is)) (from_numbered 1 1 tops);
-  core = ap (λ l. record (new_state size name pool blocks tops).core { leaves = l })
-      (leaves_seen size name pool leaves leaves (run (calls_of_stamps stamps) sectors) new.apart (ones leaves leaves (λ leaf is. is)));
+  below = seats_below leaves (next_from 1 tops) leaves new.apart (ones leaves leaves (λ leaf is. is))
+      (each_all (IsNumbered 2 (next_from 1 tops)) (λ leaf. leaf.guid.0 < next_from 1 tops) (λ leaf is. is.1) leaves (from_numbered 1 1 tops));
+  each = λ d is. let leaf = leaf_of d leaves is in let one = leaf_found d leaves leaf.0 leaf.1 in subst (λ n. HasSeat n (map new_seat leaves)) one.1 (seats_has leaves leaf.0 one.0);
+  core = ap (λ l. record (new_state size name pool blocks tops).core { leaves = l }) (leaves_seen size name pool leaves leaves (run (calls_of_stamps stamps) sectors) new.apart (ones leaves leaves (λ leaf is. is)));
   unwritten = λ a. refl;
 }
   where

@@ -13,14 +13,15 @@ use Rattle.pool_moves.specs.AwayRows.{leaf_named, is_spare}
 use Rattle.pool_moves.specs.Keeping.{HasNumberBelow, Kept}
 use Rattle.pool_moves.specs.Leaves.{OwnLeaf, LeafSeen, Seat, At, Adrift, told, leaf_seen}
 use Rattle.pool_moves.specs.LineRows.{TurnReply, Idle, Write, Flush, Round, Committed, Suspended}
-use Rattle.pool_moves.specs.Moves.{Move, Makes, Puts, Freeze, Wrote_key, Flushed_all, Draw, Leave, Burn, Starts, Copies, Copied, Commits, Sets, Lose, Comes, Goes, Returns, Rest, Scrubs, Shapes, leaf_step, state_step, steps}
+use Rattle.pool_moves.specs.Moves.{Move, Makes, Puts, Freeze, Wrote_key, Flushed_all, Draw, Leave, Widen, Burn, Starts, Copies, Copied, Commits, Sets, Lose, Comes, Goes, Returns, Rest, Scrubs, Shapes, leaf_step, step, state_step, steps}
 use Rattle.pool_moves.specs.Refusing.{FreezeRefusal}
 use Rattle.pool_moves.specs.ScanRows.{starts_scan}
-use Rattle.pool_moves.specs.States.{PoolState, Side}
+use Rattle.pool_moves.specs.States.{PoolSeen, PoolState, Side}
 use Rattle.pool_moves.specs.TreeLeaves.{numbers_under, AreDifferent, AreTreeLeaves, IsCalm}
-use Rattle.pool_moves.specs.TreeRows.{Graft, Attach, Replace, TreeRefusal, has_place, graft_limits, refusal_at, graft_refusal, numbered, new_number, grafted, place_where, place_named, behind_top, new_place, new_own, GraftReply, comes_in, graft_first, GraftEnds, GraftOn, GraftAt, GraftFor, RowGraft, DetachReply, goes_out, is_there, IsCleaned, DetachBehind, CommitsWithout, DetachFor, DetachLeaf, DetachBy, RowDetach}
+use Rattle.pool_moves.specs.TreeRows.{Graft, Attach, Replace, graft_moves, TreeRefusal, has_place, graft_limits, refusal_at, graft_refusal, numbered, new_number, grafted, place_where, place_named, behind_top, new_place, new_own, GraftReply, comes_in, graft_first, GraftEnds, GraftOn, GraftAt, GraftFor, RowGraft, DetachReply, goes_out, is_there, IsCleaned, DetachBehind, CommitsWithout, DetachFor, DetachLeaf, DetachBy, RowDetach}
 use Rattle.pool_moves.specs.Trees.{Child, same_number, tree_leaves, pruned}
 use Rattle.pool_moves.specs.Walking.{as_moves}
+use Rattle.pool_moves.specs.Widening.{AreWidens}
 use Rattle.pool_moves.proofs.DetachWalks.{commit_of}
 use Rattle.pool_moves.proofs.GraftWalks.{steps_more, new_above}
 use Rattle.pool_moves.proofs.Keeping.{number_stays, top_stays, all_same}
@@ -112,6 +113,7 @@ calm_of (Wrote_key k) is = tt
 calm_of Flushed_all is = tt
 calm_of Draw is = tt
 calm_of (Leave d) is = tt
+calm_of (Widen m low high) is = tt
 calm_of Burn is = tt
 calm_of (Starts draft) is = tt
 calm_of (Copies draft d) is = tt
@@ -390,14 +392,21 @@ is_placed : (placed : Bool) (limits : Option TreeRefusal) → refusal_at placed 
 is_placed true limits is = refl
 is_placed false limits is = absurd (cc)
 
+widens_calm : (s : PoolSeen) (vs : List Move) → AreWidens s vs → AllByRecursion IsCalm vs
+widens_calm s [] are = tt
+widens_calm s (Widen m low high ∷ vs) are = (tt, widens_calm (step (Widen m low high) s) vs are.2)
+widens_calm s (v ∷ vs) are = absurd are
+
 graft_ended : (c : Codec) (outcome : Option Fault) (graft : Graft) (s : PoolState) (t : Side) (name : List ℕ) (leaf : LeafSeen) (new : List ℕ) (d : ℕ)
     (made : List Noted) (vs : List Move) (reply : GraftReply) → Kept c s t
     → IsTree (shape_of s) → leaf_named name s.core.leaves ≡ Some leaf → has_place graft leaf.guid (s.own.children leaf.top) ≡ true
     → GraftEnds outcome graft s name leaf new d made vs reply → IsTree (shape_of (steps vs s))
 graft_ended c (Some fault) graft s t name leaf new d made vs reply kept is named placed ends = subst (λ l. IsTree (shape_of (steps l s))) (sym ends.0)
     (subst IsTree (sym (shape_along (Lose d ∷ as_moves made) s (tt, calls_calm made))) is)
-graft_ended c None graft s t name leaf new d made vs reply kept is named placed ends = subst (λ l. IsTree (shape_of (steps l s))) (sym ends.0)
-    (subst IsTree (sym (graft_shape graft s name leaf new d made (starts_scan (steps (graft_first graft s name leaf new d made) s)) tt))
+graft_ended c None graft s t name leaf new d made vs reply kept is named placed ends = subst (λ l. IsTree (shape_of (steps l s))) (sym ends.0.moves)
+    (subst IsTree (sym (ap shape_of (steps_more (graft_moves graft s name leaf new d made) ends.0.widens s)
+    ∙ (shape_along ends.0.widens (steps (graft_moves graft s name leaf new d made) s) (widens_calm (steps (graft_moves graft s name leaf new d made) s).core ends.0.widens ends.0.are)
+    ∙ graft_shape graft s name leaf new d made (starts_scan (steps (graft_first graft s name leaf new d made) s)) tt)))
     (graft_tree graft s name leaf is named placed (new_differs c graft s t kept)))
 
 graft_on_tree : (c : Codec) (small : Bool) (size : ℕ → ℕ) (graft : Graft) (s : PoolState) (t : Side) (name : List ℕ) (leaf : LeafSeen) (new : List ℕ) (d : ℕ)

@@ -10,7 +10,8 @@ use Rattle.vdev_tree.specs.declared.vdev.State.TheVariants.{Offline}
 use Rattle.pool_moves.specs.Leaves.{OwnLeaf, LeafSeen}
 use Rattle.pool_moves.specs.Moves.{Move, Puts, Leave, Drop, Sets}
 use Rattle.pool_moves.specs.Refusing.{count_below, keys_needed, written_with, dirty_with, CountsOpen}
-use Rattle.pool_moves.specs.States.{PoolState}
+use Rattle.pool_moves.specs.States.{PoolSeen, PoolState}
+use Rattle.pool_moves.specs.Widening.{IsWidened, seen_along}
 use Rattle.pool_moves.specs.Trees.{is_spare_leaf}
 
 -- What `write` answers.
@@ -81,22 +82,25 @@ abbrev pub is_offline : State → Bool
 is_offline Offline = true
 is_offline mode = false
 
--- a leaf on the board leaves it, and an eligible one is so no more
-abbrev pub leave_if : Bool → Option ℕ → List Move
-leave_if true (Some d) = Leave d ∷ []
-leave_if true None = []
-leave_if false dev = []
-
+-- an eligible leaf is so no more, and one on the board leaves it, and logs are widened
 abbrev pub drop_if : Bool → Option ℕ → List Move
 drop_if true (Some d) = Drop d ∷ []
 drop_if true None = []
 drop_if false dev = []
 
+abbrev pub LeaveIf : Bool → Option ℕ → PoolSeen → List Move → Type 0
+LeaveIf true (Some d) s vs = IsWidened s (Leave d) vs
+LeaveIf true None s vs = vs ≡ []
+LeaveIf false dev s vs = vs ≡ []
+
 abbrev pub gone : (temporary : Bool) → OwnLeaf → OwnLeaf
 gone temporary own = record own { mode = Offline; temporary = temporary }
 
-abbrev pub away_moves : (temporary : Bool) → LeafSeen → List Move
-away_moves temporary leaf = leave_if leaf.on leaf.dev ++ (drop_if leaf.eligible leaf.dev ++ (Sets leaf.guid (gone temporary leaf.own) ∷ []))
+-- A leaf goes: the scan and the board lose it, and it is OFFLINE.
+pub record GoesAway (s : PoolState) (leaf : LeafSeen) (temporary : Bool) (vs : List Move) : Type 0 where
+  pub leaving : List Move
+  pub leaves : LeaveIf leaf.on leaf.dev (seen_along (drop_if leaf.eligible leaf.dev) s.core) leaving
+  pub moves : vs ≡ drop_if leaf.eligible leaf.dev ++ (leaving ++ (Sets leaf.guid (gone temporary leaf.own) ∷ []))
 
 -- A leaf that is OFFLINE already stays so, and only how long changes. Another one goes, unless some group could be read from no
 -- other leaf of its top: then it is required, for the least such group.
@@ -104,7 +108,7 @@ abbrev pub OfflineLeaf : (already : Bool) → PoolState → LeafSeen → (tempor
 OfflineLeaf true s leaf temporary vs reply = (vs ≡ Sets leaf.guid (gone temporary leaf.own) ∷ []) × (reply ≡ Gone)
 OfflineLeaf false s leaf temporary vs reply =
     ((group : ℕ) × LeastOut (siblings leaf s.core.leaves) group × (vs ≡ []) × (reply ≡ Required group))
-    ⊎ (¬ (IsRequired leaf s.core.leaves) × (vs ≡ away_moves temporary leaf) × (reply ≡ Gone))
+    ⊎ (¬ (IsRequired leaf s.core.leaves) × GoesAway s leaf temporary vs × (reply ≡ Gone))
 
 -- A spare leaf that stands in does not go.
 abbrev pub OfflineHere : (spare : Bool) → PoolState → LeafSeen → (temporary : Bool) → List Move → OfflineReply → Type 0

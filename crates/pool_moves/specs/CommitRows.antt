@@ -1,6 +1,7 @@
 -- The commits of a create and of an opening as rows: groups without keys. And `logs`.
 use Rattle.std.specs.Prelude.{◌≡◌, ℕ, ◌≤◌, Bool, true, List, [], ◌∷◌, ◌++◌, map, None}
 use Rattle.std.specs.List.{AllByRecursion}
+use Rattle.vdev_tree.specs.declared.vdev.Counts.{Counts}
 use Rattle.txg_history.specs.Events.{Opens}
 use Rattle.txg_history.specs.Pages.{Codec}
 use Rattle.txg_history.specs.Pools.{Pool, after}
@@ -10,7 +11,7 @@ use Rattle.pool_moves.specs.FreezeRow.{RowEmptyFreeze}
 use Rattle.pool_moves.specs.Keeping.{AreSeatsApart, IsAway, IsSeated, IsOwnNumber, HasUnder, HasNumberBelow}
 use Rattle.pool_moves.specs.Leaves.{LeafSeen}
 use Rattle.pool_moves.specs.LineRows.{TurnReply, EndsGroup}
-use Rattle.pool_moves.specs.Moves.{Move, Flushed_all, steps}
+use Rattle.pool_moves.specs.Moves.{Move, Flushed_all, Sets, steps}
 use Rattle.pool_moves.specs.States.{PoolState, Side, seen}
 use Rattle.pool_moves.specs.TurnRows.{FitsOwn, RowRound}
 
@@ -31,13 +32,20 @@ pub record IsOpened (c : Codec) (s : PoolState) (t : Side) : Type 0 where
   pub below : AllByRecursion (HasNumberBelow t.pool.guid s.own.next_member) t.seats
   pub unwritten : (a : ℕ) → s.own.writes a ≡ None
 
--- The commit of an opening: a group without keys, ended by its flush turn and its rounds.
+-- counts begin at the end of an opening
+abbrev pub no_counts : Counts
+no_counts = record { reads = 0; writes = 0; mismatches = 0 }
+
+abbrev pub uncounts : List LeafSeen → List Move
+uncounts leaves = map (λ leaf. Sets leaf.guid (record (leaf.own) { counts = no_counts })) leaves
+
+-- The commit of an opening: a group without keys, ended by its flush turn and its rounds. Counts of leaves begin behind it.
 pub record RowReopen (c : Codec) (size : ℕ → ℕ) (s : PoolState) (vs : List Move) (reply : TurnReply) : Type 0 where
   pub first : List Move
   pub freeze : RowEmptyFreeze s first
   pub rest : List Move
   pub ends : EndsGroup c size (steps first s) rest reply
-  pub moves : vs ≡ first ++ rest
+  pub moves : vs ≡ first ++ (rest ++ uncounts (steps rest (steps first s)).core.leaves)
 
 -- The commit of a create: a group without keys and one round, without a flush turn before it. The pool is there where no
 -- leaf failed in it.

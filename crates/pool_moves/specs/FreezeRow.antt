@@ -1,14 +1,15 @@
 -- A freeze as a row: which keys it freezes and where, and over which leaves.
-use Rattle.std.specs.Prelude.{◌≡◌, ◌⊎◌, ℕ, ◌+◌, ◌*◌, ◌<◌, ◌≤◌, ◌==◌, ◌&&◌, ◌||◌, Bool, true, false, List, [], ◌∷◌, map, length, Option, Some, None, suc}
-use Rattle.std.specs.Option.{option_map, is_some}
+use Rattle.std.specs.Prelude.{◌≡◌, ◌⊎◌, ℕ, ◌+◌, ◌*◌, ◌<◌, ◌≤◌, ◌==◌, ◌&&◌, ◌||◌, Bool, true, false, List, [], ◌∷◌, length, Option, Some, None, suc}
+use Rattle.std.specs.Option.{option_map}
 use Rattle.std.specs.List.{AllByRecursion}
 use Rattle.mp_base.specs.declared.place.Key.{Key}
 use Rattle.vdev_tree.specs.Leaf.{is_up}
 use Rattle.txg_history.specs.Pages.{Codec, Sum}
 use Rattle.txg_history.specs.Records.{Cell, Cells, AreAtOne, key}
-use Rattle.pool_moves.specs.Leaves.{OwnLeaf, LeafSeen}
-use Rattle.pool_moves.specs.Moves.{Move, Freeze, Sets, sums_over}
+use Rattle.pool_moves.specs.Leaves.{LeafSeen}
+use Rattle.pool_moves.specs.Moves.{Move, Freeze, sums_over}
 use Rattle.pool_moves.specs.States.{Sums, PoolSeen, PoolState}
+use Rattle.pool_moves.specs.Widening.{IsWidened}
 
 -- the leaf has this device
 abbrev pub is_dev : ℕ → Option ℕ → Bool
@@ -83,14 +84,7 @@ pub record AreDirtyKeys (c : Codec) (s : PoolState) (cells : Cells) : Type 0 whe
   pub births : (k : Key) (cell : Cell) → cells k ≡ Some cell → cell.birth ≡ s.core.number + 1
   pub long : (k : Key) (cell : Cell) → cells k ≡ Some cell → length cell.block ≡ 4096
 
--- what is kept of a leaf for its group: whether it is on the board, and that no call failed yet
-abbrev pub joined_own : Bool → OwnLeaf → OwnLeaf
-joined_own on own = record own { joined = on; faults = 0 }
-
-abbrev pub joins : List LeafSeen → List Move
-joins leaves = map (λ leaf. Sets leaf.guid (joined_own (is_up leaf.own.mode && is_some leaf.dev) leaf.own)) leaves
-
--- A freeze: the next number is drawn, each dirty key gets its place, and the board is the readable leaves.
+-- A freeze: the next number is drawn, each dirty key gets its place, the board is the readable leaves, and logs are widened.
 pub record RowFreeze (c : Codec) (s : PoolState) (vs : List Move) : Type 0 where
   pub idle : s.core.group.frozen ≡ false
   pub opened : s.core.opened ≡ true
@@ -98,11 +92,11 @@ pub record RowFreeze (c : Codec) (s : PoolState) (vs : List Move) : Type 0 where
   pub cells : Cells
   pub dirty : AreDirtyKeys c s cells
   pub places : ArePlacesGiven s.core cells
-  pub moves : vs ≡ Freeze cells (up_devs s.core.leaves) ∷ joins s.core.leaves
+  pub moves : IsWidened s.core (Freeze cells (up_devs s.core.leaves)) vs
 
 -- A freeze without keys, as at a create and behind an opening: nothing was written since.
 pub record RowEmptyFreeze (s : PoolState) (vs : List Move) : Type 0 where
   pub idle : s.core.group.frozen ≡ false
   pub unwritten : (a : ℕ) → s.own.writes a ≡ None
   pub tops : AllByRecursion (λ leaf. 1 ≤ leaf.top) s.core.leaves
-  pub moves : vs ≡ Freeze (λ k. None) (up_devs s.core.leaves) ∷ joins s.core.leaves
+  pub moves : IsWidened s.core (Freeze (λ k. None) (up_devs s.core.leaves)) vs

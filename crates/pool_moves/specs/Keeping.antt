@@ -9,7 +9,7 @@ use Rattle.txg_history.specs.Pools.{Pool}
 use Rattle.txg_history.specs.Records.{Rec, IsIn, IsNoLeaf, block_in}
 use Rattle.txg_history.specs.Survival.{Survives}
 use Rattle.pool_moves.specs.Leaves.{LeafSeen, Seat, At, Adrift, told, leaf_seen}
-use Rattle.pool_moves.specs.Moves.{Draft, Move, Freeze, Wrote_key, Flushed_all, Draw, Leave, Burn, Starts, Commits, Finds, Lose, Comes, Goes, Returns, Scan_from, Pass, Drop, Clear, after_move, events_of}
+use Rattle.pool_moves.specs.Moves.{Draft, Move, Freeze, Wrote_key, Flushed_all, Draw, Leave, Widen, Burn, Starts, Commits, Finds, Lose, Comes, Goes, Returns, Scan_from, Pass, Drop, Clear, after_move, events_of}
 use Rattle.pool_moves.specs.States.{Side, seen, PoolState}
 
 -- the seat is at no device that is this one
@@ -115,6 +115,15 @@ abbrev pub IsNotFoundAt : (d : ℕ) → Seat → Type 0
 IsNotFoundAt d (At e found own) = (d == e) ≡ true → found ≡ false
 IsNotFoundAt d (Adrift leaf) = Unit {0}
 
+-- the leaf has this number, and one of these has
+abbrev pub IsNumbered : (guid : ℕ → Guid) → Guid → Seat → Type 0
+IsNumbered guid m (At d found own) = ((guid d).0 == m.0) ≡ true
+IsNumbered guid m (Adrift leaf) = (leaf.guid.0 == m.0) ≡ true
+
+abbrev pub HasNumbered : (guid : ℕ → Guid) → Guid → List Seat → Type 0
+HasNumbered guid m [] = ⊥
+HasNumbered guid m (seat ∷ seats) = IsNumbered guid m seat ⊎ HasNumbered guid m seats
+
 -- the leaf has another number
 abbrev pub HasOtherNumber : (guid : ℕ → Guid) → Guid → Seat → Type 0
 HasOtherNumber guid m (At d found own) = ((guid d).0 == m.0) ≡ false
@@ -156,6 +165,7 @@ Admits t (Wrote_key k) = t.pool.group.frozen ≡ true
 Admits t Flushed_all = t.pool.group.frozen ≡ true
 Admits t Draw = t.pool.group.frozen ≡ true
 Admits t (Leave d) = (t.pool.group.frozen ≡ true) × AllByRecursion (IsOfFound (λ e. d == e)) t.seats
+Admits t (Widen m low high) = HasNumbered t.pool.guid m t.seats
 Admits t Burn = t.pool.group.frozen ≡ true
 Admits t (Starts draft) = (t.pool.group.frozen ≡ true) × KnowsJust t.pool.guid t.seats draft
 Admits t (Commits draft) = (t.pool.group.frozen ≡ true) × AllByRecursion (IsDrafted t.pool draft) t.seats

@@ -7,8 +7,8 @@ use Rattle.txg_history.specs.Groups.{Logs, no_log}
 use Rattle.txg_history.specs.Pools.{Pool}
 
 -- What the code knows of a leaf and no event tells: its name, its state, whether it is OFFLINE only until the next opening,
--- whether it is marked to come back, its counts, and, of the last frozen group, whether it was on the board at the freeze and
--- how many of its calls failed since.
+-- whether it is marked to come back, its counts, and, of the frozen group, whether it was on the board at the freeze and how
+-- many of its calls failed since.
 pub record OwnLeaf : Type 0 where
   pub name : List ℕ
   pub mode : State

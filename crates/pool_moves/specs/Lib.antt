@@ -18,6 +18,7 @@ pub mod Refusing
 pub mod Resilvers
 pub mod Rosters
 pub mod ScanRows
+pub mod Showing
 pub mod StampRow
 pub mod States
 pub mod TreeLeaves
@@ -25,3 +26,4 @@ pub mod TreeRows
 pub mod Trees
 pub mod TurnRows
 pub mod Walking
+pub mod Widening

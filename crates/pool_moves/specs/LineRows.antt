@@ -9,8 +9,9 @@ use Rattle.pool_moves.specs.FreezeRow.{RowFreeze}
 use Rattle.pool_moves.specs.Leaves.{OwnLeaf, LeafSeen}
 use Rattle.pool_moves.specs.Moves.{Move, Draw, Burn, Sets, steps}
 use Rattle.pool_moves.specs.Refusing.{FreezeRefusal, IsRefused}
-use Rattle.pool_moves.specs.States.{PoolState, Side}
+use Rattle.pool_moves.specs.States.{PoolSeen, PoolState, Side}
 use Rattle.pool_moves.specs.TurnRows.{RowWriteTurn, RowFlushTurn, FitsOwn, RowRound}
+use Rattle.pool_moves.specs.Widening.{IsWidened}
 
 -- The run has each of its devices with the sectors that the history says.
 abbrev pub IsSized : (size : ℕ → ℕ) → Side → Type 0
@@ -59,44 +60,40 @@ faults_under top (leaf ∷ leaves) = cond (leaf.own.joined && (leaf.top == top))
 abbrev pub suspended_by : PoolState → (top : ℕ) → TurnReply
 suspended_by s top = Suspended s.core.group.first (s.own.top_number top) (faults_under top s.core.leaves)
 
--- How a turn ends behind its part: where a top has nobody left on the board, the group is suspended; else it goes on, with
--- these moves and this reply.
-abbrev pub EndsBy : Option ℕ → PoolState → (more : List Move) (going : TurnReply) → List Move → TurnReply → Type 0
-EndsBy (Some top) s more going vs reply = (vs ≡ Burn ∷ []) × (reply ≡ suspended_by s top)
-EndsBy None s more going vs reply = (vs ≡ more) × (reply ≡ going)
+-- A further number, and the logs that are widened behind it; or no move.
+abbrev pub Draws : Bool → PoolSeen → List Move → Type 0
+Draws true s vs = IsWidened s Draw vs
+Draws false s vs = vs ≡ []
 
-abbrev pub EndsTurn : PoolState → (more : List Move) (going : TurnReply) → List Move → TurnReply → Type 0
-EndsTurn s more going vs reply = EndsBy (emptied s.core.leaves) s more going vs reply
+-- How a turn ends behind its part: where a top has nobody left on the board, the group is suspended; else it goes on, with a
+-- further number or none, and this reply.
+abbrev pub EndsBy : Option ℕ → PoolState → (draws : Bool) (going : TurnReply) → List Move → TurnReply → Type 0
+EndsBy (Some top) s draws going vs reply = (vs ≡ Burn ∷ []) × (reply ≡ suspended_by s top)
+EndsBy None s draws going vs reply = Draws draws s.core vs × (reply ≡ going)
+
+abbrev pub EndsTurn : PoolState → (draws : Bool) (going : TurnReply) → List Move → TurnReply → Type 0
+EndsTurn s draws going vs reply = EndsBy (emptied s.core.leaves) s draws going vs reply
 
 -- a part of a turn, the counts behind it, and how it ends
-pub record IsTurnOf (s : PoolState) (part : List Move) (members : List Member) (results : List Bool) (more : List Move) (going : TurnReply) (vs : List Move)
-    (reply : TurnReply) : Type 0 where
+pub record IsTurnOf (s : PoolState) (part : List Move) (members : List Member) (results : List Bool) (going : TurnReply) (vs : List Move) (reply : TurnReply) : Type 0 where
   pub ending : List Move
-  pub ends : EndsTurn (steps (part ++ count_moves s.core.leaves members results) s) more going ending reply
+  pub ends : EndsTurn (steps (part ++ count_moves s.core.leaves members results) s) false going ending reply
   pub moves : vs ≡ (part ++ count_moves s.core.leaves members results) ++ ending
 
 -- the write turn of the least key that is left
 pub record IsWritePart (s : PoolState) (vs : List Move) (reply : TurnReply) : Type 0 where
   pub part : List Move
   pub row : RowWriteTurn s.core part
-  pub turn : IsTurnOf s part (board_under row.cell.top s.core.leaves) row.results [] Write vs reply
+  pub turn : IsTurnOf s part (board_under row.cell.top s.core.leaves) row.results Write vs reply
 
 -- the flush turn
 pub record IsFlushPart (s : PoolState) (vs : List Move) (reply : TurnReply) : Type 0 where
   pub part : List Move
   pub unflushed : s.core.group.flushed ≡ false
   pub row : RowFlushTurn s.core part
-  pub turn : IsTurnOf s part (board_of s.core.leaves) row.results [] Flush vs reply
+  pub turn : IsTurnOf s part (board_of s.core.leaves) row.results Flush vs reply
 
--- A whole round commits. A round in which a leaf failed draws a further number, while each top has a leaf on the board.
-abbrev pub round_more : (whole : Bool) → List Move
-round_more true = []
-round_more false = Draw ∷ []
-
-abbrev pub round_reply : (whole : Bool) → (number : ℕ) → TurnReply
-round_reply true number = Committed number
-round_reply false number = Round number
-
+-- A whole round commits. Behind one in which a leaf failed a further number is drawn, while each top has a leaf on the board.
 pub record IsRoundPart (c : Codec) (size : ℕ → ℕ) (s : PoolState) (vs : List Move) (reply : TurnReply) : Type 0 where
   pub part : List Move
   pub whole : Bool
@@ -105,7 +102,7 @@ pub record IsRoundPart (c : Codec) (size : ℕ → ℕ) (s : PoolState) (vs : Li
   pub behind : List Move
   pub counted : behind ≡ part ++ count_moves s.core.leaves (board_of s.core.leaves) row.results
   pub ending : List Move
-  pub ends : cond whole ((ending ≡ []) × (reply ≡ Committed s.core.number)) (EndsTurn (steps behind s) (Draw ∷ []) (Round s.core.number) ending reply)
+  pub ends : cond whole ((ending ≡ []) × (reply ≡ Committed s.core.number)) (EndsTurn (steps behind s) true (Round s.core.number) ending reply)
   pub moves : vs ≡ behind ++ ending
 
 -- A turn of a frozen group: suspended at once where a top has nobody left, else its next part.

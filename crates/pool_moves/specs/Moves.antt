@@ -12,9 +12,10 @@ use Rattle.txg_history.specs.Pages.{Sum, sum_of}
 use Rattle.txg_history.specs.Pools.{Pool, pool_after, kept_in, whole_log}
 use Rattle.txg_history.specs.Records.{Rec, Cell, Cells, laid_over, key}
 use Rattle.txg_history.specs.Scans.{up_to}
-use Rattle.pool_moves.specs.Leaves.{OwnLeaf, LeafSeen, Seat, At, Adrift, told, leaf_seen}
-use Rattle.pool_moves.specs.Trees.{Child}
+use Rattle.pool_moves.specs.Leaves.{OwnLeaf, LeafSeen, Seat, At, Adrift, told, leaf_seen, dev_if}
+use Rattle.txg_history.specs.Trees.{Child}
 use Rattle.pool_moves.specs.States.{Sums, sums, frozen_seen, no_group_seen, started_seen, no_scan_seen, PoolSeen, Side, Own, PoolState}
+use Rattle.pool_moves.specs.Trees.{Child}
 
 -- What the code knows of a record that it draws up: its commit, and the top and the log of each member number.
 pub record Draft : Type 0 where
@@ -84,6 +85,10 @@ log_cleared first last log g = cond (between first last g) false (log g)
 abbrev pub log_scanned : (hi : ℕ) → (scrub log : ℕ → Bool) → ℕ → Bool
 log_scanned hi scrub log g = cond (nat_le g hi) (scrub g) (log g)
 
+-- a leaf's part in a group begins, on the board or off it, and ends
+abbrev pub joined_own : Bool → OwnLeaf → OwnLeaf
+joined_own on own = record own { joined = on; faults = 0 }
+
 -- a leaf whose log was cleared by a scan's end
 abbrev pub leaf_cleared : (hi : ℕ) → LeafSeen → LeafSeen
 leaf_cleared hi leaf = record leaf {
@@ -94,6 +99,7 @@ leaf_cleared hi leaf = record leaf {
 -- What a move does to a leaf, by the highest number drawn, the group's first number and the scan's hi before it.
 abbrev pub leaf_step : Move → (number first hi : ℕ) → LeafSeen → LeafSeen
 leaf_step (Freeze cells board) number first hi leaf = record leaf {
+  own = joined_own (on_dev board leaf.dev) leaf.own;
   owes = log_grown (not (on_dev board leaf.dev)) (number + 1) (number + 1) leaf.owes;
   on = on_dev board leaf.dev;
 }
@@ -104,11 +110,12 @@ leaf_step (Leave d) number first hi leaf = record leaf {
 }
 leaf_step (Widen m low high) number first hi leaf = record leaf { owes = log_grown (leaf.guid.0 == m.0) low high leaf.owes }
 leaf_step Burn number first hi leaf = record leaf {
+  own = joined_own false leaf.own;
   owes = log_cleared first number leaf.owes;
   settled = log_cleared first number leaf.settled;
   on = false;
 }
-leaf_step (Commits draft) number first hi leaf = record leaf { settled = leaf.owes; on = false }
+leaf_step (Commits draft) number first hi leaf = record leaf { own = joined_own false leaf.own; settled = leaf.owes; on = false }
 leaf_step (Sets m own) number first hi leaf = cond (leaf.guid.0 == m.0) (record leaf { own = own }) leaf
 leaf_step (Finds m d) number first hi leaf = cond (leaf.guid.0 == m.0) (record leaf { dev = Some d }) leaf
 leaf_step (Scan_from high eligible) number first hi leaf = record leaf { eligible = on_dev eligible leaf.dev; scrub = no_log 0 }
@@ -239,6 +246,9 @@ events_of (Shapes top children) p = []
 -- What a move does to a seat: one that is at no device has its leaf's step, and one whose device the pool loses gets to be so.
 abbrev pub seat_step : Move → Pool → Seat → Seat
 seat_step v p (Adrift leaf) = Adrift (leaf_step v p.highest p.group.first p.scan.hi leaf)
+seat_step (Freeze cells board) p (At d found own) = At d found (joined_own (on_dev board (dev_if found d)) own)
+seat_step Burn p (At d found own) = At d found (joined_own false own)
+seat_step (Commits draft) p (At d found own) = At d found (joined_own false own)
 seat_step (Sets m own) p (At d found was) = At d found (cond ((p.guid d).0 == m.0) own was)
 seat_step (Finds m e) p (At d found own) = At d (cond ((p.guid d).0 == m.0) true found) own
 seat_step (Lose e) p (At d found own) = cond (e == d) (Adrift (leaf_seen p.group.frozen p.scan.running (told p) (At d found own))) (At d found own)

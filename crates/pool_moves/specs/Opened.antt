@@ -15,7 +15,6 @@ use Rattle.pool_moves.specs.FreezeRow.{is_dev}
 use Rattle.pool_moves.specs.Leaves.{OwnLeaf, LeafSeen, Seat, At, Adrift}
 use Rattle.pool_moves.specs.Rosters.{member_of}
 use Rattle.pool_moves.specs.States.{Sums, no_group_seen, no_scan_seen, PoolState, Side}
-use Rattle.pool_moves.specs.Trees.{Child}
 
 -- a leaf of this number is among these
 abbrev pub HasKept : Guid → List LeafKept → Type 0
@@ -71,20 +70,15 @@ opened_leaves [] devs = []
 opened_leaves (leaf ∷ leaves) [] = []
 opened_leaves (leaf ∷ leaves) (dev ∷ devs) = opened_leaf leaf dev ∷ opened_leaves leaves devs
 
--- What a configuration tells of the trees of its tops and of listed spares, as the code reads it.
-pub record ShapeKept : Type 0 where
-  pub children : ℕ → List Child
-  pub spares : List (List ℕ)
-
 -- The state behind an opening of this record, with its leaves on these devices and the pointers that were read back.
-abbrev pub opened_state : Codec → ShapeKept → (name : List ℕ) → Found → (devs : List (Option ℕ)) → (got : Sums) → PoolState
-opened_state c shape name found devs got = record {
+abbrev pub opened_state : Codec → (name : List ℕ) → Found → (devs : List (Option ℕ)) → (got : Sums) → PoolState
+opened_state c name found devs got = record {
   own = record {
     blocks = c.blocks found.blob.items;
     writes = λ a. None;
     top_number = c.top_number found.blob.items;
-    children = shape.children;
-    spares = shape.spares;
+    children = c.children found.blob.items;
+    spares = c.spares found.blob.items;
     next_member = c.next_member found.blob.items;
     scrubs = false;
   };

@@ -1,33 +1,5 @@
 -- An opening as rows: what it finds on the labels, what it opens, and its commit.
-use Rattle.std.specs.Prelude.{
-  ◌≡◌,
-  ◌≢◌,
-  ◌⊎◌,
-  ℕ,
-  suc,
-  ◌+◌,
-  ◌-◌,
-  ◌*◌,
-  ◌≤◌,
-  ◌^◌,
-  ◌==◌,
-  ◌&&◌,
-  nat_le,
-  Bool,
-  true,
-  false,
-  cond,
-  Option,
-  Some,
-  None,
-  List,
-  [],
-  ◌∷◌,
-  ◌++◌,
-  length,
-  Result,
-  Ok,
-}
+use Rattle.std.specs.Prelude.{◌≡◌, ◌≢◌, ◌⊎◌, ℕ, suc, ◌+◌, ◌-◌, ◌*◌, ◌≤◌, ◌^◌, ◌==◌, ◌&&◌, nat_le, Bool, true, false, cond, Option, Some, None, List, [], ◌∷◌, ◌++◌, length, Result, Ok}
 use Rattle.std.specs.List.{list_any, AllByRecursion}
 use Rattle.mp_base.specs.declared.number.Guid.{Guid}
 use Rattle.bank_core.specs.declared.bank.Fault.{Fault}
@@ -49,7 +21,7 @@ use Rattle.pool_moves.specs.CommitRows.{RowReopen}
 use Rattle.pool_moves.specs.Leaves.{LeafSeen}
 use Rattle.pool_moves.specs.LineRows.{TurnReply, Committed, Suspended}
 use Rattle.pool_moves.specs.Moves.{Move, steps}
-use Rattle.pool_moves.specs.Opened.{ShapeKept, AreValidLeaves, opened_leaves, opened_state}
+use Rattle.pool_moves.specs.Opened.{AreValidLeaves, opened_leaves, opened_state}
 use Rattle.pool_moves.specs.PageReads.{Reading, ReadsMap, LeafShown, StopsAt}
 use Rattle.pool_moves.specs.Resilvers.{Resilvers}
 use Rattle.pool_moves.specs.States.{Sums, PoolState}
@@ -144,7 +116,7 @@ pub data OpenReply : Type 0 where
 
 -- how the reading of the map ends
 abbrev pub OpenEnds : OpenReply → Codec → (name : List ℕ) → Found → (devs : List (Option ℕ)) → Reading → List Noted → Type 0
-OpenEnds (Opens_state s) c name found devs x made = (shape : ShapeKept) × ReadsMap x made × (s ≡ opened_state c shape name found devs x.got)
+OpenEnds (Opens_state s) c name found devs x made = ReadsMap x made × (s ≡ opened_state c name found devs x.got)
 OpenEnds (NoPage page shown) c name found devs x made = (level : ℕ) × (page ≡ key (suc level) page.index) × StopsAt x level page.index shown made
 
 abbrev pub reading_of : Codec → Found → (devs : List (Option ℕ)) → (Key → Option (List ℕ)) → Sums → Reading

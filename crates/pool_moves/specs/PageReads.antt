@@ -1,32 +1,5 @@
 -- How an opening reads the pages of a map back: one after another, each from the copies on the leaves of its top.
-use Rattle.std.specs.Prelude.{
-  ◌≡◌,
-  ◌⊎◌,
-  ℕ,
-  suc,
-  ◌+◌,
-  ◌*◌,
-  ◌<◌,
-  ◌≤◌,
-  ◌==◌,
-  ◌&&◌,
-  ◌||◌,
-  nat_lt,
-  Bool,
-  true,
-  false,
-  cond,
-  Option,
-  Some,
-  None,
-  is_none,
-  not,
-  List,
-  [],
-  ◌∷◌,
-  ◌++◌,
-  map,
-}
+use Rattle.std.specs.Prelude.{◌≡◌, ◌⊎◌, ℕ, suc, ◌+◌, ◌*◌, ◌<◌, ◌≤◌, ◌==◌, ◌&&◌, ◌||◌, nat_lt, Bool, true, false, cond, Option, Some, None, is_none, not, List, [], ◌∷◌, ◌++◌, map}
 use Rattle.std.specs.List.{AllByRecursion}
 use Rattle.sha2.specs.Sha256.{sha256}
 use Rattle.mp_base.specs.declared.place.Key.{Key}
@@ -41,6 +14,7 @@ use Rattle.txg_history.specs.Records.{key, data_start}
 use Rattle.pool_moves.specs.FreezeRow.{up_devs}
 use Rattle.pool_moves.specs.Leaves.{LeafSeen}
 use Rattle.pool_moves.specs.ReadRow.{copies_of}
+pub use Rattle.pool_moves.specs.Showing.{LeafShown, Unreadable, ReadFailed, Mismatched, failed_on, shown_by, leaf_shown}
 use Rattle.pool_moves.specs.States.{Sums}
 
 -- What a map is read with, and what is got: how bytes are read, the configuration and its number, the leaves, the bytes of each page
@@ -159,24 +133,6 @@ pub record ReadsMap (x : Reading) (made : List Noted) : Type 0 where
   pub only : (k : Key) (bytes : List ℕ) → x.found k ≡ Some bytes → IsTurned k turns
   pub back : IsReadTo x (λ k. true)
   pub calls : made ≡ calls_of_turns turns
-
--- what a leaf of a page's top showed, where no copy was good
-pub data LeafShown : Type 0 where
-  Unreadable : LeafShown
-  ReadFailed : LeafShown
-  Mismatched : LeafShown
-
--- a call on the device failed
-abbrev pub failed_on : List Noted → ℕ → Bool
-failed_on [] d = false
-failed_on (noted ∷ made) d = ((device_of noted.call == d) && not (is_none (fault_of noted.call))) || failed_on made d
-
-abbrev pub shown_by : (readable : Bool) → List Noted → ℕ → LeafShown
-shown_by false made d = Unreadable
-shown_by true made d = cond (failed_on made d) ReadFailed Mismatched
-
-abbrev pub leaf_shown : List Noted → CopyOf → LeafShown
-leaf_shown made copy = shown_by copy.readable made copy.dev
 
 -- a leaf of these that is readable is on the device, and none of these calls failed there
 abbrev pub answers_in : List LeafSeen → List Noted → ℕ → Bool

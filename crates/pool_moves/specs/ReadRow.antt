@@ -17,6 +17,7 @@ use Rattle.pool_moves.specs.FreezeRow.{is_dev}
 use Rattle.pool_moves.specs.Leaves.{OwnLeaf, LeafSeen}
 use Rattle.pool_moves.specs.LineRows.{count_up, write_failed}
 use Rattle.pool_moves.specs.Moves.{Move, Makes, Sets}
+use Rattle.pool_moves.specs.Showing.{LeafShown, leaf_shown}
 use Rattle.pool_moves.specs.States.{PoolSeen, PoolState}
 use Rattle.pool_moves.specs.Walking.{as_moves}
 
@@ -70,19 +71,21 @@ pub record RowCopies (s : PoolSeen) (sum : Sum) (vs : List Move) (outcome : Opti
   pub is_healed : IsHealed (data_start + sum.sector) outcome wrong rewrites
   pub moves : vs ≡ as_moves (reads ++ rewrites) ++ count_reads sum.sum (reads ++ rewrites) (filter (stands_under sum.top) s.leaves)
 
+-- What `read` answers. Where no copy is good it tells what each leaf of the block's top showed, in tree order.
 pub data ReadReply : Type 0 where
   Gives : (block : List ℕ) → ReadReply
-  Exhausted : ReadReply
+  Exhausted : (shown : List LeafShown) → ReadReply
   NoAddress : (limit : ℕ) → ReadReply
 
-abbrev pub reply_by : Option (List ℕ) → ReadReply
-reply_by (Some bytes) = Gives bytes
-reply_by None = Exhausted
+abbrev pub reply_by : (shown : List LeafShown) → Option (List ℕ) → ReadReply
+reply_by shown (Some bytes) = Gives bytes
+reply_by shown None = Exhausted shown
 
 -- by the record's pointer, where the block is neither an open write nor the frozen group's
 abbrev pub ReadRecord : Option Sum → PoolSeen → List Move → ReadReply → Type 0
 ReadRecord None s vs reply = (vs ≡ []) × (reply ≡ Gives zero_block)
-ReadRecord (Some sum) s vs reply = (outcome : Option (List ℕ)) × RowCopies s sum vs outcome × (reply ≡ reply_by outcome)
+ReadRecord (Some sum) s vs reply = (outcome : Option (List ℕ)) × (row : RowCopies s sum vs outcome)
+    × (reply ≡ reply_by (map (leaf_shown row.reads) (copies_of sum s.leaves)) outcome)
 
 abbrev pub ReadGroup : Option Cell → Option Sum → PoolSeen → List Move → ReadReply → Type 0
 ReadGroup (Some cell) sum s vs reply = (vs ≡ []) × (reply ≡ Gives cell.block)
@@ -100,7 +103,7 @@ RowRead s a vs reply = ((s.own.blocks ≤ a) × (vs ≡ []) × (reply ≡ NoAddr
 -- the block that was written last, and the bytes of this very reply, are two with one sum
 abbrev pub ClashesWith : (block : List ℕ) → ReadReply → Type 0
 ClashesWith block (Gives bytes) = IsClash block bytes
-ClashesWith block Exhausted = ⊥
+ClashesWith block (Exhausted shown) = ⊥
 ClashesWith block (NoAddress limit) = ⊥
 
 -- the device calls among these moves

@@ -23,6 +23,7 @@ use Rattle.pool_moves.specs.Moves.{Move, Makes, Scan_from, Pass, Drop, Clear, Re
 use Rattle.pool_moves.specs.ReadRow.{copy_of, stands_under, copies_of, count_reads}
 use Rattle.pool_moves.specs.States.{PoolSeen, PoolState}
 use Rattle.pool_moves.specs.Walking.{as_moves}
+use Rattle.pool_moves.specs.Widening.{IsWidened, seen_along}
 
 -- The next key of the running scan: the least that it hasn't come past, of those born up to its last number.
 pub record IsNextKey (s : PoolSeen) (k : Key) (sum : Sum) : Type 0 where
@@ -120,15 +121,15 @@ pub record RowKey (scrubs : Bool) (s : PoolSeen) (vs : List Move) : Type 0 where
   pub moves : vs ≡ as_moves calls ++ (count_reads sum.sum calls (filter (stands_under sum.top) s.leaves)
       ++ (Pass k sum.birth (is_scrubbed scrubs sum calls copied s.leaves) ∷ []))
 
--- behind an eligible leaf's flush its log is cleared, or it isn't eligible any more
-abbrev pub flush_end : Option Fault → List LeafSeen → Member → List Move
-flush_end None leaves m = Clear m.dev ∷ []
-flush_end (Some fault) leaves m = Drop m.dev ∷ sets_failed (find (has_number m.guid) leaves)
+-- behind an eligible leaf's flush its log is cleared, and logs are widened; or it isn't eligible any more
+abbrev pub FlushEnds : Option Fault → PoolSeen → Member → List Move → Type 0
+FlushEnds None s m vs = IsWidened s (Clear m.dev) vs
+FlushEnds (Some fault) s m vs = vs ≡ Drop m.dev ∷ sets_failed (find (has_number m.guid) s.leaves)
 
-abbrev pub AreFlushed : List LeafSeen → List Member → List Move → Type 0
-AreFlushed leaves [] vs = vs ≡ []
-AreFlushed leaves (m ∷ ms) vs = (noted : Noted) × (rest : List Move) × (ask_of noted.call ≡ Flushes m.dev)
-    × (vs ≡ Makes noted ∷ (flush_end (fault_of noted.call) leaves m ++ rest)) × AreFlushed leaves ms rest
+abbrev pub AreFlushed : PoolSeen → List Member → List Move → Type 0
+AreFlushed s [] vs = vs ≡ []
+AreFlushed s (m ∷ ms) vs = (noted : Noted) × (ending : List Move) × (rest : List Move) × (ask_of noted.call ≡ Flushes m.dev)
+    × (vs ≡ Makes noted ∷ (ending ++ rest)) × FlushEnds (fault_of noted.call) s m ending × AreFlushed (seen_along ending s) ms rest
 
 abbrev pub is_eligible : LeafSeen → Bool
 is_eligible leaf = leaf.eligible
@@ -137,7 +138,7 @@ is_eligible leaf = leaf.eligible
 pub record RowScanEnd (s : PoolSeen) (vs : List Move) : Type 0 where
   pub none : HasNoKey s
   pub part : List Move
-  pub flushed : AreFlushed s.leaves (members_where is_eligible s.leaves) part
+  pub flushed : AreFlushed s (members_where is_eligible s.leaves) part
   pub moves : vs ≡ part ++ (Rest ∷ [])
 
 pub data StepReply : Type 0 where

@@ -8,7 +8,7 @@ use Rattle.txg_history.specs.Pools.{Pool}
 use Rattle.txg_history.specs.Records.{Cells, number_of}
 use Rattle.txg_history.specs.Scans.{Scan}
 use Rattle.pool_moves.specs.Leaves.{LeafSeen, Seat, told, leaf_seen}
-use Rattle.pool_moves.specs.Trees.{Child}
+use Rattle.txg_history.specs.Trees.{Child}
 
 -- what is kept of keys: births, places and sums
 abbrev pub Sums : Type 0

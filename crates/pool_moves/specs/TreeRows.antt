@@ -22,6 +22,7 @@ use Rattle.pool_moves.specs.ScanRows.{starts_scan}
 use Rattle.pool_moves.specs.States.{PoolState, Side}
 use Rattle.pool_moves.specs.Trees.{Child, has_child, has_replaceable, attached, replaced, pruned}
 use Rattle.pool_moves.specs.Walking.{as_moves}
+use Rattle.pool_moves.specs.Widening.{AreWidens}
 
 -- where a leaf is put in: as the last child of a mirror, or beside the leaf that it takes over from
 pub data Graft : Type 0 where
@@ -133,10 +134,19 @@ comes_in graft s name leaf new d = Rest ∷ (Comes (new_place graft name leaf.to
 abbrev pub graft_first : Graft → PoolState → (name : List ℕ) → LeafSeen → (new : List ℕ) → (d : ℕ) → List Noted → List Move
 graft_first graft s name leaf new d made = Lose d ∷ (as_moves made ++ comes_in graft s name leaf new d)
 
+abbrev pub graft_moves : Graft → PoolState → (name : List ℕ) → LeafSeen → (new : List ℕ) → (d : ℕ) → List Noted → List Move
+graft_moves graft s name leaf new d made =
+    graft_first graft s name leaf new d made ++ (starts_scan (steps (graft_first graft s name leaf new d made) s) ∷ [])
+
+-- and logs are widened
+pub record GraftComes (graft : Graft) (s : PoolState) (name : List ℕ) (leaf : LeafSeen) (new : List ℕ) (d : ℕ) (made : List Noted) (vs : List Move) : Type 0 where
+  pub widens : List Move
+  pub are : AreWidens (steps (graft_moves graft s name leaf new d made) s).core widens
+  pub moves : vs ≡ graft_moves graft s name leaf new d made ++ widens
+
 abbrev pub GraftEnds : Option Fault → Graft → PoolState → (name : List ℕ) → LeafSeen → (new : List ℕ) → (d : ℕ) → List Noted → List Move → GraftReply → Type 0
 GraftEnds (Some fault) graft s name leaf new d made vs reply = (vs ≡ Lose d ∷ as_moves made) × (reply ≡ DeviceFault)
-GraftEnds None graft s name leaf new d made vs reply =
-    (vs ≡ graft_first graft s name leaf new d made ++ (starts_scan (steps (graft_first graft s name leaf new d made) s) ∷ [])) × (reply ≡ Grafted)
+GraftEnds None graft s name leaf new d made vs reply = GraftComes graft s name leaf new d made vs × (reply ≡ Grafted)
 
 -- The new leaf's device, on which no leaf is, is stamped. Where no call fails the leaf comes in.
 pub record IsStamped (size : ℕ → ℕ) (graft : Graft) (s : PoolState) (name : List ℕ) (leaf : LeafSeen) (new : List ℕ) (d : ℕ) (vs : List Move)

@@ -1,17 +1,8 @@
--- The trees of a pool's tops by member numbers, and what edits make of them.
+-- What edits make of the trees of a pool's tops.
 use Rattle.std.specs.Prelude.{◌==◌, ◌||◌, Bool, false, cond, Option, Some, None, List, [], ◌∷◌, ◌++◌}
 use Rattle.std.specs.List.{list_any}
 use Rattle.mp_base.specs.declared.number.Guid.{Guid}
-
--- a leaf alone, or a replacing vdev of two leaves
-pub data Branch : Type 0 where
-  Single : (m : Guid) → Branch
-  Replacing : (vdev old new : Guid) → Branch
-
--- a child of a top's mirror: one of these alone, or a spare vdev: its first child, and one or two spare leaves
-pub data Child : Type 0 where
-  Plain : (branch : Branch) → Child
-  Spared : (vdev : Guid) (first : Branch) (spare : Guid) (second : Option Guid) → Child
+pub use Rattle.txg_history.specs.Trees.{Branch, Single, Replacing, Child, Plain, Spared}
 
 abbrev pub same_number : Guid → Guid → Bool
 same_number m n = m.0 == n.0

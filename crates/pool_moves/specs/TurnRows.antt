@@ -16,13 +16,14 @@ use Rattle.txg_history.specs.Turns.{write_plan, flush_plan}
 use Rattle.pool_moves.specs.Boards.{board_of, board_under, emptied}
 use Rattle.pool_moves.specs.Drafts.{draft_of, kept_leaf}
 use Rattle.pool_moves.specs.FreezeRow.{IsBefore}
-use Rattle.pool_moves.specs.Moves.{Draft, Move, Wrote_key, Flushed_all, Draw, Burn, Starts, Copies, Copied, Commits, sums_over}
-use Rattle.pool_moves.specs.States.{PoolSeen, Own, PoolState}
-use Rattle.pool_moves.specs.Walking.{as_moves, leave_moves}
+use Rattle.pool_moves.specs.Moves.{Draft, Move, Wrote_key, Flushed_all, Starts, Copies, Copied, Commits, sums_over}
+use Rattle.pool_moves.specs.States.{PoolSeen, Own}
+use Rattle.pool_moves.specs.Walking.{as_moves}
+use Rattle.pool_moves.specs.Widening.{AreLeaves, seen_along}
 
--- one turn over some members: their calls, and those whose call failed leave the board
-abbrev pub turn_moves : List Noted → List Member → (results : List Bool) → Move → List Move
-turn_moves made members results mark = as_moves made ++ (leave_moves members results ++ (mark ∷ []))
+-- one turn: its calls, the leaves that leave the board, and its mark
+abbrev pub turn_moves : List Noted → (leaving : List Move) → Move → List Move
+turn_moves made leaving mark = as_moves made ++ (leaving ++ (mark ∷ []))
 
 -- A write turn: the block of the least key whose turn hasn't ended goes to each leaf of its top that is on the board.
 pub record RowWriteTurn (s : PoolSeen) (vs : List Move) : Type 0 where
@@ -36,7 +37,9 @@ pub record RowWriteTurn (s : PoolSeen) (vs : List Move) : Type 0 where
   pub made : List Noted
   pub results : List Bool
   pub calls : IsPhase (write_plan cell) (board_under cell.top s.leaves) (map (λ m. true) (board_under cell.top s.leaves)) results made
-  pub moves : vs ≡ turn_moves made (board_under cell.top s.leaves) results (Wrote_key key)
+  pub leaving : List Move
+  pub leaves : AreLeaves s (board_under cell.top s.leaves) results leaving
+  pub moves : vs ≡ turn_moves made leaving (Wrote_key key)
 
 -- The flush turn: each key's write turn has ended, and each leaf on the board is flushed.
 pub record RowFlushTurn (s : PoolSeen) (vs : List Move) : Type 0 where
@@ -45,7 +48,9 @@ pub record RowFlushTurn (s : PoolSeen) (vs : List Move) : Type 0 where
   pub made : List Noted
   pub results : List Bool
   pub calls : IsPhase flush_plan (board_of s.leaves) (map (λ m. true) (board_of s.leaves)) results made
-  pub moves : vs ≡ turn_moves made (board_of s.leaves) results Flushed_all
+  pub leaving : List Move
+  pub leaves : AreLeaves s (board_of s.leaves) results leaving
+  pub moves : vs ≡ turn_moves made leaving Flushed_all
 
 -- What the configuration of a draft says of the record that is drawn up from this state. Each key is one of its volume.
 pub record FitsState (c : Codec) (s : PoolSeen) (draft : Draft) : Type 0 where
@@ -62,6 +67,8 @@ pub record FitsState (c : Codec) (s : PoolSeen) (draft : Draft) : Type 0 where
 pub record FitsOwn (c : Codec) (own : Own) (draft : Draft) : Type 0 where
   pub volume : c.blocks (config_of draft.commit) ≡ own.blocks
   pub top_numbers : c.top_number (config_of draft.commit) ≡ own.top_number
+  pub children_are : c.children (config_of draft.commit) ≡ own.children
+  pub spares_are : c.spares (config_of draft.commit) ≡ own.spares
   pub next : c.next_member (config_of draft.commit) ≡ own.next_member
 
 -- The third phase with its marks: a member that is still in the round begins it, and ends it where no call of its turn failed.
@@ -81,9 +88,13 @@ IsThirdMoves plan draft (m ∷ ms) [] is vs = ⊥
 IsThirdMoves plan draft (m ∷ ms) (b ∷ was) [] vs = ⊥
 
 -- how a round ends: its record is acknowledged, or those that failed leave the board
-abbrev pub round_end : Bool → Draft → List Member → (results : List Bool) → List Move
-round_end true draft members results = Commits draft ∷ []
-round_end false draft members results = leave_moves members results
+abbrev pub EndsRound : Bool → PoolSeen → Draft → List Member → (results : List Bool) → List Move → Type 0
+EndsRound true s draft members results vs = vs ≡ Commits draft ∷ []
+EndsRound false s draft members results vs = AreLeaves s members results vs
+
+-- a round up to its end
+abbrev pub round_moves : Draft → (first second : List Noted) → (thirds : List Move) → List Move
+round_moves draft first second thirds = Starts draft ∷ (as_moves first ++ (as_moves second ++ thirds))
 
 -- A round over the board, of the record that is drawn up from the state by the leaves of its tree. Each top has a leaf on
 -- the board.
@@ -106,4 +117,6 @@ pub record RowRound (c : Codec) (size : ℕ → ℕ) (s : PoolSeen) (vs : List M
   pub configs : IsPhase (first_plan size draft.commit) (board_of s.leaves) (map (λ m. true) (board_of s.leaves)) in_first first
   pub uberblocks : IsPhase (second_plan size draft.commit) (board_of s.leaves) in_first in_second second
   pub copies : IsThirdMoves (third_plan size draft.commit) draft (board_of s.leaves) in_second results thirds
-  pub moves : vs ≡ Starts draft ∷ (as_moves first ++ (as_moves second ++ (thirds ++ round_end whole draft (board_of s.leaves) results)))
+  pub ending : List Move
+  pub ends : EndsRound whole (seen_along (round_moves draft first second thirds) s) draft (board_of s.leaves) results ending
+  pub moves : vs ≡ round_moves draft first second thirds ++ ending

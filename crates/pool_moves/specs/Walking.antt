@@ -1,8 +1,7 @@
 -- Walks of moves that every state admits while a group is frozen.
-use Rattle.std.specs.Prelude.{◌==◌, List, [], ◌∷◌, ◌++◌, Bool, true, false}
+use Rattle.std.specs.Prelude.{◌==◌, List, [], ◌∷◌, ◌++◌}
 use Rattle.std.specs.List.{AllByRecursion}
 use Rattle.bank_core.specs.Disk.{Noted}
-use Rattle.label_store.specs.declared.member.Member.{Member}
 use Rattle.txg_history.specs.Events.{Event}
 use Rattle.pool_moves.specs.Keeping.{Admits, IsOfFound}
 use Rattle.pool_moves.specs.Leaves.{Seat}
@@ -36,10 +35,3 @@ IsFree seats v = ⊥
 abbrev pub as_moves : List Noted → List Move
 as_moves [] = []
 as_moves (noted ∷ made) = Makes noted ∷ as_moves made
-
--- each member whose call failed leaves the board
-abbrev pub leave_moves : List Member → (results : List Bool) → List Move
-leave_moves [] results = []
-leave_moves (m ∷ ms) [] = []
-leave_moves (m ∷ ms) (true ∷ results) = leave_moves ms results
-leave_moves (m ∷ ms) (false ∷ results) = Leave m.dev ∷ leave_moves ms results

@@ -66,8 +66,7 @@ pub fn openings_read_the_record()
     ensures state { (c : Codec) (size : ℕ → ℕ) (handed : List ℕ → Option ℕ) (name : List ℕ) (p : Pool) (r : Rec) (roster : List ℕ)
         (found : Found) (made : List Noted) (s : PoolState)
         → Survives c p → p.name ≡ name → IsLiveOne p found r → IsRoster p roster
-        → (row : RowOpen c size handed name found made (Opens_state s)) → AllAnswer p.sectors made
-        → HasNoTwin p r (claims_of (c.leaves found.blob.items) row.devs)
+        → (row : RowOpen c size handed name found made (Opens_state s)) → AllAnswer p.sectors made → HasNoTwin p r (claims_of (c.leaves found.blob.items) row.devs)
         → (IsOpened c s (opened_side p r roster (c.leaves found.blob.items) row.devs)
         × Walks c (opened_side p r roster (c.leaves found.blob.items) row.devs) (as_moves made)) ⊎ ClashesAt r.cells row.bytes }
     ensures calls { (c : Codec) (size : ℕ → ℕ) (handed : List ℕ → Option ℕ) (name : List ℕ) (p : Pool) (r : Rec)
@@ -80,7 +79,7 @@ pub fn openings_read_the_record()
         → Survives c p → p.name ≡ name → IsLiveOne p found r
         → (row : RowOpen c size handed name found made (NoPage page shown)) → AllAnswer p.sectors made
         → HasNoTwin p r (claims_of (c.leaves found.blob.items) row.devs)
-        → HasGoodPages (pool_after (as_events made) (after (Opens r) p)) r (answers_in (opened_leaves (c.leaves found.blob.items) row.devs) row.pages)
+        → HasGoodPages (pool_after (as_events made) (after (Opens r) p)) r (λ k. answers_in (opened_leaves (c.leaves found.blob.items) row.devs) row.pages)
         → ClashesAt r.cells row.bytes }
     ensures no_twin { (c : Codec) (size : ℕ → ℕ) (handed : List ℕ → Option ℕ) (name : List ℕ) (p : Pool) (r : Rec)
         (found : Found) (made : List Noted) (reply : OpenReply)

@@ -14,6 +14,7 @@ ghost use Rattle.pool_moves.specs.Missing.{AllMissed};
 ghost use Rattle.pool_moves.specs.Moves.{Move};
 ghost use Rattle.pool_moves.specs.ReadRow.{ReadReply, Gives, Exhausted, RowRead, ClashesWith, made_in};
 ghost use Rattle.pool_moves.specs.Refusing.{dirty_at, is_written};
+ghost use Rattle.pool_moves.specs.Showing.{LeafShown};
 ghost use Rattle.pool_moves.specs.States.{PoolState, Side};
 
 /// A pool that was just made is kept by its state, so nothing that is said of kept states is empty. It computes nothing: its
@@ -83,6 +84,6 @@ pub fn reads_give_the_block()
         → RowRead s a vs reply → Walks c t vs ⊎ ClashesWith (t.pool.written a) reply }
     ensures right { (c : Codec) (s : PoolState) (t : Side) (a : ℕ) (vs : List Move) (bytes : List ℕ) → Kept c s t → RowRead s a vs (Gives bytes)
         → (bytes ≡ t.pool.written a) ⊎ IsClash (t.pool.written a) bytes }
-    ensures exhausted { (c : Codec) (s : PoolState) (t : Side) (a : ℕ) (vs : List Move) → Kept c s t → AllAnswer t.pool.sectors (made_in vs)
-        → RowRead s a vs Exhausted → AllMissed (s.core.committed (key 0 a)) (made_in vs) (run (made_in vs) t.pool.sectors) s.core.leaves }
+    ensures exhausted { (c : Codec) (s : PoolState) (t : Side) (a : ℕ) (vs : List Move) (shown : List LeafShown) → Kept c s t → AllAnswer t.pool.sectors (made_in vs)
+        → RowRead s a vs (Exhausted shown) → AllMissed (s.core.committed (key 0 a)) (made_in vs) (run (made_in vs) t.pool.sectors) s.core.leaves }
 {}

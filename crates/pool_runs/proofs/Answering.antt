@@ -25,8 +25,7 @@ pub all_answer : (table : List Device) (made : List Noted) (a b : Sectors) → A
     → ((d s : ℕ) → 1 ≤ size_in table d → a d s ≡ b d s) → AllAnswer a made → AllAnswer b made
 all_answer table [] a b here same is = tt
 all_answer table (noted ∷ made) a b here same is = (
-  answers_same noted.call (as_found noted a) (as_found noted b)
-      (λ s. ap (hurt (noted.damage (device_of noted.call) s)) (same (device_of noted.call) s here.0)) is.0,
+  answers_same noted.call (as_found noted a) (as_found noted b) (λ s. ap (hurt (noted.damage (device_of noted.call) s)) (same (device_of noted.call) s here.0)) is.0,
   all_answer table made (run (noted ∷ []) a) (run (noted ∷ []) b) here.1 (λ d s one. ap (λ x. replay (noted ∷ []) d s x) (same d s one)) is.1,
 )
 

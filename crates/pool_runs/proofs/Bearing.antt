@@ -1,5 +1,5 @@
 -- Behind the stamps of a create its pool is known, and its commit may be made.
-use Rattle.std.proofs.Common.{◌≡◌, ◌≢◌, inl, inr, ℕ, ◌==◌, Bool, true, false, not, cond, List, [], ◌∷◌, ◌++◌, Some, None, refl, sym, ap, ◌∙◌, subst, arith}
+use Rattle.std.proofs.Common.{◌≡◌, ◌≢◌, inl, inr, ℕ, ◌^◌, ◌<◌, ◌==◌, Bool, true, false, not, cond, List, [], ◌∷◌, ◌++◌, Some, None, refl, sym, ap, ◌∙◌, subst, arith}
 use Rattle.std.specs.List.{AllByRecursion, filter}
 use Rattle.std.proofs.lemmas.Bool.Decides.{nat_tests}
 use Rattle.mp_base.specs.declared.number.Guid.{Guid}
@@ -18,20 +18,22 @@ use Rattle.pool_moves.proofs.CommitWalks.{found_walks}
 use Rattle.pool_moves.proofs.Making.{made_kept}
 use Rattle.pool_moves.proofs.Rosters.{made_roster}
 use Rattle.pool_moves.proofs.StampWalks.{all_of, leaf_found, leaf_of, stamps_make}
-use Rattle.pool_runs.specs.Acts.{Act, Bare, Takes, Bears, Closes, does, bare, born, calls_of_act, calls_along, pool_along}
+use Rattle.pool_runs.specs.Acts.{Act, Bare, Takes, Bears, Closes, does, born, calls_of_act, calls_along, pool_along}
 use Rattle.pool_runs.specs.Creating.{tops_of, leaves_of, new_birth, stamp_acts, MayCreate, commit_acts, Creates, host_stamped, IsNew}
 use Rattle.pool_runs.specs.Devices.{number_in, size_in}
 use Rattle.pool_runs.specs.Headline.{Headline}
 use Rattle.pool_runs.specs.HostRows.{IsRun}
 use Rattle.pool_runs.specs.Hosts.{Host, IsOpen, is_of, host_by, host_along}
-use Rattle.pool_runs.specs.Knowing.{Knows, MayActs, AreOwnActs}
+use Rattle.pool_runs.specs.Knowing.{AreOwnActs}
+use Rattle.pool_runs.proofs.Known.{Knows, MayActs}
 use Rattle.pool_runs.specs.Lines.{Reply, Entry}
 use Rattle.pool_runs.specs.Pasts.{Born}
 use Rattle.pool_runs.proofs.Creating.{within}
 use Rattle.pool_runs.proofs.Stamps.{stamp_calls}
 use Rattle.pool_runs.proofs.Heading.{headline_from}
 use Rattle.pool_runs.proofs.Knowing.{may_more, open_kept, pools_known, walk_may}
-use Rattle.pool_runs.proofs.Moments.{host_more, acts_table}
+use Rattle.pool_runs.proofs.Moments.{host_more, bare_host, acts_table}
+use Rattle.pool_runs.proofs.Numbers.{number_fits}
 
 -- The disk of a host goes on by the calls of its acts.
 run_more : (first second : List Noted) (sectors : Sectors) → run (first ++ second) sectors ≡ run second (run first sectors)
@@ -44,12 +46,7 @@ act_disk act h = refl
 
 pub acts_disk : (acts : List Act) (h : Host) → (host_along acts h).disk ≡ run (calls_along acts) h.disk
 acts_disk [] h = refl
-acts_disk (act ∷ acts) h = acts_disk acts (host_by act h) ∙
-    (ap (run (calls_along acts)) (act_disk act h) ∙ sym (run_more (calls_of_act act) (calls_along acts) h.disk))
-
-bare_host : (made : List Noted) (rest : List Act) (h : Host) → host_along (bare made ++ rest) h ≡ host_along rest (record h { disk = run made h.disk })
-bare_host [] rest h = refl
-bare_host (noted ∷ made) rest h = bare_host made rest (record h { disk = run (noted ∷ []) h.disk })
+acts_disk (act ∷ acts) h = acts_disk acts (host_by act h) ∙ (ap (run (calls_along acts)) (act_disk act h) ∙ sym (run_more (calls_of_act act) (calls_along acts) h.disk))
 
 -- Stamps, one after another: whose the devices are behind them, and that no pool came or went.
 stamps_pools : (g : ℕ) (stamps : List Stamp) (h : Host) → (host_stamped h g stamps).pools ≡ h.pools
@@ -81,8 +78,7 @@ all_owned pool size (leaf ∷ leaves) [] h are = absurd are
 all_owned pool size (leaf ∷ leaves) (stamp ∷ stamps) h (dev, inr stop) = absurd (let no : None ≡ Some leaf = stop.3 in cc)
 all_owned pool size (leaf ∷ leaves) (stamp ∷ stamps) h (dev, inl whole) = (
   subst (λ d. (host_stamped h pool.0 (stamp ∷ stamps)).owner d ≡ Some pool.0) dev (just_taken pool.0 stamp stamps h),
-  subst (λ x. AllByRecursion (λ l. x.owner l.dev ≡ Some pool.0) leaves)
-      (sym (bare_host stamp.made (stamp_acts pool.0 stamps) (host_by (Takes pool.0 stamp.dev) h)))
+  subst (λ x. AllByRecursion (λ l. x.owner l.dev ≡ Some pool.0) leaves) (sym (bare_host stamp.made (stamp_acts pool.0 stamps) (host_by (Takes pool.0 stamp.dev) h)))
       (all_owned pool size leaves stamps (record (host_by (Takes pool.0 stamp.dev) h) { disk = run stamp.made h.disk }) whole.1),
 )
 
@@ -94,15 +90,13 @@ is_made : (h : Host) (name : List ℕ) (blocks : ℕ) (tops : List (List (List �
     → AreStamps (size_in h.table) pool (leaves_of h.table tops) stamps None
     → IsMade (new_state (size_in h.table) name pool blocks (tops_of h.table tops)) (side_behind h name pool tops stamps)
 is_made h name blocks tops pool stamps may are =
-    subst (λ sectors. IsMade (new_state (size_in h.table) name pool blocks (tops_of h.table tops))
-    (new_side (size_in h.table) name pool (tops_of h.table tops) sectors))
+    subst (λ sectors. IsMade (new_state (size_in h.table) name pool blocks (tops_of h.table tops)) (new_side (size_in h.table) name pool (tops_of h.table tops) sectors))
     (ap (λ made. run made h.disk) (sym (stamp_calls pool.0 stamps)) ∙ sym (acts_disk (stamp_acts pool.0 stamps) h))
-    (stamps_make (size_in h.table) name pool blocks (tops_of h.table tops) stamps h.disk (within h name blocks tops pool may) may.in_range are)
+    (stamps_make (size_in h.table) name pool blocks (tops_of h.table tops) stamps h.disk (within h name blocks tops pool may)
+    (subst (λ g. g.0 < 2 ^ 64) (sym may.number) (number_fits name h.second)) are)
 
-is_stamped : (h : Host) (name : List ℕ) (blocks : ℕ) (tops : List (List (List ℕ))) (pool : Guid) (stamps : List Stamp)
-    → (may : MayCreate h name blocks tops pool)
-    → AreStamps (size_in h.table) pool (leaves_of h.table tops) stamps None
-    → (let p = (side_behind h name pool tops stamps).pool in AreStamped p.pool p.member p.guid p.size p.room p.home p.sectors)
+is_stamped : (h : Host) (name : List ℕ) (blocks : ℕ) (tops : List (List (List ℕ))) (pool : Guid) (stamps : List Stamp) → (may : MayCreate h name blocks tops pool)
+    → AreStamps (size_in h.table) pool (leaves_of h.table tops) stamps None → (let p = (side_behind h name pool tops stamps).pool in AreStamped p.pool p.member p.guid p.size p.room p.home p.sectors)
 is_stamped h name blocks tops pool stamps may are = let made = is_made h name blocks tops pool stamps may are in
     subst (λ q. AreStamped q.pool q.member q.guid q.size q.room q.home q.sectors) (sym made.is) made.stamps
 
@@ -111,16 +105,13 @@ own_more : (g : ℕ) (h : Host) (first second : List Act) → AreOwnActs g h (fi
 own_more g h [] second own = own
 own_more g h (act ∷ first) second own = own_more g (host_by act h) first second own.1
 
-new_pools : (g : ℕ) (s : PoolState) (pools : List PoolState) → ((s : PoolState) → IsOpen s pools → s.core.pool.0 ≢ g) → (x : PoolState)
-    → IsOpen x (s ∷ pools) → x.core.pool.0 ≡ g → x ≡ s
+new_pools : (g : ℕ) (s : PoolState) (pools : List PoolState) → ((s : PoolState) → IsOpen s pools → s.core.pool.0 ≢ g) → (x : PoolState) → IsOpen x (s ∷ pools) → x.core.pool.0 ≡ g → x ≡ s
 new_pools g s pools none x (inl is) number = is
 new_pools g s pools none x (inr more) number = absurd (none x more number)
 
-bears_known : (c : Codec) (h : Host) (name : List ℕ) (blocks : ℕ) (tops : List (List (List ℕ))) (pool : Guid) (stamps : List Stamp)
-    → MayCreate h name blocks tops pool
+bears_known : (c : Codec) (h : Host) (name : List ℕ) (blocks : ℕ) (tops : List (List (List ℕ))) (pool : Guid) (stamps : List Stamp) → MayCreate h name blocks tops pool
     → AreStamps (size_in h.table) pool (leaves_of h.table tops) stamps None → IsNew h pool.0
-    → Knows c (host_by (Bears (new_birth name pool blocks h.table tops)) (host_stamped h pool.0 stamps))
-    (born (new_birth name pool blocks h.table tops) (host_stamped h pool.0 stamps).disk)
+    → Knows c (host_by (Bears (new_birth name pool blocks h.table tops)) (host_stamped h pool.0 stamps)) (born (new_birth name pool blocks h.table tops) (host_stamped h pool.0 stamps).disk)
     × Kept c (new_state (size_in h.table) name pool blocks (tops_of h.table tops)) (side_behind h name pool tops stamps)
 bears_known c h name blocks tops pool stamps may are new =
     let leaves = leaves_of h.table tops in
@@ -128,8 +119,7 @@ bears_known c h name blocks tops pool stamps may are new =
     let t = side_behind h name pool tops stamps in
     let made = is_made h name blocks tops pool stamps may are in
     let kept : Kept c s t = made_kept c s t made in
-    let none : (x : PoolState) → IsOpen x (host_stamped h pool.0 stamps).pools
-    → x.core.pool.0 ≢ pool.0 = λ x is. new.number x (subst (IsOpen x) (stamps_pools pool.0 stamps h) is) in
+    let none : (x : PoolState) → IsOpen x (host_stamped h pool.0 stamps).pools → x.core.pool.0 ≢ pool.0 = λ x is. new.number x (subst (IsOpen x) (stamps_pools pool.0 stamps h) is) in
     let only = new_pools pool.0 s (host_stamped h pool.0 stamps).pools none in (
       record {
         survives = kept.survives;
@@ -139,8 +129,7 @@ bears_known c h name blocks tops pool stamps may are new =
         apart = λ d k is off. not_true (is_leaf_at (leaf_at d leaves)) (λ member. let at = leaf_of d leaves member in
             let found = leaf_found d leaves at.0 at.1 in
             let owned : (host_stamped h pool.0 stamps).owner d ≡ Some pool.0 = subst (λ x. (host_stamped h pool.0 stamps).owner x ≡ Some pool.0) found.1
-            (all_of (λ leaf. (host_stamped h pool.0 stamps).owner leaf.dev ≡ Some pool.0) leaves at.0
-            (all_owned pool (size_in h.table) leaves stamps h are) found.0) in
+            (all_of (λ leaf. (host_stamped h pool.0 stamps).owner leaf.dev ≡ Some pool.0) leaves at.0 (all_owned pool (size_in h.table) leaves stamps h are) found.0) in
             off (some_same k pool.0 (sym is ∙ owned)));
         sizes = λ d one. ap (λ table. size_in table d) (sym (acts_table (stamp_acts pool.0 stamps) h));
         disk = λ d s one. refl;
@@ -153,8 +142,7 @@ bears_known c h name blocks tops pool stamps may are new =
 
 -- The commit, and the end of a create that failed in it.
 closes_may : (c : Codec) (h : Host) (p : Pool) (g : ℕ) → Knows c h p → MayActs c h p (Closes g ∷ [])
-closes_may c h p g knows = λ fair.
-    (tt, pools_known c h p (filter (λ s. not (is_of g s)) h.pools) (λ s is number. open_kept (λ s. not (is_of g s)) s h.pools is) knows, tt)
+closes_may c h p g knows = λ fair. (tt, pools_known c h p (filter (λ s. not (is_of g s)) h.pools) (λ s is number. open_kept (λ s. not (is_of g s)) s h.pools is) knows, tt)
 
 commit_may : (answer : CreateReply) (c : Codec) (h : Host) (t : Side) (s : PoolState) (g : ℕ) (vs : List Move) → Knows c h t.pool → IsOpen s h.pools
     → t.pool.pool.0 ≡ g → Kept c s t → Walks c t vs → AreOwnActs g h (commit_acts answer g vs) → MayActs c h t.pool (commit_acts answer g vs)
@@ -167,8 +155,7 @@ commit_may (FaultOn device) c h t s g vs knows is number kept walks own =
     own_front g h [] second own = tt
     own_front g h (act ∷ first) second own = (own.0, own_front g (host_by act h) first second own.1)
 
-bears_may : (c : Codec) (h : Host) (name : List ℕ) (blocks : ℕ) (tops : List (List (List ℕ))) (acts : List Act) (reply : Reply)
-    → (k : Creates c h name blocks tops acts reply) → IsNew h k.pool.0
+bears_may : (c : Codec) (h : Host) (name : List ℕ) (blocks : ℕ) (tops : List (List (List ℕ))) (acts : List Act) (reply : Reply) → (k : Creates c h name blocks tops acts reply) → IsNew h k.pool.0
     → MayActs c (host_by (Bears (new_birth name k.pool blocks h.table tops)) (host_stamped h k.pool.0 k.stamps))
     (born (new_birth name k.pool blocks h.table tops) (host_stamped h k.pool.0 k.stamps).disk) (commit_acts k.answer k.pool.0 k.moves)
 bears_may c h name blocks tops acts reply k new =
@@ -182,8 +169,7 @@ bears_may c h name blocks tops acts reply k new =
     (found_walks c (size_in h.table) s t k.moves k.row.whole known.1 (λ d one. refl) k.row.row)
     (own_more k.pool.0 h (stamp_acts k.pool.0 k.stamps) (Bears b ∷ rest) own).1
 
-pub born_headline : (c : Codec) (h : Host) (name : List ℕ) (blocks : ℕ) (tops : List (List (List ℕ))) (acts : List Act) (reply : Reply)
-    (entries : List Entry) → (k : Creates c h name blocks tops acts reply)
+pub born_headline : (c : Codec) (h : Host) (name : List ℕ) (blocks : ℕ) (tops : List (List (List ℕ))) (acts : List Act) (reply : Reply) (entries : List Entry) → (k : Creates c h name blocks tops acts reply)
     → IsNew h k.pool.0 → IsRun c (host_along acts h) entries
     → Headline c (Born (new_birth name k.pool blocks h.table tops) (host_stamped h k.pool.0 k.stamps).disk)
     (host_by (Bears (new_birth name k.pool blocks h.table tops)) (host_stamped h k.pool.0 k.stamps)) (commit_acts k.answer k.pool.0 k.moves) entries

@@ -1,74 +1,25 @@
 -- What is acknowledged where a group ends so.
-use Rattle.std.proofs.Common.{
-  ◌≡◌,
-  inl,
-  inr,
-  ℕ,
-  ◌≤◌,
-  Bool,
-  true,
-  false,
-  cond,
-  List,
-  [],
-  ◌∷◌,
-  ◌++◌,
-  Option,
-  Some,
-  None,
-  refl,
-  sym,
-  ap,
-  ◌∙◌,
-  subst,
-  append-nil,
-  append_assoc,
-  arith,
-}
+use Rattle.std.proofs.Common.{◌≡◌, inl, inr, ℕ, ◌≤◌, Bool, true, false, cond, List, [], ◌∷◌, ◌++◌, Option, Some, None, refl, sym, ap, ◌∙◌, subst, append-nil, append_assoc, arith}
 use Rattle.std.specs.List.{AllByRecursion}
 use Rattle.txg_history.specs.Pages.{Codec}
 use Rattle.txg_history.specs.Pools.{Pool, pool_after}
 use Rattle.txg_history.specs.Records.{Cells, number_of, block_at, block_in}
 use Rattle.pool_moves.specs.Boards.{board_of, board_under, emptied}
-use Rattle.pool_moves.specs.FreezeRow.{up_devs, joins}
-use Rattle.pool_moves.specs.Keeping.{over, Kept}
-use Rattle.pool_moves.specs.LineRows.{
-  TurnReply,
-  Idle,
-  Write,
-  Flush,
-  Round,
-  Committed,
-  Suspended,
-  count_moves,
-  EndsBy,
-  EndsTurn,
-  IsTurnOf,
-  IsRoundPart,
-  StartsBy,
-  TurnBy,
-  RowTurn,
-  AreTurns,
-  moves_in,
-  EndsGroup,
-  CommitsOpen,
-  Ended,
-  CommitsFor,
-  SyncBehind,
-  SyncBy,
-  RowSync,
-}
-use Rattle.pool_moves.specs.Moves.{Draft, Move, Makes, Puts, Freeze, Draw, Burn, Starts, Commits, Sets, events_of, state_step, steps, after_move, after_moves}
+use Rattle.pool_moves.specs.FreezeRow.{up_devs}
+use Rattle.pool_moves.specs.Keeping.{over, Kept, Walks}
+use Rattle.pool_moves.specs.LineRows.{TurnReply, Idle, Write, Flush, Round, Committed, Suspended, count_moves, EndsBy, EndsTurn, IsTurnOf, IsRoundPart, StartsBy, TurnBy, RowTurn, AreTurns, moves_in, EndsGroup, CommitsOpen, Ended, CommitsFor, SyncBehind, SyncBy, RowSync}
+use Rattle.pool_moves.specs.Moves.{Draft, Move, Makes, Puts, Freeze, Draw, Burn, Commits, Sets, events_of, step, state_step, steps, after_move, after_moves}
 use Rattle.pool_moves.specs.Refusing.{FreezeRefusal}
 use Rattle.pool_moves.specs.States.{PoolState, Side}
-use Rattle.pool_moves.specs.TurnRows.{RowRound}
-use Rattle.pool_moves.specs.Walking.{as_moves}
+use Rattle.pool_moves.specs.TurnRows.{round_moves, RowRound}
+use Rattle.pool_moves.specs.Widening.{IsWidened}
 use Rattle.pool_moves.proofs.FreeWalks.{moves_more}
+use Rattle.pool_moves.proofs.Keeping.{walk_keeps}
 use Rattle.pool_moves.proofs.LineWalks.{IsSet, counts_set}
 use Rattle.pool_runs.specs.Acts.{does, pool_along}
-use Rattle.pool_runs.specs.Committing.{CommitsAll}
+use Rattle.pool_runs.specs.Committing.{CommitsAll, CommitsGroup}
 use Rattle.pool_runs.proofs.Acting.{own_events, move_number}
-use Rattle.pool_runs.proofs.GroupMoves.{IsKind, all_group, all_sync, all_joined}
+use Rattle.pool_runs.proofs.GroupMoves.{IsKind, more, all_group, all_sync, all_widens, all_turn}
 
 -- Moves that end in an acknowledgement of record n.
 pub record EndsIn (vs : List Move) (n : ℕ) : Type 0 where
@@ -82,15 +33,12 @@ pub record EndsIn (vs : List Move) (n : ℕ) : Type 0 where
 committed_number : (a b : ℕ) → Committed a ≡ Committed b → a ≡ b
 committed_number a b e = cc
 
-not_committed : {A : Type 0} (top : Option ℕ) (s : PoolState) (extra : List Move) (going : TurnReply) (vs : List Move) (n : ℕ) → (going ≡ Committed n → ⊥)
-    → EndsBy top s extra going vs (Committed n) → A
-not_committed (Some top) s extra going vs n off ends = absurd (let no = ends.1 in cc)
-not_committed None s extra going vs n off ends = absurd (off (sym ends.1))
+not_committed : {A : Type 0} (top : Option ℕ) (s : PoolState) (draws : Bool) (going : TurnReply) (vs : List Move) (n : ℕ) → (going ≡ Committed n → ⊥) → EndsBy top s draws going vs (Committed n) → A
+not_committed (Some top) s draws going vs n off ends = absurd (let no = ends.1 in cc)
+not_committed None s draws going vs n off ends = absurd (off (sym ends.1))
 
-part_commits : {A : Type 0} (s : PoolState) (part : List Move) (ms : _) (results : List Bool) (going : TurnReply) (vs : List Move) (n : ℕ)
-    → (going ≡ Committed n → ⊥) → IsTurnOf s part ms results [] going vs (Committed n) → A
-part_commits s part ms results going vs n off turn = not_committed (emptied (steps (part ++ count_moves s.core.leaves ms results) s).core.leaves)
-    (steps (part ++ count_moves s.core.leaves ms results) s) [] going turn.ending n off turn.ends
+part_commits : {A : Type 0} (s : PoolState) (part : List Move) (ms : _) (results : List Bool) (going : TurnReply) (vs : List Move) (n : ℕ) → (going ≡ Committed n → ⊥) → IsTurnOf s part ms results going vs (Committed n) → A
+part_commits s part ms results going vs n off turn = not_committed (emptied (steps (part ++ count_moves s.core.leaves ms results) s).core.leaves) (steps (part ++ count_moves s.core.leaves ms results) s) false going turn.ending n off turn.ends
 
 pub record CommitsNow (s : PoolState) (vs : List Move) (n : ℕ) : Type 0 where
   pub ends : EndsIn vs n
@@ -99,41 +47,30 @@ pub record CommitsNow (s : PoolState) (vs : List Move) (n : ℕ) : Type 0 where
 round_commits : (c : Codec) (size : ℕ → ℕ) (s : PoolState) (vs : List Move) (n : ℕ) → IsRoundPart c size s vs (Committed n) → CommitsNow s vs n
 round_commits c size s vs n w = of w.whole w.row w.ends w.counted
   where
-    of : (whole : Bool) → (row : RowRound c size s.core w.part whole) → cond whole ((w.ending ≡ []) × (Committed n ≡ Committed s.core.number))
-        (EndsTurn (steps w.behind s) (Draw ∷ []) (Round s.core.number) w.ending (Committed n))
+    of : (whole : Bool) → (row : RowRound c size s.core w.part whole) → cond whole ((w.ending ≡ []) × (Committed n ≡ Committed s.core.number)) (EndsTurn (steps w.behind s) true (Round s.core.number) w.ending (Committed n))
         → w.behind ≡ w.part ++ count_moves s.core.leaves (board_of s.core.leaves) w.row.results → CommitsNow s vs n
     of true row ends counted = record {
       ends = record {
-        body = Starts row.draft ∷ (as_moves row.first ++ (as_moves row.second ++ row.thirds));
+        body = round_moves row.draft row.first row.second row.thirds;
         draft = row.draft;
         sets = count_moves s.core.leaves (board_of s.core.leaves) w.row.results;
         all_set = counts_set s.core.leaves (board_of s.core.leaves) w.row.results;
-        moves = w.moves ∙ (ap (λ l. w.behind ++ l) ends.0 ∙
-            (append-nil w.behind ∙ (counted ∙ (ap (λ l. l ++ count_moves s.core.leaves (board_of s.core.leaves) w.row.results) row.moves
-            ∙ ap (λ l. Starts row.draft ∷ l)
-            (together (as_moves row.first) (as_moves row.second) row.thirds (Commits row.draft ∷ [])
-            (count_moves s.core.leaves (board_of s.core.leaves) w.row.results))))));
+        moves = w.moves ∙ (ap (λ l. w.behind ++ l) ends.0 ∙ (append-nil w.behind ∙ (counted ∙ (ap (λ l. l ++ count_moves s.core.leaves (board_of s.core.leaves) w.row.results)
+            (row.moves ∙ ap (λ l. round_moves row.draft row.first row.second row.thirds ++ l) row.ends)
+            ∙ append_assoc (round_moves row.draft row.first row.second row.thirds) (Commits row.draft ∷ []) (count_moves s.core.leaves (board_of s.core.leaves) w.row.results)))));
         number = row.fits.number_is ∙ sym (committed_number n s.core.number ends.1);
       };
       number = committed_number n s.core.number ends.1;
     }
-      where
-        together : (a b d e f : List Move) → (a ++ (b ++ (d ++ e))) ++ f ≡ (a ++ (b ++ d)) ++ (e ++ f)
-        together a b d e f = append_assoc a (b ++ (d ++ e)) f ∙
-            (ap (λ l. a ++ l) (append_assoc b (d ++ e) f ∙ (ap (λ l. b ++ l) (append_assoc d e f) ∙ sym (append_assoc b d (e ++ f))))
-            ∙ sym (append_assoc a (b ++ d) (e ++ f)))
-    of false row ends counted = not_committed (emptied (steps w.behind s).core.leaves) (steps w.behind s) (Draw ∷ []) (Round s.core.number) w.ending n
-        (λ e. absurd (cc)) ends
+    of false row ends counted = not_committed (emptied (steps w.behind s).core.leaves) (steps w.behind s) true (Round s.core.number) w.ending n (λ e. absurd (cc)) ends
 
-starts_commits : (top : Option ℕ) (c : Codec) (size : ℕ → ℕ) (s : PoolState) (vs : List Move) (n : ℕ) → StartsBy top c size s vs (Committed n)
-    → CommitsNow s vs n
+starts_commits : (top : Option ℕ) (c : Codec) (size : ℕ → ℕ) (s : PoolState) (vs : List Move) (n : ℕ) → StartsBy top c size s vs (Committed n) → CommitsNow s vs n
 starts_commits (Some top) c size s vs n row = absurd (let no = row.1 in cc)
 starts_commits None c size s vs n (inl w) = part_commits s w.part (board_under w.row.cell.top s.core.leaves) w.row.results Write vs n (λ e. absurd (cc)) w.turn
 starts_commits None c size s vs n (inr (inl w)) = part_commits s w.part (board_of s.core.leaves) w.row.results Flush vs n (λ e. absurd (cc)) w.turn
 starts_commits None c size s vs n (inr (inr w)) = round_commits c size s vs n w
 
-turn_commits_by : (frozen : Bool) (c : Codec) (size : ℕ → ℕ) (s : PoolState) (vs : List Move) (n : ℕ) → TurnBy frozen c size s vs (Committed n)
-    → CommitsNow s vs n
+turn_commits_by : (frozen : Bool) (c : Codec) (size : ℕ → ℕ) (s : PoolState) (vs : List Move) (n : ℕ) → TurnBy frozen c size s vs (Committed n) → CommitsNow s vs n
 turn_commits_by false c size s vs n row = absurd (let no = row.1 in cc)
 turn_commits_by true c size s vs n row = starts_commits (emptied s.core.leaves) c size s vs n row
 
@@ -165,8 +102,21 @@ ends_behind vs ws n e = record {
   number = e.number;
 }
 
-turns_commit : (c : Codec) (size : ℕ → ℕ) (s : PoolState) (turns : List (List Move × TurnReply)) (n : ℕ) → AreTurns c size s turns (Committed n)
-    → GroupCommits s (moves_in turns) n
+set_more : (sets more : List Move) → AllByRecursion IsSet sets → AllByRecursion IsSet more → AllByRecursion IsSet (sets ++ more)
+set_more [] more a b = b
+set_more (v ∷ sets) more a b = (a.0, set_more sets more a.1 b)
+
+pub ends_before : (vs sets : List Move) (n : ℕ) → EndsIn vs n → AllByRecursion IsSet sets → EndsIn (vs ++ sets) n
+ends_before vs sets n e all = record {
+  body = e.body;
+  draft = e.draft;
+  sets = e.sets ++ sets;
+  all_set = set_more e.sets sets e.all_set all;
+  moves = ap (λ l. l ++ sets) e.moves ∙ append_assoc e.body (Commits e.draft ∷ e.sets) sets;
+  number = e.number;
+}
+
+turns_commit : (c : Codec) (size : ℕ → ℕ) (s : PoolState) (turns : List (List Move × TurnReply)) (n : ℕ) → AreTurns c size s turns (Committed n) → GroupCommits s (moves_in turns) n
 turns_commit c size s [] n are = absurd are
 turns_commit c size s (turn ∷ []) n are = let now = turn_commits c size s turn.0 n (subst (RowTurn c size s turn.0) (sym are.2) are.0) in record {
   ends = subst (λ l. EndsIn l n) (sym (append-nil turn.0)) now.ends;
@@ -191,14 +141,12 @@ pub record IsAckedAs (p : Pool) (n : ℕ) : Type 0 where
   pub number : number_of p.acked ≡ n
   pub idle : p.group.frozen ≡ false
 
-pub ends_acked : (vs : List Move) (n : ℕ) (t : Side) → EndsIn vs n → IsAckedAs (after_moves vs t).pool n
-ends_acked vs n t e = subst (λ p. IsAckedAs p n) (sym pool_is) (record { reads = refl; number = e.number; idle = refl })
-  where
-    at : Side
-    at = after_move (Commits e.draft) (after_moves e.body t)
+ends_pool : (vs : List Move) (n : ℕ) (t : Side) → (e : EndsIn vs n) → (after_moves vs t).pool ≡ (after_move (Commits e.draft) (after_moves e.body t)).pool
+ends_pool vs n t e = ap (λ l. (after_moves l t).pool) e.moves
+    ∙ (ap (λ x. x.pool) (moves_more e.body (Commits e.draft ∷ e.sets) t) ∙ sets_pool e.sets (after_move (Commits e.draft) (after_moves e.body t)) e.all_set)
 
-    pool_is : (after_moves vs t).pool ≡ at.pool
-    pool_is = ap (λ l. (after_moves l t).pool) e.moves ∙ (ap (λ x. x.pool) (moves_more e.body (Commits e.draft ∷ e.sets) t) ∙ sets_pool e.sets at e.all_set)
+pub ends_acked : (vs : List Move) (n : ℕ) (t : Side) → EndsIn vs n → IsAckedAs (after_moves vs t).pool n
+ends_acked vs n t e = subst (λ p. IsAckedAs p n) (sym (ends_pool vs n t e)) (record { reads = refl; number = e.number; idle = refl })
 
 -- Moves that leave what was written, and those that leave the open writes.
 abbrev pub KeepsWritten : Move → Type 0
@@ -219,6 +167,7 @@ written_kind = record {
   wrote = λ k. tt;
   flushed = tt;
   draw = tt;
+  widen = λ m low high. tt;
   starts = λ draft. tt;
   copies = λ draft d. tt;
   copied = λ draft d. tt;
@@ -233,13 +182,14 @@ writes_kind = record {
   wrote = λ k. tt;
   flushed = tt;
   draw = tt;
+  widen = λ m low high. tt;
   starts = λ draft. tt;
   copies = λ draft d. tt;
   copied = λ draft d. tt;
   commits = λ draft. tt;
 }
 
-move_written : (v : Move) (p : Pool) → KeepsWritten v → (pool_after (events_of v p) p).written ≡ p.written
+pub move_written : (v : Move) (p : Pool) → KeepsWritten v → (pool_after (events_of v p) p).written ≡ p.written
 move_written (Puts a block) p keeps = absurd keeps
 move_written v p keeps = refl
 
@@ -262,18 +212,14 @@ steps_more [] ws s = refl
 steps_more (v ∷ vs) ws s = steps_more vs ws (state_step v s)
 
 -- Behind a freeze and the group's end nothing is an open write.
-pub frozen_writes : (first rest : List Move) (s : PoolState) (cells : Cells) (leaves : _) → first ≡ Freeze cells (up_devs leaves) ∷ joins leaves
-    → AllByRecursion KeepsWrites rest
+pub frozen_writes : (first rest : List Move) (s : PoolState) (cells : Cells) (board : ℕ → Bool) → IsWidened s.core (Freeze cells board) first → AllByRecursion KeepsWrites rest
     → (steps (first ++ rest) s).own.writes ≡ (λ x. None)
-frozen_writes first rest s cells leaves is all = ap (λ x. x.own.writes) (steps_more first rest s) ∙ (writes_along rest (steps first s) all
-    ∙ (ap (λ l. (steps l s).own.writes) is ∙ writes_along (joins leaves) (state_step (Freeze cells (up_devs leaves)) s)
-    (all_joined KeepsWrites writes_kind leaves)))
+frozen_writes first rest s cells board is all = ap (λ x. x.own.writes) (steps_more first rest s) ∙ (writes_along rest (steps first s) all
+    ∙ (ap (λ l. (steps l s).own.writes) is.moves ∙ writes_along is.widens (state_step (Freeze cells board) s) (all_widens KeepsWrites writes_kind (step (Freeze cells board) s.core) is.widens is.are)))
 
 -- so what is acknowledged has what was written
-pub kept_blocks : (c : Codec) (s : PoolState) (t : Side) (n : ℕ) → Kept c s t → IsAckedAs t.pool n → s.own.writes ≡ (λ x. None) → (a : ℕ)
-    → block_at t.pool.acked a ≡ t.pool.written a
-kept_blocks c s t n kept acked none a = ap (λ r. block_at r a) acked.reads
-    ∙ sym (kept.written a ∙ (ap (λ f. over (s.own.writes a) (cond f (t.pool.group.content a) (block_in t.pool.reads.cells a))) acked.idle
+pub kept_blocks : (c : Codec) (s : PoolState) (t : Side) (n : ℕ) → Kept c s t → IsAckedAs t.pool n → s.own.writes ≡ (λ x. None) → (a : ℕ) → block_at t.pool.acked a ≡ t.pool.written a
+kept_blocks c s t n kept acked none a = ap (λ r. block_at r a) acked.reads ∙ sym (kept.written a ∙ (ap (λ f. over (s.own.writes a) (cond f (t.pool.group.content a) (block_in t.pool.reads.cells a))) acked.idle
     ∙ ap (λ w. over (w a) (block_in t.pool.reads.cells a)) none))
 
 -- A sync.
@@ -284,19 +230,17 @@ record SyncCommits (s : PoolState) (vs : List Move) (n : ℕ) : Type 0 where
 ended_turn : (a b : TurnReply) → Ended a ≡ Ended b → a ≡ b
 ended_turn a b e = cc
 
-open_commits : (refusal : Option FreezeRefusal) (c : Codec) (size : ℕ → ℕ) (s : PoolState) (vs : List Move) (n : ℕ)
-    → CommitsFor refusal c size s vs (Ended (Committed n)) → SyncCommits s vs n
+open_commits : (refusal : Option FreezeRefusal) (c : Codec) (size : ℕ → ℕ) (s : PoolState) (vs : List Move) (n : ℕ) → CommitsFor refusal c size s vs (Ended (Committed n)) → SyncCommits s vs n
 open_commits (Some refusal) c size s vs n row = absurd (let no = row.1 in cc)
 open_commits None c size s vs n row =
     let w : CommitsOpen c size s vs (Committed n) = subst (CommitsOpen c size s vs) (sym (ended_turn (Committed n) row.0 row.2)) row.1 in
     let rest = group_commits c size (steps w.first s) w.rest n w.ends in record {
       ends = subst (λ l. EndsIn l n) (sym w.moves) (ends_behind w.first w.rest n rest.ends);
-      none = ap (λ l. (steps l s).own.writes) w.moves ∙ frozen_writes w.first w.rest s w.freeze.cells s.core.leaves w.freeze.moves
+      none = ap (λ l. (steps l s).own.writes) w.moves ∙ frozen_writes w.first w.rest s w.freeze.cells (up_devs s.core.leaves) w.freeze.moves
           (all_group KeepsWrites writes_kind c size (steps w.first s) w.rest (Committed n) (λ bad. absurd bad) w.ends);
     }
 
-behind_commits : (turn : TurnReply) (c : Codec) (size : ℕ → ℕ) (s : PoolState) (first vs : List Move) (n : ℕ)
-    → SyncBehind turn c size s vs (Ended (Committed n)) → SyncCommits s vs n
+behind_commits : (turn : TurnReply) (c : Codec) (size : ℕ → ℕ) (s : PoolState) (first vs : List Move) (n : ℕ) → SyncBehind turn c size s vs (Ended (Committed n)) → SyncCommits s vs n
 behind_commits (Committed number) c size s first vs n (inl row) = absurd (let no = row.1 in cc)
 behind_commits (Committed number) c size s first vs n (inr row) = open_commits row.0 c size s vs n row.2
 behind_commits Idle c size s first vs n row = absurd (let no = row.1 in cc)
@@ -305,27 +249,73 @@ behind_commits Flush c size s first vs n row = absurd (let no = row.1 in cc)
 behind_commits (Round number) c size s first vs n row = absurd (let no = row.1 in cc)
 behind_commits (Suspended group top faults) c size s first vs n row = absurd (let no = row.1 in cc)
 
-sync_commits : (frozen : Bool) (c : Codec) (size : ℕ → ℕ) (s : PoolState) (vs : List Move) (n : ℕ) → SyncBy frozen c size s vs (Ended (Committed n))
-    → SyncCommits s vs n
+sync_commits : (frozen : Bool) (c : Codec) (size : ℕ → ℕ) (s : PoolState) (vs : List Move) (n : ℕ) → SyncBy frozen c size s vs (Ended (Committed n)) → SyncCommits s vs n
 sync_commits false c size s vs n row = open_commits row.0 c size s vs n row.2
 sync_commits true c size s vs n row = let behind = behind_commits row.turn c size (steps row.first s) row.first row.rest n row.behind in record {
   ends = subst (λ l. EndsIn l n) (sym row.moves) (ends_behind row.first row.rest n behind.ends);
   none = ap (λ l. (steps l s).own.writes) row.moves ∙ (ap (λ x. x.own.writes) (steps_more row.first row.rest s) ∙ behind.none);
 }
 
-pub sync_all : (c : Codec) (size : ℕ → ℕ) (s : PoolState) (t : Side) (vs : List Move) (n : ℕ) → Kept c (steps vs s) (after_moves vs t)
-    → RowSync c size s vs (Ended (Committed n)) → CommitsAll t.pool (after_moves vs t).pool n
+pub sync_all : (c : Codec) (size : ℕ → ℕ) (s : PoolState) (t : Side) (vs : List Move) (n : ℕ) → Kept c (steps vs s) (after_moves vs t) → RowSync c size s vs (Ended (Committed n)) → CommitsAll t.pool (after_moves vs t).pool n
 sync_all c size s t vs n kept row =
     let commits = sync_commits s.core.group.frozen c size s vs n row in
     let acked = ends_acked vs n t commits.ends in record {
       acked = acked.number;
       blocks = λ a. kept_blocks c (steps vs s) (after_moves vs t) n kept acked commits.none a
-          ∙ ap (λ w. w a) (written_along vs t
-          (all_sync KeepsWritten written_kind (λ cells board. tt) s.core.group.frozen c size s vs (Ended (Committed n)) (λ bad. tt) row));
+          ∙ ap (λ w. w a) (written_along vs t (all_sync KeepsWritten written_kind (λ cells board. tt) s.core.group.frozen c size s vs (Ended (Committed n)) (λ bad. tt) row));
+    }
+
+-- A turn acknowledges what was written before its group's freeze.
+abbrev KeepsContent : Move → Type 0
+KeepsContent (Freeze cells board) = ⊥
+KeepsContent v = Unit {0}
+
+content_kind : IsKind KeepsContent
+content_kind = record {
+  calls = λ noted. tt;
+  leave = λ d. tt;
+  set = λ m own. tt;
+  wrote = λ k. tt;
+  flushed = tt;
+  draw = tt;
+  widen = λ m low high. tt;
+  starts = λ draft. tt;
+  copies = λ draft d. tt;
+  copied = λ draft d. tt;
+  commits = λ draft. tt;
+}
+
+move_content : (v : Move) (p : Pool) → KeepsContent v → (pool_after (events_of v p) p).group.content ≡ p.group.content
+move_content (Makes noted) p keeps = refl
+move_content (Freeze cells board) p keeps = absurd keeps
+move_content v p keeps = refl
+
+content_along : (vs more : List Move) (t : Side) → AllByRecursion KeepsContent (vs ++ more) → (after_moves vs t).pool.group.content ≡ t.pool.group.content
+content_along [] more t all = refl
+content_along (v ∷ vs) more t all = content_along vs more (after_move v t) all.1 ∙ move_content v t.pool all.0
+
+walk_first : (c : Codec) (vs ws : List Move) (t : Side) → Walks c t (vs ++ ws) → Walks c t vs
+walk_first c [] ws t walks = tt
+walk_first c (v ∷ vs) ws t walks = (walks.0, walk_first c vs ws (after_move v t) walks.1)
+
+walk_second : (c : Codec) (vs ws : List Move) (t : Side) → Walks c t (vs ++ ws) → Walks c (after_moves vs t) ws
+walk_second c [] ws t walks = walks
+walk_second c (v ∷ vs) ws t walks = walk_second c vs ws (after_move v t) walks.1
+
+pub turn_all : (c : Codec) (size : ℕ → ℕ) (s : PoolState) (t : Side) (vs : List Move) (n : ℕ) → Kept c s t → Walks c t vs
+    → RowTurn c size s vs (Committed n) → CommitsGroup t.pool (after_moves vs t).pool n
+turn_all c size s t vs n kept walks row =
+    let e = (turn_commits c size s vs n row).ends in
+    let ending = Commits e.draft ∷ e.sets in
+    let all : Walks c t (e.body ++ ending) = subst (Walks c t) e.moves walks in
+    let now = walk_second c e.body ending t all in
+    let before = walk_keeps c e.body s t (walk_first c e.body ending t all) kept in
+    let keeps : AllByRecursion KeepsContent (e.body ++ ending) = subst (AllByRecursion KeepsContent) e.moves (all_turn KeepsContent content_kind c size s vs (Committed n) (λ bad. tt) row) in record {
+      acked = (ends_acked vs n t e).number;
+      blocks = λ a. ap (λ p. block_at p.acked a) (ends_pool vs n t e) ∙ (before.survives.come_to.contents now.0.0.0.frozen a ∙ ap (λ f. f a) (content_along e.body ending t keeps));
     }
 
 -- the pool behind its own moves
 pub does_pool : (g : ℕ) (vs : List Move) (t : Side) → t.pool.pool.0 ≡ g → pool_along (does g vs) t.pool ≡ (after_moves vs t).pool
 does_pool g [] t number = refl
-does_pool g (v ∷ vs) t number = ap (pool_along (does g vs)) (ap (λ vs. pool_after vs t.pool) (own_events g v t.pool number))
-    ∙ does_pool g vs (after_move v t) (ap (λ n. n.0) (move_number v t.pool) ∙ number)
+does_pool g (v ∷ vs) t number = ap (pool_along (does g vs)) (ap (λ vs. pool_after vs t.pool) (own_events g v t.pool number)) ∙ does_pool g vs (after_move v t) (ap (λ n. n.0) (move_number v t.pool) ∙ number)

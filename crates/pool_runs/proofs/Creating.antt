@@ -1,34 +1,5 @@
 -- A create may be made, as far as other pools go; and what it takes that none of its refusals came.
-use Rattle.std.proofs.Common.{
-  ◌≡◌,
-  inl,
-  inr,
-  ℕ,
-  suc,
-  ◌+◌,
-  ◌≤◌,
-  ◌==◌,
-  ◌||◌,
-  nat_lt,
-  Bool,
-  true,
-  false,
-  cond,
-  List,
-  [],
-  ◌∷◌,
-  ◌++◌,
-  length,
-  Option,
-  Some,
-  None,
-  refl,
-  sym,
-  ap,
-  ◌∙◌,
-  subst,
-  arith,
-}
+use Rattle.std.proofs.Common.{◌≡◌, inl, inr, ℕ, suc, ◌+◌, ◌≤◌, ◌==◌, ◌||◌, nat_lt, Bool, true, false, cond, List, [], ◌∷◌, ◌++◌, length, Option, Some, None, refl, sym, ap, ◌∙◌, subst, arith}
 use Rattle.std.specs.List.{AllByRecursion}
 use Rattle.std.proofs.lemmas.Bool.Decides.{nat_tests}
 use Rattle.std.proofs.lemmas.List.{length-append}
@@ -38,29 +9,12 @@ use Rattle.txg_history.specs.Pools.{Pool}
 use Rattle.txg_history.proofs.Logging.{by_bool}
 use Rattle.pool_moves.specs.StampRow.{NewMember, NewLeaf, top_leaves, leaves_from, IsNew as FitsLimits}
 use Rattle.pool_runs.specs.Acts.{Act, Names, Bears}
-use Rattle.pool_runs.specs.Creating.{
-  members_of,
-  tops_of,
-  leaves_of,
-  new_birth,
-  or_else,
-  first_some,
-  too_many,
-  too_wide,
-  all_names,
-  refused_if,
-  too_small,
-  refusals_of,
-  create_refusal,
-  stamp_acts,
-  MayCreate,
-  commit_acts,
-  RowCreate,
-}
+use Rattle.pool_runs.specs.Creating.{members_of, tops_of, leaves_of, new_birth, or_else, first_some, too_many, too_wide, all_names, refused_if, too_small, refusals_of, create_refusal, stamp_acts, MayCreate, commit_acts, RowCreate}
 use Rattle.pool_runs.specs.Devices.{Device, size_in}
 use Rattle.pool_runs.specs.Hosts.{Host}
-use Rattle.pool_runs.specs.Knowing.{Knows, MayActs, AreOwnActs}
-use Rattle.pool_runs.specs.Lines.{Refusal, TooMany, BadBlocks, TooSmall, Reply}
+use Rattle.pool_runs.specs.Knowing.{AreOwnActs}
+use Rattle.pool_runs.proofs.Known.{Knows, MayActs}
+use Rattle.pool_runs.specs.Lines.{CreateRefusal, TooMany, BadBlocks, TooSmall, Reply}
 use Rattle.pool_runs.proofs.Knowing.{other_may}
 
 -- Other pools.
@@ -68,26 +22,23 @@ names_may : (c : Codec) (h : Host) (p : Pool) (g : ℕ) (more acts : List Act) �
 names_may c h p g more acts knows is own = subst (MayActs c h p) (sym is)
     (λ fair. (tt, knows, other_may c h p g more knows fair (subst (AreOwnActs g h) is own).1))
 
-pub create_may : (c : Codec) (h : Host) (p : Pool) (name : List ℕ) (blocks : ℕ) (tops : List (List (List ℕ))) (acts : List Act) (reply : Reply) → Knows c h p
-    → RowCreate c h name blocks tops acts reply
+pub create_may : (c : Codec) (h : Host) (p : Pool) (name : List ℕ) (blocks : ℕ) (tops : List (List (List ℕ))) (acts : List Act) (reply : Reply) → Knows c h p → RowCreate c h name blocks tops acts reply
     → MayActs c h p acts
 create_may c h p name blocks tops acts reply knows (inl row) = subst (MayActs c h p) (sym row.2) tt
 create_may c h p name blocks tops acts reply knows (inr (inl row)) = names_may c h p row.pool.0 (stamp_acts row.pool.0 row.stamps) acts knows row.all row.own
 create_may c h p name blocks tops acts reply knows (inr (inr row)) =
-    names_may c h p row.pool.0
-    (stamp_acts row.pool.0 row.stamps ++
-    (Bears (new_birth name row.pool blocks h.table tops) ∷ commit_acts row.answer row.pool.0 row.moves)) acts knows row.all row.own
+    names_may c h p row.pool.0 (stamp_acts row.pool.0 row.stamps ++ (Bears (new_birth name row.pool blocks h.table tops) ∷ commit_acts row.answer row.pool.0 row.moves)) acts knows row.all row.own
 
 -- What it takes that no refusal came.
-pub or_first : (a b : Option Refusal) → or_else a b ≡ None → a ≡ None
+pub or_first : (a b : Option CreateRefusal) → or_else a b ≡ None → a ≡ None
 or_first (Some x) b is = absurd (cc)
 or_first None b is = refl
 
-pub or_second : (a b : Option Refusal) → or_else a b ≡ None → b ≡ None
+pub or_second : (a b : Option CreateRefusal) → or_else a b ≡ None → b ≡ None
 or_second (Some x) b is = absurd (cc)
 or_second None b is = is
 
-all_none : (refusals : List (Option Refusal)) → first_some refusals ≡ None → AllByRecursion (λ refusal. refusal ≡ None) refusals
+all_none : (refusals : List (Option CreateRefusal)) → first_some refusals ≡ None → AllByRecursion (λ refusal. refusal ≡ None) refusals
 all_none [] is = tt
 all_none (refusal ∷ more) is = (or_first refusal (first_some more) is, all_none more (or_second refusal (first_some more) is))
 
@@ -98,11 +49,10 @@ none_refused h name blocks tops none = all_none (refusals_of h name blocks tops)
 
 -- What each refusal that doesn't come tells.
 few : (limit count : ℕ) → too_many limit count ≡ None → count ≤ limit
-few limit count is = by_bool (nat_lt limit count)
-    (λ yes. absurd (let no : Some (TooMany limit count) ≡ None = sym (ap (λ t. cond t (Some (TooMany limit count)) None) yes) ∙ is in cc))
+few limit count is = by_bool (nat_lt limit count) (λ yes. absurd (let no : Some (TooMany limit count) ≡ None = sym (ap (λ t. cond t (Some (TooMany limit count)) None) yes) ∙ is in cc))
     (λ no. let low : count ≤ limit = grind (arith, nat_tests) in low)
 
-big_of : (n : ℕ) (rest : Option Refusal) → or_else (cond (nat_lt n 320) (Some (TooSmall 320 n)) None) rest ≡ None → 320 ≤ n
+big_of : (n : ℕ) (rest : Option CreateRefusal) → or_else (cond (nat_lt n 320) (Some (TooSmall 320 n)) None) rest ≡ None → 320 ≤ n
 big_of n rest is = by_bool (nat_lt n 320)
     (λ yes. absurd (let no : Some (TooSmall 320 n) ≡ None =
     sym (ap (λ t. cond t (Some (TooSmall 320 n)) None) yes) ∙ or_first (cond (nat_lt n 320) (Some (TooSmall 320 n)) None) rest is in cc))
@@ -115,7 +65,7 @@ all_big table (l ∷ leaves) is = (
   all_big table leaves (or_second (cond (nat_lt (size_in table l.dev) 320) (Some (TooSmall 320 (size_in table l.dev))) None) (too_small table leaves) is),
 )
 
-not_refused : (t : Bool) (refusal : Refusal) → refused_if t refusal ≡ None → t ≡ false
+not_refused : (t : Bool) (refusal : CreateRefusal) → refused_if t refusal ≡ None → t ≡ false
 not_refused true refusal is = absurd (cc)
 not_refused false refusal is = refl
 
@@ -135,15 +85,13 @@ top_length : (next top : ℕ) (members : List NewMember) → length (top_leaves 
 top_length next top [] = refl
 top_length next top (m ∷ members) = ap suc (top_length (suc next) top members)
 
-leaves_length : (table : List Device) (tops : List (List (List ℕ))) (next top : ℕ)
-    → length (leaves_from next top (tops_of table tops)) ≡ length (all_names tops)
+leaves_length : (table : List Device) (tops : List (List (List ℕ))) (next top : ℕ) → length (leaves_from next top (tops_of table tops)) ≡ length (all_names tops)
 leaves_length table [] next top = refl
 leaves_length table (names ∷ tops) next top =
     length-append (top_leaves (suc next) top (members_of table names)) (leaves_from (suc next + length (members_of table names)) (suc top) (tops_of table tops))
     ∙ (ap (λ n. n + length (leaves_from (suc next + length (members_of table names)) (suc top) (tops_of table tops)))
     (top_length (suc next) top (members_of table names) ∙ members_length table names)
-    ∙ (ap (λ n. length names + n) (leaves_length table tops (suc next + length (members_of table names)) (suc top))
-    ∙ sym (length-append names (all_names tops))))
+    ∙ (ap (λ n. length names + n) (leaves_length table tops (suc next + length (members_of table names)) (suc top)) ∙ sym (length-append names (all_names tops))))
 
 children_few : (table : List Device) (tops : List (List (List ℕ))) → too_wide tops ≡ None → AllByRecursion (λ names. 1 ≤ length names) tops
     → AllByRecursion (λ members. (1 ≤ length members) × (length members ≤ 8)) (tops_of table tops)

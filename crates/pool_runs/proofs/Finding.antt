@@ -1,36 +1,5 @@
 -- An import finds its pool, and opens a live record of it.
-use Rattle.std.proofs.Common.{
-  ◌≡◌,
-  inl,
-  inr,
-  ℕ,
-  ◌+◌,
-  ◌≤◌,
-  ◌<◌,
-  ◌==◌,
-  ◌&&◌,
-  ◌||◌,
-  nat_le,
-  Bool,
-  true,
-  false,
-  not,
-  cond,
-  List,
-  [],
-  ◌∷◌,
-  ◌++◌,
-  length,
-  Option,
-  Some,
-  None,
-  refl,
-  sym,
-  ap,
-  ◌∙◌,
-  subst,
-  arith,
-}
+use Rattle.std.proofs.Common.{◌≡◌, inl, inr, ℕ, ◌+◌, ◌≤◌, ◌<◌, ◌==◌, ◌&&◌, ◌||◌, nat_le, Bool, true, false, not, cond, List, [], ◌∷◌, ◌++◌, length, Option, Some, None, refl, sym, ap, ◌∙◌, subst, arith, append_assoc, map}
 use Rattle.std.specs.List.{AllByRecursion}
 use Rattle.std.specs.Option.{is_none}
 use Rattle.std.specs.Str.{bytes_eq}
@@ -45,27 +14,13 @@ use Rattle.txg_history.specs.Pools.{Pool, after, pool_after}
 use Rattle.txg_history.specs.Premises.{HasGoodPages}
 use Rattle.txg_history.specs.Records.{Rec, IsIn, number_of, block_at}
 use Rattle.txg_history.proofs.Folding.{calls_after, events_more, pool_more}
+use Rattle.pool_moves.specs.CommitRows.{uncounts}
 use Rattle.pool_moves.specs.Keeping.{Kept}
 use Rattle.pool_moves.specs.Leaves.{LeafSeen}
 use Rattle.pool_moves.specs.LineRows.{TurnReply, Idle, Write, Flush, Round, Committed, Suspended}
 use Rattle.pool_moves.specs.Moves.{Move, Freeze, Scan_from, state_step, steps, after_moves}
-use Rattle.pool_moves.specs.OpeningRow.{
-  IsLiveOne,
-  SeekReply,
-  NoRecord,
-  NumbersEnd,
-  TakesRecord,
-  taken_by,
-  last_numbers,
-  OpenReply,
-  Opens_state,
-  NoPage,
-  lacking_of,
-  Resumes,
-  ResumesUnless,
-  RowResume,
-}
-use Rattle.pool_moves.specs.FreezeRow.{up_devs, joins}
+use Rattle.pool_moves.specs.OpeningRow.{IsLiveOne, SeekReply, NoRecord, NumbersEnd, TakesRecord, taken_by, last_numbers, OpenReply, Opens_state, NoPage, lacking_of, Resumes, ResumesUnless, RowResume}
+use Rattle.pool_moves.specs.FreezeRow.{up_devs}
 use Rattle.pool_moves.specs.Opened.{opened_leaves}
 use Rattle.pool_moves.specs.PageReads.{LeafShown, failed_on, answers_in}
 use Rattle.pool_moves.specs.Resilvers.{rest_if, Resilvers}
@@ -73,32 +28,23 @@ use Rattle.pool_moves.specs.States.{PoolSeen, PoolState, Side}
 use Rattle.pool_moves.proofs.FreeWalks.{moves_more}
 use Rattle.pool_moves.proofs.Keeping.{walk_keeps}
 use Rattle.pool_moves.proofs.ResilverWalks.{resume_walks}
-use Rattle.pool_runs.specs.Acts.{Act, Opening, Looked, Enters, does, bare, read_by, pool_along, calls_along}
+use Rattle.pool_runs.specs.Acts.{Act, Opening, Looked, Enters, does, bare, read_by, pool_along, calls_along, Does, Reads_as}
 use Rattle.pool_runs.specs.Committing.{OpensLive, opening_in, LosesPage, FindsPool}
 use Rattle.pool_runs.specs.Devices.{size_in, handed}
 use Rattle.pool_runs.specs.Fairness.{AreFair}
 use Rattle.pool_runs.specs.HostRows.{AreMade}
-use Rattle.pool_runs.specs.Hosts.{Host, named}
+use Rattle.pool_runs.specs.Hosts.{Host, named, host_by, host_along, moved}
 use Rattle.pool_runs.specs.Importing.{read_in, all_shown, OpensBy, FollowsMap, OpensFound, ImportBy, host_behind, Imports, ImportFor, ImportUnless, RowImport}
-use Rattle.pool_runs.specs.Knowing.{Knows}
 use Rattle.pool_runs.specs.Lines.{Reply, To_import, ImportReply, Opened, NameOpen, TooManyPools, NothingFound, LastNumber, PageLost}
 use Rattle.pool_runs.proofs.Acting.{same_number, calls_number}
-use Rattle.pool_runs.proofs.Committing.{
-  numbers_up,
-  IsAckedAs,
-  ends_acked,
-  group_commits,
-  frozen_writes,
-  written_kind,
-  writes_kind,
-  KeepsWritten,
-  KeepsWrites,
-  written_along,
-  writes_along,
-  kept_blocks,
-  does_pool,
-}
-use Rattle.pool_runs.proofs.GroupMoves.{more, all_group, all_reopen}
+use Rattle.pool_runs.proofs.Committing.{numbers_up, IsAckedAs, ends_acked, ends_before, group_commits, frozen_writes, written_kind, writes_kind, KeepsWritten, KeepsWrites, written_along, writes_along, kept_blocks, does_pool}
+use Rattle.pool_runs.proofs.Known.{Knows}
+use Rattle.pool_runs.specs.Moments.{IsOpenAs}
+use Rattle.pool_runs.proofs.Knowing.{step_number, step_name, moved_own}
+use Rattle.pool_runs.proofs.Moments.{host_more, bare_host}
+use Rattle.std.proofs.lemmas.Slice.Eq.{bytes_eq-Decides}
+use Rattle.pool_runs.proofs.GroupMoves.{more, all_group, all_uncounts, all_reopen}
+use Rattle.pool_moves.proofs.CommitWalks.{uncounts_set}
 use Rattle.pool_runs.proofs.Importing.{bare_calls, looks_along, opening_of, OpeningFacts, opening_calls, opening_facts, look_facts, taken_live}
 
 -- The commit of an opening.
@@ -131,33 +77,34 @@ record Resumed (t : Side) (vs : List Move) (from n : ℕ) : Type 0 where
   blocks : (a : ℕ) → block_at (after_moves vs t).pool.acked a ≡ t.pool.written a
   written : (after_moves vs t).pool.written ≡ t.pool.written
 
-resumed : (c : Codec) (size : ℕ → ℕ) (s : PoolState) (t : Side) (vs : List Move) (n : ℕ) → Kept c (steps vs s) (after_moves vs t)
-    → Resumes c size s vs (Committed n) → Resumed t vs s.core.number n
+resumed : (c : Codec) (size : ℕ → ℕ) (s : PoolState) (t : Side) (vs : List Move) (n : ℕ) → Kept c (steps vs s) (after_moves vs t) → Resumes c size s vs (Committed n) → Resumed t vs s.core.number n
 resumed c size s t vs n kept w =
     let first = w.row.first in
+    let leaves = (steps w.row.rest (steps w.row.first s)).core.leaves in
+    let zeros = uncounts leaves in
     let commits = group_commits c size (steps first s) w.row.rest n w.row.ends in
     let acked_first : IsAckedAs (after_moves w.first t).pool n = subst (λ l. IsAckedAs (after_moves l t).pool n) (sym w.row.moves)
-    (subst (λ x. IsAckedAs x.pool n) (sym (moves_more first w.row.rest t)) (ends_acked w.row.rest n (after_moves first t) commits.ends)) in
+    (subst (λ x. IsAckedAs x.pool n) (sym (moves_more first (w.row.rest ++ zeros) t))
+    (ends_acked (w.row.rest ++ zeros) n (after_moves first t) (ends_before w.row.rest zeros n commits.ends (uncounts_set leaves)))) in
     let acked : IsAckedAs (after_moves vs t).pool n = subst (λ l. IsAckedAs (after_moves l t).pool n) (sym w.moves)
-    (subst (λ x. IsAckedAs x.pool n) (sym (moves_more w.first w.rest t))
-    (resilver_acked (steps w.first s).core w.rest (after_moves w.first t) n w.resumes acked_first)) in
+    (subst (λ x. IsAckedAs x.pool n) (sym (moves_more w.first w.rest t)) (resilver_acked (steps w.first s).core w.rest (after_moves w.first t) n w.resumes acked_first)) in
     let still = resilver_written (steps w.first s).core w.rest w.resumes in
     let none : (steps vs s).own.writes ≡ (λ x. None) = ap (λ l. (steps l s).own.writes) w.moves ∙ (ap (λ x. x.own.writes) (steps_more w.first w.rest s)
     ∙ (writes_along w.rest (steps w.first s) still.1 ∙ (ap (λ l. (steps l s).own.writes) w.row.moves
-    ∙ frozen_writes first w.row.rest s (λ k. None) s.core.leaves w.row.freeze.moves
-    (all_group KeepsWrites writes_kind c size (steps first s) w.row.rest (Committed n) (λ bad. absurd bad) w.row.ends)))) in
+    ∙ frozen_writes first (w.row.rest ++ zeros) s (λ k. None) (up_devs s.core.leaves) w.row.freeze.moves
+    (more KeepsWrites w.row.rest zeros (all_group KeepsWrites writes_kind c size (steps first s) w.row.rest (Committed n) (λ bad. absurd bad) w.row.ends)
+    (all_uncounts KeepsWrites writes_kind leaves))))) in
     let all : AllByRecursion KeepsWritten vs = subst (AllByRecursion KeepsWritten) (sym w.moves) (more KeepsWritten w.first w.rest
     (all_reopen KeepsWritten written_kind (λ cells board. tt) c size s w.first (Committed n) (λ bad. tt) w.row) still.0) in record {
-      up = let frozen : s.core.number + 1 ≤ (steps first s).core.number = subst (λ l. s.core.number + 1 ≤ (steps l s).core.number) (sym w.row.freeze.moves)
-          (numbers_up (joins s.core.leaves) (state_step (Freeze (λ k. None) (up_devs s.core.leaves)) s)) in
+      up = let frozen : s.core.number + 1 ≤ (steps first s).core.number = subst (λ l. s.core.number + 1 ≤ (steps l s).core.number) (sym w.row.freeze.moves.moves)
+          (numbers_up w.row.freeze.moves.widens (state_step (Freeze (λ k. None) (up_devs s.core.leaves)) s)) in
           let most = commits.up in omega (arith, frozen, most);
       acked = acked.number;
       blocks = λ a. kept_blocks c (steps vs s) (after_moves vs t) n kept acked none a ∙ ap (λ f. f a) (written_along vs t all);
       written = written_along vs t all;
     }
 
-resumed_by : (top : Option ℕ) (c : Codec) (size : ℕ → ℕ) (s : PoolState) (t : Side) (vs : List Move) (n : ℕ) → Kept c (steps vs s) (after_moves vs t)
-    → ResumesUnless top c size s vs (Committed n) → Resumed t vs s.core.number n
+resumed_by : (top : Option ℕ) (c : Codec) (size : ℕ → ℕ) (s : PoolState) (t : Side) (vs : List Move) (n : ℕ) → Kept c (steps vs s) (after_moves vs t) → ResumesUnless top c size s vs (Committed n) → Resumed t vs s.core.number n
 resumed_by (Some top) c size s t vs n kept row = absurd (let no = row.1 in cc)
 resumed_by None c size s t vs n kept row = resumed c size s t vs n kept row
 
@@ -186,13 +133,11 @@ record Looked_live (p before : Pool) (found : Found) : Type 0 where
   same : p.live ≡ before.live
 
 -- the pool behind the calls of an opening
-opens_behind : (c : Codec) (h : Host) (p : Pool) (name : List ℕ) (found : Found) (acts : List Act) (reply : Reply)
-    (opens : OpensFound c h name found acts reply) → p.pool.0 ≡ found.pool.0
+opens_behind : (c : Codec) (h : Host) (p : Pool) (name : List ℕ) (found : Found) (acts : List Act) (reply : Reply) (opens : OpensFound c h name found acts reply) → p.pool.0 ≡ found.pool.0
     → pool_along acts p ≡ pool_along opens.rest (pool_after (as_events opens.made) (after (Opens (read_by (opening_of c h name found acts reply opens) p)) p))
 opens_behind c h p name found acts reply opens number = let g = found.pool.0 in let r = read_by (opening_of c h name found acts reply opens) p in
     ap (λ a. pool_along a p) opens.are
-    ∙ (ap (λ vs. pool_along (bare opens.row.ids ++ (all_shown g (read_in opens.row.ids) opens.row.devs ++ (bare opens.row.pages ++ opens.rest)))
-    (pool_after vs p))
+    ∙ (ap (λ vs. pool_along (bare opens.row.ids ++ (all_shown g (read_in opens.row.ids) opens.row.devs ++ (bare opens.row.pages ++ opens.rest))) (pool_after vs p))
     (ap (λ t. cond t (Opens r ∷ []) []) (same_number p.pool.0 found.pool.0 number))
     ∙ (bare_more opens.row.ids (all_shown g (read_in opens.row.ids) opens.row.devs ++ (bare opens.row.pages ++ opens.rest)) (after (Opens r) p)
     ∙ (shown_more g (read_in opens.row.ids) opens.row.devs (bare opens.row.pages ++ opens.rest) (pool_after (as_events opens.row.ids) (after (Opens r) p))
@@ -200,11 +145,37 @@ opens_behind c h p name found acts reply opens number = let g = found.pool.0 in 
     ∙ ap (pool_along opens.rest) (sym (ap (λ vs. pool_after vs (after (Opens r) p)) (ap as_events opens.row.calls ∙ events_more opens.row.ids opens.row.pages)
     ∙ pool_more (as_events opens.row.ids) (as_events opens.row.pages) (after (Opens r) p)))))))
 
-opens_live : (c : Codec) (h : Host) (p before : Pool) (name : List ℕ) (found : Found) (acts : List Act) (reply : Reply) (n : ℕ) → Knows c h p
-    → Looked_live p before found → p.name ≡ name
+-- the pool that enters and makes its moves is the open one of its name
+does_head : (g : ℕ) (vs : List Move) (s : PoolState) (pools : List PoolState) (h : Host) → h.pools ≡ s ∷ pools → s.core.pool.0 ≡ g
+    → (others : List PoolState) × ((host_along (does g vs) h).pools ≡ steps vs s ∷ others)
+does_head g [] s pools h is number = (pools, is)
+does_head g (v ∷ vs) s pools h is number = does_head g vs (state_step v s) (map (moved g v) pools) (host_by (Does g v) h)
+    (ap (map (moved g v)) is ∙ ap (λ x. x ∷ map (moved g v) pools) (moved_own g v s number)) (ap (λ n. n.0) (step_number v s) ∙ number)
+
+steps_name : (vs : List Move) (s : PoolState) → (steps vs s).core.name ≡ s.core.name
+steps_name [] s = refl
+steps_name (v ∷ vs) s = steps_name vs (state_step v s) ∙ step_name v s
+
+enters_named : (name : List ℕ) (g : ℕ) (first acts : List Act) (s : PoolState) (vs : List Move) (h : Host) → acts ≡ first ++ (Enters s ∷ does g vs)
+    → s.core.pool.0 ≡ g → s.core.name ≡ name
+    → named name (host_along acts h).pools ≡ Some (steps vs s)
+enters_named name g first acts s vs h is number called =
+    let at = host_along first h in
+    let head = does_head g vs s at.pools (host_by (Enters s) at) refl number in
+    let same : bytes_eq (steps vs s).core.name name ≡ true = (bytes_eq-Decides (steps vs s).core.name name).1 (steps_name vs s ∙ called) in
+    ap (λ l. named name (host_along l h).pools) is ∙ (ap (λ x. named name x.pools) (host_more first (Enters s ∷ does g vs) h)
+    ∙ (ap (named name) head.1 ∙ ap (λ t. cond t (Some (steps vs s)) (named name head.0)) same))
+
+-- What an opening that answers a number leaves.
+record OpensAs (before behind : Pool) (after : Host) (name : List ℕ) (n : ℕ) : Type 0 where
+  live : OpensLive before behind n
+  state : PoolState
+  at : IsOpenAs behind after name state
+
+opens_live : (c : Codec) (h : Host) (p before : Pool) (name : List ℕ) (found : Found) (acts : List Act) (reply : Reply) (n : ℕ) → Knows c h p → Looked_live p before found → p.name ≡ name
     → AreMade h (calls_along acts) → AreFair c p acts → OpensFound c h name found acts reply → reply ≡ To_import (Opened n)
-    → OpensLive before (pool_along acts p) n
-opens_live c h p before name found acts reply n knows live named made fair opens says = follow opens.outcome refl opens.follows
+    → OpensAs before (pool_along acts p) (host_along acts h) name n
+opens_live c h p before name found acts reply n knows live titled made fair opens says = follow opens.outcome refl opens.follows
   where
     opening : Opening
     opening = opening_of c h name found acts reply opens
@@ -227,6 +198,17 @@ opens_live c h p before name found acts reply n knows live named made fair opens
     behind : pool_along acts p ≡ pool_along opens.rest q
     behind = opens_behind c h p name found acts reply opens number
 
+    -- the acts before it enters
+    shown : List Act
+    shown = all_shown g (read_in opens.row.ids) opens.row.devs
+
+    early : List Act
+    early = Reads_as opening ∷ (bare opens.row.ids ++ (shown ++ bare opens.row.pages))
+
+    acts_are : acts ≡ early ++ opens.rest
+    acts_are = opens.are ∙ ap (λ l. Reads_as opening ∷ l) (ap (λ l. bare opens.row.ids ++ l) (sym (append_assoc shown (bare opens.row.pages) opens.rest))
+        ∙ sym (append_assoc (bare opens.row.ids) (shown ++ bare opens.row.pages) opens.rest))
+
     q_written : q.written ≡ block_at r
     q_written = ap (λ x. x.written) (calls_after opens.made (after (Opens r) p))
 
@@ -239,29 +221,36 @@ opens_live c h p before name found acts reply n knows live named made fair opens
     q_sized : (d : ℕ) → 1 ≤ size_in h.table d → q.size d ≡ size_in h.table d
     q_sized d one = ap (λ x. x.size d) (calls_after opens.made (after (Opens r) p)) ∙ knows.sizes d one
 
-    committed : (s : PoolState) (vs : List Move) (m : ℕ) → opens.outcome ≡ Opens_state s → RowResume c (size_in h.table) s vs (Committed m)
-        → opens.rest ≡ Enters s ∷ does g vs
-        → reply ≡ To_import (Opened m) → OpensLive before (pool_along acts p) n
+    committed : (s : PoolState) (vs : List Move) (m : ℕ) → opens.outcome ≡ Opens_state s → RowResume c (size_in h.table) s vs (Committed m) → opens.rest ≡ Enters s ∷ does g vs
+        → reply ≡ To_import (Opened m) → OpensAs before (pool_along acts p) (host_along acts h) name n
     committed s vs m out row rest answers =
         let has = facts.seats s out in
         let t : Side = record { pool = q; seats = has.0 } in
-        let kept : Kept c (steps vs s) (after_moves vs t) = walk_keeps c vs s t
-        (resume_walks c (size_in h.table) s t vs (Committed m) has.1 q_sized row) has.1 in
+        let kept : Kept c (steps vs s) (after_moves vs t) = walk_keeps c vs s t (resume_walks c (size_in h.table) s t vs (Committed m) has.1 q_sized row) has.1 in
         let end = resumed_by (lacking_of s.core.leaves s.core.leaves) c (size_in h.table) s t vs m kept row in
         let same : m ≡ n = opened_number m n (sym answers ∙ says) in
         let pool_is : pool_along acts p ≡ (after_moves vs t).pool = behind ∙ (ap (λ a. pool_along a q) rest ∙ does_pool g vs t q_number) in
-        let s_number : s.core.number ≡ number_of r = ap (λ core. core.number) has.1.core ∙ q_highest in record {
-          r = r;
-          live = subst (IsIn r) live.same facts.is.is_live;
-          not_below = subst (λ k. number_of before.acked ≤ k) (sym (ap (λ x. x.0) live.is.number_is) ∙ ap (λ x. x.0) facts.is.number_is) live.not_below;
-          above = subst (λ k. number_of r < k) same (subst (λ k. k < m) s_number end.up);
-          acked = ap (λ x. number_of x.acked) pool_is ∙ (end.acked ∙ same);
-          blocks = λ a. ap (λ x. block_at x.acked a) pool_is ∙ (end.blocks a ∙ ap (λ w. w a) q_written);
-          written = ap (λ x. x.written) pool_is ∙ (end.written ∙ q_written);
+        let s_number : s.core.number ≡ number_of r = ap (λ core. core.number) has.1.core ∙ q_highest in
+        let mine : s.core.pool.0 ≡ g = ap (λ core. core.pool.0) has.1.core ∙ q_number in
+        let called : s.core.name ≡ name = ap (λ core. core.name) has.1.core ∙ (ap (λ x. x.name) (calls_after opens.made (after (Opens r) p)) ∙ titled) in record {
+          live = record {
+            r = r;
+            live = subst (IsIn r) live.same facts.is.is_live;
+            not_below = subst (λ k. number_of before.acked ≤ k) (sym (ap (λ x. x.0) live.is.number_is) ∙ ap (λ x. x.0) facts.is.number_is) live.not_below;
+            above = subst (λ k. number_of r < k) same (subst (λ k. k < m) s_number end.up);
+            acked = ap (λ x. number_of x.acked) pool_is ∙ (end.acked ∙ same);
+            blocks = λ a. ap (λ x. block_at x.acked a) pool_is ∙ (end.blocks a ∙ ap (λ w. w a) q_written);
+            written = λ a. ap (λ x. x.written a) pool_is ∙ (ap (λ w. w a) end.written ∙ ap (λ w. w a) q_written);
+          };
+          state = steps vs s;
+          at = record {
+            named = enters_named name g early acts s vs h (acts_are ∙ ap (λ l. early ++ l) rest) mine called;
+            ours = ap (λ core. core.pool.0) kept.core ∙ sym (ap (λ x. x.pool.0) pool_is);
+          };
         }
 
     by_turn : (turn : TurnReply) (s : PoolState) (vs : List Move) → opens.outcome ≡ Opens_state s → RowResume c (size_in h.table) s vs turn
-        → OpensBy turn g s vs opens.rest reply → OpensLive before (pool_along acts p) n
+        → OpensBy turn g s vs opens.rest reply → OpensAs before (pool_along acts p) (host_along acts h) name n
     by_turn (Committed m) s vs out row by = committed s vs m out row by.0 by.1
     by_turn (Suspended group top faults) s vs out row by = absurd (let no = sym by.1 ∙ says in cc)
     by_turn Idle s vs out row by = absurd by
@@ -270,18 +259,15 @@ opens_live c h p before name found acts reply n knows live named made fair opens
     by_turn (Round m) s vs out row by = absurd by
 
     follow : (outcome : OpenReply) → opens.outcome ≡ outcome → FollowsMap outcome c (size_in h.table) g opens.rest reply
-        → OpensLive before (pool_along acts p) n
+        → OpensAs before (pool_along acts p) (host_along acts h) name n
     follow (Opens_state s) out row = by_turn row.1 s row.0 out row.2 row.3
     follow (NoPage page shown) out row = absurd (let no = sym row.1 ∙ says in cc)
 
 -- A page that was lost.
-page_same : (a b : Key) (x y : List LeafShown) → To_import (PageLost a x) ≡ To_import (PageLost b y) → a ≡ b
-page_same a b x y e = cc
 
 failed_more : (first second : List Noted) (d : ℕ) → failed_on second d ≡ true → failed_on (first ++ second) d ≡ true
 failed_more [] second d is = is
-failed_more (noted ∷ first) second d is = or_right ((device_of noted.call == d) && not (is_none (fault_of noted.call))) (failed_on (first ++ second) d)
-    (failed_more first second d is)
+failed_more (noted ∷ first) second d is = or_right ((device_of noted.call == d) && not (is_none (fault_of noted.call))) (failed_on (first ++ second) d) (failed_more first second d is)
   where
     or_right : (a b : Bool) → b ≡ true → (a || b) ≡ true
     or_right true b is = refl
@@ -289,8 +275,7 @@ failed_more (noted ∷ first) second d is = or_right ((device_of noted.call == d
 
 failed_first : (first second : List Noted) (d : ℕ) → failed_on first d ≡ true → failed_on (first ++ second) d ≡ true
 failed_first [] second d is = absurd (cc)
-failed_first (noted ∷ first) second d is = either ((device_of noted.call == d) && not (is_none (fault_of noted.call))) (failed_on first d)
-    (failed_on (first ++ second) d) (failed_first first second d) is
+failed_first (noted ∷ first) second d is = either ((device_of noted.call == d) && not (is_none (fault_of noted.call))) (failed_on first d) (failed_on (first ++ second) d) (failed_first first second d) is
   where
     either : (a b e : Bool) → (b ≡ true → e ≡ true) → (a || b) ≡ true → (a || e) ≡ true
     either true b e up is = refl
@@ -302,7 +287,7 @@ fewer_fail false true true up is = absurd (let no : false ≡ true = up refl in 
 fewer_fail false false true up is = refl
 fewer_fail a b false up is = absurd (cc)
 
-more_good : (p : Pool) (r : Rec) (few many : ℕ → Bool) → ((d : ℕ) → few d ≡ true → many d ≡ true) → HasGoodPages p r few → HasGoodPages p r many
+more_good : (p : Pool) (r : Rec) (few many : ℕ → Bool) → ((d : ℕ) → few d ≡ true → many d ≡ true) → HasGoodPages p r (λ k. few) → HasGoodPages p r (λ k. many)
 more_good p r few many up good = λ level index cell low high is. let leaf = good level index cell low high is in record {
   d = leaf.d;
   is_member = leaf.is_member;
@@ -316,10 +301,8 @@ pub opening_bare : (made : List Noted) (more : List Act) → opening_in (bare ma
 opening_bare [] more = refl
 opening_bare (noted ∷ made) more = opening_bare made more
 
-opens_loses : (c : Codec) (h : Host) (p before : Pool) (name : List ℕ) (found : Found) (acts : List Act) (reply : Reply) (page : Key)
-    (shown : List LeafShown) → Knows c h p → Looked_live p before found
-    → AreMade h (calls_along acts) → AreFair c p acts → OpensFound c h name found acts reply → reply ≡ To_import (PageLost page shown)
-    → LosesPage c before (pool_along acts p) acts
+opens_loses : (c : Codec) (h : Host) (p before : Pool) (name : List ℕ) (found : Found) (acts : List Act) (reply : Reply) (page : Key) (shown : List LeafShown) → Knows c h p → Looked_live p before found
+    → AreMade h (calls_along acts) → AreFair c p acts → OpensFound c h name found acts reply → reply ≡ To_import (PageLost page shown) → LosesPage c before (pool_along acts p) acts
 opens_loses c h p before name found acts reply page shown knows live made fair opens says = follow opens.outcome refl opens.follows
   where
     opening : Opening
@@ -346,8 +329,7 @@ opens_loses c h p before name found acts reply page shown knows live made fair o
     -- each call of the pages is one of the line
     among : (d : ℕ) → failed_on opens.row.pages d ≡ true → failed_on (calls_along acts) d ≡ true
     among d is = subst (λ made. failed_on made d ≡ true) (sym (opening_calls c h name found acts reply opens))
-        (failed_first opens.made (calls_along opens.rest) d
-        (subst (λ made. failed_on made d ≡ true) (sym opens.row.calls) (failed_more opens.row.ids opens.row.pages d is)))
+        (failed_first opens.made (calls_along opens.rest) d (subst (λ made. failed_on made d ≡ true) (sym opens.row.calls) (failed_more opens.row.ids opens.row.pages d is)))
 
     lost : (k : Key) (ks : List LeafShown) → opens.outcome ≡ NoPage k ks → opens.rest ≡ [] → LosesPage c before (pool_along acts p) acts
     lost k ks out none = record {
@@ -358,11 +340,10 @@ opens_loses c h p before name found acts reply page shown knows live made fair o
       is = facts.is.config_is;
       none = λ good. facts.pages k ks out (more_good q r (answers_in leaves (calls_along acts)) (answers_in leaves opens.row.pages)
           (λ d is. fewer_fail (failed_on (calls_along acts) d) (failed_on opens.row.pages d) (up_devs leaves d) (among d) is)
-          (subst (λ x. HasGoodPages x r (answers_in leaves (calls_along acts))) (behind ∙ ap (λ a. pool_along a q) none) good));
+          (subst (λ x. HasGoodPages x r (λ k. answers_in leaves (calls_along acts))) (behind ∙ ap (λ a. pool_along a q) none) good));
     }
 
-    by_turn : (turn : TurnReply) (s : PoolState) (vs : List Move) → OpensBy turn found.pool.0 s vs opens.rest reply
-        → LosesPage c before (pool_along acts p) acts
+    by_turn : (turn : TurnReply) (s : PoolState) (vs : List Move) → OpensBy turn found.pool.0 s vs opens.rest reply → LosesPage c before (pool_along acts p) acts
     by_turn (Committed m) s vs by = absurd (let no = sym by.1 ∙ says in cc)
     by_turn (Suspended group top faults) s vs by = absurd (let no = sym by.1 ∙ says in cc)
     by_turn Idle s vs by = absurd by
@@ -370,26 +351,26 @@ opens_loses c h p before name found acts reply page shown knows live made fair o
     by_turn Flush s vs by = absurd by
     by_turn (Round m) s vs by = absurd by
 
-    follow : (outcome : OpenReply) → opens.outcome ≡ outcome → FollowsMap outcome c (size_in h.table) found.pool.0 opens.rest reply
-        → LosesPage c before (pool_along acts p) acts
+    follow : (outcome : OpenReply) → opens.outcome ≡ outcome → FollowsMap outcome c (size_in h.table) found.pool.0 opens.rest reply → LosesPage c before (pool_along acts p) acts
     follow (Opens_state s) out row = by_turn row.1 s row.0 row.3
     follow (NoPage k ks) out row = lost k ks out row.0
 
 -- By what the looks found.
-not_opened : (c : Codec) (before behind : Pool) (acts : List Act) (reply : Reply) (other : ImportReply) → reply ≡ To_import other
-    → (other ≡ NothingFound → ⊥) → ((n : ℕ) → other ≡ Opened n → ⊥)
-    → ((page : Key) (shown : List LeafShown) → other ≡ PageLost page shown → ⊥) → FindsPool c before behind acts reply
-not_opened c before behind acts reply other is some none loses = record {
+not_opened : (c : Codec) (before behind : Pool) (after : Host) (acts : List Act) (reply : Reply) (other : ImportReply) → reply ≡ To_import other
+    → (other ≡ NothingFound → ⊥)
+    → ((n : ℕ) → other ≡ Opened n → ⊥)
+    → ((page : Key) (shown : List LeafShown) → other ≡ PageLost page shown → ⊥) → FindsPool c before behind after acts reply
+not_opened c before behind after acts reply other is some none loses = record {
   some = λ says. some (same other NothingFound (sym is ∙ says));
   opened = λ n says. absurd (none n (same other (Opened n) (sym is ∙ says)));
+  is_open = λ n says. absurd (none n (same other (Opened n) (sym is ∙ says)));
   loses = λ page shown says. absurd (loses page shown (same other (PageLost page shown) (sym is ∙ says)));
 }
   where
     same : (a b : ImportReply) → To_import a ≡ To_import b → a ≡ b
     same a b e = cc
 
-opens_some : (c : Codec) (h : Host) (name : List ℕ) (found : Found) (acts : List Act) (reply : Reply) → OpensFound c h name found acts reply
-    → reply ≡ To_import NothingFound → ⊥
+opens_some : (c : Codec) (h : Host) (name : List ℕ) (found : Found) (acts : List Act) (reply : Reply) → OpensFound c h name found acts reply → reply ≡ To_import NothingFound → ⊥
 opens_some c h name found acts reply opens says = follow opens.outcome opens.follows
   where
     by_turn : (turn : TurnReply) (s : PoolState) (vs : List Move) → OpensBy turn found.pool.0 s vs opens.rest reply → ⊥
@@ -408,53 +389,54 @@ never_none : (ended : Bool) (found : Found) → NoRecord ≡ taken_by ended foun
 never_none true found e = cc
 never_none false found e = cc
 
-found_finds : (seek : SeekReply) (c : Codec) (h : Host) (before p : Pool) (name : List ℕ) (acts : List Act) (reply : Reply) → Knows c h p → p.name ≡ name
-    → AreMade h (calls_along acts) → AreFair c p acts
-    → (seek ≡ NoRecord → ⊥) → ((found : Found) → seek ≡ TakesRecord found → Looked_live p before found) → ImportBy seek c h name acts reply
-    → FindsPool c before (pool_along acts p) acts reply
-found_finds NoRecord c h before p name acts reply knows named made fair some live row = absurd (some refl)
-found_finds (NumbersEnd limit count) c h before p name acts reply knows named made fair some live row = not_opened c before (pool_along acts p) acts reply
-    (LastNumber limit count) row.1 (λ e. cc) (λ n e. cc) (λ page shown e. cc)
-found_finds (TakesRecord found) c h before p name acts reply knows named made fair some live row = record {
+found_finds : (seek : SeekReply) (c : Codec) (h : Host) (before p : Pool) (name : List ℕ) (acts : List Act) (reply : Reply) → Knows c h p
+    → p.name ≡ name → before.name ≡ name → AreMade h (calls_along acts)
+    → AreFair c p acts → (seek ≡ NoRecord → ⊥) → ((found : Found) → seek ≡ TakesRecord found → Looked_live p before found) → ImportBy seek c h name acts reply
+    → FindsPool c before (pool_along acts p) (host_along acts h) acts reply
+found_finds NoRecord c h before p name acts reply knows titled called made fair some live row = absurd (some refl)
+found_finds (NumbersEnd limit count) c h before p name acts reply knows titled called made fair some live row =
+    not_opened c before (pool_along acts p) (host_along acts h) acts reply (LastNumber limit count) row.1 (λ e. cc) (λ n e. cc) (λ page shown e. cc)
+found_finds (TakesRecord found) c h before p name acts reply knows titled called made fair some live row = record {
   some = opens_some c h name found acts reply row;
-  opened = λ n says. opens_live c h p before name found acts reply n knows (live found refl) named made fair row says;
+  opened = λ n says. (opens_live c h p before name found acts reply n knows (live found refl) titled made fair row says).live;
+  is_open = λ n says. let opens = opens_live c h p before name found acts reply n knows (live found refl) titled made fair row says in
+      (opens.state, subst (λ name. IsOpenAs (pool_along acts p) (host_along acts h) name opens.state) (sym called) opens.at);
   loses = λ page shown says. opens_loses c h p before name found acts reply page shown knows (live found refl) made fair row says;
 }
 
-pub import_finds : (c : Codec) (h : Host) (p : Pool) (name : List ℕ) (acts : List Act) (reply : Reply) → Knows c h p → p.name ≡ name
-    → AreMade h (calls_along acts) → AreFair c p acts → RowImport c h name acts reply
-    → FindsPool c p (pool_along acts p) acts reply
+pub import_finds : (c : Codec) (h : Host) (p : Pool) (name : List ℕ) (acts : List Act) (reply : Reply) → Knows c h p → p.name ≡ name → AreMade h (calls_along acts) → AreFair c p acts → RowImport c h name acts reply
+    → FindsPool c p (pool_along acts p) (host_along acts h) acts reply
 import_finds c h p name acts reply knows titled made fair row = unless (named_in h.pools) row
   where
     named_in : List PoolState → Option PoolState
     named_in pools = named name pools
 
     -- what the rest of the line finds, the line does
-    line_finds : (made : List Noted) (known : Known) (rest : List Act) (p1 : Pool) → acts ≡ bare made ++ (Looked name known ∷ rest)
-        → pool_along acts p ≡ pool_along rest p1
-        → FindsPool c p (pool_along rest p1) rest reply → FindsPool c p (pool_along acts p) acts reply
+    line_finds : (made : List Noted) (known : Known) (rest : List Act) (p1 : Pool) → acts ≡ bare made ++ (Looked name known ∷ rest) → pool_along acts p ≡ pool_along rest p1
+        → FindsPool c p (pool_along rest p1) (host_along rest (host_behind made h)) rest reply → FindsPool c p (pool_along acts p) (host_along acts h) acts reply
     line_finds made known rest p1 are same finds = record {
       some = finds.some;
       opened = λ n says. subst (λ x. OpensLive p x n) (sym same) (finds.opened n says);
+      is_open = λ n says. let opens = finds.is_open n says in (
+        opens.0,
+        subst (λ x. IsOpenAs x (host_along acts h) p.name opens.0) (sym same)
+            (subst (λ y. IsOpenAs (pool_along rest p1) y p.name opens.0) (sym (ap (λ a. host_along a h) are ∙ bare_host made (Looked name known ∷ rest) h)) opens.1),
+      );
       loses = λ page shown says. let lost = finds.loses page shown says in record {
         opening = lost.opening;
         reads = ap opening_in are ∙ (opening_bare made (Looked name known ∷ rest) ∙ lost.reads);
         r = lost.r;
         live = lost.live;
         is = lost.is;
-        none = λ good. lost.none
-            (more_good (pool_along rest p1) lost.r (answers_in (opened_leaves (c.leaves lost.opening.found.blob.items) lost.opening.devs) (calls_along acts))
+        none = λ good. lost.none (more_good (pool_along rest p1) lost.r (answers_in (opened_leaves (c.leaves lost.opening.found.blob.items) lost.opening.devs) (calls_along acts))
             (answers_in (opened_leaves (c.leaves lost.opening.found.blob.items) lost.opening.devs) (calls_along rest))
-            (λ d is. fewer_fail (failed_on (calls_along acts) d) (failed_on (calls_along rest) d)
-            (up_devs (opened_leaves (c.leaves lost.opening.found.blob.items) lost.opening.devs) d)
-            (λ failed. subst (λ calls. failed_on calls d ≡ true) (sym (ap calls_along are ∙ bare_calls made (Looked name known ∷ rest)))
-            (failed_more made (calls_along rest) d failed)) is)
-            (subst (λ x. HasGoodPages x lost.r
-            (answers_in (opened_leaves (c.leaves lost.opening.found.blob.items) lost.opening.devs) (calls_along acts))) same good));
+            (λ d is. fewer_fail (failed_on (calls_along acts) d) (failed_on (calls_along rest) d) (up_devs (opened_leaves (c.leaves lost.opening.found.blob.items) lost.opening.devs) d)
+            (λ failed. subst (λ calls. failed_on calls d ≡ true) (sym (ap calls_along are ∙ bare_calls made (Looked name known ∷ rest))) (failed_more made (calls_along rest) d failed)) is)
+            (subst (λ x. HasGoodPages x lost.r (λ k. answers_in (opened_leaves (c.leaves lost.opening.found.blob.items) lost.opening.devs) (calls_along acts))) same good));
       };
     }
 
-    imports : Imports c h name acts reply → FindsPool c p (pool_along acts p) acts reply
+    imports : Imports c h name acts reply → FindsPool c p (pool_along acts p) (host_along acts h) acts reply
     imports row =
         let known = known_by (size_in h.table) (handed h.table) row.row.looks in
         let p1 = pool_after (as_events row.made) p in
@@ -466,7 +448,7 @@ import_finds c h p name acts reply knows titled made fair row = unless (named_in
         let pool_is : pool_along acts p ≡ pool_along row.rest p1 = ap (λ a. pool_along a p) row.are ∙ (bare_more row.made (Looked name known ∷ row.rest) p
         ∙ ap (pool_along row.rest) (looks_along (bytes_eq p1.name name) known p1)) in
         line_finds row.made known row.rest p1 row.are pool_is
-        (found_finds row.seek c (host_behind row.made h) p p1 name row.rest reply facts.knows named1 facts.made rest_fair
+        (found_finds row.seek c (host_behind row.made h) p p1 name row.rest reply facts.knows named1 titled facts.made rest_fair
         (λ none. never_none (nat_le last_numbers seeks.found.number.0) seeks.found (sym none ∙ seeks.says))
         (λ found is. let taken = taken_live c p row.made known row.seek found seeks is in record {
           one = taken.0;
@@ -475,10 +457,10 @@ import_finds c h p name acts reply knows titled made fair row = unless (named_in
           same = ap (λ x. x.live) (calls_after row.made p);
         }) row.follows)
 
-    full_by : (full : Bool) → ImportFor full c h name acts reply → FindsPool c p (pool_along acts p) acts reply
-    full_by true row = not_opened c p (pool_along acts p) acts reply (TooManyPools 16 (length h.pools + 1)) row.1 (λ e. cc) (λ n e. cc) (λ page shown e. cc)
+    full_by : (full : Bool) → ImportFor full c h name acts reply → FindsPool c p (pool_along acts p) (host_along acts h) acts reply
+    full_by true row = not_opened c p (pool_along acts p) (host_along acts h) acts reply (TooManyPools 16 (length h.pools + 1)) row.1 (λ e. cc) (λ n e. cc) (λ page shown e. cc)
     full_by false row = imports row
 
-    unless : (found : Option PoolState) → ImportUnless found c h name acts reply → FindsPool c p (pool_along acts p) acts reply
-    unless (Some s) row = not_opened c p (pool_along acts p) acts reply NameOpen row.1 (λ e. cc) (λ n e. cc) (λ page shown e. cc)
+    unless : (found : Option PoolState) → ImportUnless found c h name acts reply → FindsPool c p (pool_along acts p) (host_along acts h) acts reply
+    unless (Some s) row = not_opened c p (pool_along acts p) (host_along acts h) acts reply NameOpen row.1 (λ e. cc) (λ n e. cc) (λ page shown e. cc)
     unless None row = full_by (nat_le 16 (length h.pools)) row

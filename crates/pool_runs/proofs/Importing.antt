@@ -1,37 +1,5 @@
 -- An import may be made.
-use Rattle.std.proofs.Common.{
-  ◌≡◌,
-  ◌≢◌,
-  ◌⊎◌,
-  inl,
-  inr,
-  ⊎_elim,
-  ℕ,
-  ◌≤◌,
-  ◌==◌,
-  ◌&&◌,
-  nat_le,
-  Bool,
-  true,
-  false,
-  not,
-  cond,
-  List,
-  [],
-  ◌∷◌,
-  ◌++◌,
-  length,
-  Option,
-  Some,
-  None,
-  refl,
-  sym,
-  ap,
-  ◌∙◌,
-  subst,
-  append_assoc,
-  arith,
-}
+use Rattle.std.proofs.Common.{◌≡◌, ◌≢◌, ◌⊎◌, inl, inr, ⊎_elim, ℕ, ◌≤◌, ◌==◌, ◌&&◌, nat_le, Bool, true, false, not, cond, List, [], ◌∷◌, ◌++◌, length, Option, Some, None, refl, sym, ap, ◌∙◌, subst, append_assoc, arith}
 use Rattle.std.specs.List.{AllByRecursion, filter}
 use Rattle.std.specs.Str.{bytes_eq}
 use Rattle.std.proofs.lemmas.Bool.{and_parts}
@@ -62,22 +30,7 @@ use Rattle.pool_moves.specs.Keeping.{Kept, Walks}
 use Rattle.pool_moves.specs.LineRows.{TurnReply, Idle, Write, Flush, Round, Committed, Suspended}
 use Rattle.pool_moves.specs.Moves.{Move, steps, after_moves}
 use Rattle.pool_moves.specs.Opened.{opened_leaves, opened_seats, claims_of}
-use Rattle.pool_moves.specs.OpeningRow.{
-  IsLiveOne,
-  SeeksLive,
-  SeekReply,
-  NoRecord,
-  NumbersEnd,
-  TakesRecord,
-  taken_by,
-  last_numbers,
-  RowSeek,
-  OpenReply,
-  Opens_state,
-  NoPage,
-  RowOpen,
-  RowResume,
-}
+use Rattle.pool_moves.specs.OpeningRow.{IsLiveOne, SeeksLive, SeekReply, NoRecord, NumbersEnd, TakesRecord, taken_by, last_numbers, RowSeek, OpenReply, Opens_state, NoPage, RowOpen, RowResume}
 use Rattle.pool_moves.specs.PageReads.{LeafShown, answers_in}
 use Rattle.pool_moves.specs.States.{PoolState, Side}
 use Rattle.pool_moves.specs.Walking.{as_moves}
@@ -86,28 +39,14 @@ use Rattle.pool_moves.proofs.Keeping.{walk_keeps}
 use Rattle.pool_moves.proofs.OpeningWalks.{opening_opens, opening_may, opening_finds}
 use Rattle.pool_moves.proofs.ResilverWalks.{resume_walks}
 use Rattle.pool_moves.proofs.Seeking.{reads_may, seeks_live, row_no_twin}
-use Rattle.pool_runs.specs.Acts.{
-  Act,
-  Opening,
-  Looked,
-  Reads_as,
-  Closes,
-  does,
-  bare,
-  calls_along,
-  is_record_of,
-  record_of,
-  read_by,
-  events_for,
-  pool_by,
-  pool_along,
-}
-use Rattle.pool_runs.specs.Devices.{number_in, size_in, handed}
+use Rattle.pool_runs.specs.Acts.{Act, Opening, Looked, Reads_as, Closes, does, bare, calls_along, is_record_of, record_of, read_by, events_for, pool_by, pool_along}
+use Rattle.pool_runs.specs.Devices.{size_in, handed}
 use Rattle.pool_runs.specs.Fairness.{IsFairOpening, AreFair}
 use Rattle.pool_runs.specs.HostRows.{AreMade}
-use Rattle.pool_runs.specs.Hosts.{Host, IsOpen, named, is_of, host_by, host_along}
+use Rattle.pool_runs.specs.Hosts.{Host, free_in, IsOpen, named, is_of, host_by, host_along}
 use Rattle.pool_runs.specs.Importing.{read_in, all_shown, OpensBy, FollowsMap, OpensFound, ImportBy, host_behind, Imports, ImportFor, ImportUnless, RowImport}
-use Rattle.pool_runs.specs.Knowing.{HasSeats, Knows, MayActs, IsTrueLook, AreOwnActs}
+use Rattle.pool_runs.specs.Knowing.{HasSeats, IsTrueLook, AreOwnActs}
+use Rattle.pool_runs.proofs.Known.{Knows, MayActs}
 use Rattle.pool_runs.specs.Lines.{Reply}
 use Rattle.pool_runs.proofs.Acting.{same_number, number_of_test, calls_number}
 use Rattle.pool_runs.proofs.Answering.{all_answer}
@@ -132,15 +71,10 @@ own_first g h (act ∷ first) second own = (own.0, own_first g (host_by act h) f
 
 -- Bare calls, and then more.
 bare_then : (c : Codec) (made : List Noted) (more : List Act) (h : Host) (p : Pool) → Mays c p (as_events made) → Knows c h p
-    → (AreFair c p (bare made) → Knows c (host_behind made h) (pool_after (as_events made) p)
-    → MayActs c (host_behind made h) (pool_after (as_events made) p) more) → MayActs c h p (bare made ++ more)
+    → (AreFair c p (bare made) → Knows c (host_behind made h) (pool_after (as_events made) p) → MayActs c (host_behind made h) (pool_after (as_events made) p) more) → MayActs c h p (bare made ++ more)
 bare_then c [] more h p may knows then = then tt knows
-bare_then c (noted ∷ made) more h p may knows then = λ fair. let behind = call_known c h p noted (may.0, tt) knows in (
-  (may.0, tt),
-  behind,
-  bare_then c made more (record h { disk = run (noted ∷ []) h.disk }) (after (Calls noted) p) may.1 behind
-      (λ rest known. then (fair, rest) known),
-)
+bare_then c (noted ∷ made) more h p may knows then = λ fair. let behind = call_known c h p noted (may.0, tt) knows in
+    ((may.0, tt), behind, bare_then c made more (record h { disk = run (noted ∷ []) h.disk }) (after (Calls noted) p) may.1 behind (λ rest known. then (fair, rest) known))
 
 bare_along : (made : List Noted) (more : List Act) (h : Host) → host_along (bare made ++ more) h ≡ host_along more (host_behind made h)
 bare_along [] more h = refl
@@ -177,8 +111,7 @@ own_shown c h p g d number knows = record {
     some_same a b e = cc
 
 shown_then : (c : Codec) (g : ℕ) (known : Known) (devs : List (Option ℕ)) (more : List Act) (h : Host) (p : Pool) → p.pool.0 ≡ g → Knows c h p
-    → (Knows c (host_along (all_shown g known devs) h) p → MayActs c (host_along (all_shown g known devs) h) p more)
-    → MayActs c h p (all_shown g known devs ++ more)
+    → (Knows c (host_along (all_shown g known devs) h) p → MayActs c (host_along (all_shown g known devs) h) p more) → MayActs c h p (all_shown g known devs ++ more)
 shown_then c g known [] more h p number knows then = then knows
 shown_then c g known (None ∷ devs) more h p number knows then = shown_then c g known devs more h p number knows then
 shown_then c g known (Some d ∷ devs) more h p number knows then = λ fair. let behind = own_shown c h p g d number knows in
@@ -204,8 +137,7 @@ calls_side [] t = refl
 calls_side (noted ∷ made) t = calls_side made (record { pool = after (Calls noted) t.pool; seats = t.seats })
 
 -- The record that is read.
-record_found : (found : Found) (live : List Rec) (other r : Rec) → IsIn r live → is_record_of found r ≡ true
-    → IsIn (record_of found live other) live × (is_record_of found (record_of found live other) ≡ true)
+record_found : (found : Found) (live : List Rec) (other r : Rec) → IsIn r live → is_record_of found r ≡ true → IsIn (record_of found live other) live × (is_record_of found (record_of found live other) ≡ true)
 record_found found [] other r is same = absurd is
 record_found found (q ∷ live) other r is same = by_bool (is_record_of found q)
     (λ here. let e : record_of found (q ∷ live) other ≡ q = ap (λ t. cond t q (record_of found live other)) here in
@@ -224,10 +156,8 @@ record_live p found r is =
     let number : (found.number.0 == number_of r) ≡ true = same_number found.number.0 (number_of r) (ap (λ n. n.0) is.number_is) in
     let same : is_record_of found r ≡ true = ap (λ t. t && (found.number.0 == number_of r)) config ∙ number in
     let has = record_found found p.live p.reads r is.is_live same in
-    let parts = and_parts (bytes_eq found.blob.items (config_of (record_of found p.live p.reads).commit))
-    (found.number.0 == number_of (record_of found p.live p.reads)) has.1 in
-    let number_is : found.number.0 ≡ number_of (record_of found p.live p.reads) = number_of_test found.number.0
-    (number_of (record_of found p.live p.reads)) parts.1 in record {
+    let parts = and_parts (bytes_eq found.blob.items (config_of (record_of found p.live p.reads).commit)) (found.number.0 == number_of (record_of found p.live p.reads)) has.1 in
+    let number_is : found.number.0 ≡ number_of (record_of found p.live p.reads) = number_of_test found.number.0 (number_of (record_of found p.live p.reads)) parts.1 in record {
       is_live = has.0;
       config_is = (bytes_eq-Decides found.blob.items (config_of (record_of found p.live p.reads).commit)).0 parts.0;
       number_is = let at : ℕ → Group = λ n. record { 0 = n } in ap at number_is;
@@ -246,12 +176,10 @@ none_named name s (u ∷ pools) none is same = by_bool (bytes_eq u.core.name nam
     later off (inl e) = true_not_false (bytes_eq u.core.name name) ((bytes_eq-Decides u.core.name name).1 (sym (ap (λ x. x.core.name) e) ∙ same)) off
     later off (inr more) = more
 
-none_open : (c : Codec) (h : Host) (p : Pool) (name : List ℕ) → Knows c h p → p.name ≡ name → named name h.pools ≡ None → (s : PoolState) → IsOpen s h.pools
-    → s.core.pool.0 ≡ p.pool.0 → ⊥
+none_open : (c : Codec) (h : Host) (p : Pool) (name : List ℕ) → Knows c h p → p.name ≡ name → named name h.pools ≡ None → (s : PoolState) → IsOpen s h.pools → s.core.pool.0 ≡ p.pool.0 → ⊥
 none_open c h p name knows same none s is number = none_named name s h.pools none is (ap (λ core. core.name) (knows.stands s is number).1.core ∙ same)
 
-opens_known : (c : Codec) (h : Host) (p : Pool) (r : Rec) → Knows c h p → IsIn r p.live → ((s : PoolState) → IsOpen s h.pools → s.core.pool.0 ≡ p.pool.0 → ⊥)
-    → Knows c h (after (Opens r) p)
+opens_known : (c : Codec) (h : Host) (p : Pool) (r : Rec) → Knows c h p → IsIn r p.live → ((s : PoolState) → IsOpen s h.pools → s.core.pool.0 ≡ p.pool.0 → ⊥) → Knows c h (after (Opens r) p)
 opens_known c h p r knows live none = record {
   survives = event_survives c p (Opens r) knows.survives live;
   roster = roster_by_events (Opens r ∷ []) p knows.roster;
@@ -263,8 +191,7 @@ opens_known c h p r knows live none = record {
 }
 
 -- a state that is what a pool's history says comes to be open
-enters_known : (c : Codec) (h : Host) (p : Pool) (s : PoolState) → Knows c h p → HasSeats c s p → s.core.pool.0 ≡ p.pool.0
-    → ((s : PoolState) → IsOpen s h.pools → s.core.pool.0 ≡ p.pool.0 → ⊥)
+enters_known : (c : Codec) (h : Host) (p : Pool) (s : PoolState) → Knows c h p → HasSeats c s p → s.core.pool.0 ≡ p.pool.0 → ((s : PoolState) → IsOpen s h.pools → s.core.pool.0 ≡ p.pool.0 → ⊥)
     → Knows c (record h { pools = s ∷ h.pools }) p
 enters_known c h p s knows has mine none = record {
   survives = knows.survives;
@@ -281,14 +208,11 @@ enters_known c h p s knows has mine none = record {
     only x (inr more) number = absurd (none x more number)
 
 closes_may : (c : Codec) (h : Host) (p : Pool) (g : ℕ) → Knows c h p → MayActs c h p (Closes g ∷ [])
-closes_may c h p g knows = λ fair.
-    (tt, pools_known c h p (filter (λ s. not (is_of g s)) h.pools) (λ s is number. open_kept (λ s. not (is_of g s)) s h.pools is) knows, tt)
+closes_may c h p g knows = λ fair. (tt, pools_known c h p (filter (λ s. not (is_of g s)) h.pools) (λ s is number. open_kept (λ s. not (is_of g s)) s h.pools is) knows, tt)
 
 -- The commit.
-commit_may : (turn : TurnReply) (c : Codec) (h : Host) (t : Side) (s : PoolState) (g : ℕ) (vs : List Move) (acts : List Act) (reply : Reply)
-    → Knows c h t.pool → t.pool.pool.0 ≡ g → Kept c s t
-    → ((s : PoolState) → IsOpen s h.pools → s.core.pool.0 ≡ t.pool.pool.0 → ⊥) → RowResume c (size_in h.table) s vs turn → AreOwnActs g h acts
-    → OpensBy turn g s vs acts reply → MayActs c h t.pool acts
+commit_may : (turn : TurnReply) (c : Codec) (h : Host) (t : Side) (s : PoolState) (g : ℕ) (vs : List Move) (acts : List Act) (reply : Reply) → Knows c h t.pool → t.pool.pool.0 ≡ g → Kept c s t
+    → ((s : PoolState) → IsOpen s h.pools → s.core.pool.0 ≡ t.pool.pool.0 → ⊥) → RowResume c (size_in h.table) s vs turn → AreOwnActs g h acts → OpensBy turn g s vs acts reply → MayActs c h t.pool acts
 commit_may (Committed number) c h t s g vs acts reply knows is kept none row own by =
     let number_is : s.core.pool.0 ≡ t.pool.pool.0 = ap (λ core. core.pool.0) kept.core in
     let behind = enters_known c h t.pool s knows (t.seats, kept) number_is none in
@@ -306,8 +230,7 @@ commit_may (Suspended group top faults) c h t s g vs acts reply knows is kept no
       tt,
       behind,
       may_more c (record h { pools = s ∷ h.pools }) t.pool (does g vs) (Closes g ∷ [])
-          (walk_may c (record h { pools = s ∷ h.pools }) s t g vs behind (inl refl) is kept
-          (resume_walks c (size_in h.table) s t vs (Suspended group top faults) kept knows.sizes row)
+          (walk_may c (record h { pools = s ∷ h.pools }) s t g vs behind (inl refl) is kept (resume_walks c (size_in h.table) s t vs (Suspended group top faults) kept knows.sizes row)
           (own_first g (record h { pools = s ∷ h.pools }) (does g vs) (Closes g ∷ []) rest))
           (λ fair known. closes_may c (host_along (does g vs) (record h { pools = s ∷ h.pools })) (pool_along (does g vs) t.pool) g known) behind,
     ))
@@ -324,36 +247,28 @@ record Own (c : Codec) (h : Host) (p : Pool) (name : List ℕ) (found : Found) :
   live : p.name ≡ name → (r : Rec) × IsLiveOne p found r
 
 -- the calls of an opening answer by the pool's history
-opening_answers : (h : Host) (p : Pool) (made more : List Noted) → AreMade h (made ++ more)
-    → ((d s : ℕ) → 1 ≤ size_in h.table d → p.sectors d s ≡ h.disk d s) → AllAnswer p.sectors made
-opening_answers h p made more are same = all_answer h.table made h.disk p.sectors
-    (all_first (λ noted. 1 ≤ size_in h.table (device_of noted.call)) made more are.here)
+opening_answers : (h : Host) (p : Pool) (made more : List Noted) → AreMade h (made ++ more) → ((d s : ℕ) → 1 ≤ size_in h.table d → p.sectors d s ≡ h.disk d s) → AllAnswer p.sectors made
+opening_answers h p made more are same = all_answer h.table made h.disk p.sectors (all_first (λ noted. 1 ≤ size_in h.table (device_of noted.call)) made more are.here)
     (λ d s one. sym (same d s one)) (answer_first made more h.disk are.answer)
 
-follows_may : (outcome : OpenReply) (c : Codec) (h : Host) (p : Pool) (name : List ℕ) (found : Found) (r : Rec) (made : List Noted)
-    (row : RowOpen c (size_in h.table) (λ device. number_in device h.table) name found made outcome)
+follows_may : (outcome : OpenReply) (c : Codec) (h : Host) (p : Pool) (name : List ℕ) (found : Found) (r : Rec) (made : List Noted) (row : RowOpen c (size_in h.table) (free_in h) name found made outcome)
     (h2 : Host) (rest : List Act) (reply : Reply) → h2.table ≡ h.table
     → ((s : PoolState) → outcome ≡ Opens_state s → HasSeats c s (pool_after (as_events made) (after (Opens r) p)))
     → Knows c h2 (pool_after (as_events made) (after (Opens r) p)) → (pool_after (as_events made) (after (Opens r) p)).pool.0 ≡ found.pool.0
     → ((s : PoolState) → IsOpen s h2.pools → s.core.pool.0 ≡ (pool_after (as_events made) (after (Opens r) p)).pool.0 → ⊥)
-    → AreOwnActs found.pool.0 h2 rest → FollowsMap outcome c (size_in h.table) found.pool.0 rest reply
-    → MayActs c h2 (pool_after (as_events made) (after (Opens r) p)) rest
-follows_may (NoPage page shown) c h p name found r made row h2 rest reply table has knows number none own follows = subst
-    (MayActs c h2 (pool_after (as_events made) (after (Opens r) p))) (sym follows.0) tt
+    → AreOwnActs found.pool.0 h2 rest → FollowsMap outcome c (size_in h.table) found.pool.0 rest reply → MayActs c h2 (pool_after (as_events made) (after (Opens r) p)) rest
+follows_may (NoPage page shown) c h p name found r made row h2 rest reply table has knows number none own follows = subst (MayActs c h2 (pool_after (as_events made) (after (Opens r) p))) (sym follows.0) tt
 follows_may (Opens_state s) c h p name found r made row h2 rest reply table has knows number none own follows =
     let seats = has s refl in
-    commit_may follows.1 c h2
-    (record { pool = pool_after (as_events made) (after (Opens r) p); seats = seats.0 }) s found.pool.0 follows.0 rest reply knows number seats.1 none
+    commit_may follows.1 c h2 (record { pool = pool_after (as_events made) (after (Opens r) p); seats = seats.0 }) s found.pool.0 follows.0 rest reply knows number seats.1 none
     (subst (λ t. RowResume c (size_in t) s follows.0 follows.1) (sym table) follows.2) own follows.3
 
 -- the state that an opening comes to is what the pool's history has then
 opens_seats : (c : Codec) (h : Host) (p : Pool) (name : List ℕ) (found : Found) (r : Rec) (made : List Noted) (outcome : OpenReply)
-    → (row : RowOpen c (size_in h.table) (λ device. number_in device h.table) name found made outcome)
-    → Knows c h p → p.name ≡ name → IsLiveOne p found r → AllAnswer p.sectors made → HasNoTwin p r (claims_of (c.leaves found.blob.items) row.devs)
-    → (ClashesAt r.cells row.bytes → ⊥)
+    → (row : RowOpen c (size_in h.table) (free_in h) name found made outcome)
+    → Knows c h p → p.name ≡ name → IsLiveOne p found r → AllAnswer p.sectors made → HasNoTwin p r (claims_of (c.leaves found.blob.items) row.devs) → (ClashesAt r.cells row.bytes → ⊥)
     → (s : PoolState) → outcome ≡ Opens_state s → HasSeats c s (pool_after (as_events made) (after (Opens r) p))
-opens_seats c h p name found r made (Opens_state x) row knows same is answers twin pages s out = subst
-    (λ y. HasSeats c y (pool_after (as_events made) (after (Opens r) p))) (one x s out) (of opened)
+opens_seats c h p name found r made (Opens_state x) row knows same is answers twin pages s out = subst (λ y. HasSeats c y (pool_after (as_events made) (after (Opens r) p))) (one x s out) (of opened)
   where
     one : (a b : PoolState) → Opens_state a ≡ Opens_state b → a ≡ b
     one a b e = cc
@@ -362,8 +277,7 @@ opens_seats c h p name found r made (Opens_state x) row knows same is answers tw
     t = record { pool = after (Opens r) p; seats = opened_seats p knows.roster.0 (c.leaves found.blob.items) row.devs }
 
     opened : (IsOpened c x t × Walks c t (as_moves made)) ⊎ ClashesAt r.cells row.bytes
-    opened = opening_opens c (size_in h.table)
-        (λ device. number_in device h.table) name p r knows.roster.0 found made x knows.survives same is knows.roster.1 row answers twin
+    opened = opening_opens c (size_in h.table) (free_in h) name p r knows.roster.0 found made x knows.survives same is knows.roster.1 row answers twin
 
     of : (IsOpened c x t × Walks c t (as_moves made)) ⊎ ClashesAt r.cells row.bytes → HasSeats c x (pool_after (as_events made) (after (Opens r) p))
     of (inl both) = (
@@ -375,33 +289,28 @@ opens_seats c h p name found r made (Opens_state x) row knows same is answers tw
 opens_seats c h p name found r made (NoPage page shown) row knows same is answers twin pages s out = absurd (cc)
 
 -- a page that was lost has no good leaf
-opens_lost : (c : Codec) (h : Host) (p : Pool) (name : List ℕ) (found : Found) (r : Rec) (made : List Noted) (outcome : OpenReply)
-    → (row : RowOpen c (size_in h.table) (λ device. number_in device h.table) name found made outcome)
+opens_lost : (c : Codec) (h : Host) (p : Pool) (name : List ℕ) (found : Found) (r : Rec) (made : List Noted) (outcome : OpenReply) → (row : RowOpen c (size_in h.table) (free_in h) name found made outcome)
     → Knows c h p → p.name ≡ name → IsLiveOne p found r → AllAnswer p.sectors made → HasNoTwin p r (claims_of (c.leaves found.blob.items) row.devs)
     → (page : Key) (shown : List LeafShown) → outcome ≡ NoPage page shown
-    → HasGoodPages (pool_after (as_events made) (after (Opens r) p)) r (answers_in (opened_leaves (c.leaves found.blob.items) row.devs) row.pages)
-    → ClashesAt r.cells row.bytes
+    → HasGoodPages (pool_after (as_events made) (after (Opens r) p)) r (λ k. answers_in (opened_leaves (c.leaves found.blob.items) row.devs) row.pages) → ClashesAt r.cells row.bytes
 opens_lost c h p name found r made (Opens_state x) row knows same is answers twin page shown out good = absurd (cc)
 opens_lost c h p name found r made (NoPage k ks) row knows same is answers twin page shown out good =
-    opening_finds c (size_in h.table) (λ device. number_in device h.table) name p r found made k ks knows.survives same is row answers twin good
+    opening_finds c (size_in h.table) (free_in h) name p r found made k ks knows.survives same is row answers twin good
 
 -- the calls of an opening, and what follows
-opens_more : (c : Codec) (h : Host) (p : Pool) (name : List ℕ) (found : Found) (acts : List Act) (reply : Reply) (r : Rec)
-    → (opens : OpensFound c h name found acts reply) → p.pool.0 ≡ found.pool.0
+opens_more : (c : Codec) (h : Host) (p : Pool) (name : List ℕ) (found : Found) (acts : List Act) (reply : Reply) (r : Rec) → (opens : OpensFound c h name found acts reply) → p.pool.0 ≡ found.pool.0
     → Knows c h (after (Opens r) p) → Mays c (after (Opens r) p) (as_events opens.made)
     → ((s : PoolState) → opens.outcome ≡ Opens_state s → HasSeats c s (pool_after (as_events opens.made) (after (Opens r) p)))
     → ((s : PoolState) → IsOpen s h.pools → s.core.pool.0 ≡ p.pool.0 → ⊥)
     → AreOwnActs found.pool.0 h (bare opens.row.ids ++ (all_shown found.pool.0 (read_in opens.row.ids) opens.row.devs ++ (bare opens.row.pages ++ opens.rest)))
-    → MayActs c h (after (Opens r) p)
-    (bare opens.row.ids ++ (all_shown found.pool.0 (read_in opens.row.ids) opens.row.devs ++ (bare opens.row.pages ++ opens.rest)))
+    → MayActs c h (after (Opens r) p) (bare opens.row.ids ++ (all_shown found.pool.0 (read_in opens.row.ids) opens.row.devs ++ (bare opens.row.pages ++ opens.rest)))
 opens_more c h p name found acts reply r opens number knows mays seats none own =
     bare_then c ids (shown ++ (bare pages ++ opens.rest)) h q (mays_first c (as_events ids) (as_events pages) q parts) knows
     (λ fair known1. shown_then c g (read_in ids) opens.row.devs (bare pages ++ opens.rest) h1 q1 number1 known1
     (λ known2. bare_then c pages opens.rest h2 q1 (mays_second c (as_events ids) (as_events pages) q parts) known2
     (λ fair known3. subst (λ x. MayActs c h3 x opens.rest) (sym end_is)
     (follows_may opens.outcome c h p name found r opens.made opens.row h3 opens.rest reply table_is seats (subst (Knows c h3) end_is known3) number3
-    (λ s is at. none s (subst (IsOpen s) (shown_pools g (read_in ids) opens.row.devs h1) is)
-    (at ∙ ap (λ n. n.0) (calls_number opens.made q))) own3 opens.follows))))
+    (λ s is at. none s (subst (IsOpen s) (shown_pools g (read_in ids) opens.row.devs h1) is) (at ∙ ap (λ n. n.0) (calls_number opens.made q))) own3 opens.follows))))
   where
     g : ℕ
     g = found.pool.0
@@ -452,40 +361,30 @@ opens_more c h p name found acts reply r opens number knows mays seats none own 
     own3 = bare_own g h2 pages opens.rest (own_second g h1 shown (bare pages ++ opens.rest) (bare_own g h ids (shown ++ (bare pages ++ opens.rest)) own))
 
 -- what an opening reads, as far as it is fair
-abbrev pub opening_of : (c : Codec) (h : Host) (name : List ℕ) (found : Found) (acts : List Act) (reply : Reply) → OpensFound c h name found acts reply
-    → Opening
+abbrev pub opening_of : (c : Codec) (h : Host) (name : List ℕ) (found : Found) (acts : List Act) (reply : Reply) → OpensFound c h name found acts reply → Opening
 opening_of c h name found acts reply opens = record { name = name; found = found; devs = opens.row.devs; ids = opens.row.ids; bytes = opens.row.bytes }
 
-pub record OpeningFacts (c : Codec) (h : Host) (p : Pool) (name : List ℕ) (found : Found) (acts : List Act) (reply : Reply)
-    (opens : OpensFound c h name found acts reply) : Type 0 where
+pub record OpeningFacts (c : Codec) (h : Host) (p : Pool) (name : List ℕ) (found : Found) (acts : List Act) (reply : Reply) (opens : OpensFound c h name found acts reply) : Type 0 where
   pub is : IsLiveOne p found (read_by (opening_of c h name found acts reply opens) p)
   pub mays : Mays c (after (Opens (read_by (opening_of c h name found acts reply opens) p)) p) (as_events opens.made)
-  pub seats : (s : PoolState) → opens.outcome ≡ Opens_state s → HasSeats c s
-      (pool_after (as_events opens.made) (after (Opens (read_by (opening_of c h name found acts reply opens) p)) p))
+  pub seats : (s : PoolState) → opens.outcome ≡ Opens_state s → HasSeats c s (pool_after (as_events opens.made) (after (Opens (read_by (opening_of c h name found acts reply opens) p)) p))
   pub pages : (page : Key) (shown : List LeafShown) → opens.outcome ≡ NoPage page shown
-      → ¬ (HasGoodPages (pool_after (as_events opens.made) (after (Opens (read_by (opening_of c h name found acts reply opens) p)) p))
-      (read_by (opening_of c h name found acts reply opens) p)
-      (answers_in (opened_leaves (c.leaves found.blob.items) opens.row.devs) opens.row.pages))
+      → ¬ (HasGoodPages (pool_after (as_events opens.made) (after (Opens (read_by (opening_of c h name found acts reply opens) p)) p)) (read_by (opening_of c h name found acts reply opens) p)
+      (λ k. answers_in (opened_leaves (c.leaves found.blob.items) opens.row.devs) opens.row.pages))
 
-pub opening_calls : (c : Codec) (h : Host) (name : List ℕ) (found : Found) (acts : List Act) (reply : Reply) → (opens : OpensFound c h name found acts reply)
-    → calls_along acts ≡ opens.made ++ calls_along opens.rest
-opening_calls c h name found acts reply opens = ap calls_along opens.are
-    ∙ (bare_calls opens.row.ids (all_shown found.pool.0 (read_in opens.row.ids) opens.row.devs ++ (bare opens.row.pages ++ opens.rest))
-    ∙ (ap (λ l. opens.row.ids ++ l)
-    (shown_calls found.pool.0 (read_in opens.row.ids) opens.row.devs (bare opens.row.pages ++ opens.rest) ∙ bare_calls opens.row.pages opens.rest)
+pub opening_calls : (c : Codec) (h : Host) (name : List ℕ) (found : Found) (acts : List Act) (reply : Reply) → (opens : OpensFound c h name found acts reply) → calls_along acts ≡ opens.made ++ calls_along opens.rest
+opening_calls c h name found acts reply opens = ap calls_along opens.are ∙ (bare_calls opens.row.ids (all_shown found.pool.0 (read_in opens.row.ids) opens.row.devs ++ (bare opens.row.pages ++ opens.rest))
+    ∙ (ap (λ l. opens.row.ids ++ l) (shown_calls found.pool.0 (read_in opens.row.ids) opens.row.devs (bare opens.row.pages ++ opens.rest) ∙ bare_calls opens.row.pages opens.rest)
     ∙ (sym (append_assoc opens.row.ids opens.row.pages (calls_along opens.rest)) ∙ ap (λ l. l ++ calls_along opens.rest) (sym opens.row.calls))))
 
-pub opening_facts : (c : Codec) (h : Host) (p : Pool) (name : List ℕ) (found : Found) (acts : List Act) (reply : Reply) (one : Rec)
-    → (opens : OpensFound c h name found acts reply) → Knows c h p → IsLiveOne p found one
+pub opening_facts : (c : Codec) (h : Host) (p : Pool) (name : List ℕ) (found : Found) (acts : List Act) (reply : Reply) (one : Rec) → (opens : OpensFound c h name found acts reply) → Knows c h p → IsLiveOne p found one
     → AreMade h (calls_along acts) → IsFairOpening c p (opening_of c h name found acts reply opens) → OpeningFacts c h p name found acts reply opens
 opening_facts c h p name found acts reply one opens knows found_one made fair = record {
   is = is;
   mays = ⊎_elim (λ m. m) (λ clash. absurd (fair.pages clash))
-      (opening_may c (size_in h.table)
-      (λ device. number_in device h.table) name p r found opens.made opens.outcome knows.survives fair.named is opens.row answers twin);
+      (opening_may c (size_in h.table) (free_in h) name p r found opens.made opens.outcome knows.survives fair.named is opens.row answers twin);
   seats = opens_seats c h p name found r opens.made opens.outcome opens.row knows fair.named is answers twin fair.pages;
-  pages = λ page shown out good. fair.pages
-      (opens_lost c h p name found r opens.made opens.outcome opens.row knows fair.named is answers twin page shown out good);
+  pages = λ page shown out good. fair.pages (opens_lost c h p name found r opens.made opens.outcome opens.row knows fair.named is answers twin page shown out good);
 }
   where
     r : Rec
@@ -495,14 +394,12 @@ opening_facts c h p name found acts reply one opens knows found_one made fair = 
     is = record_live p found one found_one
 
     twin : HasNoTwin p (read_by (opening_of c h name found acts reply opens) p) (claims_of (c.leaves found.blob.items) opens.row.devs)
-    twin = row_no_twin c (size_in h.table)
-        (λ device. number_in device h.table) name p r found opens.made opens.outcome knows.survives knows.sizes is opens.row fair.whole fair.members
+    twin = row_no_twin c (size_in h.table) (free_in h) name p r found opens.made opens.outcome knows.survives knows.sizes is opens.row fair.whole fair.members
 
     answers : AllAnswer p.sectors opens.made
     answers = opening_answers h p opens.made (calls_along opens.rest) (subst (AreMade h) (opening_calls c h name found acts reply opens) made) knows.disk
 
-own_opens : (c : Codec) (h : Host) (p : Pool) (name : List ℕ) (found : Found) (acts : List Act) (reply : Reply) → Own c h p name found
-    → AreMade h (calls_along acts) → OpensFound c h name found acts reply
+own_opens : (c : Codec) (h : Host) (p : Pool) (name : List ℕ) (found : Found) (acts : List Act) (reply : Reply) → Own c h p name found → AreMade h (calls_along acts) → OpensFound c h name found acts reply
     → MayActs c h p acts
 own_opens c h p name found acts reply o made opens = subst (MayActs c h p) (sym opens.are) (λ fair. of (fair o.number))
   where
@@ -524,13 +421,11 @@ own_opens c h p name found acts reply o made opens = subst (MayActs c h p) (sym 
           subst (Mays c p) (sym events) (facts.is.is_live, tt),
           subst (λ vs. Knows c h (pool_after vs p)) (sym events) known,
           subst (λ vs. MayActs c h (pool_after vs p) more) (sym events)
-              (opens_more c h p name found acts reply r opens o.number known facts.mays facts.seats none
-              (subst (AreOwnActs found.pool.0 h) opens.are opens.own).1),
+              (opens_more c h p name found acts reply r opens o.number known facts.mays facts.seats none (subst (AreOwnActs found.pool.0 h) opens.are opens.own).1),
         )
 
 -- The looks of an opening, whichever pool is asked for.
-true_look : (c : Codec) (h : Host) (name : List ℕ) (made : List Noted) (seek : SeekReply)
-    → (row : RowSeek c (size_in h.table) (handed h.table) name made seek) → AllAnswer h.disk made
+true_look : (c : Codec) (h : Host) (name : List ℕ) (made : List Noted) (seek : SeekReply) → (row : RowSeek c (size_in h.table) (handed h.table) name made seek) → AllAnswer h.disk made
     → IsTrueLook (host_behind made h) (known_by (size_in h.table) (handed h.table) row.looks)
 true_look c h name made seek row answers = record {
   here = λ d s bytes is. let at = known_of (size_in h.table) (handed h.table) row.looks d s bytes is in
@@ -540,13 +435,11 @@ true_look c h name made seek row answers = record {
 
 -- by what the looks found
 found_may : (seek : SeekReply) (c : Codec) (h : Host) (p : Pool) (name : List ℕ) (acts : List Act) (reply : Reply) → Knows c h p → named name h.pools ≡ None
-    → ((found : Found) → seek ≡ TakesRecord found → p.name ≡ name → (r : Rec) × IsLiveOne p found r) → AreMade h (calls_along acts)
-    → ImportBy seek c h name acts reply → MayActs c h p acts
+    → ((found : Found) → seek ≡ TakesRecord found → p.name ≡ name → (r : Rec) × IsLiveOne p found r) → AreMade h (calls_along acts) → ImportBy seek c h name acts reply → MayActs c h p acts
 found_may NoRecord c h p name acts reply knows free live made row = subst (MayActs c h p) (sym row.0) tt
 found_may (NumbersEnd limit count) c h p name acts reply knows free live made row = subst (MayActs c h p) (sym row.0) tt
 found_may (TakesRecord found) c h p name acts reply knows free live made row = by_bool (p.pool.0 == found.pool.0)
-    (λ mine. own_opens c h p name found acts reply
-    (record { knows = knows; number = number_of_test p.pool.0 found.pool.0 mine; free = free; live = live found refl }) made row)
+    (λ mine. own_opens c h p name found acts reply (record { knows = knows; number = number_of_test p.pool.0 found.pool.0 mine; free = free; live = live found refl }) made row)
     (λ off. other_may c h p found.pool.0 acts knows (λ e. other p.pool.0 found.pool.0 off (sym e)) row.own)
   where
     other : (m n : ℕ) → (m == n) ≡ false → m ≢ n
@@ -572,14 +465,11 @@ pub record LookFacts (c : Codec) (h : Host) (p : Pool) (name : List ℕ) (acts :
   pub seeks : p.name ≡ name → Premises c.head_of (pool_after (as_events row.made) p) (known_by (size_in h.table) (handed h.table) row.row.looks)
       → SeeksLive c p row.made (known_by (size_in h.table) (handed h.table) row.row.looks) row.seek
 
-calls_known : (c : Codec) (made : List Noted) (h : Host) (p : Pool) → Mays c p (as_events made) → Knows c h p
-    → Knows c (host_behind made h) (pool_after (as_events made) p)
+calls_known : (c : Codec) (made : List Noted) (h : Host) (p : Pool) → Mays c p (as_events made) → Knows c h p → Knows c (host_behind made h) (pool_after (as_events made) p)
 calls_known c [] h p may knows = knows
-calls_known c (noted ∷ made) h p may knows = calls_known c made (record h { disk = run (noted ∷ []) h.disk }) (after (Calls noted) p) may.1
-    (call_known c h p noted (may.0, tt) knows)
+calls_known c (noted ∷ made) h p may knows = calls_known c made (record h { disk = run (noted ∷ []) h.disk }) (after (Calls noted) p) may.1 (call_known c h p noted (may.0, tt) knows)
 
-pub look_facts : (c : Codec) (h : Host) (p : Pool) (name : List ℕ) (acts : List Act) (reply : Reply) → Knows c h p → AreMade h (calls_along acts)
-    → (row : Imports c h name acts reply) → LookFacts c h p name acts reply row
+pub look_facts : (c : Codec) (h : Host) (p : Pool) (name : List ℕ) (acts : List Act) (reply : Reply) → Knows c h p → AreMade h (calls_along acts) → (row : Imports c h name acts reply) → LookFacts c h p name acts reply row
 look_facts c h p name acts reply knows made row = record {
   knows = calls_known c row.made h p (reads_may c p row.made (look_reads (size_in h.table) (handed h.table) row.row.looks row.made row.row.look)) knows;
   looked = true_look c h name row.made row.seek row.row (answer_first row.made (calls_along row.rest) h.disk all.answer);
@@ -592,21 +482,17 @@ look_facts c h p name acts reply knows made row = record {
 }
   where
     all : AreMade h (row.made ++ calls_along row.rest)
-    all = subst (AreMade h) (ap calls_along row.are ∙ bare_calls row.made
-        (Looked name (known_by (size_in h.table) (handed h.table) row.row.looks) ∷ row.rest)) made
+    all = subst (AreMade h) (ap calls_along row.are ∙ bare_calls row.made (Looked name (known_by (size_in h.table) (handed h.table) row.row.looks) ∷ row.rest)) made
 
-pub taken_live : (c : Codec) (p : Pool) (made : List Noted) (known : Known) (seek : SeekReply) (found : Found) → SeeksLive c p made known seek
-    → seek ≡ TakesRecord found
+pub taken_live : (c : Codec) (p : Pool) (made : List Noted) (known : Known) (seek : SeekReply) (found : Found) → SeeksLive c p made known seek → seek ≡ TakesRecord found
     → (r : Rec) × IsLiveOne (pool_after (as_events made) p) found r × (number_of p.acked ≤ number_of r)
 taken_live c p made known seek found seeks is =
     let one : found ≡ seeks.found = taken_same (nat_le last_numbers seeks.found.number.0) found seeks.found (sym is ∙ seeks.says) in
     (seeks.r, subst (λ f. IsLiveOne (pool_after (as_events made) p) f seeks.r) (sym one) seeks.is, seeks.not_below)
 
-imports_may : (c : Codec) (h : Host) (p : Pool) (name : List ℕ) (acts : List Act) (reply : Reply) → Knows c h p → AreMade h (calls_along acts)
-    → Imports c h name acts reply → MayActs c h p acts
+imports_may : (c : Codec) (h : Host) (p : Pool) (name : List ℕ) (acts : List Act) (reply : Reply) → Knows c h p → AreMade h (calls_along acts) → Imports c h name acts reply → MayActs c h p acts
 imports_may c h p name acts reply knows made row = subst (MayActs c h p) (sym row.are)
-    (bare_then c row.made (Looked name known ∷ row.rest) h p
-    (reads_may c p row.made (look_reads (size_in h.table) (handed h.table) row.row.looks row.made row.row.look)) knows
+    (bare_then c row.made (Looked name known ∷ row.rest) h p (reads_may c p row.made (look_reads (size_in h.table) (handed h.table) row.row.looks row.made row.row.look)) knows
     (λ before known1. λ fair. let looked = looked_acted c h1 p1 known (bytes_eq p1.name name) facts.looked known1 in (
       looked.0,
       looked.1,
@@ -630,16 +516,13 @@ imports_may c h p name acts reply knows made row = subst (MayActs c h p) (sym ro
     live found is same premises = let taken = taken_live c p row.made known row.seek found
         (facts.seeks (sym (ap (λ x. x.name) (calls_after row.made p)) ∙ same) premises) is in (taken.0, taken.1)
 
-import_for : (full : Bool) (c : Codec) (h : Host) (p : Pool) (name : List ℕ) (acts : List Act) (reply : Reply) → Knows c h p → AreMade h (calls_along acts)
-    → ImportFor full c h name acts reply → MayActs c h p acts
+import_for : (full : Bool) (c : Codec) (h : Host) (p : Pool) (name : List ℕ) (acts : List Act) (reply : Reply) → Knows c h p → AreMade h (calls_along acts) → ImportFor full c h name acts reply → MayActs c h p acts
 import_for true c h p name acts reply knows made row = subst (MayActs c h p) (sym row.0) tt
 import_for false c h p name acts reply knows made row = imports_may c h p name acts reply knows made row
 
-import_unless : (found : Option PoolState) (c : Codec) (h : Host) (p : Pool) (name : List ℕ) (acts : List Act) (reply : Reply) → Knows c h p
-    → AreMade h (calls_along acts) → ImportUnless found c h name acts reply → MayActs c h p acts
+import_unless : (found : Option PoolState) (c : Codec) (h : Host) (p : Pool) (name : List ℕ) (acts : List Act) (reply : Reply) → Knows c h p → AreMade h (calls_along acts) → ImportUnless found c h name acts reply → MayActs c h p acts
 import_unless (Some s) c h p name acts reply knows made row = subst (MayActs c h p) (sym row.0) tt
 import_unless None c h p name acts reply knows made row = import_for (nat_le 16 (length h.pools)) c h p name acts reply knows made row
 
-pub import_may : (c : Codec) (h : Host) (p : Pool) (name : List ℕ) (acts : List Act) (reply : Reply) → Knows c h p → AreMade h (calls_along acts)
-    → RowImport c h name acts reply → MayActs c h p acts
+pub import_may : (c : Codec) (h : Host) (p : Pool) (name : List ℕ) (acts : List Act) (reply : Reply) → Knows c h p → AreMade h (calls_along acts) → RowImport c h name acts reply → MayActs c h p acts
 import_may c h p name acts reply knows made row = import_unless (named name h.pools) c h p name acts reply knows made row

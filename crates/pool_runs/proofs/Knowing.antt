@@ -1,34 +1,5 @@
 -- A host goes on knowing a pool behind acts of other pools, and behind walks of its own.
-use Rattle.std.proofs.Common.{
-  ◌≡◌,
-  ◌≢◌,
-  ◌⊎◌,
-  inl,
-  inr,
-  ℕ,
-  ◌<◌,
-  ◌==◌,
-  Bool,
-  true,
-  false,
-  not,
-  cond,
-  List,
-  [],
-  ◌∷◌,
-  ◌++◌,
-  map,
-  take,
-  zero,
-  suc,
-  Some,
-  None,
-  refl,
-  sym,
-  ap,
-  ◌∙◌,
-  subst,
-}
+use Rattle.std.proofs.Common.{◌≡◌, ◌≢◌, ◌⊎◌, inl, inr, ℕ, ◌<◌, ◌==◌, Bool, true, false, not, cond, List, [], ◌∷◌, ◌++◌, map, take, zero, suc, Some, None, refl, sym, ap, ◌∙◌, subst}
 use Rattle.std.specs.List.{AllByRecursion, filter}
 use Rattle.std.specs.Str.{bytes_eq}
 use Rattle.mp_base.specs.declared.number.Guid.{Guid}
@@ -58,30 +29,12 @@ use Rattle.pool_moves.specs.Rosters.{roster_after}
 use Rattle.pool_moves.specs.States.{PoolState, Side}
 use Rattle.pool_moves.proofs.Keeping.{move_keeps}
 use Rattle.pool_moves.proofs.Rosters.{roster_goes_on}
-use Rattle.pool_runs.specs.Acts.{
-  Act,
-  Hears,
-  Bare,
-  Does,
-  Marks,
-  Looked,
-  Shows,
-  Reads_as,
-  Enters,
-  Names,
-  Takes,
-  Bears,
-  Closes,
-  does,
-  read_by,
-  events_for,
-  pool_by,
-  pool_along,
-}
+use Rattle.pool_runs.specs.Acts.{Act, Hears, Bare, Does, Marks, Looked, Shows, Reads_as, Enters, Names, Takes, Bears, Closes, does, read_by, events_for, pool_by, pool_along}
 use Rattle.pool_runs.specs.Fairness.{IsFair, AreFair}
 use Rattle.pool_runs.specs.Hosts.{Host, IsOpen, is_of, moved, host_by, host_along}
-use Rattle.pool_runs.specs.Knowing.{HasSeats, HasRoster, Knows, MayActs, IsOwnMove, IsShown, IsTrueLook, HasNoLeafAt, IsOwnAct, AreOwnActs}
+use Rattle.pool_runs.specs.Knowing.{HasSeats, HasRoster, IsOwnMove, IsShown, IsTrueLook, HasNoLeafAt, IsOwnAct, AreOwnActs}
 use Rattle.pool_runs.proofs.Acting.{same_number, other_number, own_events, other_events, move_sectors, move_size, move_number, calls_number}
+use Rattle.pool_runs.proofs.Known.{Knows, MayActs}
 use Rattle.pool_runs.proofs.Sparing.{other_call}
 
 -- Fronts.
@@ -100,7 +53,7 @@ may_more c h p (act ∷ first) second may more knows = λ fair. let now = may fa
     (now.0, now.1, may_more c (host_by act h) (pool_by act p) first second now.2 (λ rest known. more (fair, rest) known) now.1)
 
 -- Open pools.
-step_number : (v : Move) (s : PoolState) → (state_step v s).core.pool ≡ s.core.pool
+pub step_number : (v : Move) (s : PoolState) → (state_step v s).core.pool ≡ s.core.pool
 step_number (Makes noted) s = refl
 step_number v s = refl
 
@@ -150,8 +103,7 @@ still_open g v s pools is off = let was = was_open g v s pools is in
     let number : was.u.core.pool ≡ s.core.pool = sym (moved_number g v was.u) ∙ sym (ap (λ x. x.core.pool) was.is) in
     subst (λ x. IsOpen x pools) (sym (was.is ∙ moved_other g v was.u (λ e. off (sym (ap (λ n. n.0) number) ∙ e)))) was.open_before
 
-open_by : (t : Bool) (s u : PoolState) (more pools : List PoolState) → (IsOpen s more → IsOpen s pools) → IsOpen s (cond t (u ∷ more) more)
-    → (s ≡ u) ⊎ IsOpen s pools
+open_by : (t : Bool) (s u : PoolState) (more pools : List PoolState) → (IsOpen s more → IsOpen s pools) → IsOpen s (cond t (u ∷ more) more) → (s ≡ u) ⊎ IsOpen s pools
 open_by true s u more pools rest (inl e) = inl e
 open_by true s u more pools rest (inr is) = inr (rest is)
 open_by false s u more pools rest is = inr (rest is)
@@ -197,8 +149,7 @@ roster_by_events vs p has = (roster_after vs has.0, roster_goes_on vs p has.0 ha
 call_seats : (c : Codec) (s : PoolState) (p : Pool) (noted : Noted) → Mays c p (Calls noted ∷ []) → HasSeats c s p → HasSeats c s (after (Calls noted) p)
 call_seats c s p noted may has = (has.0, move_keeps c (Makes noted) s (record { pool = p; seats = has.0 }) may tt has.1)
 
-pub call_known : (c : Codec) (h : Host) (p : Pool) (noted : Noted) → Mays c p (Calls noted ∷ []) → Knows c h p
-    → Knows c (record h { disk = run (noted ∷ []) h.disk }) (after (Calls noted) p)
+pub call_known : (c : Codec) (h : Host) (p : Pool) (noted : Noted) → Mays c p (Calls noted ∷ []) → Knows c h p → Knows c (record h { disk = run (noted ∷ []) h.disk }) (after (Calls noted) p)
 call_known c h p noted may knows = record {
   survives = event_survives c p (Calls noted) knows.survives may.0;
   roster = roster_by_events (Calls noted ∷ []) p knows.roster;
@@ -209,15 +160,12 @@ call_known c h p noted may knows = record {
   disk = λ d s one. ap (λ x. replay (noted ∷ []) d s x) (knows.disk d s one);
 }
 
-calls_known : (c : Codec) (made : List Noted) (h : Host) (p : Pool) → Mays c p (as_events made) → Knows c h p
-    → Knows c (record h { disk = run made h.disk }) (pool_after (as_events made) p)
+calls_known : (c : Codec) (made : List Noted) (h : Host) (p : Pool) → Mays c p (as_events made) → Knows c h p → Knows c (record h { disk = run made h.disk }) (pool_after (as_events made) p)
 calls_known c [] h p may knows = knows
-calls_known c (noted ∷ made) h p may knows = calls_known c made (record h { disk = run (noted ∷ []) h.disk }) (after (Calls noted) p) may.1
-    (call_known c h p noted (may.0, tt) knows)
+calls_known c (noted ∷ made) h p may knows = calls_known c made (record h { disk = run (noted ∷ []) h.disk }) (after (Calls noted) p) may.1 (call_known c h p noted (may.0, tt) knows)
 
 -- Other open pools come and go.
-pub pools_known : (c : Codec) (h : Host) (p : Pool) (pools : List PoolState)
-    → ((s : PoolState) → IsOpen s pools → s.core.pool.0 ≡ p.pool.0 → IsOpen s h.pools) → Knows c h p
+pub pools_known : (c : Codec) (h : Host) (p : Pool) (pools : List PoolState) → ((s : PoolState) → IsOpen s pools → s.core.pool.0 ≡ p.pool.0 → IsOpen s h.pools) → Knows c h p
     → Knows c (record h { pools = pools }) p
 pools_known c h p pools were knows = record {
   survives = knows.survives;
@@ -230,8 +178,7 @@ pools_known c h p pools were knows = record {
 }
 
 -- another pool's state is put before the others
-other_first : (n : ℕ) (g : ℕ) (new : PoolState) (pools : List PoolState) → new.core.pool.0 ≡ g → g ≢ n → (s : PoolState) → IsOpen s (new ∷ pools)
-    → s.core.pool.0 ≡ n → IsOpen s pools
+other_first : (n : ℕ) (g : ℕ) (new : PoolState) (pools : List PoolState) → new.core.pool.0 ≡ g → g ≢ n → (s : PoolState) → IsOpen s (new ∷ pools) → s.core.pool.0 ≡ n → IsOpen s pools
 other_first n g new pools is off s (inl e) number = absurd (off (sym is ∙ (sym (ap (λ x. x.core.pool.0) e) ∙ number)))
 other_first n g new pools is off s (inr more) number = more
 
@@ -249,8 +196,7 @@ owned_known c h p g d none knows = record {
 }
 
 -- a device that shows another pool's identity is no member
-ring_pool : (c : Codec) (p : Pool) (known : Known) (d place : ℕ) (u : Uberblock) (bytes : List ℕ) → Survives c p → AreNotTorn p known → p.member d ≡ true
-    → place < 128
+ring_pool : (c : Codec) (p : Pool) (known : Known) (d place : ℕ) (u : Uberblock) (bytes : List ℕ) → Survives c p → AreNotTorn p known → p.member d ≡ true → place < 128
     → known d (place_at (p.size d) place) ≡ Some bytes → IsUberblock u bytes → u.pool ≡ p.pool
 ring_pool c p known d place u bytes sv torn is inside read correct =
     of (ring_known (drawn p) p.pool (seat p d) _ _ bytes (sv.rings d place is inside) (torn d place bytes u is inside read correct) u correct)
@@ -259,8 +205,7 @@ ring_pool c p known d place u bytes sv torn is inside read correct =
     of (inl one) = ap (λ u. u.pool) one.2 ∙ sv.pools one.0 one.1
     of (inr e) = ap (λ u. u.pool) e
 
-shown_other : (c : Codec) (h : Host) (p : Pool) (g d : ℕ) (known : Known) → Knows c h p → AreNotTorn p known → IsShown h.table g d known → g ≢ p.pool.0
-    → p.member d ≡ false
+shown_other : (c : Codec) (h : Host) (p : Pool) (g d : ℕ) (known : Known) → Knows c h p → AreNotTorn p known → IsShown h.table g d known → g ≢ p.pool.0 → p.member d ≡ false
 shown_other c h p g d known knows torn shown off = not_true (p.member d) (λ is. off (sym shown.pool_is ∙ ap (λ n. n.0)
     (ring_pool c p known d shown.place shown.u shown.bytes knows.survives torn is shown.inside
     (ap (λ n. known d (place_at n shown.place)) (knows.sizes d shown.here) ∙ shown.is_read) shown.correct)))
@@ -271,30 +216,22 @@ same_leaves d number first hi [] = refl
 same_leaves d number first hi (leaf ∷ leaves) = ap (λ more. leaf ∷ more) (same_leaves d number first hi leaves)
 
 lose_state : (d : ℕ) (s : PoolState) → state_step (Lose d) s ≡ s
-lose_state d s = ap (λ leaves. record s { core = record (s.core) { leaves = leaves } })
-    (same_leaves d s.core.number s.core.group.first s.core.scan.hi s.core.leaves)
+lose_state d s = ap (λ leaves. record s { core = record (s.core) { leaves = leaves } }) (same_leaves d s.core.number s.core.group.first s.core.scan.hi s.core.leaves)
 
-not_found : (d : ℕ) (frozen running : Bool) (p : Pool) (seats : List Seat)
-    → AllByRecursion (λ leaf. is_dev d leaf.dev ≡ false) (map (leaf_seen frozen running (told p)) seats)
+not_found : (d : ℕ) (frozen running : Bool) (p : Pool) (seats : List Seat) → AllByRecursion (λ leaf. is_dev d leaf.dev ≡ false) (map (leaf_seen frozen running (told p)) seats)
     → AllByRecursion (IsNotFoundAt d) seats
 not_found d frozen running p [] none = tt
-not_found d frozen running p (At e found own ∷ seats) none = (
-  (λ same. not_true found (λ is. true_not_false (d == e) same (sym (ap (λ t. is_dev d (cond t (Some e) None)) is) ∙ none.0))),
-  not_found d frozen running p seats none.1,
-)
+not_found d frozen running p (At e found own ∷ seats) none = ((λ same. not_true found (λ is. true_not_false (d == e) same (sym (ap (λ t. is_dev d (cond t (Some e) None)) is) ∙ none.0))), not_found d frozen running p seats none.1)
 not_found d frozen running p (Adrift leaf ∷ seats) none = (tt, not_found d frozen running p seats none.1)
 
 lost_seats : (c : Codec) (s : PoolState) (p : Pool) (d : ℕ) → HasNoLeafAt d s → HasSeats c s p → HasSeats c s (after (Loses d) p)
 lost_seats c s p d none has = let t : Side = record { pool = p; seats = has.0 } in (
   (after_move (Lose d) t).seats,
   subst (λ x. Kept c x (after_move (Lose d) t)) (lose_state d s)
-      (move_keeps c (Lose d) s t (tt, tt)
-      (not_found d p.group.frozen p.scan.running p has.0
-      (subst (λ core. AllByRecursion (λ leaf. is_dev d leaf.dev ≡ false) core.leaves) has.1.core none)) has.1),
+      (move_keeps c (Lose d) s t (tt, tt) (not_found d p.group.frozen p.scan.running p has.0 (subst (λ core. AllByRecursion (λ leaf. is_dev d leaf.dev ≡ false) core.leaves) has.1.core none)) has.1),
 )
 
-lost_known : (c : Codec) (h : Host) (p : Pool) (g d : ℕ) → g ≢ p.pool.0 → ((s : PoolState) → IsOpen s h.pools → s.core.pool.0 ≢ g → HasNoLeafAt d s)
-    → Knows c h p
+lost_known : (c : Codec) (h : Host) (p : Pool) (g d : ℕ) → g ≢ p.pool.0 → ((s : PoolState) → IsOpen s h.pools → s.core.pool.0 ≢ g → HasNoLeafAt d s) → Knows c h p
     → Knows c (record h { owner = at_device d (Some g) h.owner }) (after (Loses d) p)
 lost_known c h p g d off none knows = record {
   survives = event_survives c p (Loses d) knows.survives tt;
@@ -314,8 +251,7 @@ same_pool_known c h p q is knows = subst (Knows c h) (sym is) knows
 abbrev Acted : Codec → Host → Pool → Act → Type 0
 Acted c h p act = Mays c p (events_for act p) × Knows c (host_by act h) (pool_by act p)
 
-pub looked_acted : (c : Codec) (h : Host) (p : Pool) (known : Known) (t : Bool) → IsTrueLook h known → Knows c h p
-    → Mays c p (cond t (Looks known ∷ []) []) × Knows c h (pool_after (cond t (Looks known ∷ []) []) p)
+pub looked_acted : (c : Codec) (h : Host) (p : Pool) (known : Known) (t : Bool) → IsTrueLook h known → Knows c h p → Mays c p (cond t (Looks known ∷ []) []) × Knows c h (pool_after (cond t (Looks known ∷ []) []) p)
 looked_acted c h p known true look knows = (
   (
     (λ d s bytes is clean. let one = look.here d s bytes is in
@@ -330,8 +266,7 @@ does_acted : (c : Codec) (h : Host) (p : Pool) (g : ℕ) (v : Move) → g ≢ p.
 does_acted c h p g v off own knows =
     let may : Mays c p (as_events (made_in (v ∷ []))) = calls_may v own in
     let events : events_for (Does g v) p ≡ as_events (made_in (v ∷ [])) = other_events g v p (λ e. off (sym e)) in
-    let behind : Knows c (record h { disk = run (made_in (v ∷ [])) h.disk }) (pool_after (as_events (made_in (v ∷ []))) p) = calls_known c
-    (made_in (v ∷ [])) h p may knows in (
+    let behind : Knows c (record h { disk = run (made_in (v ∷ [])) h.disk }) (pool_after (as_events (made_in (v ∷ []))) p) = calls_known c (made_in (v ∷ [])) h p may knows in (
       subst (Mays c p) (sym events) may,
       subst (λ vs. Knows c (host_by (Does g v) h) (pool_after vs p)) (sym events)
           (pools_known c (record h { disk = run (made_in (v ∷ [])) h.disk }) (pool_after (as_events (made_in (v ∷ []))) p) (map (moved g v) h.pools)
@@ -374,8 +309,7 @@ other_act c h p g (Takes k d) off own fair knows =
           (lost_known c h p k d (λ e. off (sym own.0 ∙ e)) (λ s is other. own.1 s is (λ e. other (e ∙ sym own.0))) knows),
     )
 other_act c h p g (Bears birth) off own fair knows = (tt, pools_known c h p (birth.state ∷ h.pools) (other_first p.pool.0 g birth.state h.pools own off) knows)
-other_act c h p g (Closes k) off own fair knows =
-    (tt, pools_known c h p (filter (λ s. not (is_of k s)) h.pools) (λ s is number. open_kept (λ s. not (is_of k s)) s h.pools is) knows)
+other_act c h p g (Closes k) off own fair knows = (tt, pools_known c h p (filter (λ s. not (is_of k s)) h.pools) (λ s is number. open_kept (λ s. not (is_of k s)) s h.pools is) knows)
 
 -- Acts of another pool.
 pub other_may : (c : Codec) (h : Host) (p : Pool) (g : ℕ) (acts : List Act) → Knows c h p → g ≢ p.pool.0 → AreOwnActs g h acts → MayActs c h p acts
@@ -413,30 +347,26 @@ move_apart (Comes i e m top was) h p own apart d k is off = by_bool (e == d)
     some_same a b e = cc
 move_apart v h p own apart d k is off = apart d k is off
 
-pub own_does : (c : Codec) (h : Host) (s : PoolState) (t : Side) (g : ℕ) (v : Move) → Knows c h t.pool → IsOpen s h.pools → t.pool.pool.0 ≡ g → Kept c s t
-    → Mays c t.pool (events_of v t.pool) → Admits t v
+pub own_does : (c : Codec) (h : Host) (s : PoolState) (t : Side) (g : ℕ) (v : Move) → Knows c h t.pool → IsOpen s h.pools → t.pool.pool.0 ≡ g → Kept c s t → Mays c t.pool (events_of v t.pool) → Admits t v
     → IsOwnMove g h.owner v → Knows c (host_by (Does g v) h) (after_move v t).pool
 own_does c h s t g v knows is number kept may ok own =
     let behind : Kept c (state_step v s) (after_move v t) = move_keeps c v s t may ok kept in
     let mine : s.core.pool.0 ≡ t.pool.pool.0 = ap (λ n. n.0) (kept_number c s t kept) in
     let only : (x : PoolState) → IsOpen x (map (moved g v) h.pools) → x.core.pool.0 ≡ (after_move v t).pool.pool.0 → x ≡ state_step v s =
     λ x at same. let was = was_open g v x h.pools at in
-    let before : was.u.core.pool.0 ≡ t.pool.pool.0 = sym (ap (λ n. n.0) (moved_number g v was.u))
-    ∙ (sym (ap (λ y. y.core.pool.0) was.is) ∙ (same ∙ ap (λ n. n.0) (move_number v t.pool))) in
+    let before : was.u.core.pool.0 ≡ t.pool.pool.0 = sym (ap (λ n. n.0) (moved_number g v was.u)) ∙ (sym (ap (λ y. y.core.pool.0) was.is) ∙ (same ∙ ap (λ n. n.0) (move_number v t.pool))) in
     was.is ∙ (ap (moved g v) (knows.once was.u s was.open_before is before mine) ∙ moved_own g v s (mine ∙ number)) in record {
       survives = behind.survives;
       roster = roster_by_events (events_of v t.pool) t.pool knows.roster;
       stands = λ x at same. ((after_move v t).seats, subst (λ y. Kept c y (after_move v t)) (sym (only x at same)) behind);
       once = λ x y at there one other. only x at one ∙ sym (only y there other);
-      apart = λ d k owned off. move_apart v h t.pool (subst (λ n. IsOwnMove n h.owner v) (sym number) own) knows.apart d k owned
-          (λ e. off (e ∙ sym (ap (λ n. n.0) (move_number v t.pool))));
+      apart = λ d k owned off. move_apart v h t.pool (subst (λ n. IsOwnMove n h.owner v) (sym number) own) knows.apart d k owned (λ e. off (e ∙ sym (ap (λ n. n.0) (move_number v t.pool))));
       sizes = λ d one. ap (λ f. f d) (move_size v t.pool) ∙ knows.sizes d one;
       disk = λ d x one. ap (λ f. f d x) (move_sectors v t.pool) ∙ ap (λ y. replay (made_in (v ∷ [])) d x y) (knows.disk d x one);
     }
 
 -- A walk of it.
-pub walk_may : (c : Codec) (h : Host) (s : PoolState) (t : Side) (g : ℕ) (vs : List Move) → Knows c h t.pool → IsOpen s h.pools → t.pool.pool.0 ≡ g
-    → Kept c s t → Walks c t vs → AreOwnActs g h (does g vs)
+pub walk_may : (c : Codec) (h : Host) (s : PoolState) (t : Side) (g : ℕ) (vs : List Move) → Knows c h t.pool → IsOpen s h.pools → t.pool.pool.0 ≡ g → Kept c s t → Walks c t vs → AreOwnActs g h (does g vs)
     → MayActs c h t.pool (does g vs)
 walk_may c h s t g [] knows is number kept walks own = tt
 walk_may c h s t g (v ∷ vs) knows is number kept walks own = λ fair.

@@ -9,11 +9,14 @@ pub mod GroupMoves
 pub mod Heading
 pub mod Importing
 pub mod Knowing
+pub mod Known
+pub mod LineMoves
+pub mod Losing
 pub mod Members
 pub mod Moments
+pub mod Numbers
 pub mod Pasting
 pub mod Running
-pub mod Seating
 pub mod SmallRuns
 pub mod Sparing
 pub mod Stamps

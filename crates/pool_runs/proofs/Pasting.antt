@@ -8,11 +8,12 @@ use Rattle.txg_history.specs.Moves.{Mays, MayStop, AreUnforged}
 use Rattle.txg_history.specs.Numbering.{renumbered}
 use Rattle.txg_history.specs.Pages.{Codec}
 use Rattle.txg_history.specs.Pools.{Pool, pool_after}
-use Rattle.txg_history.specs.Records.{Rec, IsIn, block_at}
+use Rattle.txg_history.specs.Records.{Rec, IsIn, block_at, nothing}
 use Rattle.txg_history.specs.Survival.{Survives, IsAmong}
 use Rattle.label_store.specs.Records.{place_at}
 use Rattle.label_store.specs.Uberblock.{IsUberblock}
 use Rattle.txg_history.proofs.Containing.{drawn_contents}
+use Rattle.txg_history.proofs.Folding.{pool_kept}
 use Rattle.txg_history.proofs.Logging.{by_bool}
 use Rattle.txg_history.proofs.Moving.{event_survives}
 use Rattle.txg_history.proofs.Numbering.{renumbered_survives}
@@ -20,26 +21,10 @@ use Rattle.txg_history.proofs.Stamping.{stamped_survives}
 use Rattle.pool_moves.proofs.Rosters.{roster_anew}
 use Rattle.pool_runs.specs.Devices.{size_in}
 use Rattle.pool_runs.specs.Hosts.{Host, IsOpen}
-use Rattle.pool_runs.specs.Knowing.{HasRoster, Knows}
+use Rattle.pool_runs.specs.Knowing.{HasRoster}
+use Rattle.pool_runs.proofs.Known.{Knows}
 use Rattle.pool_runs.proofs.Knowing.{roster_by_events}
-use Rattle.pool_runs.specs.Pasts.{
-  Past,
-  Born,
-  Then,
-  Numbered,
-  pool_of,
-  called_in,
-  IsAllowed,
-  then_all,
-  BeginsRun,
-  IsFoundAs,
-  IsNext,
-  AreNamed,
-  met,
-  next_past,
-  WasFrozen,
-  HasFrozen,
-}
+use Rattle.pool_runs.specs.Pasts.{Past, Born, Then, Numbered, pool_of, called_in, IsAllowed, then_all, BeginsRun, IsFoundAs, IsNext, AreNamed, met, next_past, WasFrozen, HasFrozen}
 
 -- A pool has its invariant behind its past.
 pub past_survives : (c : Codec) (past : Past) → IsAllowed c past → Survives c (pool_of past)
@@ -81,15 +66,13 @@ begins_known c past h begins = record {
 
 -- The next run.
 met_here : (p : Pool) (images : ℕ → ℕ → List ℕ) (h : Host) (d s : ℕ) → 1 ≤ size_in h.table d → met p images h d s ≡ h.disk d s
-met_here p images h d s one = let yes : nat_le 1 (size_in h.table d) ≡ true = grind (arith, nat_tests) in
-    ap (λ t. cond t (h.disk d s) (after_crash p.sectors images d s)) yes
+met_here p images h d s one = let yes : nat_le 1 (size_in h.table d) ≡ true = grind (arith, nat_tests) in ap (λ t. cond t (h.disk d s) (after_crash p.sectors images d s)) yes
 
 low_of : (n : ℕ) → nat_le 1 n ≡ true → 1 ≤ n
 low_of n is = grind (arith, nat_tests)
 
 -- a member's sector behind the stop shows its image
-met_as : (p : Pool) (images : ℕ → ℕ → List ℕ) (h : Host) → IsNext p images h → (d s : ℕ) → p.member d ≡ true
-    → IsFoundAs (met p images h d s) (images d s) (p.sectors d s).damaged
+met_as : (p : Pool) (images : ℕ → ℕ → List ℕ) (h : Host) → IsNext p images h → (d s : ℕ) → p.member d ≡ true → IsFoundAs (met p images h d s) (images d s) (p.sectors d s).damaged
 met_as p images h next d s member = by_bool (nat_le 1 (size_in h.table d))
     (λ yes. let one = low_of (size_in h.table d) yes in
     let found = next.disk d s member one in
@@ -99,8 +82,7 @@ met_as p images h next d s member = by_bool (nat_le 1 (size_in h.table d))
 
 unforged_met : (p : Pool) (images : ℕ → ℕ → List ℕ) (h : Host) → IsNext p images h → AreUnforged p (λ d s. (met p images h d s).stable)
 unforged_met p images h next d place u member inside uber =
-    let same : (met p images h d (place_at (p.size d) place)).stable ≡ images d (place_at (p.size d) place) =
-    (met_as p images h next d (place_at (p.size d) place) member).stable in
+    let same : (met p images h d (place_at (p.size d) place)).stable ≡ images d (place_at (p.size d) place) = (met_as p images h next d (place_at (p.size d) place) member).stable in
     subst (λ bytes. (bytes ≡ (p.sectors d (place_at (p.size d) place)).stable) ⊎ IsAmong bytes (p.since d (place_at (p.size d) place))) (sym same)
     (next.unforged d place u member inside (subst (λ bytes. IsUberblock u bytes) same uber))
 
@@ -112,8 +94,7 @@ may_stop p images h next = record {
   unforged = unforged_met p images h next;
 }
 
-size_next : (p : Pool) (images : ℕ → ℕ → List ℕ) (h : Host) → IsNext p images h → (d : ℕ) → 1 ≤ size_in h.table d
-    → cond (p.member d) (p.size d) (size_in h.table d) ≡ size_in h.table d
+size_next : (p : Pool) (images : ℕ → ℕ → List ℕ) (h : Host) → IsNext p images h → (d : ℕ) → 1 ≤ size_in h.table d → cond (p.member d) (p.size d) (size_in h.table d) ≡ size_in h.table d
 size_next p images h next d one = by_bool (p.member d) (λ is. ap (λ t. cond t (p.size d) (size_in h.table d)) is ∙ next.sizes d is one)
     (λ no. ap (λ t. cond t (p.size d) (size_in h.table d)) no)
 
@@ -148,26 +129,24 @@ group_frozen c (Then past v) ok f = group_frozen c past ok.0 f
 group_frozen c (Numbered past was called) ok f = group_frozen c past ok.0 f
 
 frozen_more : (past : Past) (v : Event) (r : Rec) → HasFrozen past r → HasFrozen (Then past v) r
-frozen_more past v r (inl none) = inl none
+frozen_more past v r (inl first) = inl (first ∙ ap nothing (sym (pool_kept (v ∷ []) (pool_of past))))
 frozen_more past v r (inr has) = inr (has.0, inr has.1, has.2)
 
 pub live_frozen : (c : Codec) (past : Past) → IsAllowed c past → (r : Rec) → IsIn r (pool_of past).live → HasFrozen past r
-live_frozen c (Born birth sectors) ok r (inl is) = inl (λ a. ap (λ q. block_at q a) is)
+live_frozen c (Born birth sectors) ok r (inl is) = inl is
 live_frozen c (Born birth sectors) ok r (inr none) = absurd none
 live_frozen c (Then past (Begins q)) ok r (inl is) = inr (
   past,
   inl (ap (λ x. Then past (Begins x)) is),
-  same_frozen (pool_of past).group.content (block_at r) past
-      (λ a. sym (ap (λ x. block_at x a) is ∙ drawn_contents c (pool_of past) q (past_survives c past ok.0) ok.1 a))
+  same_frozen (pool_of past).group.content (block_at r) past (λ a. sym (ap (λ x. block_at x a) is ∙ drawn_contents c (pool_of past) q (past_survives c past ok.0) ok.1 a))
       (group_frozen c past ok.0 ok.1.frozen),
 )
 live_frozen c (Then past (Begins q)) ok r (inr more) = frozen_more past (Begins q) r (live_frozen c past ok.0 r more)
-live_frozen c (Then past (Acks q)) ok r (inl is) = frozen_more past (Acks q) r
-    (live_frozen c past ok.0 r (subst (λ x. IsIn x (pool_of past).live) (sym is) (subst (IsIn q) (sym ok.1.newest) (inl refl))))
+live_frozen c (Then past (Acks q)) ok r (inl is) = frozen_more past (Acks q) r (live_frozen c past ok.0 r (subst (λ x. IsIn x (pool_of past).live) (sym is) (subst (IsIn q) (sym ok.1.newest) (inl refl))))
 live_frozen c (Then past (Acks q)) ok r (inr none) = absurd none
 live_frozen c (Then past v) ok r is = frozen_more past v r (live_frozen c past ok.0 r is)
 live_frozen c (Numbered past was called) ok r is = more (live_frozen c past ok.0 r is)
   where
     more : HasFrozen past r → HasFrozen (Numbered past was called) r
-    more (inl none) = inl none
+    more (inl first) = inl first
     more (inr has) = inr (has.0, inr has.1, has.2)

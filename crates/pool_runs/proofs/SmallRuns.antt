@@ -1,44 +1,5 @@
 -- A small run is one.
-use Rattle.std.proofs.Common.{
-  ◌≡◌,
-  ◌≢◌,
-  inl,
-  inr,
-  ℕ,
-  zero,
-  suc,
-  ◌+◌,
-  ◌*◌,
-  ◌≤◌,
-  ◌<◌,
-  ◌^◌,
-  nat_lt,
-  ◌%◌,
-  ◌/◌,
-  ◌==◌,
-  ◌&&◌,
-  Bool,
-  true,
-  false,
-  cond,
-  List,
-  [],
-  ◌∷◌,
-  ◌++◌,
-  map,
-  length,
-  take,
-  append-nil,
-  Option,
-  Some,
-  None,
-  refl,
-  sym,
-  ap,
-  ◌∙◌,
-  subst,
-  arith,
-}
+use Rattle.std.proofs.Common.{◌≡◌, ◌≢◌, inl, inr, ℕ, zero, suc, ◌+◌, ◌*◌, ◌≤◌, ◌<◌, ◌^◌, nat_lt, ◌%◌, ◌/◌, ◌==◌, ◌&&◌, Bool, true, false, cond, List, [], ◌∷◌, ◌++◌, map, length, take, append-nil, Option, Some, None, refl, sym, ap, ◌∙◌, subst, arith}
 use Rattle.std.specs.List.{AllByRecursion, list_all}
 use Rattle.std.specs.Option.{option_map}
 use Rattle.std.specs.Str.{bytes_eq}
@@ -55,6 +16,7 @@ use Rattle.label_store.specs.declared.member.Member.{Member}
 use Rattle.label_store.specs.declared.rule.Head.{Head}
 use Rattle.label_store.specs.Layout.{config_sectors}
 use Rattle.mp_base.specs.declared.place.Key.{Key}
+use Rattle.group_set.specs.Ranges.{ranges_upto}
 use Rattle.label_store.specs.Records.{IsRecord}
 use Rattle.label_store.specs.Rounds.{uberblock_of, config_of, first_plan, second_plan, third_plan}
 use Rattle.txg_history.specs.Branches.{cell_on, branch_cells}
@@ -72,67 +34,31 @@ use Rattle.label_store.proofs.Keeping.{same_member, no_member}
 use Rattle.pool_moves.specs.Boards.{board_of, board_under, emptied}
 use Rattle.pool_moves.specs.CommitRows.{RowFound}
 use Rattle.pool_moves.specs.Drafts.{draft_of}
-use Rattle.pool_moves.specs.FreezeRow.{up_devs, joins, IsBefore, IsPlaceBefore, IsGivenBefore, ArePlacesGiven, AreDirtyKeys, RowFreeze}
+use Rattle.pool_moves.specs.FreezeRow.{up_devs, IsBefore, IsPlaceBefore, IsGivenBefore, ArePlacesGiven, AreDirtyKeys, RowFreeze}
 use Rattle.pool_moves.specs.LineRows.{Write as WriteTurn, Flush as FlushTurn, Committed, EndsBy, IsTurnOf, StartsBy, TurnBy, RowTurn, moves_in, Ended, RowSync}
-use Rattle.pool_moves.specs.Moves.{Draft, Move, Makes, Puts, Comes, Freeze, Wrote_key, Flushed_all, Copies, Copied, sum_over, sums_over, steps}
+use Rattle.pool_moves.specs.Moves.{Draft, Move, Makes, Puts, Comes, Freeze, Commits, sum_over, sums_over, step, state_step, steps}
 use Rattle.pool_moves.specs.ReadRow.{Gives, RowRead}
 use Rattle.pool_moves.specs.Refusing.{IsUsed, CountsOpen}
 use Rattle.pool_moves.specs.StampRow.{room_or_none, AreStamps, CommitsFirst, Created}
 use Rattle.pool_moves.specs.States.{PoolSeen, PoolState}
-use Rattle.pool_moves.specs.TurnRows.{turn_moves, RowWriteTurn, FitsState, IsThirdMoves, RowRound}
-use Rattle.pool_moves.specs.Walking.{as_moves}
+use Rattle.pool_moves.specs.TurnRows.{RowWriteTurn, FitsState, IsThirdMoves, RowRound}
+use Rattle.pool_moves.specs.Widening.{ranges_together, AreLeaves}
 use Rattle.pool_runs.specs.Acts.{Act, Gives_for, Hears, Bare, Does, Marks, Names, Takes, Bears, does, bare, calls_along, pool_by, pool_along, history}
-use Rattle.pool_runs.specs.Creating.{create_refusal, leaves_of, host_stamped, commit_acts, Creates}
+use Rattle.pool_runs.specs.Creating.{create_refusal, leaves_of, stamp_acts, host_stamped, commit_acts, Creates}
 use Rattle.pool_runs.specs.Devices.{number_in, name_in, size_in}
 use Rattle.pool_runs.specs.Fairness.{AreFair}
 use Rattle.pool_runs.specs.Headline.{Headline}
-use Rattle.pool_runs.specs.HostRows.{AreMade, HostRow, acts_of, acts_in, IsRun}
-use Rattle.pool_runs.specs.Hosts.{Host, host_by, host_along}
+use Rattle.pool_runs.specs.HostRows.{AreMade, WriteLine, ReadLine, SyncLine, OnPool, HostRow, acts_of, acts_in, IsRun}
+use Rattle.pool_runs.specs.Hosts.{Host, named, moved, host_by, host_along}
 use Rattle.pool_runs.specs.Pasts.{pool_of, then_all, Left, BeginsRun, next_past}
-use Rattle.pool_runs.specs.Knowing.{IsOwnCall, IsOwnAct, AreOwnActs}
-use Rattle.pool_runs.specs.SmallRuns.{
-  small_table,
-  small_host,
-  small_name,
-  small_pool,
-  small_tops,
-  small_birth,
-  small_state,
-  small_member,
-  small_stamp,
-  small_head,
-  small_pointer,
-  small_codec,
-  small_commit,
-  small_draft,
-  small_first,
-  small_round,
-  small_founding,
-  small_made,
-  small_written,
-  small_freeze,
-  small_turn,
-  small_flush,
-  small_last,
-  small_turns,
-  small_sync,
-  small_bytes,
-  small_branch,
-  answered,
-  all_answered,
-  small_device,
-  small_create,
-  small_later,
-  small_born,
-  small_rest,
-  small_past,
-  small_images,
-  small_next,
-}
+use Rattle.pool_runs.specs.Knowing.{IsOwnCall, IsOwnMove, AreOwnActs}
+use Rattle.pool_runs.specs.Lines.{To_write, To_read, To_sync}
+use Rattle.pool_runs.specs.SmallRuns.{small_table, small_host, small_name, small_pool, small_tops, small_birth, small_state, small_member, small_stamp, small_head, small_pointer, small_codec, small_commit, small_draft, small_first, small_thirds, small_round, small_founding, small_made, small_written, small_freeze, small_turn, small_flush, small_last, small_turns, small_sync, small_bytes, small_branch, answered, all_answered, small_device, small_create, small_later, small_born, small_rest, small_past, small_images, small_next}
 use Rattle.pool_runs.proofs.Acting.{same_number}
 use Rattle.pool_runs.proofs.Bearing.{born_headline}
-use Rattle.pool_runs.proofs.Knowing.{acts_number}
+use Rattle.pool_runs.proofs.Knowing.{acts_number, moved_own, moved_number}
 use Rattle.pool_runs.proofs.Pasting.{then_called, next_begins}
+use Rattle.pool_runs.proofs.Numbers.{number_fits}
 
 none_refused : create_refusal small_host small_name 1 small_tops ≡ None
 none_refused = refl
@@ -144,25 +70,7 @@ small_call (Flush dev None) = dev == 0
 small_call call = false
 
 stamped : AreStamps (size_in small_table) small_pool (leaves_of small_table small_tops) (small_stamp ∷ []) None
-stamped = (
-  refl,
-  inl (
-    (
-      refl,
-      inl (
-        refl,
-        (
-          refl,
-          inl (
-            refl,
-            (refl, inl (refl, (refl, inl (refl, (refl, inl (refl, (refl, inl (refl, (refl, inl (refl, (refl, inl (refl, (refl, inl (refl, refl)))))))))))))),
-          ),
-        ),
-      ),
-    ),
-    refl,
-  ),
-)
+stamped = (refl, inl ((refl, inl (refl, (refl, inl (refl, (refl, inl (refl, (refl, inl (refl, (refl, inl (refl, (refl, inl (refl, (refl, inl (refl, (refl, inl (refl, (refl, inl (refl, refl)))))))))))))))))), refl))
 
 -- Calls that answered Ok on the device, told by a test.
 answer_one : (sectors : Sectors) (noted : Noted) → small_call noted.call ≡ true → (device_of noted.call ≡ 0) × AllAnswer sectors (noted ∷ [])
@@ -179,8 +87,7 @@ all_made h calls table is = record { here = here calls is; answer = answer calls
     on_device : (d : ℕ) → d ≡ 0 → 1 ≤ size_in h.table d
     on_device d zero_is = subst (λ t. 1 ≤ size_in t d) (sym table) (subst (λ e. 1 ≤ size_in small_table e) (sym zero_is) (omega arith))
 
-    here : (calls : List Noted) → list_all (λ noted. small_call noted.call) calls ≡ true
-        → AllByRecursion (λ noted. 1 ≤ size_in h.table (device_of noted.call)) calls
+    here : (calls : List Noted) → list_all (λ noted. small_call noted.call) calls ≡ true → AllByRecursion (λ noted. 1 ≤ size_in h.table (device_of noted.call)) calls
     here [] is = tt
     here (noted ∷ calls) is = let both = and_parts (small_call noted.call) (list_all (λ noted. small_call noted.call) calls) is in
         (on_device (device_of noted.call) (answer_one h.disk noted both.0).0, here calls both.1)
@@ -201,38 +108,50 @@ ask_made (Writes dev at bytes) is = (refl, refl)
 ask_made (Flushes dev) is = (let same : 0 ≡ dev = grind (arith, nat_tests) in ap Flushes same, refl)
 ask_made ask is = absurd (cc)
 
--- Acts of the pool, told by a test.
-abbrev small_act : Act → Bool
-small_act (Bare noted) = small_call noted.call
-small_act (Does g (Makes noted)) = (g == 7) && small_call noted.call
-small_act (Does g (Comes i d m top own)) = false
-small_act (Does g v) = g == 7
-small_act (Marks g mark) = g == 7
-small_act (Bears birth) = birth.state.core.pool.0 == 7
-small_act act = false
+-- Acts of a pool that owns the device, told by a test.
+abbrev small_move : Move → Bool
+small_move (Makes noted) = small_call noted.call
+small_move (Comes i d m top own) = false
+small_move v = true
 
-own_call : (owner : ℕ → Option ℕ) (call : Call) → owner 0 ≡ Some 7 → small_call call ≡ true → IsOwnCall 7 owner call
-own_call owner (Write dev at bytes None) mine is = let same : dev ≡ 0 = grind (arith, nat_tests) in subst (λ d. owner d ≡ Some 7) (sym same) mine
-own_call owner (Flush dev None) mine is = tt
-own_call owner call mine is = absurd (cc)
+own_call : (g : ℕ) (owner : ℕ → Option ℕ) (call : Call) → owner 0 ≡ Some g → small_call call ≡ true → IsOwnCall g owner call
+own_call g owner (Write dev at bytes None) mine is = let same : dev ≡ 0 = grind (arith, nat_tests) in subst (λ d. owner d ≡ Some g) (sym same) mine
+own_call g owner (Flush dev None) mine is = tt
+own_call g owner call mine is = absurd (cc)
 
-same_seven : (g : ℕ) → (g == 7) ≡ true → g ≡ 7
-same_seven g is = grind (arith, nat_tests)
+own_move : (g : ℕ) (owner : ℕ → Option ℕ) (v : Move) → owner 0 ≡ Some g → small_move v ≡ true → IsOwnMove g owner v
+own_move g owner (Makes noted) mine is = own_call g owner noted.call mine is
+own_move g owner (Comes i d m top own) mine is = absurd (cc)
+own_move g owner v mine is = tt
 
-own_act : (h : Host) (act : Act) → h.owner 0 ≡ Some 7 → small_act act ≡ true → IsOwnAct 7 h act × ((host_by act h).owner 0 ≡ Some 7)
-own_act h (Bare noted) mine is = (own_call h.owner noted.call mine is, mine)
-own_act h (Does g (Makes noted)) mine is = let both = and_parts (g == 7) (small_call noted.call) is in
-    ((same_seven g both.0, own_call h.owner noted.call mine both.1), mine)
-own_act h (Does g (Comes i d m top own)) mine is = absurd (cc)
-own_act h (Does g v) mine is = ((same_seven g is, tt), mine)
-own_act h (Marks g mark) mine is = (same_seven g is, mine)
-own_act h (Bears birth) mine is = (same_seven birth.state.core.pool.0 is, mine)
-own_act h act mine is = absurd (cc)
+own_does : (g : ℕ) (h : Host) (vs : List Move) → h.owner 0 ≡ Some g → list_all small_move vs ≡ true → AreOwnActs g h (does g vs)
+own_does g h [] mine is = tt
+own_does g h (v ∷ vs) mine is = let both = and_parts (small_move v) (list_all small_move vs) is in
+    ((refl, own_move g h.owner v mine both.0), own_does g (host_by (Does g v) h) vs mine both.1)
 
-own_acts : (h : Host) (acts : List Act) → h.owner 0 ≡ Some 7 → list_all small_act acts ≡ true → AreOwnActs 7 h acts
-own_acts h [] mine is = tt
-own_acts h (act ∷ acts) mine is = let both = and_parts (small_act act) (list_all small_act acts) is in
-    let one = own_act h act mine both.0 in (one.0, own_acts (host_by act h) acts one.1 both.1)
+own_bare : (g : ℕ) (h : Host) (made : List Noted) (rest : List Act) → h.owner 0 ≡ Some g → list_all (λ noted. small_call noted.call) made ≡ true
+    → ((x : Host) → x.owner 0 ≡ Some g → AreOwnActs g x rest) → AreOwnActs g h (bare made ++ rest)
+own_bare g h [] rest mine is then = then h mine
+own_bare g h (noted ∷ made) rest mine is then = let both = and_parts (small_call noted.call) (list_all (λ noted. small_call noted.call) made) is in
+    (own_call g h.owner noted.call mine both.0, own_bare g (host_by (Bare noted) h) made rest mine both.1 then)
+
+-- The host has the device, which is the pool's, and this open pool alone.
+record HasOpen (h : Host) (s : PoolState) : Type 0 where
+  table : h.table ≡ small_table
+  pools : h.pools ≡ s ∷ []
+  owner : h.owner 0 ≡ Some small_pool.0
+
+heard : (second : ℕ) (h : Host) (s : PoolState) → HasOpen h s → HasOpen (host_by (Hears second) h) s
+heard second h s has = record { table = has.table; pools = has.pools; owner = has.owner }
+
+open_along : (vs : List Move) (h : Host) (s : PoolState) → s.core.pool.0 ≡ small_pool.0 → HasOpen h s → HasOpen (host_along (does small_pool.0 vs) h) (steps vs s)
+open_along [] h s number has = has
+open_along (v ∷ vs) h s number has = open_along vs (host_by (Does small_pool.0 v) h) (state_step v s)
+    (ap (λ u. u.core.pool.0) (sym (moved_own small_pool.0 v s number)) ∙ (ap (λ n. n.0) (moved_number small_pool.0 v s) ∙ number)) (record {
+      table = has.table;
+      pools = ap (map (moved small_pool.0 v)) has.pools ∙ ap (λ u. u ∷ []) (moved_own small_pool.0 v s number);
+      owner = has.owner;
+    })
 
 -- The record of a number is one.
 small_blob : length (small_commit 0).blob ≡ 4096
@@ -243,7 +162,7 @@ small_is : (block : List ℕ) (n : ℕ) (m : Member) → 1 ≤ n → n ≤ 2 →
 unfolding sector_size
 small_is block n m one two long low = record {
   in_range = record {
-    pool = omega arith;
+    pool = number_fits small_name 1;
     member = low;
     number = omega (arith, two);
     config = omega (arith, two);
@@ -286,13 +205,7 @@ phase (ask ∷ plan) is = let both = and_parts (small_ask ask) (list_all small_a
 -- A round over the device.
 one_phase : (plan : Member → List Ask) → list_all small_ask (plan small_member) ≡ true
     → IsPhase plan (small_member ∷ []) (true ∷ []) (true ∷ []) (all_answered (plan small_member))
-one_phase plan is = (
-  all_answered (plan small_member),
-  [],
-  sym (append-nil (all_answered (plan small_member))),
-  (None, phase (plan small_member) is, refl),
-  refl,
-)
+one_phase plan is = (all_answered (plan small_member), [], sym (append-nil (all_answered (plan small_member))), (None, phase (plan small_member) is, refl), refl)
 
 one_seated : AreSeated (size_in small_table) (small_member ∷ [])
 one_seated zero m is = subst (λ x. 320 ≤ size_in small_table x.dev) (same_member small_member m is) (omega arith)
@@ -300,7 +213,7 @@ one_seated (suc i) m is = absurd (no_member m is)
 
 thirds_made : (draft : Draft) → list_all small_ask (third_plan (size_in small_table) draft.commit small_member) ≡ true
     → IsThirdMoves (third_plan (size_in small_table) draft.commit) draft (small_member ∷ []) (true ∷ []) (true ∷ [])
-    (Copies draft 0 ∷ (as_moves (all_answered (third_plan (size_in small_table) draft.commit small_member)) ++ (Copied draft 0 ∷ [])))
+    (small_thirds draft)
 thirds_made draft is = (
   all_answered (third_plan (size_in small_table) draft.commit small_member),
   [],
@@ -326,7 +239,7 @@ round_made c s draft frozen flushed fresh boards board leaves fits one two three
   seated = subst (AreSeated (size_in small_table)) (sym board) one_seated;
   first = all_answered (first_plan (size_in small_table) draft.commit small_member);
   second = all_answered (second_plan (size_in small_table) draft.commit small_member);
-  thirds = Copies draft 0 ∷ (as_moves (all_answered (third_plan (size_in small_table) draft.commit small_member)) ++ (Copied draft 0 ∷ []));
+  thirds = small_thirds draft;
   in_first = true ∷ [];
   in_second = true ∷ [];
   results = true ∷ [];
@@ -334,22 +247,26 @@ round_made c s draft frozen flushed fresh boards board leaves fits one two three
   configs = subst (λ ms. IsPhase (first_plan (size_in small_table) draft.commit) ms (map (λ m. true) ms) (true ∷ [])
       (all_answered (first_plan (size_in small_table) draft.commit small_member))) (sym board) (one_phase (first_plan (size_in small_table) draft.commit) one);
   uberblocks = subst (λ ms. IsPhase (second_plan (size_in small_table) draft.commit) ms (true ∷ []) (true ∷ [])
-      (all_answered (second_plan (size_in small_table) draft.commit small_member))) (sym board)
-      (one_phase (second_plan (size_in small_table) draft.commit) two);
-  copies = subst (λ ms. IsThirdMoves (third_plan (size_in small_table) draft.commit) draft ms (true ∷ []) (true ∷ [])
-      (Copies draft 0 ∷ (as_moves (all_answered (third_plan (size_in small_table) draft.commit small_member)) ++ (Copied draft 0 ∷ [])))) (sym board)
+      (all_answered (second_plan (size_in small_table) draft.commit small_member))) (sym board) (one_phase (second_plan (size_in small_table) draft.commit) two);
+  copies = subst (λ ms. IsThirdMoves (third_plan (size_in small_table) draft.commit) draft ms (true ∷ []) (true ∷ []) (small_thirds draft)) (sym board)
       (thirds_made draft three);
+  ending = Commits draft ∷ [];
+  ends = refl;
   moves = refl;
 }
 
+-- No log has a range.
+few_first : ranges_together 1 (step (Freeze (λ k. None) (up_devs small_state.core.leaves)) small_state.core).leaves ≤ 4096
+unfolding ranges_upto
+few_first = omega arith
+
 founded : (block : List ℕ) → RowFound (small_codec block) (size_in small_table) small_state small_founding true
 founded block = record {
-  first = Freeze (λ k. None) (up_devs small_state.core.leaves) ∷ joins small_state.core.leaves;
-  freeze = record { idle = refl; unwritten = λ a. refl; tops = (omega arith, tt); moves = refl };
+  first = Freeze (λ k. None) (up_devs small_state.core.leaves) ∷ [];
+  freeze = record { idle = refl; unwritten = λ a. refl; tops = (omega arith, tt); moves = record { widens = []; are = few_first; moves = refl } };
   round = small_round (small_draft 1 (steps small_first small_state));
-  ends = round_made (small_codec block) (steps small_first small_state).core (small_draft 1 (steps small_first small_state)) refl refl refl refl refl refl
-      (fits_first block) refl refl refl;
-  own = record { volume = refl; top_numbers = refl; next = refl };
+  ends = round_made (small_codec block) (steps small_first small_state).core (small_draft 1 (steps small_first small_state)) refl refl refl refl refl refl (fits_first block) refl refl refl;
+  own = record { volume = refl; top_numbers = refl; children_are = refl; spares_are = refl; next = refl };
   moves = refl;
 }
 
@@ -361,7 +278,7 @@ first_commit block = record { whole = true; row = founded block; says = refl }
 creates : (block : List ℕ) → Creates (small_codec block) (host_by (Hears 1) small_host) small_name 1 small_tops small_create.acts small_create.reply
 creates block = record {
   pool = small_pool;
-  may = record { none = none_refused; in_range = omega arith; some = (omega arith, tt); apart = (tt, tt) };
+  may = record { none = none_refused; number = refl; one = omega arith; some = (omega arith, tt); apart = (tt, tt) };
   stamps = small_stamp ∷ [];
   are = stamped;
   moves = small_founding;
@@ -372,8 +289,8 @@ creates block = record {
     refl,
     (
       (refl, λ s is. absurd is),
-      own_acts (host_by (Takes 7 0) (host_by (Names 7) (host_by (Hears 1) small_host)))
-          (bare small_stamp.made ++ (Bears small_birth ∷ does 7 small_founding)) refl refl,
+      own_bare small_pool.0 (host_by (Takes small_pool.0 0) (host_by (Names small_pool.0) (host_by (Hears 1) small_host))) small_stamp.made
+          (Bears small_birth ∷ does small_pool.0 small_founding) refl refl (λ x mine. (refl, own_does small_pool.0 (host_by (Bears small_birth) x) small_founding mine refl)),
     ),
   );
   says = refl;
@@ -383,8 +300,14 @@ create_row : (block : List ℕ) → HostRow (small_codec block) (host_by (Hears 
 create_row block = inl (inr (inr (creates block)), all_made (host_by (Hears 1) small_host) (calls_along small_create.acts) refl refl)
 
 -- Behind it the pool is open, and nothing else is.
-pools_made : (host_along (acts_of small_create) small_host).pools ≡ small_made ∷ []
-pools_made = refl
+abbrev host_made : Host
+host_made = host_along (acts_of small_create) small_host
+
+abbrev host_born : Host
+host_born = host_along (Hears 1 ∷ (Names small_pool.0 ∷ (stamp_acts small_pool.0 (small_stamp ∷ []) ++ (Bears small_birth ∷ [])))) small_host
+
+made_open : HasOpen host_made small_made
+made_open = open_along small_founding host_born small_state refl (record { table = refl; pools = refl; owner = refl })
 
 -- The places of its top that are open: the first so many sectors.
 abbrev places_below : (n : ℕ) → List (ℕ × ℕ)
@@ -445,10 +368,7 @@ small_open = record {
       (subst (λ x. sector < small_made.core.room x) (sym at.0) (subst (λ n. sector < n) (sym (small_room 1)) at.1), nothing_used top sector);
 }
 
--- The write and the read are lines.
-abbrev host_made : Host
-host_made = host_along (acts_of small_create) small_host
-
+-- The write, the read and the sync are rows.
 write_row : (block : List ℕ) → RowWrite small_made 0 block (Puts 0 block ∷ []) Taken
 write_row block = inr (omega arith, (64, small_open, (refl, refl)))
 
@@ -484,11 +404,7 @@ small_dirty : (block : List ℕ) → length block ≡ 4096 → AreDirtyKeys (sma
 small_dirty block long = record {
   takes = λ a. taken_by (a == 0) (cell_on (small_branch block) 0) ∙ ap (λ t. cond t (Some block) None) (one_test a);
   up = λ level index j cell low below is. let has = branch_is (small_branch block) (key level (64 * index + j)) cell is in
-      let none = has.0 in (
-        cell_on (small_branch block) (suc level),
-        branch_has (small_branch block) (suc level) index (omega (arith, none))
-            (omega (arith, low)),
-      );
+      let none = has.0 in (cell_on (small_branch block) (suc level), branch_has (small_branch block) (suc level) index (omega (arith, none)) (omega (arith, low)));
   only = λ level index cell low is. let has = branch_is (small_branch block) (key (suc level) index) cell is in record {
     j = 0;
     below = omega arith;
@@ -530,6 +446,11 @@ small_places block = record {
     }
     given k cell top sector low one (inr (same, less)) = absurd (omega (arith, less, one))
 
+few_ranges : (block : List ℕ)
+    → ranges_together 2 (step (Freeze (branch_cells (small_branch block)) (up_devs small_made.core.leaves)) (small_written block).core).leaves ≤ 4096
+unfolding ranges_upto
+few_ranges block = omega arith
+
 small_frozen : (block : List ℕ) → length block ≡ 4096 → RowFreeze (small_codec block) (small_written block) (small_freeze block)
 small_frozen block long = record {
   idle = refl;
@@ -538,7 +459,7 @@ small_frozen block long = record {
   cells = branch_cells (small_branch block);
   dirty = small_dirty block long;
   places = small_places block;
-  moves = refl;
+  moves = record { widens = []; are = few_ranges block; moves = refl };
 }
 
 -- A write turn of a key.
@@ -557,11 +478,10 @@ turn_part block level s low frozen unflushed cells undone done board = record {
   made = all_answered (write_plan (cell_on (small_branch block) level) small_member);
   results = true ∷ [];
   calls = subst (λ ms. IsPhase (write_plan (cell_on (small_branch block) level)) ms (map (λ m. true) ms) (true ∷ [])
-      (all_answered (write_plan (cell_on (small_branch block) level) small_member))) (sym board)
-      (one_phase (write_plan (cell_on (small_branch block) level)) refl);
-  moves = subst (λ ms. small_turn block level ≡ turn_moves (all_answered (write_plan (cell_on (small_branch block) level) small_member)) ms (true ∷ [])
-      (Wrote_key (key level 0)))
-      (sym board) refl;
+      (all_answered (write_plan (cell_on (small_branch block) level) small_member))) (sym board) (one_phase (write_plan (cell_on (small_branch block) level)) refl);
+  leaving = [];
+  leaves = subst (λ ms. AreLeaves s.core ms (true ∷ []) []) (sym board) refl;
+  moves = refl;
 }
   where
     least : (j : Key) (other : Cell) → branch_cells (small_branch block) j ≡ Some other → s.core.group.done j ≡ false → IsBefore j (key level 0) → ⊥
@@ -580,9 +500,9 @@ small_write_turn block level c s low frozen unflushed cells undone done board so
     (subst (λ top. StartsBy top c (size_in small_table) s (small_turn block level) WriteTurn) (sym some) (inl (record {
       part = small_turn block level;
       row = turn_part block level s low frozen unflushed cells undone done board;
-      turn = subst (λ ms. IsTurnOf s (small_turn block level) ms (true ∷ []) [] WriteTurn (small_turn block level) WriteTurn) (sym board) (record {
+      turn = subst (λ ms. IsTurnOf s (small_turn block level) ms (true ∷ []) WriteTurn (small_turn block level) WriteTurn) (sym board) (record {
         ending = [];
-        ends = subst (λ top. EndsBy top (steps (small_turn block level) s) [] WriteTurn [] WriteTurn) (sym still) (refl, refl);
+        ends = subst (λ top. EndsBy top (steps (small_turn block level) s) false WriteTurn [] WriteTurn) (sym still) (refl, refl);
         moves = refl;
       });
     })))
@@ -602,13 +522,14 @@ small_flush_turn block c s frozen unflushed cells done board some still =
             subst (λ j. s.core.group.done j ≡ true) (sym (level_key k has.0)) (done k.level has.1);
         made = all_answered (flush_plan small_member);
         results = true ∷ [];
-        calls = subst (λ ms. IsPhase flush_plan ms (map (λ m. true) ms) (true ∷ []) (all_answered (flush_plan small_member))) (sym board)
-            (one_phase flush_plan refl);
-        moves = subst (λ ms. small_flush ≡ turn_moves (all_answered (flush_plan small_member)) ms (true ∷ []) Flushed_all) (sym board) refl;
+        calls = subst (λ ms. IsPhase flush_plan ms (map (λ m. true) ms) (true ∷ []) (all_answered (flush_plan small_member))) (sym board) (one_phase flush_plan refl);
+        leaving = [];
+        leaves = subst (λ ms. AreLeaves s.core ms (true ∷ []) []) (sym board) refl;
+        moves = refl;
       };
-      turn = subst (λ ms. IsTurnOf s small_flush ms (true ∷ []) [] FlushTurn small_flush FlushTurn) (sym board) (record {
+      turn = subst (λ ms. IsTurnOf s small_flush ms (true ∷ []) FlushTurn small_flush FlushTurn) (sym board) (record {
         ending = [];
-        ends = subst (λ top. EndsBy top (steps small_flush s) [] FlushTurn [] FlushTurn) (sym still) (refl, refl);
+        ends = subst (λ top. EndsBy top (steps small_flush s) false FlushTurn [] FlushTurn) (sym still) (refl, refl);
         moves = refl;
       });
     }))))
@@ -633,8 +554,7 @@ none_done : (block : List ℕ) → AreDone block 0
 none_done block i less = absurd (omega (arith, less))
 
 one_done : (block : List ℕ) → AreDone block 1
-one_done block = each_low 1 (λ i. (small_at block 1).core.group.done (key i 0) ≡ true) (λ l. refl) (λ l. absurd (omega (arith, l)))
-    (λ l. absurd (omega (arith, l)))
+one_done block = each_low 1 (λ i. (small_at block 1).core.group.done (key i 0) ≡ true) (λ l. refl) (λ l. absurd (omega (arith, l))) (λ l. absurd (omega (arith, l)))
     (λ l. absurd (omega (arith, l))) (omega arith)
 
 two_done : (block : List ℕ) → AreDone block 2
@@ -642,8 +562,7 @@ two_done block = each_low 2 (λ i. (small_at block 2).core.group.done (key i 0) 
     (λ l. absurd (omega (arith, l))) (omega arith)
 
 three_done : (block : List ℕ) → AreDone block 3
-three_done block = each_low 3 (λ i. (small_at block 3).core.group.done (key i 0) ≡ true) (λ l. refl) (λ l. refl) (λ l. refl) (λ l. absurd (omega (arith, l)))
-    (omega arith)
+three_done block = each_low 3 (λ i. (small_at block 3).core.group.done (key i 0) ≡ true) (λ l. refl) (λ l. refl) (λ l. refl) (λ l. absurd (omega (arith, l))) (omega arith)
 
 all_done : (block : List ℕ) → AreDone block 4
 all_done block = each_low 4 (λ i. (small_at block 4).core.group.done (key i 0) ≡ true) (λ l. refl) (λ l. refl) (λ l. refl) (λ l. refl) (omega arith)
@@ -679,10 +598,9 @@ unfolding round_made
 small_round_turn block = inr (inr (record {
   part = small_last block;
   whole = true;
-  row = round_made (small_codec block) (steps small_flush (small_at block 4)).core
-      (small_draft 2 (steps small_flush (small_at block 4))) refl refl refl refl refl refl
+  row = round_made (small_codec block) (steps small_flush (small_at block 4)).core (small_draft 2 (steps small_flush (small_at block 4))) refl refl refl refl refl refl
       (small_fits block) refl refl refl;
-  own = record { volume = refl; top_numbers = refl; next = refl };
+  own = record { volume = refl; top_numbers = refl; children_are = refl; spares_are = refl; next = refl };
   behind = small_last block;
   counted = refl;
   ending = [];
@@ -690,8 +608,7 @@ small_round_turn block = inr (inr (record {
   moves = refl;
 }))
 
-sync_row : (block : List ℕ) → length block ≡ 4096 → RowSync (small_codec block) (size_in small_table) (small_written block) (small_sync block)
-    (Ended (Committed 2))
+sync_row : (block : List ℕ) → length block ≡ 4096 → RowSync (small_codec block) (size_in small_table) (small_written block) (small_sync block) (Ended (Committed 2))
 sync_row block long = (
   None,
   (64, small_open, refl),
@@ -732,57 +649,58 @@ sync_row block long = (
   ),
 )
 
+-- They are lines of a host that has the pool.
+write_line : (block : List ℕ) (h : Host) → HasOpen h small_made
+    → OnPool (named small_name h.pools) (WriteLine h 0 block) (does small_pool.0 (Puts 0 block ∷ [])) (To_write Taken)
+write_line block h has = subst (λ pools. OnPool (named small_name pools) (WriteLine h 0 block) (does small_pool.0 (Puts 0 block ∷ [])) (To_write Taken)) (sym has.pools)
+    (Taken, refl, record { moves = Puts 0 block ∷ []; row = write_row block; are = refl; own = own_does small_pool.0 h (Puts 0 block ∷ []) has.owner refl })
+
+read_line : (block : List ℕ) (h : Host) → HasOpen h (small_written block)
+    → OnPool (named small_name h.pools) (ReadLine h 0) (Marks small_pool.0 (Gives_for 0 (Gives block)) ∷ []) (To_read (Gives block))
+read_line block h has = subst (λ pools. OnPool (named small_name pools) (ReadLine h 0) (Marks small_pool.0 (Gives_for 0 (Gives block)) ∷ []) (To_read (Gives block))) (sym has.pools)
+    (Gives block, refl, record { moves = []; row = read_row block; are = refl; own = (refl, tt) })
+
+sync_line : (block : List ℕ) (h : Host) → length block ≡ 4096 → HasOpen h (small_written block)
+    → OnPool (named small_name h.pools) (SyncLine (small_codec block) h) (does small_pool.0 (small_sync block)) (To_sync (Ended (Committed 2)))
+sync_line block h long has =
+    subst (λ pools. OnPool (named small_name pools) (SyncLine (small_codec block) h) (does small_pool.0 (small_sync block)) (To_sync (Ended (Committed 2)))) (sym has.pools) (
+      Ended (Committed 2),
+      refl,
+      record {
+        moves = small_sync block;
+        row = subst (λ table. RowSync (small_codec block) (size_in table) (small_written block) (small_sync block) (Ended (Committed 2))) (sym has.table) (sync_row block long);
+        are = refl;
+        own = own_does small_pool.0 h (small_sync block) has.owner refl;
+      },
+    )
+
 -- The lines, one after another.
 abbrev host_written : (block : List ℕ) → Host
-host_written block = host_along (Hears 2 ∷ does 7 (Puts 0 block ∷ [])) host_made
+host_written block = host_along (Hears 2 ∷ does small_pool.0 (Puts 0 block ∷ [])) host_made
 
 abbrev host_read : (block : List ℕ) → Host
-host_read block = host_along (Hears 3 ∷ (Marks 7 (Gives_for 0 (Gives block)) ∷ [])) (host_written block)
+host_read block = host_along (Hears 3 ∷ (Marks small_pool.0 (Gives_for 0 (Gives block)) ∷ [])) (host_written block)
+
+written_open : (block : List ℕ) → HasOpen (host_written block) (small_written block)
+written_open block = open_along (Puts 0 block ∷ []) (host_by (Hears 2) host_made) small_made refl (heard 2 host_made small_made made_open)
+
+read_open : (block : List ℕ) → HasOpen (host_read block) (small_written block)
+read_open block = heard 3 (host_written block) (small_written block) (written_open block)
 
 pub small_runs : (block : List ℕ) → length block ≡ 4096 → IsRun (small_codec block) small_host (small_create ∷ small_later block)
 small_runs block long = (
   create_row block,
   (
-    inl (
-      (
-        Taken,
-        refl,
-        record {
-          moves = Puts 0 block ∷ [];
-          row = write_row block;
-          are = refl;
-          own = own_acts (host_by (Hears 2) host_made) (does 7 (Puts 0 block ∷ [])) refl refl;
-        },
-      ),
-      all_made (host_by (Hears 2) host_made) [] refl refl,
-    ),
+    inl (write_line block (host_by (Hears 2) host_made) (heard 2 host_made small_made made_open), all_made (host_by (Hears 2) host_made) [] made_open.table refl),
     (
       inl (
-        (
-          Gives block,
-          refl,
-          record {
-            moves = [];
-            row = read_row block;
-            are = refl;
-            own = own_acts (host_by (Hears 3) (host_written block)) (Marks 7 (Gives_for 0 (Gives block)) ∷ []) refl refl;
-          },
-        ),
-        all_made (host_by (Hears 3) (host_written block)) [] refl refl,
+        read_line block (host_by (Hears 3) (host_written block)) (heard 3 (host_written block) (small_written block) (written_open block)),
+        all_made (host_by (Hears 3) (host_written block)) [] (written_open block).table refl,
       ),
       (
         inl (
-          (
-            Ended (Committed 2),
-            refl,
-            record {
-              moves = small_sync block;
-              row = sync_row block long;
-              are = refl;
-              own = own_acts (host_by (Hears 4) (host_read block)) (does 7 (small_sync block)) refl refl;
-            },
-          ),
-          all_made (host_by (Hears 4) (host_read block)) (calls_along (does 7 (small_sync block))) refl refl,
+          sync_line block (host_by (Hears 4) (host_read block)) long (heard 4 (host_read block) (small_written block) (read_open block)),
+          all_made (host_by (Hears 4) (host_read block)) (calls_along (does small_pool.0 (small_sync block))) (read_open block).table refl,
         ),
         tt,
       ),
@@ -801,17 +719,17 @@ does_fair c g (v ∷ vs) p = (tt, does_fair c g vs (pool_by (Does g v) p))
 
 -- behind the creation
 abbrev pool_made : Pool
-pool_made = pool_along (commit_acts Created 7 small_founding) (pool_of small_born)
+pool_made = pool_along (commit_acts Created small_pool.0 small_founding) (pool_of small_born)
 
-made_number : pool_made.pool.0 ≡ 7
-made_number = ap (λ n. n.0) (acts_number (commit_acts Created 7 small_founding) (pool_of small_born))
+made_number : pool_made.pool.0 ≡ small_pool.0
+made_number = ap (λ n. n.0) (acts_number (commit_acts Created small_pool.0 small_founding) (pool_of small_born))
 
-put_written : (block : List ℕ) (p : Pool) → p.pool.0 ≡ 7 → (pool_by (Does 7 (Puts 0 block)) p).written 0 ≡ block
-put_written block p number = ap (λ t. (pool_after (cond t (Accepts 0 block ∷ []) []) p).written 0) (same_number p.pool.0 7 number)
+put_written : (block : List ℕ) (p : Pool) → p.pool.0 ≡ small_pool.0 → (pool_by (Does small_pool.0 (Puts 0 block)) p).written 0 ≡ block
+put_written block p number = ap (λ t. (pool_after (cond t (Accepts 0 block ∷ []) []) p).written 0) (same_number p.pool.0 small_pool.0 number)
 
 pub small_fair : (block : List ℕ) → AreFair (small_codec block) (pool_of small_born) (small_rest block)
-small_fair block = fair_more (small_codec block) (commit_acts Created 7 small_founding) (acts_in (small_later block)) (pool_of small_born)
-    (does_fair (small_codec block) 7 small_founding (pool_of small_born)) (
+small_fair block = fair_more (small_codec block) (commit_acts Created small_pool.0 small_founding) (acts_in (small_later block)) (pool_of small_born)
+    (does_fair (small_codec block) small_pool.0 small_founding (pool_of small_born)) (
       tt,
       (
         tt,
@@ -821,8 +739,8 @@ small_fair block = fair_more (small_codec block) (commit_acts Created 7 small_fo
             (λ number clash. clash.other (sym (put_written block pool_made made_number))),
             (
               tt,
-              fair_more (small_codec block) (does 7 (small_sync block)) [] (pool_by (Does 7 (Puts 0 block)) pool_made)
-                  (does_fair (small_codec block) 7 (small_sync block) (pool_by (Does 7 (Puts 0 block)) pool_made)) tt,
+              fair_more (small_codec block) (does small_pool.0 (small_sync block)) [] (pool_by (Does small_pool.0 (Puts 0 block)) pool_made)
+                  (does_fair (small_codec block) small_pool.0 (small_sync block) (pool_by (Does small_pool.0 (Puts 0 block)) pool_made)) tt,
             ),
           ),
         ),
@@ -847,11 +765,10 @@ one_name name d is = by (bytes_eq small_device name) refl is
     by false same at = absurd (cc)
 
 small_headline : (block : List ℕ) → length block ≡ 4096
-    → Headline (small_codec block) small_born (host_by (Bears small_birth) (host_stamped (host_by (Hears 1) small_host) 7 (small_stamp ∷ [])))
-    (commit_acts Created 7 small_founding) (small_later block)
+    → Headline (small_codec block) small_born (host_by (Bears small_birth) (host_stamped (host_by (Hears 1) small_host) small_pool.0 (small_stamp ∷ [])))
+    (commit_acts Created small_pool.0 small_founding) (small_later block)
 unfolding creates
-small_headline block long = born_headline (small_codec block) (host_by (Hears 1) small_host) small_name 1 small_tops small_create.acts small_create.reply
-    (small_later block) (creates block)
+small_headline block long = born_headline (small_codec block) (host_by (Hears 1) small_host) small_name 1 small_tops small_create.acts small_create.reply (small_later block) (creates block)
     (record { number = λ s is. absurd is; names = one_name }) (small_runs block long).1
 
 take_all : {A : Type 0} (xs : List A) → take (length xs) xs ≡ xs
@@ -859,9 +776,9 @@ take_all [] = refl
 take_all (x ∷ xs) = ap (λ more. x ∷ more) (take_all xs)
 
 small_left : (block : List ℕ) → length block ≡ 4096 → Left (small_codec block) (small_past block)
-    (host_along (small_rest block) (host_by (Bears small_birth) (host_stamped (host_by (Hears 1) small_host) 7 (small_stamp ∷ []))))
+    (host_along (small_rest block) (host_by (Bears small_birth) (host_stamped (host_by (Hears 1) small_host) small_pool.0 (small_stamp ∷ []))))
 small_left block long = subst (λ acts. Left (small_codec block) (then_all small_born (history acts (pool_of small_born)))
-    (host_along acts (host_by (Bears small_birth) (host_stamped (host_by (Hears 1) small_host) 7 (small_stamp ∷ []))))) (take_all (small_rest block))
+    (host_along acts (host_by (Bears small_birth) (host_stamped (host_by (Hears 1) small_host) small_pool.0 (small_stamp ∷ []))))) (take_all (small_rest block))
     ((small_headline block long).left (record {
       count = length (small_rest block);
       fair = subst (AreFair (small_codec block) (pool_of small_born)) (sym (take_all (small_rest block))) (small_fair block);

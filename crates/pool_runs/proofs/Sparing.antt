@@ -26,8 +26,7 @@ own_plain g owner (Flush dev fault) own = tt
 own_plain g owner (Admit dev holds) own = own
 own_plain g owner (Eject dev) own = own
 
-own_untouched : (g : ℕ) (owner : ℕ → Option ℕ) (p : Pool) (call : Call) → ((d k : ℕ) → owner d ≡ Some k → k ≢ p.pool.0 → p.member d ≡ false) → g ≢ p.pool.0
-    → IsOwnCall g owner call
+own_untouched : (g : ℕ) (owner : ℕ → Option ℕ) (p : Pool) (call : Call) → ((d k : ℕ) → owner d ≡ Some k → k ≢ p.pool.0 → p.member d ≡ false) → g ≢ p.pool.0 → IsOwnCall g owner call
     → (d s : ℕ) → p.member d ≡ true → touches call d s ≡ false
 own_untouched g owner p (Read dev at bytes fault) apart off own d s is = refl
 own_untouched g owner p (Write dev at bytes fault) apart off own d s is = by_bool (dev == d)
@@ -38,8 +37,6 @@ own_untouched g owner p (Admit dev holds) apart off own d s is = absurd own
 own_untouched g owner p (Eject dev) apart off own d s is = absurd own
 
 -- a call of another pool
-pub other_call : (c : Codec) (g : ℕ) (owner : ℕ → Option ℕ) (p : Pool) (noted : Noted) → ((d k : ℕ) → owner d ≡ Some k → k ≢ p.pool.0 → p.member d ≡ false)
-    → g ≢ p.pool.0
+pub other_call : (c : Codec) (g : ℕ) (owner : ℕ → Option ℕ) (p : Pool) (noted : Noted) → ((d k : ℕ) → owner d ≡ Some k → k ≢ p.pool.0 → p.member d ≡ false) → g ≢ p.pool.0
     → IsOwnCall g owner noted.call → Mays c p (Calls noted ∷ [])
-other_call c g owner p noted apart off own =
-    (untouched_sparing p noted.call (own_plain g owner noted.call own) (own_untouched g owner p noted.call apart off own), tt)
+other_call c g owner p noted apart off own = (untouched_sparing p noted.call (own_plain g owner noted.call own) (own_untouched g owner p noted.call apart off own), tt)

@@ -1,147 +1,37 @@
 -- What counts tell of lines that are suspended, or told a device that failed.
-use Rattle.std.proofs.Common.{
-  ◌≡◌,
-  ◌⊎◌,
-  inl,
-  inr,
-  ⊎_elim,
-  ℕ,
-  zero,
-  suc,
-  ◌+◌,
-  ◌==◌,
-  ◌&&◌,
-  ◌||◌,
-  nat_le,
-  nat_lt,
-  Bool,
-  true,
-  false,
-  cond,
-  List,
-  [],
-  ◌∷◌,
-  ◌++◌,
-  map,
-  take,
-  length,
-  Option,
-  Some,
-  None,
-  refl,
-  sym,
-  ap,
-  ◌∙◌,
-  subst,
-  append-nil,
-  append_assoc,
-  arith,
-}
+use Rattle.std.proofs.Common.{◌≡◌, ◌⊎◌, inl, inr, ⊎_elim, ℕ, ◌==◌, ◌&&◌, ◌||◌, nat_le, Bool, true, false, cond, List, [], ◌∷◌, ◌++◌, map, length, Option, Some, None, refl, sym, ap, ◌∙◌, subst, append-nil, append_assoc, arith}
 use Rattle.std.specs.List.{AllByRecursion, list_any}
-use Rattle.std.specs.Prelude.{remove, drop}
 use Rattle.std.specs.Option.{is_some}
 use Rattle.std.proofs.lemmas.Bool.Decides.{nat_tests}
-use Rattle.mp_base.specs.Outside.{Rose}
 use Rattle.mp_base.specs.declared.number.Guid.{Guid}
-use Rattle.bank_core.specs.declared.bank.Fault.{Fault}
-use Rattle.bank_core.specs.Asks.{IsPart}
 use Rattle.bank_core.specs.Calls.{AllCaused}
 use Rattle.bank_core.specs.Disk.{Noted}
 use Rattle.label_store.specs.declared.found.Found.{Found}
 use Rattle.label_store.specs.declared.member.Member.{Member}
-use Rattle.label_store.specs.Plans.{stamp_plan}
 use Rattle.vdev_tree.specs.Leaf.{is_up}
 use Rattle.txg_history.specs.Pages.{LeafKept, Codec}
 use Rattle.txg_history.specs.Rounds.{all_true}
-use Rattle.txg_history.proofs.Logging.{same_device}
 use Rattle.pool_moves.specs.Boards.{board_of}
 use Rattle.pool_moves.specs.FreezeRow.{is_dev}
-use Rattle.pool_moves.specs.Leaves.{LeafSeen, Seat}
-use Rattle.pool_moves.specs.LineRows.{TurnReply, Idle, Write, Flush, Round, Committed, Suspended, SyncReply, CommitsOpen, RowTurn, RowSync}
-use Rattle.pool_moves.specs.Moves.{Move, Flushed_all, Lose, steps}
+use Rattle.pool_moves.specs.Leaves.{LeafSeen}
+use Rattle.pool_moves.specs.LineRows.{TurnReply, Idle, Write, Flush, Round, Committed, Suspended, SyncReply, RowTurn, RowSync}
+use Rattle.pool_moves.specs.Moves.{Move, Flushed_all, steps}
 use Rattle.pool_moves.specs.Opened.{opened_leaves}
-use Rattle.pool_moves.specs.OpeningRow.{
-  SeekReply,
-  NoRecord,
-  NumbersEnd,
-  TakesRecord,
-  OpenReply,
-  Opens_state,
-  NoPage,
-  RowOpen,
-  RowResume,
-  is_up_under,
-  lacking_of,
-}
+use Rattle.pool_moves.specs.OpeningRow.{SeekReply, NoRecord, NumbersEnd, TakesRecord, OpenReply, Opens_state, NoPage, RowOpen, RowResume, is_up_under, lacking_of}
 use Rattle.pool_moves.specs.ReadRow.{made_in}
-use Rattle.pool_moves.specs.Refusing.{FreezeRefusal, last_number, is_writable_under, unwritable_of, unwritable, IsRefused}
-use Rattle.pool_moves.specs.StampRow.{
-  NewLeaf,
-  leaf_at,
-  is_leaf_at,
-  Stamp,
-  calls_of_stamps,
-  AreStamps,
-  new_leaf_seen,
-  new_state,
-  CreateReply,
-  Created,
-  FaultOn,
-  first_failed,
-  found_reply,
-}
+use Rattle.pool_moves.specs.Refusing.{is_writable_under, unwritable_of, unwritable}
+use Rattle.pool_moves.specs.StampRow.{NewLeaf, leaf_at, is_leaf_at, Stamp, calls_of_stamps, AreStamps, new_leaf_seen, new_state, CreateReply, Created, FaultOn, first_failed, found_reply}
 use Rattle.pool_moves.specs.States.{PoolState}
-use Rattle.pool_moves.specs.AwayRows.{leaf_named}
-use Rattle.pool_moves.specs.TreeRows.{
-  Graft,
-  TreeRefusal,
-  graft_refusal,
-  new_number,
-  place_named,
-  goes_out,
-  GraftReply,
-  DeviceFault,
-  GraftEnds,
-  GraftOn,
-  GraftAt,
-  GraftFor,
-  RowGraft,
-  DetachReply,
-  Undone,
-  DetachBehind,
-  CommitsWithout,
-  DetachFor,
-  DetachLeaf,
-  DetachBy,
-  RowDetach,
-}
-use Rattle.pool_moves.specs.Walking.{as_moves}
 use Rattle.pool_runs.specs.Acts.{Act, Looked, Enters, Bears, Closes, does, calls_of_act, calls_along}
 use Rattle.pool_runs.specs.Committing.{opening_in}
-use Rattle.pool_runs.specs.Counting.{RoseAt, HasLostBoard, IsSuspended, SuspendsSync, LacksTop, FailsOpening}
-use Rattle.pool_runs.specs.Creating.{tops_of, leaves_of, has_leaf_at, new_birth, stamp_acts, commit_acts, RowCreate}
-use Rattle.pool_runs.specs.Devices.{number_in, size_in}
-use Rattle.pool_runs.specs.Hosts.{Host, named}
+use Rattle.pool_runs.specs.Counting.{has_leaf_at, RoseAt, HasLostBoard, IsSuspended, SuspendsSync, LacksTop, FailsOpening}
+use Rattle.pool_runs.specs.Creating.{tops_of, leaves_of, new_birth, stamp_acts, commit_acts, RowCreate}
+use Rattle.pool_runs.specs.Devices.{size_in}
+use Rattle.pool_runs.specs.Hosts.{Host, free_in, named}
 use Rattle.pool_runs.specs.Importing.{OpensBy, FollowsMap, OpensFound, ImportBy, host_behind, Imports, ImportFor, ImportUnless, RowImport}
 use Rattle.pool_runs.specs.Lines.{Reply, To_import, To_create, Unopened}
 use Rattle.pool_runs.proofs.Answering.{does_calls}
-use Rattle.pool_runs.proofs.Counting.{
-  NoFault,
-  fault_or,
-  Answered,
-  answered_first,
-  answered_second,
-  commits_fine,
-  none_unwritable,
-  OwnDev,
-  AreOwnLeaves,
-  turn_suspends,
-  sync_suspends,
-  resume_fine,
-  stamp_fine,
-  found_fine,
-  line_answered,
-}
+use Rattle.pool_runs.proofs.Counting.{NoFault, fault_or, OwnDev, AreOwnLeaves, turn_suspends, sync_suspends, resume_fine, stamp_fine, found_fine, line_answered}
 use Rattle.pool_runs.proofs.Stamps.{stamp_calls}
 use Rattle.pool_runs.proofs.Finding.{opening_bare}
 use Rattle.pool_runs.proofs.Importing.{bare_calls, opening_of, opening_calls}
@@ -190,8 +80,7 @@ opened_up (leaf ∷ leaves) (Some d ∷ devs) = (and_true (is_up leaf.mode), ope
 
 any_up : (top : ℕ) (leaves : List LeafSeen) → AllByRecursion IsFoundUp leaves → list_any (is_writable_under top) leaves ≡ list_any (is_up_under top) leaves
 any_up top [] all = refl
-any_up top (leaf ∷ leaves) all = ap (λ t. (t && (leaf.top == top)) || list_any (is_writable_under top) leaves) all.0
-    ∙ ap (λ rest. is_up_under top leaf || rest) (any_up top leaves all.1)
+any_up top (leaf ∷ leaves) all = ap (λ t. (t && (leaf.top == top)) || list_any (is_writable_under top) leaves) all.0 ∙ ap (λ rest. is_up_under top leaf || rest) (any_up top leaves all.1)
 
 lacks_unwritable : (all leaves : List LeafSeen) → AllByRecursion IsFoundUp all → unwritable_of all leaves ≡ lacking_of all leaves
 lacks_unwritable all [] up = refl
@@ -199,10 +88,9 @@ lacks_unwritable all (leaf ∷ leaves) up = ap (λ t. cond t (unwritable_of all 
     ∙ ap (λ rest. cond (list_any (is_up_under leaf.top) all) rest (Some leaf.top)) (lacks_unwritable all leaves up)
 
 -- An opening that was suspended.
-opened_is : (c : Codec) (size : ℕ → ℕ) (handed : List ℕ → Option ℕ) (name : List ℕ) (found : Found) (made : List Noted) (outcome : OpenReply)
-    (row : RowOpen c size handed name found made outcome)
+opened_is : (c : Codec) (size : ℕ → ℕ) (handed : List ℕ → Option ℕ) (name : List ℕ) (found : Found) (made : List Noted) (outcome : OpenReply) (row : RowOpen c size handed name found made outcome)
     (s : PoolState) → outcome ≡ Opens_state s → s.core.leaves ≡ opened_leaves (c.leaves found.blob.items) row.devs
-opened_is c size handed name found made (Opens_state x) row s out = ap (λ y. y.core.leaves) (sym (one x s out) ∙ row.ends.2)
+opened_is c size handed name found made (Opens_state x) row s out = ap (λ y. y.core.leaves) (sym (one x s out) ∙ row.ends.1)
   where
     one : (a b : PoolState) → Opens_state a ≡ Opens_state b → a ≡ b
     one a b e = cc
@@ -214,14 +102,12 @@ none_second own (noted ∷ a) b all = none_second own a b all.1
 
 calls_more : (first second : List Act) → calls_along (first ++ second) ≡ calls_along first ++ calls_along second
 calls_more [] second = refl
-calls_more (act ∷ first) second = ap (λ l. calls_of_act act ++ l) (calls_more first second)
-    ∙ sym (append_assoc (calls_of_act act) (calls_along first) (calls_along second))
+calls_more (act ∷ first) second = ap (λ l. calls_of_act act ++ l) (calls_more first second) ∙ sym (append_assoc (calls_of_act act) (calls_along first) (calls_along second))
 
 closed_calls : (g : ℕ) (vs : List Move) → calls_along (does g vs ++ (Closes g ∷ [])) ≡ made_in vs
 closed_calls g vs = calls_more (does g vs) (Closes g ∷ []) ∙ (append-nil (calls_along (does g vs)) ∙ does_calls g vs)
 
-opens_suspended : (c : Codec) (h : Host) (name : List ℕ) (found : Found) (acts : List Act) (reply : Reply) (before : List Noted) (from to : ℕ → ℕ)
-    (group : ℕ) (top : Guid) (faults : ℕ)
+opens_suspended : (c : Codec) (h : Host) (name : List ℕ) (found : Found) (acts : List Act) (reply : Reply) (before : List Noted) (from to : ℕ → ℕ) (group : ℕ) (top : Guid) (faults : ℕ)
     → (opens : OpensFound c h name found acts reply) → AllCaused (before ++ calls_along acts) from to → reply ≡ To_import (Unopened group top faults)
     → RoseAt (among opens.row.devs) from to ⊎ LacksTop c (opening_of c h name found acts reply opens)
 opens_suspended c h name found acts reply before from to group top faults opens caused says = follow opens.outcome refl opens.follows
@@ -232,30 +118,26 @@ opens_suspended c h name found acts reply before from to group top faults opens 
     own : ℕ → Bool
     own = among opens.row.devs
 
-    suspended : (s : PoolState) (vs : List Move) (g n : ℕ) (t : Guid) (k : ℕ) → opens.outcome ≡ Opens_state s
-        → RowResume c (size_in h.table) s vs (Suspended n t k)
+    suspended : (s : PoolState) (vs : List Move) (g n : ℕ) (t : Guid) (k : ℕ) → opens.outcome ≡ Opens_state s → RowResume c (size_in h.table) s vs (Suspended n t k)
         → opens.rest ≡ Enters s ∷ (does g vs ++ (Closes g ∷ [])) → RoseAt own from to ⊎ LacksTop c (opening_of c h name found acts reply opens)
-    suspended s vs g n t k out row rest = ⊎_elim (λ none. by (lacking_of leaves leaves) refl (behind none)) (λ rose. inl rose)
-        (fault_or own (before ++ calls_along acts) from to caused)
+    suspended s vs g n t k out row rest = ⊎_elim (λ none. by (lacking_of leaves leaves) refl (behind none)) (λ rose. inl rose) (fault_or own (before ++ calls_along acts) from to caused)
       where
         are : s.core.leaves ≡ leaves
-        are = opened_is c (size_in h.table) (λ device. number_in device h.table) name found opens.made opens.outcome opens.row s out
+        are = opened_is c (size_in h.table) (free_in h) name found opens.made opens.outcome opens.row s out
 
         behind : AllByRecursion (NoFault own) (before ++ calls_along acts) → AllByRecursion (NoFault own) (made_in vs)
         behind none = subst (AllByRecursion (NoFault own)) (ap calls_along rest ∙ closed_calls g vs)
             (none_second own opens.made (calls_along opens.rest)
             (subst (AllByRecursion (NoFault own)) (opening_calls c h name found acts reply opens) (none_second own before (calls_along acts) none)))
 
-        by : (lack : Option ℕ) → lacking_of leaves leaves ≡ lack → AllByRecursion (NoFault own) (made_in vs)
-            → RoseAt own from to ⊎ LacksTop c (opening_of c h name found acts reply opens)
+        by : (lack : Option ℕ) → lacking_of leaves leaves ≡ lack → AllByRecursion (NoFault own) (made_in vs) → RoseAt own from to ⊎ LacksTop c (opening_of c h name found acts reply opens)
         by (Some x) is none = inr (x, is)
         by None is none = absurd (resume_fine own c (size_in h.table) s vs (Suspended n t k)
             (subst (λ l. unwritable l ≡ None) (sym are) (lacks_unwritable leaves leaves (opened_up (c.leaves found.blob.items) opens.row.devs) ∙ is))
             (subst (AreOwnLeaves own) (sym are) (opened_own_leaves (c.leaves found.blob.items) opens.row.devs))
             (line_answered own vs (made_in vs) refl none) row tt (subst (λ l. lacking_of l l ≡ None) (sym are) is))
 
-    by_turn : (turn : TurnReply) (s : PoolState) (vs : List Move) → opens.outcome ≡ Opens_state s → RowResume c (size_in h.table) s vs turn
-        → OpensBy turn found.pool.0 s vs opens.rest reply
+    by_turn : (turn : TurnReply) (s : PoolState) (vs : List Move) → opens.outcome ≡ Opens_state s → RowResume c (size_in h.table) s vs turn → OpensBy turn found.pool.0 s vs opens.rest reply
         → RoseAt own from to ⊎ LacksTop c (opening_of c h name found acts reply opens)
     by_turn (Committed m) s vs out row by = absurd (let no = sym by.1 ∙ says in cc)
     by_turn (Suspended n t k) s vs out row by = suspended s vs found.pool.0 n t k out row by.0
@@ -269,10 +151,8 @@ opens_suspended c h name found acts reply before from to group top faults opens 
     follow (Opens_state s) out row = by_turn row.1 s row.0 out row.2 row.3
     follow (NoPage page shown) out row = absurd (let no = sym row.1 ∙ says in cc)
 
-import_by : (seek : SeekReply) (c : Codec) (h : Host) (name : List ℕ) (acts : List Act) (reply : Reply) (before : List Noted) (from to : ℕ → ℕ) (group : ℕ)
-    (top : Guid) (faults : ℕ)
-    → ImportBy seek c h name acts reply → AllCaused (before ++ calls_along acts) from to → reply ≡ To_import (Unopened group top faults)
-    → FailsOpening c acts from to
+import_by : (seek : SeekReply) (c : Codec) (h : Host) (name : List ℕ) (acts : List Act) (reply : Reply) (before : List Noted) (from to : ℕ → ℕ) (group : ℕ) (top : Guid) (faults : ℕ)
+    → ImportBy seek c h name acts reply → AllCaused (before ++ calls_along acts) from to → reply ≡ To_import (Unopened group top faults) → FailsOpening c acts from to
 import_by NoRecord c h name acts reply before from to group top faults row caused says = absurd (let no = sym row.1 ∙ says in cc)
 import_by (NumbersEnd limit count) c h name acts reply before from to group top faults row caused says = absurd (let no = sym row.1 ∙ says in cc)
 import_by (TakesRecord found) c h name acts reply before from to group top faults row caused says = record {
@@ -281,8 +161,7 @@ import_by (TakesRecord found) c h name acts reply before from to group top fault
   why = opens_suspended c h name found acts reply before from to group top faults row caused says;
 }
 
-pub import_counts : (c : Codec) (h : Host) (name : List ℕ) (acts : List Act) (reply : Reply) (from to : ℕ → ℕ) (group : ℕ) (top : Guid) (faults : ℕ)
-    → RowImport c h name acts reply
+pub import_counts : (c : Codec) (h : Host) (name : List ℕ) (acts : List Act) (reply : Reply) (from to : ℕ → ℕ) (group : ℕ) (top : Guid) (faults : ℕ) → RowImport c h name acts reply
     → AllCaused (calls_along acts) from to → reply ≡ To_import (Unopened group top faults) → FailsOpening c acts from to
 import_counts c h name acts reply from to group top faults row caused says = unless (named name h.pools) row
   where
@@ -322,20 +201,16 @@ own_all : (leaves : List LeafSeen) → AreOwnLeaves (at_leaves leaves) leaves
 own_all [] = tt
 own_all (leaf ∷ leaves) = (own_here leaf leaves leaf.dev refl, own_up leaf leaves leaves (own_all leaves))
 
-pub turn_counts : (c : Codec) (h : Host) (s : PoolState) (vs : List Move) (reply : TurnReply) (from to : ℕ → ℕ) → RowTurn c (size_in h.table) s vs reply
-    → AllCaused (made_in vs) from to → IsSuspended reply
+pub turn_counts : (c : Codec) (h : Host) (s : PoolState) (vs : List Move) (reply : TurnReply) (from to : ℕ → ℕ) → RowTurn c (size_in h.table) s vs reply → AllCaused (made_in vs) from to → IsSuspended reply
     → RoseAt (λ d. has_leaf_at d s) from to ⊎ HasLostBoard s
 turn_counts c h s vs reply from to row caused bad = ⊎_elim
-    (λ none. inr (turn_suspends (at_leaves s.core.leaves) c (size_in h.table) s vs reply (own_all s.core.leaves)
-    (line_answered (at_leaves s.core.leaves) vs (made_in vs) refl none) row bad))
+    (λ none. inr (turn_suspends (at_leaves s.core.leaves) c (size_in h.table) s vs reply (own_all s.core.leaves) (line_answered (at_leaves s.core.leaves) vs (made_in vs) refl none) row bad))
     (λ rose. inl rose) (fault_or (at_leaves s.core.leaves) (made_in vs) from to caused)
 
-pub sync_counts : (c : Codec) (h : Host) (s : PoolState) (vs : List Move) (reply : SyncReply) (from to : ℕ → ℕ) → RowSync c (size_in h.table) s vs reply
-    → AllCaused (made_in vs) from to → SuspendsSync reply
+pub sync_counts : (c : Codec) (h : Host) (s : PoolState) (vs : List Move) (reply : SyncReply) (from to : ℕ → ℕ) → RowSync c (size_in h.table) s vs reply → AllCaused (made_in vs) from to → SuspendsSync reply
     → RoseAt (λ d. has_leaf_at d s) from to ⊎ HasLostBoard s
 sync_counts c h s vs reply from to row caused bad = ⊎_elim
-    (λ none. inr (sync_suspends (at_leaves s.core.leaves) c (size_in h.table) s vs reply (own_all s.core.leaves)
-    (line_answered (at_leaves s.core.leaves) vs (made_in vs) refl none) row bad))
+    (λ none. inr (sync_suspends (at_leaves s.core.leaves) c (size_in h.table) s vs reply (own_all s.core.leaves) (line_answered (at_leaves s.core.leaves) vs (made_in vs) refl none) row bad))
     (λ rose. inl rose) (fault_or (at_leaves s.core.leaves) (made_in vs) from to caused)
 
 -- Creates.
@@ -373,8 +248,7 @@ none_first own [] b all = tt
 none_first own (noted ∷ a) b all = (all.0, none_first own a b all.1)
 
 -- where no call on them failed all stamps are whole
-stamps_fine : (all : List NewLeaf) (pool : Guid) (size : ℕ → ℕ) (leaves : List NewLeaf) (stamps : List Stamp) (failed : Option NewLeaf) → AreFound all leaves
-    → AreStamps size pool leaves stamps failed
+stamps_fine : (all : List NewLeaf) (pool : Guid) (size : ℕ → ℕ) (leaves : List NewLeaf) (stamps : List Stamp) (failed : Option NewLeaf) → AreFound all leaves → AreStamps size pool leaves stamps failed
     → AllByRecursion (NoFault (at_new all)) (calls_of_stamps stamps) → failed ≡ None
 stamps_fine all pool size [] [] failed each are none = are
 stamps_fine all pool size [] (stamp ∷ stamps) failed each are none = absurd are
@@ -382,8 +256,7 @@ stamps_fine all pool size (leaf ∷ leaves) [] failed each are none = absurd are
 stamps_fine all pool size (leaf ∷ leaves) (stamp ∷ stamps) failed each (dev, inl whole) none =
     stamps_fine all pool size leaves stamps failed each.1 whole.1 (none_second (at_new all) stamp.made (calls_of_stamps stamps) none)
 stamps_fine all pool size (leaf ∷ leaves) (stamp ∷ stamps) failed each (dev, inr stop) none =
-    absurd (let no : Some stop.0 ≡ None = stamp_fine (at_new all) leaf.dev (size leaf.dev) pool leaf.guid stamp.made (Some stop.0) each.0 stop.1
-    (none_first (at_new all) stamp.made (calls_of_stamps stamps) none) in cc)
+    absurd (let no : Some stop.0 ≡ None = stamp_fine (at_new all) leaf.dev (size leaf.dev) pool leaf.guid stamp.made (Some stop.0) each.0 stop.1 (none_first (at_new all) stamp.made (calls_of_stamps stamps) none) in cc)
 
 all_fine : (ms : List Member) (results : List Bool) → all_true results ≡ true → first_failed ms results ≡ None
 all_fine [] results on = refl
@@ -394,10 +267,8 @@ all_fine (m ∷ ms) (false ∷ results) on = absurd (cc)
 fault_answer : (a b : CreateReply) → To_create a ≡ To_create b → a ≡ b
 fault_answer a b e = cc
 
-pub create_counts : (c : Codec) (h : Host) (name : List ℕ) (blocks : ℕ) (tops : List (List (List ℕ))) (acts : List Act) (reply : Reply) (device : List ℕ)
-    (from to : ℕ → ℕ)
-    → RowCreate c h name blocks tops acts reply → AllCaused (calls_along acts) from to → reply ≡ To_create (FaultOn device)
-    → RoseAt (λ d. is_leaf_at (leaf_at d (leaves_of h.table tops))) from to
+pub create_counts : (c : Codec) (h : Host) (name : List ℕ) (blocks : ℕ) (tops : List (List (List ℕ))) (acts : List Act) (reply : Reply) (device : List ℕ) (from to : ℕ → ℕ)
+    → RowCreate c h name blocks tops acts reply → AllCaused (calls_along acts) from to → reply ≡ To_create (FaultOn device) → RoseAt (λ d. is_leaf_at (leaf_at d (leaves_of h.table tops))) from to
 create_counts c h name blocks tops acts reply device from to (inl row) caused says = absurd (let no = sym row.3 ∙ says in cc)
 create_counts c h name blocks tops acts reply device from to (inr (inl row)) caused says = ⊎_elim
     (λ none. absurd (let no : Some row.leaf ≡ None = stamps_fine leaves row.pool (size_in h.table) leaves row.stamps (Some row.leaf) (found_all leaves) row.are
@@ -406,8 +277,7 @@ create_counts c h name blocks tops acts reply device from to (inr (inl row)) cau
   where
     leaves : List NewLeaf
     leaves = leaves_of h.table tops
-create_counts c h name blocks tops acts reply device from to (inr (inr row)) caused says = ⊎_elim (λ none. absurd (whole (fine none))) (λ rose. rose)
-    (fault_or (at_new leaves) (calls_along acts) from to caused)
+create_counts c h name blocks tops acts reply device from to (inr (inr row)) caused says = ⊎_elim (λ none. absurd (whole (fine none))) (λ rose. rose) (fault_or (at_new leaves) (calls_along acts) from to caused)
   where
     leaves : List NewLeaf
     leaves = leaves_of h.table tops
@@ -419,115 +289,15 @@ create_counts c h name blocks tops acts reply device from to (inr (inr row)) cau
     answer_is = fault_answer row.answer (FaultOn device) (sym row.says ∙ says)
 
     calls : calls_along acts ≡ calls_of_stamps row.stamps ++ made_in row.moves
-    calls = ap calls_along row.all ∙
-        (calls_more (stamp_acts row.pool.0 row.stamps) (Bears (new_birth name row.pool blocks h.table tops) ∷ commit_acts row.answer row.pool.0 row.moves)
+    calls = ap calls_along row.all ∙ (calls_more (stamp_acts row.pool.0 row.stamps) (Bears (new_birth name row.pool blocks h.table tops) ∷ commit_acts row.answer row.pool.0 row.moves)
         ∙ (ap (λ made. made ++ calls_along (commit_acts row.answer row.pool.0 row.moves)) (stamp_calls row.pool.0 row.stamps)
-        ∙ ap (λ made. calls_of_stamps row.stamps ++ made)
-        (ap (λ a. calls_along (commit_acts a row.pool.0 row.moves)) answer_is ∙ closed_calls row.pool.0 row.moves)))
+        ∙ ap (λ made. calls_of_stamps row.stamps ++ made) (ap (λ a. calls_along (commit_acts a row.pool.0 row.moves)) answer_is ∙ closed_calls row.pool.0 row.moves)))
 
     fine : AllByRecursion (NoFault (at_new leaves)) (calls_along acts) → all_true row.row.row.ends.results ≡ true
     fine none = found_fine (at_new leaves) c (size_in h.table) s row.moves row.row.whole (new_own_leaves leaves leaves (found_all leaves))
         (line_answered (at_new leaves) row.moves (made_in row.moves) refl
-        (none_second (at_new leaves) (calls_of_stamps row.stamps) (made_in row.moves)
-        (subst (AllByRecursion (NoFault (at_new leaves))) calls none))) row.row.row
+        (none_second (at_new leaves) (calls_of_stamps row.stamps) (made_in row.moves) (subst (AllByRecursion (NoFault (at_new leaves))) calls none))) row.row.row
 
     whole : all_true row.row.row.ends.results ≡ true → ⊥
     whole on = let no : Created ≡ FaultOn device = sym (row.row.says ∙ ap (λ m. found_reply m s.core.leaves)
         (all_fine (board_of (steps (row.row.row.first ++ (Flushed_all ∷ [])) s).core.leaves) row.row.row.ends.results on)) ∙ answer_is in cc
-
--- A detach that was undone, and a graft whose stamp failed.
-without_counts : (c : Codec) (size : ℕ → ℕ) (s : PoolState) (name : List ℕ) (at : LeafSeen) (seat : Seat) (vs : List Move) (reply : DetachReply)
-    (own : ℕ → Bool) (group : ℕ) (top : Guid) (faults : ℕ)
-    → CommitsWithout c size s name at seat vs reply → unwritable (steps (goes_out s name at) s).core.leaves ≡ None
-    → AreOwnLeaves own (steps (goes_out s name at) s).core.leaves
-    → AllByRecursion (Answered own) vs → reply ≡ Undone group top faults → ⊥
-without_counts c size s name at seat vs reply own group top faults row none mine all says = by row.turn row.commit row.behind
-  where
-    part : AllByRecursion (Answered own) row.part
-    part = answered_first own row.part row.rest
-        (answered_second own (goes_out s name at) (row.part ++ row.rest) (subst (AllByRecursion (Answered own)) row.moves all))
-
-    by : (turn : TurnReply) → CommitsOpen c size (steps (goes_out s name at) s) row.part turn → DetachBehind turn size s name at seat row.rest reply → ⊥
-    by (Committed number) commit behind = let no = sym behind.1 ∙ says in cc
-    by (Suspended g t k) commit behind = commits_fine own c size (steps (goes_out s name at) s) row.part (Suspended g t k) none mine part commit tt
-    by Idle commit behind = behind
-    by Write commit behind = behind
-    by Flush commit behind = behind
-    by (Round n) commit behind = behind
-
--- a list without one of its leaves is on the same devices
-take_own : (own : ℕ → Bool) (i : ℕ) (leaves : List LeafSeen) → AreOwnLeaves own leaves → AreOwnLeaves own (take i leaves)
-take_own own zero leaves all = tt
-take_own own (suc i) [] all = tt
-take_own own (suc i) (leaf ∷ leaves) all = (all.0, take_own own i leaves all.1)
-
-drop_own : (own : ℕ → Bool) (i : ℕ) (leaves : List LeafSeen) → AreOwnLeaves own leaves → AreOwnLeaves own (drop i leaves)
-drop_own own zero leaves all = all
-drop_own own (suc i) [] all = tt
-drop_own own (suc i) (leaf ∷ leaves) all = drop_own own i leaves all.1
-
-both_own : (own : ℕ → Bool) (a b : List LeafSeen) → AreOwnLeaves own a → AreOwnLeaves own b → AreOwnLeaves own (a ++ b)
-both_own own [] b x y = y
-both_own own (leaf ∷ a) b x y = (x.0, both_own own a b x.1 y)
-
-removed_own : (own : ℕ → Bool) (leaves : List LeafSeen) (i : ℕ) → AreOwnLeaves own leaves → AreOwnLeaves own (remove leaves i)
-removed_own own leaves i all = both_own own (take i leaves) (drop (suc i) leaves) (take_own own i leaves all) (drop_own own (suc i) leaves all)
-
-pub detach_counts : (c : Codec) (h : Host) (s : PoolState) (leaf : List ℕ) (seat : Seat) (vs : List Move) (reply : DetachReply) (from to : ℕ → ℕ) (group : ℕ)
-    (top : Guid) (faults : ℕ)
-    → RowDetach c (size_in h.table) s leaf seat vs reply → AllCaused (made_in vs) from to → reply ≡ Undone group top faults
-    → RoseAt (λ d. has_leaf_at d s) from to
-detach_counts c h s leaf seat vs reply from to group top faults row caused says = ⊎_elim (λ none. absurd (by (leaf_named leaf s.core.leaves) none row))
-    (λ rose. rose) (fault_or own (made_in vs) from to caused)
-  where
-    own : ℕ → Bool
-    own = at_leaves s.core.leaves
-
-    for : (at : LeafSeen) (refusal : Option FreezeRefusal) → AllByRecursion (NoFault own) (made_in vs) → IsRefused (steps (goes_out s leaf at) s) refusal
-        → DetachFor refusal c (size_in h.table) s leaf at seat vs reply → ⊥
-    for at (Some refusal) none is row = let no = sym row.1 ∙ says in cc
-    for at None none is row = without_counts c (size_in h.table) s leaf at seat vs reply own group top faults row
-        (none_unwritable own (nat_le last_number (steps (goes_out s leaf at) s).core.number) (unwritable (steps (goes_out s leaf at) s).core.leaves)
-        (steps (goes_out s leaf at) s) is)
-        (removed_own own s.core.leaves (place_named leaf s.core.leaves) (own_all s.core.leaves)) (line_answered own vs (made_in vs) refl none) says
-
-    leaf_by : (at : LeafSeen) (frozen : Bool) → AllByRecursion (NoFault own) (made_in vs) → DetachLeaf frozen c (size_in h.table) s leaf at seat vs reply → ⊥
-    leaf_by at true none row = let no = sym row.1 ∙ says in cc
-    leaf_by at false none (inl row) = let no = sym row.3 ∙ says in cc
-    leaf_by at false none (inr row) = for at row.1.0 none row.1.1 row.1.2
-
-    by : (found : Option LeafSeen) → AllByRecursion (NoFault own) (made_in vs) → DetachBy found c (size_in h.table) s leaf seat vs reply → ⊥
-    by None none row = let no = sym row.1 ∙ says in cc
-    by (Some at) none row = leaf_by at s.core.group.frozen none row
-
-pub graft_counts : (size : ℕ → ℕ) (graft : Graft) (s : PoolState) (name new : List ℕ) (d : ℕ) (vs : List Move) (reply : GraftReply) (from to : ℕ → ℕ)
-    → RowGraft size graft s name new d vs reply → AllCaused (made_in vs) from to → reply ≡ DeviceFault → Rose (from d) (to d)
-graft_counts size graft s name new d vs reply from to row caused says = ⊎_elim
-    (λ none. absurd (for (graft_refusal graft s name (leaf_named name s.core.leaves)) none row))
-    (λ rose. subst (λ e. Rose (from e) (to e)) (same_device rose.0 d rose.1) rose.2) (fault_or own (made_in vs) from to caused)
-  where
-    own : ℕ → Bool
-    own e = e == d
-
-    made_more : (made : List Noted) → made_in (Lose d ∷ as_moves made) ≡ made
-    made_more [] = refl
-    made_more (noted ∷ made) = ap (λ more. noted ∷ more) (made_more made)
-
-    ends : (outcome : Option Fault) (leaf : LeafSeen) (made : List Noted) → IsPart (stamp_plan d (size d) s.core.pool (new_number graft s)) made outcome
-        → AllByRecursion (NoFault own) (made_in vs) → GraftEnds outcome graft s name leaf new d made vs reply → ⊥
-    ends (Some fault) leaf made part none row = let no : Some fault ≡ None = stamp_fine own d (size d) s.core.pool (new_number graft s) made (Some fault)
-        (same_dev d) part
-        (subst (AllByRecursion (NoFault own)) (ap made_in row.0 ∙ made_more made) none) in cc
-    ends None leaf made part none row = let no = sym row.1 ∙ says in cc
-
-    on : (small : Bool) (leaf : LeafSeen) → AllByRecursion (NoFault own) (made_in vs) → GraftOn small size graft s name leaf new d vs reply → ⊥
-    on true leaf none row = let no = sym row.1 ∙ says in cc
-    on false leaf none row = ends row.outcome leaf row.made row.calls none row.ends
-
-    at : (found : Option LeafSeen) → AllByRecursion (NoFault own) (made_in vs) → GraftAt found size graft s name new d vs reply → ⊥
-    at None none row = row
-    at (Some leaf) none row = on (nat_lt (size d) (s.core.room leaf.top + 256)) leaf none row
-
-    for : (refusal : Option TreeRefusal) → AllByRecursion (NoFault own) (made_in vs) → GraftFor refusal size graft s name new d vs reply → ⊥
-    for (Some refusal) none row = let no = sym row.1 ∙ says in cc
-    for None none row = at (leaf_named name s.core.leaves) none row

@@ -1,434 +1,326 @@
--- What lines leave of what was written last.
-use Rattle.std.proofs.Common.{
-  ◌≡◌,
-  ◌⊎◌,
-  inl,
-  inr,
-  ⊎_elim,
-  ℕ,
-  suc,
-  ◌<◌,
-  ◌≤◌,
-  ◌==◌,
-  nat_lt,
-  max,
-  Bool,
-  true,
-  false,
-  cond,
-  List,
-  [],
-  ◌∷◌,
-  ◌++◌,
-  Option,
-  Some,
-  None,
-  refl,
-  sym,
-  ap,
-  ◌∙◌,
-  subst,
-  append-nil,
-  arith,
-}
-use Rattle.std.specs.List.{AllByRecursion, find}
+-- Which lines leave what was written last.
+use Rattle.std.proofs.Common.{◌≡◌, ◌⊎◌, inl, inr, ⊎_elim, ℕ, ◌==◌, Bool, true, false, cond, List, [], ◌∷◌, ◌++◌, Option, Some, None, refl, sym, ap, ◌∙◌, subst, nat_le, length}
+use Rattle.std.specs.List.{AllByRecursion}
 use Rattle.std.specs.Str.{bytes_eq}
-use Rattle.std.proofs.lemmas.Bool.Decides.{nat_tests}
-use Rattle.mp_base.specs.declared.number.Guid.{Guid}
 use Rattle.bank_core.specs.Disk.{Noted}
-use Rattle.txg_history.specs.Events.{Accepts, Looks, Opens, Loses, as_events}
+use Rattle.label_store.specs.Newest.{AreReads}
+use Rattle.txg_history.specs.Events.{Calls, Looks, Loses, as_events, Known, Opens}
 use Rattle.txg_history.specs.Pages.{Codec}
-use Rattle.txg_history.specs.Pools.{Pool, pool_after}
-use Rattle.txg_history.proofs.Folding.{calls_after}
-use Rattle.txg_history.proofs.Logging.{by_bool, true_not_false}
-use Rattle.pool_moves.specs.AwayRows.{WriteReply, Taken, WriteFits, WriteBy, RowWrite, leaf_named}
-use Rattle.pool_moves.specs.FreezeRow.{is_dev}
-use Rattle.pool_moves.specs.Leaves.{LeafSeen}
+use Rattle.txg_history.specs.Pools.{Pool, after, pool_after}
+use Rattle.txg_history.proofs.Folding.{name_kept}
+use Rattle.txg_history.proofs.Logging.{by_bool}
+use Rattle.pool_moves.specs.AwayRows.{WriteReply, Taken, BadAddress, Full, NoSpace, WriteFits, WriteBy, RowWrite}
+use Rattle.pool_moves.specs.LineRows.{TurnReply, Idle, Write, Flush, Round, Committed, Suspended}
 use Rattle.pool_moves.specs.Moves.{Move, Makes, Puts, events_of}
+use Rattle.pool_moves.specs.OpeningRow.{SeekReply, NoRecord, NumbersEnd, TakesRecord, OpenReply, Opens_state, NoPage, lacking_of}
 use Rattle.pool_moves.specs.ReadRow.{made_in}
-use Rattle.pool_moves.specs.Refusing.{count_below, keys_needed, written_with, dirty_with}
-use Rattle.pool_moves.specs.StampRow.{NewLeaf, new_state}
+use Rattle.pool_moves.specs.StampRow.{Stamp, CreateReply, Created, FaultOn, new_state}
 use Rattle.pool_moves.specs.States.{PoolState}
-use Rattle.pool_moves.specs.TreeRows.{Graft, TreeRefusal, graft_refusal, new_number, Detached}
-use Rattle.pool_runs.specs.Acts.{Act, Opening, Bare, Does, Looked, Reads_as, Takes, Bears, does, read_by, pool_by, pool_along}
-use Rattle.pool_runs.specs.Creating.{tops_of, leaves_of, has_leaf_at, new_birth, stamp_acts, commit_acts, RowCreate}
-use Rattle.pool_runs.specs.Devices.{number_in, size_in}
-use Rattle.pool_runs.specs.HostRows.{
-  graft_acts,
-  GraftUnless,
-  GraftOnto,
-  GraftIf,
-  WriteLine,
-  GraftLine,
-  DetachLine,
-  OnPool,
-  RowOf,
-  ChangesNone,
-  MayRewrite,
-  HostRow,
-}
+use Rattle.pool_runs.specs.Acts.{Act, Bare, Does, Looked, Reads_as, Takes, Bears, Closes, does, bare, calls_along, pool_by, pool_along, read_by, events_for}
+use Rattle.pool_runs.specs.Creating.{tops_of, stamp_acts, new_birth, commit_acts, RowCreate}
+use Rattle.pool_runs.specs.Devices.{size_in}
+use Rattle.pool_runs.specs.HostRows.{WriteLine, OnPool, RowOf, ChangesNone, MayRewrite, HostRow}
+use Rattle.pool_runs.specs.Fairness.{IsFairOpening, IsFair, AreFair}
 use Rattle.pool_runs.specs.Hosts.{Host, named}
-use Rattle.pool_runs.specs.Lines.{Asked, Asks_write, Asks_graft, Asks_detach, Asks_import, Asks_create, Reply, To_write, Entry}
-use Rattle.pool_runs.specs.Moments.{IsOpenAs}
-use Rattle.pool_runs.specs.Writing.{HasOpening, IsTakenWrite, IsOpeningOf, WritesJust}
-use Rattle.pool_runs.proofs.Acting.{same_number, number_of_test}
+use Rattle.pool_runs.specs.Importing.{read_in, all_shown, OpensBy, FollowsMap, ImportBy, host_behind, ImportFor, ImportUnless}
+use Rattle.pool_runs.specs.Lines.{Asked, Asks_write, Asks_import, Asks_create, Reply, To_write, No_memory, Entry}
+use Rattle.pool_runs.specs.Writing.{IsTakenWrite, IsImport, KeepsWrites}
+use Rattle.pool_runs.proofs.Acting.{number_of_test, own_events}
+use Rattle.pool_runs.proofs.Committing.{KeepsWritten, written_kind, move_written}
 use Rattle.pool_runs.proofs.GroupMoves.{all_found}
-use Rattle.pool_runs.proofs.Knowing.{act_number}
-use Rattle.pool_runs.proofs.Members.{
-  Held,
-  KeepsIt,
-  KeepsAt,
-  KeepsMembers,
-  kept_kind,
-  Keep,
-  TakesNone,
-  row_keeps,
-  Begins,
-  KeepAll,
-  graft_begins,
-  graft_acts_keep,
-  detach_keeps_by,
-  all_does,
-  keep_acts,
-  keep_stamps,
-  keep_commit,
-  keep_front,
-}
+use Rattle.pool_runs.proofs.LineMoves.{IsLineKind, IsActKind, line_resume, line_does, both_acts, plain_line}
 
--- Quiet acts: no write is taken by the pool of this number.
-abbrev quiet_at : (closed : Bool) → (g d : ℕ) → (m : Guid) → Held
-quiet_at closed g d m = record { pool = g; d = d; guid = m; quiet = true; closed = closed }
-
--- what was written stays, or an opening reads another record
-abbrev Stays : Held → List Act → Pool → Type 0
-Stays x acts p = ((pool_along acts p).written ≡ p.written) ⊎
-    ((x.closed ≡ false) × (opening : Opening) × HasOpening opening acts × (opening.found.pool.0 ≡ p.pool.0))
-
-move_written : (x : Held) (v : Move) (p : Pool) → x.quiet ≡ true → KeepsIt x v → (pool_after (events_of v p) p).written ≡ p.written
-move_written x (Puts a block) p quiet keeps = absurd (true_not_false x.quiet quiet keeps)
-move_written x (Makes noted) p quiet keeps = refl
-move_written x v p quiet keeps = refl
-
+-- Acts that leave what was written.
 calls_written : (made : List Noted) (p : Pool) → (pool_after (as_events made) p).written ≡ p.written
-calls_written made p = ap (λ q. q.written) (calls_after made p)
+calls_written [] p = refl
+calls_written (noted ∷ made) p = calls_written made (after (Calls noted) p)
 
-act_written : (x : Held) (act : Act) (p : Pool) → x.quiet ≡ true → x.pool ≡ p.pool.0 → KeepsAt x act
-    → ((pool_by act p).written ≡ p.written) ⊎ ((x.closed ≡ false) × (opening : Opening) × (act ≡ Reads_as opening) × (opening.found.pool.0 ≡ p.pool.0))
-act_written x (Bare noted) p quiet number keeps = inl (calls_written (noted ∷ []) p)
-act_written x (Does g v) p quiet number keeps = inl (by (p.pool.0 == g) refl)
+abbrev StillAt : Act → Type 0
+StillAt (Does g v) = KeepsWritten v
+StillAt (Reads_as opening) = ⊥
+StillAt act = Unit {0}
+
+abbrev AllStill : List Act → Type 0
+AllStill acts = AllByRecursion StillAt acts
+
+act_still : (act : Act) (p : Pool) → StillAt act → (pool_by act p).written ≡ p.written
+act_still (Bare noted) p still = refl
+act_still (Does g v) p still = by (p.pool.0 == g)
   where
-    by : (t : Bool) → (p.pool.0 == g) ≡ t → (pool_after (cond t (events_of v p) (as_events (made_in (v ∷ [])))) p).written ≡ p.written
-    by true mine = move_written x v p quiet (keeps (subst (λ n. (n == g) ≡ true) (sym number) mine))
-    by false off = calls_written (made_in (v ∷ [])) p
-act_written x (Looked name known) p quiet number keeps = inl (by (bytes_eq p.name name))
+    by : (t : Bool) → (pool_after (cond t (events_of v p) (as_events (made_in (v ∷ [])))) p).written ≡ p.written
+    by true = move_written v p still
+    by false = calls_written (made_in (v ∷ [])) p
+act_still (Looked name known) p still = by (bytes_eq p.name name)
   where
     by : (t : Bool) → (pool_after (cond t (Looks known ∷ []) []) p).written ≡ p.written
     by true = refl
     by false = refl
-act_written x (Reads_as opening) p quiet number keeps = by (p.pool.0 == opening.found.pool.0) refl
+act_still (Reads_as opening) p still = absurd still
+act_still (Takes g e) p still = by (p.pool.0 == g)
   where
-    by : (t : Bool) → (p.pool.0 == opening.found.pool.0) ≡ t → ((pool_after (cond t (Opens (read_by opening p) ∷ []) []) p).written ≡ p.written)
-        ⊎ ((x.closed ≡ false) × (other : Opening) × (Reads_as opening ≡ Reads_as other) × (other.found.pool.0 ≡ p.pool.0))
-    by true mine = inr (keeps, opening, refl, sym (number_of_test p.pool.0 opening.found.pool.0 mine))
-    by false off = inl refl
-act_written x (Takes g d) p quiet number keeps = inl (by (p.pool.0 == g))
-  where
-    by : (t : Bool) → (pool_after (cond t [] (Loses d ∷ [])) p).written ≡ p.written
+    by : (t : Bool) → (pool_after (cond t [] (Loses e ∷ [])) p).written ≡ p.written
     by true = refl
     by false = refl
-act_written x act p quiet number keeps = inl refl
+act_still act p still = refl
 
-acts_written : (x : Held) (acts : List Act) (p : Pool) → x.quiet ≡ true → x.pool ≡ p.pool.0 → Keep x acts → Stays x acts p
-acts_written x [] p quiet number keeps = inl refl
-acts_written x (act ∷ acts) p quiet number keeps = of (act_written x act p quiet number keeps.0)
-    (acts_written x acts (pool_by act p) quiet (number ∙ sym (ap (λ n. n.0) (act_number act p))) keeps.1)
-  where
-    of : ((pool_by act p).written ≡ p.written) ⊎ ((x.closed ≡ false) × (opening : Opening) × (act ≡ Reads_as opening) × (opening.found.pool.0 ≡ p.pool.0))
-        → Stays x acts (pool_by act p)
-        → Stays x (act ∷ acts) p
-    of (inr opens) rest = inr (opens.0, opens.1, inl opens.2, opens.3)
-    of (inl same) (inl rest) = inl (rest ∙ same)
-    of (inl same) (inr rest) = inr (rest.0, rest.1, inr rest.2, rest.3 ∙ ap (λ n. n.0) (act_number act p))
+acts_still : (acts : List Act) (p : Pool) → AllStill acts → (pool_along acts p).written ≡ p.written
+acts_still [] p still = refl
+acts_still (act ∷ acts) p still = acts_still acts (pool_by act p) still.1 ∙ act_still act p still.0
 
--- a number that no leaf's device has, and one that is another member's
-abbrev beyond : List NewLeaf → ℕ
-beyond [] = 0
-beyond (leaf ∷ leaves) = max (suc leaf.dev) (beyond leaves)
+still_front : (first second : List Act) → AllStill (first ++ second) → AllStill first
+still_front [] second all = tt
+still_front (act ∷ first) second all = (all.0, still_front first second all.1)
 
-beyond_all : (leaves : List NewLeaf) (d : ℕ) → beyond leaves ≤ d → AllByRecursion (λ leaf. (leaf.dev == d) ≡ false) leaves
-beyond_all [] d up = tt
-beyond_all (leaf ∷ leaves) d up = (let off : (leaf.dev == d) ≡ false = apart leaf.dev d (omega (arith, up)) in off, beyond_all leaves d (omega (arith, up)))
-  where
-    apart : (a b : ℕ) → a < b → (a == b) ≡ false
-    apart a b low = grind (arith, nat_tests)
+-- Lines that make such acts.
+written_line : IsLineKind KeepsWritten
+written_line = record {
+  kind = written_kind;
+  freezes = λ cells board. tt;
+  burns = tt;
+  drops = λ d. tt;
+  clears = λ d. tt;
+  passes = λ key birth marks. tt;
+  scans = λ hi eligible. tt;
+  scrubs = tt;
+  rests = tt;
+  finds = λ m d. tt;
+}
 
-not_next : (n : ℕ) → (n == suc n) ≡ false
-not_next n = grind (arith, nat_tests)
+still_acts : IsActKind KeepsWritten StillAt
+still_acts = record { does = λ g v is. is; marks = λ g mark. tt; shows = λ g e known. tt }
 
-next_not : (n : ℕ) → (suc n == n) ≡ false
-next_not n = grind (arith, nat_tests)
+still_bare : (made : List Noted) (rest : List Act) → AllStill rest → AllStill (bare made ++ rest)
+still_bare [] rest all = all
+still_bare (noted ∷ made) rest all = (tt, still_bare made rest all)
 
--- acts that are quiet for the pool of this number
-abbrev IsQuietBy : (closed : Bool) → (g : ℕ) → List Act → Type 0
-IsQuietBy closed g acts = (x : Held) × (x.quiet ≡ true) × (x.pool ≡ g) × (x.closed ≡ closed) × Keep x acts
+still_stamps : (g : ℕ) (stamps : List Stamp) → AllStill (stamp_acts g stamps)
+still_stamps g [] = tt
+still_stamps g (stamp ∷ stamps) = (tt, still_bare stamp.made (stamp_acts g stamps) (still_stamps g stamps))
 
--- Creates, leaves that are put in, and leaves that are taken out.
-create_quiet : (c : Codec) (h : Host) (name : List ℕ) (blocks : ℕ) (tops : List (List (List ℕ))) (acts : List Act) (reply : Reply) (g : ℕ)
-    → RowCreate c h name blocks tops acts reply
-    → IsQuietBy true g acts
-create_quiet c h name blocks tops acts reply g row = (x, refl, refl, refl, of row)
-  where
-    leaves : List NewLeaf
-    leaves = leaves_of h.table tops
+still_commit : (answer : CreateReply) (g : ℕ) (vs : List Move) → AllByRecursion KeepsWritten vs → AllStill (commit_acts answer g vs)
+still_commit Created g vs all = line_does KeepsWritten written_line StillAt still_acts g vs all
+still_commit (FaultOn device) g vs all = both_acts KeepsWritten written_line StillAt still_acts (does g vs) (Closes g ∷ []) (line_does KeepsWritten written_line StillAt still_acts g vs all) (tt, tt)
 
-    x : Held
-    x = quiet_at true g (beyond leaves) (record { 0 = 0 })
-
-    away : AllByRecursion (λ leaf. (leaf.dev == beyond leaves) ≡ false) leaves
-    away = beyond_all leaves (beyond leaves) (omega arith)
-
-    of : RowCreate c h name blocks tops acts reply → Keep x acts
-    of (inl row) = subst (Keep x) (sym row.2) tt
-    of (inr (inl row)) = subst (Keep x) (sym row.all) (tt, keep_stamps x row.pool (size_in h.table) leaves row.stamps (Some row.leaf) row.are away)
-    of (inr (inr row)) = subst (Keep x) (sym row.all) (
+still_create : (c : Codec) (h : Host) (name : List ℕ) (blocks : ℕ) (tops : List (List (List ℕ))) (acts : List Act) (reply : Reply)
+    → RowCreate c h name blocks tops acts reply → AllStill acts
+still_create c h name blocks tops acts reply (inl row) = subst AllStill (sym row.2) tt
+still_create c h name blocks tops acts reply (inr (inl row)) = subst AllStill (sym row.all) (tt, still_stamps row.pool.0 row.stamps)
+still_create c h name blocks tops acts reply (inr (inr row)) =
+    let behind = Bears (new_birth name row.pool blocks h.table tops) ∷ commit_acts row.answer row.pool.0 row.moves in
+    subst AllStill (sym row.all) (
       tt,
-      keep_acts x (stamp_acts row.pool.0 row.stamps) (Bears (new_birth name row.pool blocks h.table tops) ∷ commit_acts row.answer row.pool.0 row.moves)
-          (keep_stamps x row.pool (size_in h.table) leaves row.stamps None row.are away) (
-            tt,
-            keep_commit row.answer x row.pool.0 row.moves
-                (all_found KeepsMembers kept_kind (λ cells board. tt) c (size_in h.table)
-                (new_state (size_in h.table) name row.pool blocks (tops_of h.table tops)) row.moves row.row.whole row.row.row),
-          ),
+      both_acts KeepsWritten written_line StillAt still_acts (stamp_acts row.pool.0 row.stamps) behind (still_stamps row.pool.0 row.stamps) (
+        tt,
+        still_commit row.answer row.pool.0 row.moves
+            (all_found KeepsWritten written_kind (λ cells board. tt) c (size_in h.table) (new_state (size_in h.table) name row.pool blocks (tops_of h.table tops)) row.moves row.row.whole row.row.row),
+      ),
     )
 
-graft_quiet : (h : Host) (s : PoolState) (graft : Graft) (leaf new : List ℕ) (acts : List Act) (reply : Reply) (g : ℕ) → GraftLine h graft leaf new s acts reply
-    → IsQuietBy true g acts
-graft_quiet h s graft leaf new acts reply g row = refused (graft_refusal graft s leaf (leaf_named leaf s.core.leaves)) row
-  where
-    none : acts ≡ [] → IsQuietBy true g acts
-    none is = (quiet_at true g 0 (record { 0 = 0 }), refl, refl, refl, subst (Keep (quiet_at true g 0 (record { 0 = 0 }))) (sym is) tt)
-
-    unless : (k : ℕ) (found : Option PoolState) → GraftUnless found h s graft leaf new k acts reply → IsQuietBy true g acts
-    unless k (Some u) row = none row.0
-    unless k None row = (x, refl, refl, refl, of (graft_begins x s.core.pool.0 (size_in h.table) graft s leaf new k row.2.moves row.0 row.2.row))
-      where
-        x : Held
-        x = quiet_at true g (suc k) (record { 0 = suc (new_number graft s).0 })
-
-        of : (row.2.moves ≡ []) ⊎ Begins x s.core.pool.0 k (new_number graft s) row.2.moves row.0 → Keep x acts
-        of (inl nothing) = subst (Keep x) (sym (row.2.are ∙ ap (graft_acts s.core.pool.0 k) nothing)) tt
-        of (inr begins) = subst (Keep x) (sym row.2.are)
-            (graft_acts_keep x s.core.pool.0 k row.2.moves (not_next k) (begins.keeps (not_next k) (λ mine. next_not (new_number graft s).0)))
-
-    onto : (number : Option ℕ) → GraftOnto number h s graft leaf new acts reply → IsQuietBy true g acts
-    onto None row = none row.0
-    onto (Some k) row = unless k (find (has_leaf_at k) h.pools) row
-
-    refused : (refusal : Option TreeRefusal) → GraftIf refusal h s graft leaf new acts reply → IsQuietBy true g acts
-    refused (Some refusal) row = none row.0
-    refused None row = onto (number_in new h.table) row
-
--- a device that a leaf isn't on
-abbrev off_dev : Option ℕ → ℕ
-off_dev None = 0
-off_dev (Some d) = suc d
-
-off_is : (dev : Option ℕ) → is_dev (off_dev dev) dev ≡ false
-off_is None = refl
-off_is (Some d) = next_not d
-
-abbrev off_leaf : Option LeafSeen → ℕ
-off_leaf None = 0
-off_leaf (Some leaf) = off_dev leaf.dev
-
-detach_quiet : (c : Codec) (h : Host) (s : PoolState) (leaf : List ℕ) (acts : List Act) (reply : Reply) (g : ℕ) → DetachLine c h leaf s acts reply
-    → IsQuietBy true g acts
-detach_quiet c h s leaf acts reply g row = (
-  x,
-  refl,
-  refl,
-  refl,
-  subst (Keep x) (sym row.2.are)
-      (all_does x s.core.pool.0 row.2.moves (of (detach_keeps_by found c (size_in h.table) s leaf row.2.seat x s.core.pool.0 row.2.moves row.0 row.2.row))),
-)
-  where
-    found : Option LeafSeen
-    found = leaf_named leaf s.core.leaves
-
-    x : Held
-    x = quiet_at true g (off_leaf (leaf_named leaf s.core.leaves)) (record { 0 = 0 })
-
-    of : KeepAll x s.core.pool.0 row.2.moves ⊎
-        ((at : LeafSeen) × (leaf_named leaf s.core.leaves ≡ Some at) × (is_dev x.d at.dev ≡ true) × (n : ℕ) × (row.0 ≡ Detached n))
-        → KeepAll x s.core.pool.0 row.2.moves
-    of (inl keeps) = keeps
-    of (inr taken) = absurd (true_not_false (is_dev x.d taken.0.dev) taken.2 (ap (λ l. is_dev (off_leaf l) taken.0.dev) taken.1 ∙ off_is taken.0.dev))
-
--- A row of a line that isn't a write takes none, and one that isn't an import reads no record.
-abbrev IsQuietAsk : (closed : Bool) → Asked → Type 0
-IsQuietAsk closed (Asks_write name a block) = ⊥
-IsQuietAsk closed (Asks_import name) = closed ≡ false
-IsQuietAsk closed asked = closed ≡ true
-
-quiet_pool : (h : Host) (found : Option PoolState) (Line : PoolState → List Act → Reply → Type 0) (acts : List Act) (reply : Reply) (g : ℕ)
-    → OnPool found Line acts reply
-    → ((s : PoolState) → Line s acts reply → IsQuietBy true g acts) → IsQuietBy true g acts
-quiet_pool h None Line acts reply g row line =
-    (quiet_at true g 0 (record { 0 = 0 }), refl, refl, refl, subst (Keep (quiet_at true g 0 (record { 0 = 0 }))) (sym row.0) tt)
-quiet_pool h (Some s) Line acts reply g row line = line s row
-
-plain_quiet : (closed : Bool) (c : Codec) (h : Host) (asked : Asked) (acts : List Act) (reply : Reply) (g : ℕ)
-    → TakesNone (quiet_at closed g 0 (record { 0 = 0 })) asked → RowOf c h asked acts reply
-    → IsQuietBy closed g acts
-plain_quiet closed c h asked acts reply g none row =
-    (quiet_at closed g 0 (record { 0 = 0 }), refl, refl, refl, row_keeps c h asked acts reply (quiet_at closed g 0 (record { 0 = 0 })) none row)
-
-row_quiet : (closed : Bool) (c : Codec) (h : Host) (asked : Asked) (acts : List Act) (reply : Reply) (g : ℕ) → IsQuietAsk closed asked
-    → RowOf c h asked acts reply → IsQuietBy closed g acts
-row_quiet closed c h (Asks_write name a block) acts reply g quiet row = absurd quiet
-row_quiet closed c h (Asks_import name) acts reply g quiet row = plain_quiet closed c h (Asks_import name) acts reply g quiet row
-row_quiet closed c h (Asks_create name blocks tops) acts reply g quiet row = subst (λ t. IsQuietBy t g acts) (sym quiet)
-    (create_quiet c h name blocks tops acts reply g row)
-row_quiet closed c h (Asks_graft graft name leaf new) acts reply g quiet row = subst (λ t. IsQuietBy t g acts) (sym quiet)
-    (quiet_pool h (named name h.pools) (GraftLine h graft leaf new) acts reply g row (λ s line. graft_quiet h s graft leaf new acts reply g line))
-row_quiet closed c h (Asks_detach name leaf) acts reply g quiet row = subst (λ t. IsQuietBy t g acts) (sym quiet)
-    (quiet_pool h (named name h.pools) (DetachLine c h leaf) acts reply g row (λ s line. detach_quiet c h s leaf acts reply g line))
-row_quiet closed c h asked acts reply g quiet row = plain_quiet closed c h asked acts reply g tt row
-
 -- A write.
-put_written : (g a : ℕ) (block : List ℕ) (p : Pool) → p.pool.0 ≡ g → (x : ℕ) → (pool_by (Does g (Puts a block)) p).written x ≡ cond (a == x) block (p.written x)
-put_written g a block p number x = ap (λ t. (pool_after (cond t (Accepts a block ∷ []) []) p).written x) (same_number p.pool.0 g number)
+puts_one : (short : Bool) (need free a : ℕ) (block : List ℕ) (vs : List Move) (reply : WriteReply) → WriteFits short need free a block vs reply
+    → ((vs ≡ Puts a block ∷ []) × (reply ≡ Taken)) ⊎ (vs ≡ [])
+puts_one true need free a block vs reply row = inr row.0
+puts_one false need free a block vs reply row = inl row
 
-put_elsewhere : (g a : ℕ) (block : List ℕ) (p : Pool) → (p.pool.0 == g) ≡ false → (pool_by (Does g (Puts a block)) p).written ≡ p.written
-put_elsewhere g a block p off = ap (λ t. (pool_after (cond t (Accepts a block ∷ []) []) p).written) off
+puts_by : (full : Bool) (s : PoolState) (a : ℕ) (block : List ℕ) (vs : List Move) (reply : WriteReply) → WriteBy full s a block vs reply
+    → ((vs ≡ Puts a block ∷ []) × (reply ≡ Taken)) ⊎ (vs ≡ [])
+puts_by true s a block vs reply row = inr row.0
+puts_by false s a block vs reply row = puts_one _ _ row.0 a block vs reply row.2
 
--- how a write ends: it is taken, or it does nothing
-write_ends : (s : PoolState) (a : ℕ) (block : List ℕ) (vs : List Move) (reply : WriteReply) → RowWrite s a block vs reply
-    → ((vs ≡ Puts a block ∷ []) × (reply ≡ Taken)) ⊎ ((vs ≡ []) × (reply ≡ Taken → ⊥))
-write_ends s a block vs reply (inl row) = inr (row.1, λ is. let no = sym row.2 ∙ is in cc)
-write_ends s a block vs reply (inr row) = by (nat_lt 4096 (count_below s.own.blocks (dirty_with a s))) row.1
+puts_or : (s : PoolState) (a : ℕ) (block : List ℕ) (vs : List Move) (reply : WriteReply) → RowWrite s a block vs reply
+    → ((vs ≡ Puts a block ∷ []) × (reply ≡ Taken)) ⊎ (vs ≡ [])
+puts_or s a block vs reply (inl row) = inr row.1
+puts_or s a block vs reply (inr row) = puts_by _ s a block vs reply row.1
+
+taken_reply : (r : WriteReply) → To_write r ≡ To_write Taken → r ≡ Taken
+taken_reply r e = cc
+
+taken_moves : (s : PoolState) (a : ℕ) (block : List ℕ) (vs : List Move) → RowWrite s a block vs Taken → vs ≡ Puts a block ∷ []
+taken_moves s a block vs (inl row) = absurd (let no : Taken ≡ BadAddress s.own.blocks = row.2 in cc)
+taken_moves s a block vs (inr row) = full _ row.1
   where
-    fits : (short : Bool) (need free : ℕ) → WriteFits short need free a block vs reply
-        → ((vs ≡ Puts a block ∷ []) × (reply ≡ Taken)) ⊎ ((vs ≡ []) × (reply ≡ Taken → ⊥))
-    fits true need free row = inr (row.0, λ is. let no = sym row.1 ∙ is in cc)
-    fits false need free row = inl row
+    fits : (short : Bool) (need free : ℕ) → WriteFits short need free a block vs Taken → vs ≡ Puts a block ∷ []
+    fits true need free row = absurd (let no : Taken ≡ NoSpace need free = row.1 in cc)
+    fits false need free row = row.0
 
-    by : (full : Bool) → WriteBy full s a block vs reply → ((vs ≡ Puts a block ∷ []) × (reply ≡ Taken)) ⊎ ((vs ≡ []) × (reply ≡ Taken → ⊥))
-    by true row = inr (row.0, λ is. let no = sym row.1 ∙ is in cc)
-    by false row = fits (nat_lt row.0 (keys_needed s.own.blocks (written_with a s))) (keys_needed s.own.blocks (written_with a s)) row.0 row.2
+    full : (t : Bool) → WriteBy t s a block vs Taken → vs ≡ Puts a block ∷ []
+    full true row = absurd (let no : Taken ≡ Full = row.1 in cc)
+    full false row = fits _ _ row.0 row.2
 
-write_reply : (a b : WriteReply) → To_write a ≡ To_write b → a ≡ b
-write_reply a b e = cc
+put_written : (g a : ℕ) (block : List ℕ) (p : Pool) → p.pool.0 ≡ g → (x : ℕ)
+    → (pool_along (does g (Puts a block ∷ [])) p).written x ≡ cond (a == x) block (p.written x)
+put_written g a block p is x = ap (λ vs. (pool_after vs p).written x) (own_events g (Puts a block) p is)
 
-write_still : (h : Host) (p : Pool) (e : Entry) (name : List ℕ) (a : ℕ) (block : List ℕ) (found : Option PoolState) → e.asked ≡ Asks_write name a block
-    → named name h.pools ≡ found
-    → OnPool found (WriteLine h a block) e.acts e.reply → ((pool_along e.acts p).written ≡ p.written) ⊎ IsTakenWrite p h e
-write_still h p e name a block None asked is row = inl (ap (λ acts. (pool_along acts p).written) row.0)
-write_still h p e name a block (Some s) asked is row = of (write_ends s a block row.2.moves row.0 row.2.row)
+write_puts : (c : Codec) (h : Host) (p : Pool) (e : Entry) (a : ℕ) (block : List ℕ) → HostRow c h e → IsTakenWrite h p e a block → (x : ℕ)
+    → (pool_along e.acts p).written x ≡ cond (a == x) block (p.written x)
+write_puts c h p e a block (inr out) w x = absurd (let no : To_write Taken ≡ No_memory = sym w.reply ∙ out.says in cc)
+write_puts c h p e a block (inl row) w x =
+    let line : WriteLine h a block w.s e.acts e.reply = subst (λ found. OnPool found (WriteLine h a block) e.acts e.reply) w.at.named (subst (λ asked. RowOf c h asked e.acts e.reply) w.asked row.0) in
+    let done : RowWrite w.s a block line.2.moves Taken = subst (RowWrite w.s a block line.2.moves) (taken_reply line.0 (sym line.1 ∙ w.reply)) line.2.row in
+    let acts : e.acts ≡ does w.s.core.pool.0 (Puts a block ∷ []) = line.2.are ∙ ap (does w.s.core.pool.0) (taken_moves w.s a block line.2.moves done) in
+    ap (λ acts. (pool_along acts p).written x) acts ∙ put_written w.s.core.pool.0 a block p (sym w.at.ours) x
+
+-- what each line leaves
+abbrev Leaves : Codec → Host → Pool → Entry → Type 0
+Leaves c h p e = (((a : ℕ) × (block : List ℕ) × IsTakenWrite h p e a block) ⊎ IsImport c p e) ⊎ ((x : ℕ) → (pool_along e.acts p).written x ≡ p.written x)
+
+leaves_still : (c : Codec) (h : Host) (p : Pool) (e : Entry) → AllStill e.acts → Leaves c h p e
+leaves_still c h p e all = inr (λ x. ap (λ f. f x) (acts_still e.acts p all))
+
+other_put : (g a : ℕ) (block : List ℕ) (p : Pool) → (p.pool.0 == g) ≡ false → (pool_along (does g (Puts a block ∷ [])) p).written ≡ p.written
+other_put g a block p off = ap (λ t. (pool_after (cond t (events_of (Puts a block) p) []) p).written) off
+
+write_leaves : (c : Codec) (h : Host) (p : Pool) (e : Entry) (name : List ℕ) (a : ℕ) (block : List ℕ) (found : Option PoolState) → named name h.pools ≡ found
+    → e.asked ≡ Asks_write name a block
+    → OnPool found (WriteLine h a block) e.acts e.reply → Leaves c h p e
+write_leaves c h p e name a block None at asked row = leaves_still c h p e (subst AllStill (sym row.0) tt)
+write_leaves c h p e name a block (Some s) at asked line = ⊎_elim
+    (λ put. let acts : e.acts ≡ does s.core.pool.0 (Puts a block ∷ []) = line.2.are ∙ ap (does s.core.pool.0) put.0 in by_bool (p.pool.0 == s.core.pool.0)
+    (λ ours. inl (inl (
+      a,
+      block,
+      record {
+        name = name;
+        s = s;
+        asked = asked;
+        at = record { named = at; ours = sym (number_of_test p.pool.0 s.core.pool.0 ours) };
+        reply = line.1 ∙ ap To_write put.1;
+      },
+    )))
+    (λ off. inr (λ x. ap (λ acts. (pool_along acts p).written x) acts ∙ ap (λ f. f x) (other_put s.core.pool.0 a block p off))))
+    (λ none. leaves_still c h p e (subst AllStill (sym (line.2.are ∙ ap (does s.core.pool.0) none)) tt))
+    (puts_or s a block line.2.moves line.0 line.2.row)
+
+-- An import: it changes what was written of the pool of its name alone, as far as it is fair.
+abbrev NamedAt : (name : List ℕ) → Act → Type 0
+NamedAt name (Does g v) = KeepsWritten v
+NamedAt name (Reads_as opening) = opening.name ≡ name
+NamedAt name act = Unit {0}
+
+abbrev AllNamed : (name : List ℕ) → List Act → Type 0
+AllNamed name acts = AllByRecursion (NamedAt name) acts
+
+named_front : (name : List ℕ) (first second : List Act) → AllNamed name (first ++ second) → AllNamed name first
+named_front name [] second all = tt
+named_front name (act ∷ first) second all = (all.0, named_front name first second all.1)
+
+named_acts : (name : List ℕ) → IsActKind KeepsWritten (NamedAt name)
+named_acts name = record { does = λ g v is. is; marks = λ g mark. tt; shows = λ g e known. tt }
+
+named_bare : (name : List ℕ) (made : List Noted) (rest : List Act) → AllNamed name rest → AllNamed name (bare made ++ rest)
+named_bare name [] rest all = all
+named_bare name (noted ∷ made) rest all = (tt, named_bare name made rest all)
+
+named_shown : (name : List ℕ) (g : ℕ) (known : Known) (devs : List (Option ℕ)) (rest : List Act) → AllNamed name rest → AllNamed name (all_shown g known devs ++ rest)
+named_shown name g known [] rest all = all
+named_shown name g known (None ∷ devs) rest all = named_shown name g known devs rest all
+named_shown name g known (Some e ∷ devs) rest all = (tt, named_shown name g known devs rest all)
+
+named_does : (name : List ℕ) (g : ℕ) (vs : List Move) → AllByRecursion KeepsWritten vs → AllNamed name (does g vs)
+named_does name g vs all = line_does KeepsWritten written_line (NamedAt name) (named_acts name) g vs all
+
+named_opens : (turn : TurnReply) (name : List ℕ) (g : ℕ) (s : PoolState) (vs : List Move) (acts : List Act) (reply : Reply) → AllByRecursion KeepsWritten vs
+    → OpensBy turn g s vs acts reply → AllNamed name acts
+named_opens (Committed number) name g s vs acts reply all by = subst (AllNamed name) (sym by.0) (tt, named_does name g vs all)
+named_opens (Suspended group top faults) name g s vs acts reply all by = subst (AllNamed name) (sym by.0)
+    (tt, both_acts KeepsWritten written_line (NamedAt name) (named_acts name) (does g vs) (Closes g ∷ []) (named_does name g vs all) (tt, tt))
+named_opens Idle name g s vs acts reply all by = absurd by
+named_opens Write name g s vs acts reply all by = absurd by
+named_opens Flush name g s vs acts reply all by = absurd by
+named_opens (Round number) name g s vs acts reply all by = absurd by
+
+named_follows : (outcome : OpenReply) (c : Codec) (size : ℕ → ℕ) (name : List ℕ) (g : ℕ) (acts : List Act) (reply : Reply) → FollowsMap outcome c size g acts reply
+    → AllNamed name acts
+named_follows (NoPage page shown) c size name g acts reply row = subst (AllNamed name) (sym row.0) tt
+named_follows (Opens_state s) c size name g acts reply row = named_opens row.1 name g s row.0 acts reply
+    (line_resume KeepsWritten written_line (lacking_of s.core.leaves s.core.leaves) c size s row.0 row.1 row.2) row.3
+
+named_import_by : (seek : SeekReply) (c : Codec) (h : Host) (name : List ℕ) (acts : List Act) (reply : Reply) → ImportBy seek c h name acts reply → AllNamed name acts
+named_import_by NoRecord c h name acts reply row = subst (AllNamed name) (sym row.0) tt
+named_import_by (NumbersEnd limit count) c h name acts reply row = subst (AllNamed name) (sym row.0) tt
+named_import_by (TakesRecord found) c h name acts reply row = subst (AllNamed name) (sym row.are) (
+  refl,
+  named_bare name row.row.ids (all_shown found.pool.0 (read_in row.row.ids) row.row.devs ++ (bare row.row.pages ++ row.rest))
+      (named_shown name found.pool.0 (read_in row.row.ids) row.row.devs (bare row.row.pages ++ row.rest)
+      (named_bare name row.row.pages row.rest (named_follows row.outcome c (size_in h.table) name found.pool.0 row.rest reply row.follows))),
+)
+
+named_for : (full : Bool) (c : Codec) (h : Host) (name : List ℕ) (acts : List Act) (reply : Reply) → ImportFor full c h name acts reply → AllNamed name acts
+named_for true c h name acts reply row = subst (AllNamed name) (sym row.0) tt
+named_for false c h name acts reply row = subst (AllNamed name) (sym row.are)
+    (named_bare name row.made (Looked name _ ∷ row.rest) (tt, named_import_by row.seek c (host_behind row.made h) name row.rest reply row.follows))
+
+named_import : (found : Option PoolState) (c : Codec) (h : Host) (name : List ℕ) (acts : List Act) (reply : Reply) → ImportUnless found c h name acts reply → AllNamed name acts
+named_import (Some s) c h name acts reply row = subst (AllNamed name) (sym row.0) tt
+named_import None c h name acts reply row = named_for (nat_le 16 (length h.pools)) c h name acts reply row
+
+act_named : (c : Codec) (name : List ℕ) (act : Act) (p : Pool) → NamedAt name act → (IsFair c p act → p.name ≡ name) ⊎ ((pool_by act p).written ≡ p.written)
+act_named c name (Reads_as opening) p is = by (p.pool.0 == opening.found.pool.0) refl
   where
-    put : (row.2.moves ≡ Puts a block ∷ []) → e.acts ≡ Does s.core.pool.0 (Puts a block) ∷ []
-    put is = row.2.are ∙ ap (does s.core.pool.0) is
+    by : (t : Bool) → (p.pool.0 == opening.found.pool.0) ≡ t
+        → ((p.pool.0 ≡ opening.found.pool.0 → IsFairOpening c p opening) → p.name ≡ name) ⊎ ((pool_after (cond t (Opens (read_by opening p) ∷ []) []) p).written ≡ p.written)
+    by true same = inl (λ fair. (fair (number_of_test p.pool.0 opening.found.pool.0 same)).named ∙ is)
+    by false off = inr refl
+act_named c name (Does g v) p is = inr (act_still (Does g v) p is)
+act_named c name act p is = inr (act_still act p tt)
 
-    of : ((row.2.moves ≡ Puts a block ∷ []) × (row.0 ≡ Taken)) ⊎ ((row.2.moves ≡ []) × (row.0 ≡ Taken → ⊥))
-        → ((pool_along e.acts p).written ≡ p.written) ⊎ IsTakenWrite p h e
-    of (inr none) = inl (ap (λ acts. (pool_along acts p).written) (row.2.are ∙ ap (does s.core.pool.0) none.0))
-    of (inl taken) = by_bool (p.pool.0 == s.core.pool.0)
-        (λ mine. inr (record {
-          name = name;
-          a = a;
-          block = block;
-          s = s;
-          asked = asked;
-          is_open = record { named = is; ours = sym (number_of_test p.pool.0 s.core.pool.0 mine) };
-          reply = row.1 ∙ ap To_write taken.1;
-        }))
-        (λ off. inl (ap (λ acts. (pool_along acts p).written) (put taken.0) ∙ put_elsewhere s.core.pool.0 a block p off))
+acts_named : (c : Codec) (name : List ℕ) (acts : List Act) (p : Pool) → AllNamed name acts → (AreFair c p acts → p.name ≡ name) ⊎ ((pool_along acts p).written ≡ p.written)
+acts_named c name [] p all = inr refl
+acts_named c name (act ∷ acts) p all = ⊎_elim (λ ours. inl (λ fair. ours fair.0))
+    (λ one. ⊎_elim (λ ours. inl (λ fair. sym (name_kept (events_for act p) p) ∙ ours fair.1)) (λ rest. inr (rest ∙ one)) (acts_named c name acts (pool_by act p) all.1))
+    (act_named c name act p all.0)
 
-write_taken : (h : Host) (p : Pool) (e : Entry) (name : List ℕ) (a : ℕ) (block : List ℕ) (s : PoolState) → s.core.pool.0 ≡ p.pool.0
-    → WriteLine h a block s e.acts e.reply → e.reply ≡ To_write Taken
-    → (x : ℕ) → (pool_along e.acts p).written x ≡ cond (a == x) block (p.written x)
-write_taken h p e name a block s ours row says x = of (write_ends s a block row.2.moves row.0 row.2.row)
-  where
-    of : ((row.2.moves ≡ Puts a block ∷ []) × (row.0 ≡ Taken)) ⊎ ((row.2.moves ≡ []) × (row.0 ≡ Taken → ⊥))
-        → (pool_along e.acts p).written x ≡ cond (a == x) block (p.written x)
-    of (inr none) = absurd (none.1 (write_reply row.0 Taken (sym row.1 ∙ says)))
-    of (inl taken) = ap (λ acts. (pool_along acts p).written x) (row.2.are ∙ ap (does s.core.pool.0) taken.0) ∙ put_written s.core.pool.0 a block p (sym ours) x
+import_leaves : (c : Codec) (h : Host) (p : Pool) (e : Entry) (name : List ℕ) → e.asked ≡ Asks_import name → AllNamed name e.acts → Leaves c h p e
+import_leaves c h p e name is all = ⊎_elim (λ ours. inl (inr (record { name = name; asked = is; ours = ours }))) (λ same. inr (λ x. ap (λ f. f x) same)) (acts_named c name e.acts p all)
 
--- An entry: a front of a row's acts.
-entry_quiet : (closed : Bool) (c : Codec) (h : Host) (p : Pool) (e : Entry) (rest : List Act) (reply : Reply) (asked : Asked) → e.asked ≡ asked
-    → IsQuietAsk closed asked → RowOf c h asked (e.acts ++ rest) reply
-    → ((pool_along e.acts p).written ≡ p.written) ⊎ ((closed ≡ false) × (opening : Opening) × HasOpening opening e.acts × (opening.found.pool.0 ≡ p.pool.0))
-entry_quiet closed c h p e rest reply asked is quiet row =
-    let keeps = row_quiet closed c h asked (e.acts ++ rest) reply p.pool.0 quiet row in
-    ⊎_elim (λ same. inl same) (λ opens. inr (sym keeps.3 ∙ opens.0, opens.1, opens.2, opens.3))
-    (acts_written keeps.0 e.acts p keeps.1 keeps.2 (keep_front keeps.0 e.acts rest keeps.4))
+row_leaves : (c : Codec) (h : Host) (p : Pool) (e : Entry) (asked : Asked) → e.asked ≡ asked → RowOf c h asked e.acts e.reply → Leaves c h p e
+row_leaves c h p e (Asks_write name a block) is row = write_leaves c h p e name a block (named name h.pools) refl is row
+row_leaves c h p e (Asks_import name) is row = import_leaves c h p e name is (named_import (named name h.pools) c h name e.acts e.reply row)
+row_leaves c h p e (Asks_create name blocks tops) is row = leaves_still c h p e (still_create c h name blocks tops e.acts e.reply row)
+row_leaves c h p e asked is row = leaves_still c h p e (plain_line KeepsWritten written_line StillAt still_acts c h asked e.acts e.reply tt row)
 
--- a write for which there was no memory did nothing
-front_none : (acts rest : List Act) (g a : ℕ) (block : List ℕ) (vs : List Move) → acts ++ rest ≡ does g vs → ((vs ≡ Puts a block ∷ []) ⊎ (vs ≡ []))
-    → AllByRecursion ChangesNone acts → acts ≡ []
-front_none [] rest g a block vs is ends none = refl
-front_none (act ∷ acts) rest g a block vs is (inl put) none = absurd (first (is ∙ ap (does g) put))
-  where
-    first : (act ∷ (acts ++ rest)) ≡ Does g (Puts a block) ∷ [] → ⊥
-    first same = subst ChangesNone (head_same act (Does g (Puts a block)) (acts ++ rest) [] same) none.0
-      where
-        head_same : (x y : Act) (xs ys : List Act) → (x ∷ xs) ≡ y ∷ ys → x ≡ y
-        head_same x y xs ys e = cc
-front_none (act ∷ acts) rest g a block vs is (inr nothing) none = absurd (let no = is ∙ ap (does g) nothing in cc)
+-- Where there was no memory.
+abbrev NoReading : Act → Type 0
+NoReading (Reads_as opening) = ⊥
+NoReading act = Unit {0}
 
-write_out : (h : Host) (name : List ℕ) (a : ℕ) (block : List ℕ) (acts rest : List Act) (reply : Reply) (found : Option PoolState)
-    → OnPool found (WriteLine h a block) (acts ++ rest) reply
-    → AllByRecursion ChangesNone acts → acts ≡ []
-write_out h name a block [] rest reply found row none = refl
-write_out h name a block (act ∷ acts) rest reply None row none = absurd (let no = row.0 in cc)
-write_out h name a block (act ∷ acts) rest reply (Some s) row none = front_none (act ∷ acts) rest s.core.pool.0 a block row.2.moves row.2.are
-    (⊎_elim (λ taken. inl taken.0) (λ nothing. inr nothing.0) (write_ends s a block row.2.moves row.0 row.2.row)) none
+moves_none : (g : ℕ) (vs : List Move) → AllByRecursion NoReading (does g vs)
+moves_none g [] = tt
+moves_none g (v ∷ vs) = (tt, moves_none g vs)
 
--- what is asked: a write, an import, or neither
-data Kind (asked : Asked) : Type 0 where
-  writes : (name : List ℕ) (a : ℕ) (block : List ℕ) (is : asked ≡ Asks_write name a block) → Kind asked
-  imports : (name : List ℕ) (is : asked ≡ Asks_import name) → Kind asked
-  neither : (quiet : IsQuietAsk true asked) → Kind asked
+none_front : (first second : List Act) → AllByRecursion NoReading (first ++ second) → AllByRecursion NoReading first
+none_front [] second all = tt
+none_front (act ∷ first) second all = (all.0, none_front first second all.1)
 
-kind_of : (asked : Asked) → Kind asked
-kind_of (Asks_write name a block) = writes name a block refl
-kind_of (Asks_import name) = imports name refl
-kind_of asked = neither refl
+none_still : (act : Act) → ChangesNone act → NoReading act → StillAt act
+none_still (Does g (Makes noted)) none off = tt
+none_still (Does g v) none off = absurd none
+none_still (Reads_as opening) none off = absurd off
+none_still act none off = tt
 
-pub entry_writes : (c : Codec) (h : Host) (p : Pool) (e : Entry) → HostRow c h e → WritesJust p (pool_along e.acts p) h e
-entry_writes c h p e row = record { taken = λ name a block s asked at says. taken name a block s asked at says row; still = still (kind_of e.asked) row }
-  where
-    taken : (name : List ℕ) (a : ℕ) (block : List ℕ) (s : PoolState) → e.asked ≡ Asks_write name a block → IsOpenAs p h name s → e.reply ≡ To_write Taken
-        → HostRow c h e
-        → (x : ℕ) → (pool_along e.acts p).written x ≡ cond (a == x) block (p.written x)
-    taken name a block s asked at says (inl row) = write_taken h p e name a block s at.ours
-        (subst (λ found. OnPool found (WriteLine h a block) e.acts e.reply) at.named (subst (λ x. RowOf c h x e.acts e.reply) asked row.0)) says
-    taken name a block s asked at says (inr out) = absurd (let no = sym says ∙ out.says in cc)
+all_still : (acts : List Act) → AllByRecursion ChangesNone acts → AllByRecursion NoReading acts → AllStill acts
+all_still [] none off = tt
+all_still (act ∷ acts) none off = (none_still act none.0 off.0, all_still acts none.1 off.1)
 
-    still : Kind e.asked → HostRow c h e → ((pool_along e.acts p).written ≡ p.written) ⊎ (IsTakenWrite p h e ⊎ IsOpeningOf p e)
-    still (writes name a block is) (inl row) = ⊎_elim (λ same. inl same) (λ put. inr (inl put))
-        (write_still h p e name a block (named name h.pools) is refl (subst (λ x. RowOf c h x e.acts e.reply) is row.0))
-    still (writes name a block is) (inr out) = inl
-        (ap (λ acts. (pool_along acts p).written) (write_out h name a block e.acts out.rest out.reply (named name h.pools)
-        (subst (λ x. RowOf c h x (e.acts ++ out.rest) out.reply) is out.goes_on)
-        (⊎_elim (λ early. early.0) (λ rewrites. absurd (subst (λ x. MayRewrite x e.acts) is rewrites)) out.early)))
-    still (imports name is) (inl row) = opened name is (entry_quiet false c h p e [] e.reply (Asks_import name) is refl
-        (subst (λ acts. RowOf c h (Asks_import name) acts e.reply) (sym (append-nil e.acts)) (subst (λ x. RowOf c h x e.acts e.reply) is row.0)))
-      where
-        opened : (name : List ℕ) → e.asked ≡ Asks_import name → ((pool_along e.acts p).written ≡ p.written)
-            ⊎ ((false ≡ false) × (opening : Opening) × HasOpening opening e.acts × (opening.found.pool.0 ≡ p.pool.0))
-            → ((pool_along e.acts p).written ≡ p.written) ⊎ (IsTakenWrite p h e ⊎ IsOpeningOf p e)
-        opened name is (inl same) = inl same
-        opened name is (inr opens) = inr (inr (record { name = name; opening = opens.1; asked = is; reads = opens.2; ours = opens.3 }))
-    still (imports name is) (inr out) = opened name is
-        (entry_quiet false c h p e out.rest out.reply (Asks_import name) is refl (subst (λ x. RowOf c h x (e.acts ++ out.rest) out.reply) is out.goes_on))
-      where
-        opened : (name : List ℕ) → e.asked ≡ Asks_import name → ((pool_along e.acts p).written ≡ p.written)
-            ⊎ ((false ≡ false) × (opening : Opening) × HasOpening opening e.acts × (opening.found.pool.0 ≡ p.pool.0))
-            → ((pool_along e.acts p).written ≡ p.written) ⊎ (IsTakenWrite p h e ⊎ IsOpeningOf p e)
-        opened name is (inl same) = inl same
-        opened name is (inr opens) = inr (inr (record { name = name; opening = opens.1; asked = is; reads = opens.2; ours = opens.3 }))
-    still (neither quiet) (inl row) = ⊎_elim (λ same. inl same) (λ opens. absurd (let no = opens.0 in cc))
-        (entry_quiet true c h p e [] e.reply e.asked refl quiet (subst (λ acts. RowOf c h e.asked acts e.reply) (sym (append-nil e.acts)) row.0))
-    still (neither quiet) (inr out) = ⊎_elim (λ same. inl same) (λ opens. absurd (let no = opens.0 in cc))
-        (entry_quiet true c h p e out.rest out.reply e.asked refl quiet out.goes_on)
+write_none : (h : Host) (a : ℕ) (block : List ℕ) (found : Option PoolState) (acts : List Act) (reply : Reply)
+    → OnPool found (WriteLine h a block) acts reply → AllByRecursion NoReading acts
+write_none h a block None acts reply row = subst (AllByRecursion NoReading) (sym row.0) tt
+write_none h a block (Some s) acts reply row = subst (AllByRecursion NoReading) (sym row.2.are) (moves_none s.core.pool.0 row.2.moves)
+
+short_leaves : (c : Codec) (h : Host) (p : Pool) (e : Entry) (rest : List Act) (reply : Reply) (asked : Asked) → e.asked ≡ asked
+    → RowOf c h asked (e.acts ++ rest) reply
+    → (AllByRecursion ChangesNone e.acts × AreReads (calls_along e.acts)) ⊎ MayRewrite asked e.acts → Leaves c h p e
+short_leaves c h p e rest reply (Asks_write name a block) is row (inl early) =
+    leaves_still c h p e (all_still e.acts early.0 (none_front e.acts rest (write_none h a block (named name h.pools) (e.acts ++ rest) reply row)))
+short_leaves c h p e rest reply (Asks_write name a block) is row (inr none) = absurd none
+short_leaves c h p e rest reply (Asks_import name) is row early =
+    import_leaves c h p e name is (named_front name e.acts rest (named_import (named name h.pools) c h name (e.acts ++ rest) reply row))
+short_leaves c h p e rest reply (Asks_create name blocks tops) is row early = leaves_still c h p e (still_front e.acts rest (still_create c h name blocks tops (e.acts ++ rest) reply row))
+short_leaves c h p e rest reply asked is row early = leaves_still c h p e (still_front e.acts rest (plain_line KeepsWritten written_line StillAt still_acts c h asked (e.acts ++ rest) reply tt row))
+
+entry_leaves : (c : Codec) (h : Host) (p : Pool) (e : Entry) → HostRow c h e → Leaves c h p e
+entry_leaves c h p e (inl row) = row_leaves c h p e e.asked refl row.0
+entry_leaves c h p e (inr out) = short_leaves c h p e out.rest out.reply e.asked refl out.goes_on out.early
+
+pub entry_writes : (c : Codec) (h : Host) (p : Pool) (e : Entry) → HostRow c h e → KeepsWrites c h p (pool_along e.acts p) e
+entry_writes c h p e row = record { puts = λ a block w x. write_puts c h p e a block row w x; leaves = entry_leaves c h p e row }

@@ -1,4 +1,4 @@
--- What an acknowledged sync and an opening come to.
+-- What an acknowledged sync or turn, and an opening, come to.
 use Rattle.std.specs.Prelude.{◌≡◌, ℕ, ◌<◌, ◌≤◌, List, [], ◌∷◌, Option, Some, None}
 use Rattle.label_store.specs.Rounds.{config_of}
 use Rattle.mp_base.specs.declared.place.Key.{Key}
@@ -9,24 +9,31 @@ use Rattle.txg_history.specs.Records.{Rec, IsIn, number_of, block_at}
 use Rattle.pool_moves.specs.LineRows.{Committed, Ended}
 use Rattle.pool_moves.specs.Opened.{opened_leaves}
 use Rattle.pool_moves.specs.PageReads.{LeafShown, answers_in}
-use Rattle.pool_moves.specs.TreeRows.{Detached}
 use Rattle.pool_runs.specs.Acts.{Act, Opening, Reads_as, calls_along}
-use Rattle.pool_runs.specs.Lines.{Asks_turn, Asks_sync, Asks_detach, Reply, To_turn, To_sync, To_detach, To_import, Opened, NothingFound, PageLost, Entry}
+use Rattle.pool_runs.specs.Lines.{Asks_turn, Asks_sync, Reply, To_turn, To_sync, To_import, Opened, NothingFound, PageLost, Entry}
+use Rattle.pool_moves.specs.States.{PoolState}
+use Rattle.pool_runs.specs.Hosts.{Host}
+use Rattle.pool_runs.specs.Moments.{IsOpenAs}
 
 -- Behind a line record n is acknowledged, and it has each block as it was written last before the line.
 pub record CommitsAll (before behind : Pool) (n : ℕ) : Type 0 where
   pub acked : number_of behind.acked ≡ n
   pub blocks : (a : ℕ) → block_at behind.acked a ≡ before.written a
 
--- What a line acknowledges of a pool of this name where it answers n: a turn and a detach record n, and a sync record n with each block as it was
--- written last.
-pub record AcksAs (before behind : Pool) (name : List ℕ) (e : Entry) (n : ℕ) : Type 0 where
-  pub turns : e.asked ≡ Asks_turn name → e.reply ≡ To_turn (Committed n) → number_of behind.acked ≡ n
-  pub detaches : (leaf : List ℕ) → e.asked ≡ Asks_detach name leaf → e.reply ≡ To_detach (Detached n) → number_of behind.acked ≡ n
-  pub syncs : e.asked ≡ Asks_sync name → e.reply ≡ To_sync (Ended (Committed n)) → CommitsAll before behind n
+-- Behind a turn record n is acknowledged, and it has each block as it was written last before the group's freeze.
+pub record CommitsGroup (before behind : Pool) (n : ℕ) : Type 0 where
+  pub acked : number_of behind.acked ≡ n
+  pub blocks : (a : ℕ) → block_at behind.acked a ≡ before.group.content a
 
--- An opening that answers n found a live record, not below the acknowledged one, and acknowledged its blocks again as record n, above it; they are what
--- was written last from there on.
+-- A sync or a turn of the open pool that answers a number acknowledged that record.
+pub record Acknowledges (h : Host) (before behind : Pool) (e : Entry) : Type 0 where
+  pub syncs : (name : List ℕ) (s : PoolState) (n : ℕ) → e.asked ≡ Asks_sync name → IsOpenAs before h name s → e.reply ≡ To_sync (Ended (Committed n))
+      → CommitsAll before behind n
+  pub turns : (name : List ℕ) (s : PoolState) (n : ℕ) → e.asked ≡ Asks_turn name → IsOpenAs before h name s → e.reply ≡ To_turn (Committed n)
+      → CommitsGroup before behind n
+
+-- An opening that answers n found a live record, not below the acknowledged one, and acknowledged its blocks again as record n, above it; and what
+-- was written last is what the record found has.
 pub record OpensLive (before behind : Pool) (n : ℕ) : Type 0 where
   pub r : Rec
   pub live : IsIn r before.live
@@ -34,7 +41,7 @@ pub record OpensLive (before behind : Pool) (n : ℕ) : Type 0 where
   pub above : number_of r < n
   pub acked : number_of behind.acked ≡ n
   pub blocks : (a : ℕ) → block_at behind.acked a ≡ block_at r a
-  pub written : behind.written ≡ block_at r
+  pub written : (a : ℕ) → behind.written a ≡ block_at r a
 
 -- what these acts open, if anything
 abbrev pub opening_in : List Act → Option Opening
@@ -50,10 +57,12 @@ pub record LosesPage (c : Codec) (before behind : Pool) (acts : List Act) : Type
   pub r : Rec
   pub live : IsIn r before.live
   pub is : opening.found.blob.items ≡ config_of r.commit
-  pub none : ¬ (HasGoodPages behind r (answers_in (opened_leaves (c.leaves opening.found.blob.items) opening.devs) (calls_along acts)))
+  pub none : ¬ (HasGoodPages behind r (λ k. answers_in (opened_leaves (c.leaves opening.found.blob.items) opening.devs) (calls_along acts)))
 
--- An opening never answers that there is no record; where it answers a number it opens a live record; and it loses no page that has a good leaf.
-pub record FindsPool (c : Codec) (before behind : Pool) (acts : List Act) (reply : Reply) : Type 0 where
+-- An opening never answers that there is no record; where it answers a number it opens a live record, and the pool is open in the host behind it;
+-- and it loses no page that has a good leaf.
+pub record FindsPool (c : Codec) (before behind : Pool) (after : Host) (acts : List Act) (reply : Reply) : Type 0 where
   pub some : reply ≡ To_import NothingFound → ⊥
   pub opened : (n : ℕ) → reply ≡ To_import (Opened n) → OpensLive before behind n
+  pub is_open : (n : ℕ) → reply ≡ To_import (Opened n) → (s : PoolState) × IsOpenAs behind after before.name s
   pub loses : (page : Key) (shown : List LeafShown) → reply ≡ To_import (PageLost page shown) → LosesPage c before behind acts

@@ -1,60 +1,20 @@
 -- `create` as a row: its refusals, its stamps, and the pool that begins behind them.
-use Rattle.std.specs.Prelude.{
-  ◌≡◌,
-  ◌≢◌,
-  ◌⊎◌,
-  ℕ,
-  ◌+◌,
-  ◌<◌,
-  ◌≤◌,
-  ◌^◌,
-  ◌==◌,
-  ◌||◌,
-  nat_lt,
-  Bool,
-  true,
-  false,
-  cond,
-  List,
-  [],
-  ◌∷◌,
-  ◌++◌,
-  length,
-  Option,
-  Some,
-  None,
-}
-use Rattle.std.specs.List.{AllByRecursion, list_any, find}
+use Rattle.std.specs.Prelude.{◌≡◌, ◌≢◌, ◌⊎◌, ℕ, ◌+◌, ◌≤◌, ◌==◌, ◌||◌, nat_lt, Bool, true, false, cond, List, [], ◌∷◌, ◌++◌, length, take, Option, Some, None}
+use Rattle.std.specs.List.{AllByRecursion, list_any}
 use Rattle.std.specs.Option.{is_some}
+use Rattle.std.specs.Int.{to_be_bytes, from_be_bytes, w64}
 use Rattle.std.specs.Str.{bytes_eq}
+use Rattle.sha2.specs.Sha256.{sha256}
 use Rattle.mp_base.specs.declared.number.Guid.{Guid}
 use Rattle.txg_history.specs.Pages.{Codec}
-use Rattle.pool_moves.specs.FreezeRow.{is_dev}
 use Rattle.pool_moves.specs.Moves.{Move}
-use Rattle.pool_moves.specs.StampRow.{
-  NewMember,
-  NewLeaf,
-  new_leaves,
-  new_room,
-  leaf_at,
-  is_leaf_at,
-  guid_of,
-  top_of,
-  AreDevicesApart,
-  Stamp,
-  AreStamps,
-  new_state,
-  CreateReply,
-  Created,
-  FaultOn,
-  CommitsFirst,
-}
+use Rattle.pool_moves.specs.StampRow.{NewMember, NewLeaf, new_leaves, new_room, leaf_at, is_leaf_at, guid_of, top_of, AreDevicesApart, Stamp, AreStamps, new_state, CreateReply, Created, FaultOn, CommitsFirst}
 use Rattle.pool_moves.specs.States.{PoolState}
 use Rattle.pool_runs.specs.Acts.{Act, Birth, Names, Takes, Bears, Closes, does, bare}
 use Rattle.pool_runs.specs.Devices.{Device, number_in, name_in, size_in}
-use Rattle.pool_runs.specs.Hosts.{Host, IsOpen, named, host_along}
+use Rattle.pool_runs.specs.Hosts.{Host, IsOpen, named, holder, host_along}
 use Rattle.pool_runs.specs.Knowing.{AreOwnActs}
-use Rattle.pool_runs.specs.Lines.{Reply, To_create, To_refused, Refusal, NameTaken, TooMany, BadBlocks, NameTwice, UnknownDevice, InUse, TooSmall}
+use Rattle.pool_runs.specs.Lines.{Reply, To_create, To_uncreated, CreateRefusal, NameTaken, TooMany, BadBlocks, NameTwice, UnknownDevice, InUse, TooSmall}
 
 abbrev pub dev_or_none : Option ℕ → ℕ
 dev_or_none None = 0
@@ -88,14 +48,14 @@ new_birth name pool blocks table tops = record {
 }
 
 -- Refusals, each where its cause is, the first one of those that come.
-abbrev pub or_else : Option Refusal → Option Refusal → Option Refusal
+abbrev pub or_else : Option CreateRefusal → Option CreateRefusal → Option CreateRefusal
 or_else (Some refusal) other = Some refusal
 or_else None other = other
 
-abbrev pub too_many : (limit count : ℕ) → Option Refusal
+abbrev pub too_many : (limit count : ℕ) → Option CreateRefusal
 too_many limit count = cond (nat_lt limit count) (Some (TooMany limit count)) None
 
-abbrev pub too_wide : (tops : List (List (List ℕ))) → Option Refusal
+abbrev pub too_wide : (tops : List (List (List ℕ))) → Option CreateRefusal
 too_wide [] = None
 too_wide (names ∷ tops) = or_else (too_many 8 (length names)) (too_wide tops)
 
@@ -107,40 +67,36 @@ abbrev pub has_twice : List (List ℕ) → Bool
 has_twice [] = false
 has_twice (name ∷ names) = list_any (bytes_eq name) names || has_twice names
 
-abbrev pub unknown_by : Option ℕ → (name : List ℕ) → Option Refusal
+abbrev pub unknown_by : Option ℕ → (name : List ℕ) → Option CreateRefusal
 unknown_by None name = Some (UnknownDevice name)
 unknown_by (Some d) name = None
 
-abbrev pub unknown : List Device → List (List ℕ) → Option Refusal
+abbrev pub unknown : List Device → List (List ℕ) → Option CreateRefusal
 unknown table [] = None
 unknown table (name ∷ names) = or_else (unknown_by (number_in name table) name) (unknown table names)
 
--- the open pool that has a leaf on the device is named
-abbrev pub used_by : Option PoolState → Option Refusal
+-- the open pool whose the device is is named
+abbrev pub used_by : Option PoolState → Option CreateRefusal
 used_by None = None
 used_by (Some s) = Some (InUse s.core.name)
 
-abbrev pub has_leaf_at : (d : ℕ) → PoolState → Bool
-has_leaf_at d s = list_any (λ leaf. is_dev d leaf.dev) s.core.leaves
-
-abbrev pub used : List PoolState → List NewLeaf → Option Refusal
+abbrev pub used : List PoolState → List NewLeaf → Option CreateRefusal
 used pools [] = None
-used pools (leaf ∷ leaves) = or_else (used_by (find (has_leaf_at leaf.dev) pools)) (used pools leaves)
+used pools (leaf ∷ leaves) = or_else (used_by (holder leaf.name leaf.dev pools)) (used pools leaves)
 
-abbrev pub too_small : List Device → List NewLeaf → Option Refusal
+abbrev pub too_small : List Device → List NewLeaf → Option CreateRefusal
 too_small table [] = None
-too_small table (leaf ∷ leaves) = or_else (cond (nat_lt (size_in table leaf.dev) 320) (Some (TooSmall 320 (size_in table leaf.dev))) None)
-    (too_small table leaves)
+too_small table (leaf ∷ leaves) = or_else (cond (nat_lt (size_in table leaf.dev) 320) (Some (TooSmall 320 (size_in table leaf.dev))) None) (too_small table leaves)
 
-abbrev pub refused_if : Bool → Refusal → Option Refusal
+abbrev pub refused_if : Bool → CreateRefusal → Option CreateRefusal
 refused_if true refusal = Some refusal
 refused_if false refusal = None
 
-abbrev pub first_some : List (Option Refusal) → Option Refusal
+abbrev pub first_some : List (Option CreateRefusal) → Option CreateRefusal
 first_some [] = None
 first_some (refusal ∷ more) = or_else refusal (first_some more)
 
-abbrev pub refusals_of : Host → (name : List ℕ) → (blocks : ℕ) → (tops : List (List (List ℕ))) → List (Option Refusal)
+abbrev pub refusals_of : Host → (name : List ℕ) → (blocks : ℕ) → (tops : List (List (List ℕ))) → List (Option CreateRefusal)
 refusals_of h name blocks tops =
     refused_if (is_some (named name h.pools)) NameTaken
     ∷ too_many 16 (length h.pools + 1)
@@ -154,7 +110,7 @@ refusals_of h name blocks tops =
     ∷ too_small h.table (leaves_of h.table tops)
     ∷ []
 
-abbrev pub create_refusal : Host → (name : List ℕ) → (blocks : ℕ) → (tops : List (List (List ℕ))) → Option Refusal
+abbrev pub create_refusal : Host → (name : List ℕ) → (blocks : ℕ) → (tops : List (List (List ℕ))) → Option CreateRefusal
 create_refusal h name blocks tops = first_some (refusals_of h name blocks tops)
 
 -- the acts of these stamps: each takes its device as it begins
@@ -162,11 +118,20 @@ abbrev pub stamp_acts : (g : ℕ) → List Stamp → List Act
 stamp_acts g [] = []
 stamp_acts g (stamp ∷ stamps) = Takes g stamp.dev ∷ (bare stamp.made ++ stamp_acts g stamps)
 
--- What each create has that isn't refused: a pool number, which the clock gave, at least one device for each mirror, and its leaves on
--- devices of their own.
+-- the number of a pool: the first eight bytes of the sum of its name and of the second at which it is made
+unfoldable pub pool_sum : (name : List ℕ) → (second : ℕ) → ℕ
+pool_sum name second = from_be_bytes w64 (take 8 (sha256 (name ++ to_be_bytes w64 second)))
+
+-- but never 0
+abbrev pub pool_number : (name : List ℕ) → (second : ℕ) → Guid
+pool_number name second = record { 0 = cond (pool_sum name second == 0) 1 (pool_sum name second) }
+
+-- What each create has that isn't refused: its pool's number by its name and the last second, a mirror, at least one device for each, and its leaves
+-- on devices of their own.
 pub record MayCreate (h : Host) (name : List ℕ) (blocks : ℕ) (tops : List (List (List ℕ))) (pool : Guid) : Type 0 where
   pub none : create_refusal h name blocks tops ≡ None
-  pub in_range : pool.0 < 2 ^ 64
+  pub number : pool ≡ pool_number name h.second
+  pub one : 1 ≤ length tops
   pub some : AllByRecursion (λ names. 1 ≤ length names) tops
   pub apart : AreDevicesApart (leaves_of h.table tops)
 
@@ -205,8 +170,7 @@ host_stamped h g stamps = host_along (stamp_acts g stamps) h
 
 -- `create`
 abbrev pub RowCreate : Codec → Host → (name : List ℕ) → (blocks : ℕ) → (tops : List (List (List ℕ))) → List Act → Reply → Type 0
-RowCreate c h name blocks tops acts reply =
-    ((refusal : Refusal) × (create_refusal h name blocks tops ≡ Some refusal) × (acts ≡ []) × (reply ≡ To_refused refusal))
+RowCreate c h name blocks tops acts reply = ((refusal : CreateRefusal) × (create_refusal h name blocks tops ≡ Some refusal) × (acts ≡ []) × (reply ≡ To_uncreated refusal))
     ⊎ (FailsStamp h name blocks tops acts reply ⊎ Creates c h name blocks tops acts reply)
 
 -- The pool number of a create is no open pool's, and no two names of the host have one device, as its look-ups leave it.

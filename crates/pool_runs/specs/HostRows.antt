@@ -1,66 +1,25 @@
 -- Each line of a host as a row: which acts it is made of, by the host before it, and what it answers.
-use Rattle.std.specs.Prelude.{◌≡◌, ◌⊎◌, ℕ, ◌≤◌, ◌&&◌, Bool, true, false, not, List, [], ◌∷◌, ◌++◌, Option, Some, None}
-use Rattle.std.specs.List.{AllByRecursion, find}
+use Rattle.std.specs.Prelude.{◌≡◌, ◌⊎◌, ℕ, ◌≤◌, Bool, true, false, cond, List, [], ◌∷◌, ◌++◌, Option, Some, None}
+use Rattle.std.specs.List.{AllByRecursion}
 use Rattle.bank_core.specs.Calls.{device_of, fault_of}
 use Rattle.bank_core.specs.Disk.{Call, Read, Noted, AllAnswer}
 use Rattle.label_store.specs.Newest.{AreReads}
 use Rattle.txg_history.specs.Pages.{Codec}
-use Rattle.pool_moves.specs.AwayRows.{WriteReply, RowWrite, OfflineReply, is_listed, leaf_named, RowOffline}
+use Rattle.pool_moves.specs.AwayRows.{WriteReply, RowWrite, OfflineReply, is_listed, RowOffline}
 use Rattle.pool_moves.specs.CommitRows.{NamedLog, RowLogs}
-use Rattle.pool_moves.specs.Leaves.{Seat}
 use Rattle.pool_moves.specs.LineRows.{TurnReply, FreezeReply, SyncReply, RowTurn, RowFreezeLine, RowSync}
 use Rattle.pool_moves.specs.Moves.{Move, Makes, Finds}
 use Rattle.pool_moves.specs.OnlineRow.{HostDevice, NoneFound, HeldBy, Handed, OnlineReply, RowOnline}
 use Rattle.pool_moves.specs.ReadRow.{ReadReply, RowRead, made_in}
 use Rattle.pool_moves.specs.ScanRows.{StepReply, RowStep, ScrubReply, RowScrub, StopReply, RowStopScrub}
 use Rattle.pool_moves.specs.States.{PoolState}
-use Rattle.pool_moves.specs.TreeRows.{Graft, TreeRefusal, graft_refusal, GraftReply, GraftRefused, RowGraft, DetachReply, RowDetach}
 use Rattle.pool_runs.specs.Acts.{Act, Mark, Gives_for, Steps_by, Seeks_by, Hears, Does, Marks, Enters, Takes, Bears, Closes, does, calls_along}
-use Rattle.pool_runs.specs.Creating.{has_leaf_at, RowCreate}
+use Rattle.pool_runs.specs.Creating.{RowCreate}
 use Rattle.pool_runs.specs.Devices.{number_in, size_in}
-use Rattle.pool_runs.specs.Hosts.{Host, is_of, named, host_by, host_along}
+use Rattle.pool_runs.specs.Hosts.{Host, is_of, holder, named, host_by, host_along}
 use Rattle.pool_runs.specs.Importing.{read_in, all_shown, RowImport}
 use Rattle.pool_runs.specs.Knowing.{AreOwnActs}
-use Rattle.pool_runs.specs.Lines.{
-  UnknownDevice,
-  InUse,
-  Asked,
-  Asks_nothing,
-  Asks_write,
-  Asks_read,
-  Asks_freeze,
-  Asks_turn,
-  Asks_sync,
-  Asks_offline,
-  Asks_online,
-  Asks_logs,
-  Asks_graft,
-  Asks_detach,
-  Asks_step,
-  Asks_scrub,
-  Asks_stop,
-  Asks_import,
-  Asks_create,
-  Reply,
-  To_nothing,
-  To_write,
-  To_read,
-  To_freeze,
-  To_turn,
-  To_sync,
-  To_offline,
-  To_online,
-  To_logs,
-  To_graft,
-  To_detach,
-  To_step,
-  To_scrub,
-  To_stop,
-  To_refused,
-  No_pool,
-  No_memory,
-  Entry,
-}
+use Rattle.pool_runs.specs.Lines.{Asked, Asks_nothing, Asks_write, Asks_read, Asks_freeze, Asks_turn, Asks_sync, Asks_offline, Asks_online, Asks_logs, Asks_step, Asks_scrub, Asks_stop, Asks_import, Asks_create, Reply, To_nothing, To_write, To_read, To_freeze, To_turn, To_sync, To_offline, To_online, To_logs, To_step, To_scrub, To_stop, No_pool, No_memory, Entry}
 
 -- Device calls that a line made: each on a device that the run has, with an answer by the disk model.
 pub record AreMade (h : Host) (calls : List Noted) : Type 0 where
@@ -105,54 +64,21 @@ found_in [] = []
 found_in (Finds m d ∷ vs) = Some d ∷ found_in vs
 found_in (v ∷ vs) = found_in vs
 
--- what the host says of the device of this name: whether it was found, and whether another open pool has a leaf there
-abbrev pub held_by : Option PoolState → (d : ℕ) → HostDevice
-held_by None d = Handed d
-held_by (Some s) d = HeldBy s.core.name
+-- what the host says of the device of this name: whether it was found, and whether it is another open pool's
+abbrev pub held_by : Option PoolState → (g d : ℕ) → HostDevice
+held_by None g d = Handed d
+held_by (Some s) g d = cond (is_of g s) (Handed d) (HeldBy s.core.name)
 
-abbrev pub device_for : Option ℕ → Host → (g : ℕ) → HostDevice
-device_for None h g = NoneFound
-device_for (Some d) h g = held_by (find (λ s. not (is_of g s) && has_leaf_at d s) h.pools) d
+abbrev pub device_for : (name : List ℕ) → Option ℕ → Host → (g : ℕ) → HostDevice
+device_for name None h g = NoneFound
+device_for name (Some d) h g = held_by (holder name d h.pools) g d
 
 -- It looks for the identity of a leaf that comes back, and a device on which it finds it is the pool's.
 pub record ByOnline (h : Host) (s : PoolState) (device : List ℕ) (reply : OnlineReply) (acts : List Act) : Type 0 where
   pub moves : List Move
-  pub row : RowOnline (size_in h.table) s device (is_listed device s) (device_for (number_in device h.table) h s.core.pool.0) moves reply
+  pub row : RowOnline (size_in h.table) s device (is_listed device s) (device_for device (number_in device h.table) h s.core.pool.0) moves reply
   pub are : acts ≡ Marks s.core.pool.0 (Seeks_by (made_in moves) (found_in moves))
       ∷ (does s.core.pool.0 moves ++ all_shown s.core.pool.0 (read_in (made_in moves)) (found_in moves))
-  pub own : AreOwnActs s.core.pool.0 h acts
-
--- It puts a leaf in on this device, which is taken as its stamp begins.
-abbrev pub graft_acts : (g d : ℕ) → List Move → List Act
-graft_acts g d [] = []
-graft_acts g d (v ∷ vs) = Takes g d ∷ does g (v ∷ vs)
-
-pub record ByGraft (h : Host) (s : PoolState) (graft : Graft) (leaf new : List ℕ) (d : ℕ) (reply : GraftReply) (acts : List Act) : Type 0 where
-  pub moves : List Move
-  pub row : RowGraft (size_in h.table) graft s leaf new d moves reply
-  pub are : acts ≡ graft_acts s.core.pool.0 d moves
-  pub own : AreOwnActs s.core.pool.0 h acts
-
--- by the open pool that has a leaf on the device, and by its number where it was found
-abbrev pub GraftUnless : Option PoolState → Host → PoolState → (graft : Graft) → (leaf new : List ℕ) → (d : ℕ) → List Act → Reply → Type 0
-GraftUnless (Some u) h s graft leaf new d acts reply = (acts ≡ []) × (reply ≡ To_refused (InUse u.core.name))
-GraftUnless None h s graft leaf new d acts reply = (r : GraftReply) × (reply ≡ To_graft r) × ByGraft h s graft leaf new d r acts
-
-abbrev pub GraftOnto : Option ℕ → Host → PoolState → (graft : Graft) → (leaf new : List ℕ) → List Act → Reply → Type 0
-GraftOnto None h s graft leaf new acts reply = (acts ≡ []) × (reply ≡ To_refused (UnknownDevice new))
-GraftOnto (Some d) h s graft leaf new acts reply = GraftUnless (find (has_leaf_at d) h.pools) h s graft leaf new d acts reply
-
--- by what the tree refuses
-abbrev pub GraftIf : Option TreeRefusal → Host → PoolState → (graft : Graft) → (leaf new : List ℕ) → List Act → Reply → Type 0
-GraftIf (Some refusal) h s graft leaf new acts reply = (acts ≡ []) × (reply ≡ To_graft (GraftRefused refusal))
-GraftIf None h s graft leaf new acts reply = GraftOnto (number_in new h.table) h s graft leaf new acts reply
-
--- It takes a leaf out. Where the history has the leaf no code knows: whichever seat stands here, the line is one.
-pub record ByDetach (c : Codec) (h : Host) (s : PoolState) (leaf : List ℕ) (reply : DetachReply) (acts : List Act) : Type 0 where
-  pub moves : List Move
-  pub seat : Seat
-  pub row : RowDetach c (size_in h.table) s leaf seat moves reply
-  pub are : acts ≡ does s.core.pool.0 moves
   pub own : AreOwnActs s.core.pool.0 h acts
 
 -- Lines of an open pool.
@@ -176,12 +102,6 @@ OfflineLine h device temporary s acts reply = (r : OfflineReply) × (reply ≡ T
 
 abbrev pub OnlineLine : Host → (device : List ℕ) → PoolState → List Act → Reply → Type 0
 OnlineLine h device s acts reply = (r : OnlineReply) × (reply ≡ To_online r) × ByOnline h s device r acts
-
-abbrev pub GraftLine : Host → (graft : Graft) → (leaf new : List ℕ) → PoolState → List Act → Reply → Type 0
-GraftLine h graft leaf new s acts reply = GraftIf (graft_refusal graft s leaf (leaf_named leaf s.core.leaves)) h s graft leaf new acts reply
-
-abbrev pub DetachLine : Codec → Host → (leaf : List ℕ) → PoolState → List Act → Reply → Type 0
-DetachLine c h leaf s acts reply = (r : DetachReply) × (reply ≡ To_detach r) × ByDetach c h s leaf r acts
 
 abbrev pub StepLine : Host → PoolState → List Act → Reply → Type 0
 StepLine h s acts reply = (r : StepReply) × (reply ≡ To_step r) × ByMarked h s (λ vs. Steps_by (made_in vs)) (λ vs. RowStep s vs r) acts
@@ -210,8 +130,6 @@ RowOf c h (Asks_turn name) acts reply = OnPool (named name h.pools) (TurnLine c 
 RowOf c h (Asks_sync name) acts reply = OnPool (named name h.pools) (SyncLine c h) acts reply
 RowOf c h (Asks_offline name device temporary) acts reply = OnPool (named name h.pools) (OfflineLine h device temporary) acts reply
 RowOf c h (Asks_online name device) acts reply = OnPool (named name h.pools) (OnlineLine h device) acts reply
-RowOf c h (Asks_graft graft name leaf new) acts reply = OnPool (named name h.pools) (GraftLine h graft leaf new) acts reply
-RowOf c h (Asks_detach name leaf) acts reply = OnPool (named name h.pools) (DetachLine c h leaf) acts reply
 RowOf c h (Asks_step name) acts reply = OnPool (named name h.pools) (StepLine h) acts reply
 RowOf c h (Asks_scrub name) acts reply = OnPool (named name h.pools) (ScrubLine h) acts reply
 RowOf c h (Asks_stop name) acts reply = OnPool (named name h.pools) (StopLine h) acts reply
@@ -229,16 +147,21 @@ ChangesNone (Bears birth) = ⊥
 ChangesNone (Closes g) = ⊥
 ChangesNone act = Unit {0}
 
--- the line may rewrite copies: a read, and an import before its pool is open
+-- the line may rewrite copies: an import, before its pool is open
 abbrev pub MayRewrite : Asked → List Act → Type 0
-MayRewrite (Asks_read name a) acts = Unit {0}
 MayRewrite (Asks_import name) acts = AllByRecursion ChangesNone acts
 MayRewrite asked acts = ⊥
 
--- A line for which there was no memory: it did what some row of this line begins with. Each call so far answered Ok; none of them wrote or
--- flushed, and no pool changed, but where a read rewrote copies and counted, or an import rewrote pages. (A sync that ended a group before is a row of its
--- own.)
+-- a line that may want memory: a read takes none, nor does one that makes a turn
+abbrev pub TakesMemory : Asked → Type 0
+TakesMemory (Asks_read name a) = ⊥
+TakesMemory (Asks_turn name) = ⊥
+TakesMemory asked = Unit {0}
+
+-- A line for which there was no memory, where it takes any: it did what some row of this line begins with. Each call so far answered Ok; none of them wrote or
+-- flushed, and no open pool changed, but where an import rewrote pages of its own. (A sync that ended a group before is a row of its own.)
 pub record RunsOut (c : Codec) (h : Host) (e : Entry) : Type 0 where
+  pub takes : TakesMemory e.asked
   pub rest : List Act
   pub reply : Reply
   pub goes_on : RowOf c h e.asked (e.acts ++ rest) reply

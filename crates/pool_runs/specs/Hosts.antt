@@ -1,14 +1,16 @@
 -- A host: its devices, its open pools, and whose each device is.
-use Rattle.std.specs.Prelude.{◌≡◌, ◌⊎◌, ℕ, ◌==◌, Bool, not, cond, List, [], ◌∷◌, map, Option, Some}
-use Rattle.std.specs.List.{filter, find}
+use Rattle.std.specs.Prelude.{◌≡◌, ◌⊎◌, ℕ, ◌==◌, ◌||◌, Bool, not, cond, List, [], ◌∷◌, map, Option, Some, None}
+use Rattle.std.specs.List.{filter, find, list_any}
+use Rattle.std.specs.Option.{is_some}
 use Rattle.std.specs.Str.{bytes_eq}
 use Rattle.bank_core.specs.Disk.{Sectors, run}
 use Rattle.txg_history.specs.Groups.{at_device}
+use Rattle.pool_moves.specs.FreezeRow.{is_dev}
 use Rattle.pool_moves.specs.Moves.{Move, state_step}
 use Rattle.pool_moves.specs.ReadRow.{made_in}
 use Rattle.pool_moves.specs.States.{PoolState}
 use Rattle.pool_runs.specs.Acts.{Act, Hears, Bare, Does, Shows, Enters, Takes, Bears, Closes}
-use Rattle.pool_runs.specs.Devices.{Device}
+use Rattle.pool_runs.specs.Devices.{Device, number_in}
 
 -- A host: its devices by name, the open pools, of each device the number of the pool whose identity was last read or stamped there
 -- in this run, the last second, and what the disk model says of the devices.
@@ -31,6 +33,27 @@ is_of g s = s.core.pool.0 == g
 -- the open pool of this name
 abbrev pub named : List ℕ → List PoolState → Option PoolState
 named name pools = find (λ s. bytes_eq s.core.name name) pools
+
+-- the pool has a leaf on this device, or one of this name
+abbrev pub has_leaf : (name : List ℕ) → (d : ℕ) → PoolState → Bool
+has_leaf name d s = list_any (λ leaf. is_dev d leaf.dev || bytes_eq leaf.own.name name) s.core.leaves
+
+-- Whose the device of this name and number is: of the open pools that have such a leaf the one that was open first, whether it found its leaf there or not.
+abbrev pub first_open : Option PoolState → Option PoolState → Option PoolState
+first_open (Some s) later = Some s
+first_open None later = later
+
+abbrev pub holder : (name : List ℕ) → (d : ℕ) → List PoolState → Option PoolState
+holder name d [] = None
+holder name d (s ∷ pools) = first_open (holder name d pools) (cond (has_leaf name d s) (Some s) None)
+
+-- the number of the device of this name, where it was found and is no open pool's
+abbrev pub free_by : (name : List ℕ) → (number : Option ℕ) → List PoolState → Option ℕ
+free_by name None pools = None
+free_by name (Some d) pools = cond (is_some (holder name d pools)) None (Some d)
+
+abbrev pub free_in : Host → (name : List ℕ) → Option ℕ
+free_in h name = free_by name (number_in name h.table) h.pools
 
 -- the open pool of this number makes a move
 abbrev pub moved : (g : ℕ) → Move → PoolState → PoolState

@@ -10,8 +10,8 @@ use Rattle.pool_moves.specs.Moves.{Move}
 use Rattle.pool_moves.specs.OpeningRow.{SeekReply, NoRecord, NumbersEnd, TakesRecord, RowSeek, OpenReply, Opens_state, NoPage, RowOpen, RowResume, read_of}
 use Rattle.pool_moves.specs.States.{PoolState}
 use Rattle.pool_runs.specs.Acts.{Act, Looked, Shows, Reads_as, Enters, Closes, does, bare}
-use Rattle.pool_runs.specs.Devices.{number_in, size_in, handed}
-use Rattle.pool_runs.specs.Hosts.{Host, named}
+use Rattle.pool_runs.specs.Devices.{size_in, handed}
+use Rattle.pool_runs.specs.Hosts.{Host, named, free_in}
 use Rattle.pool_runs.specs.Knowing.{AreOwnActs}
 use Rattle.pool_runs.specs.Lines.{Reply, To_import, Opened, NameOpen, TooManyPools, NothingFound, LastNumber, PageLost, Unopened}
 
@@ -41,12 +41,12 @@ abbrev pub FollowsMap : OpenReply → Codec → (size : ℕ → ℕ) → (g : �
 FollowsMap (Opens_state s) c size g acts reply = (vs : List Move) × (turn : TurnReply) × RowResume c size s vs turn × OpensBy turn g s vs acts reply
 FollowsMap (NoPage page shown) c size g acts reply = (acts ≡ []) × (reply ≡ To_import (PageLost page shown))
 
--- An opening reads the record that it found: it looks for the identities of the leaves, each of which shows whose its device is, then it reads the
--- map, and commits.
+-- An opening reads the record that it found: it looks for the identities of the leaves on the devices that are no open pool's, each of which shows
+-- whose its device is, then it reads the map, and commits.
 pub record OpensFound (c : Codec) (h : Host) (name : List ℕ) (found : Found) (acts : List Act) (reply : Reply) : Type 0 where
   pub made : List Noted
   pub outcome : OpenReply
-  pub row : RowOpen c (size_in h.table) (λ device. number_in device h.table) name found made outcome
+  pub row : RowOpen c (size_in h.table) (free_in h) name found made outcome
   pub rest : List Act
   pub follows : FollowsMap outcome c (size_in h.table) found.pool.0 rest reply
   pub are : acts ≡ Reads_as (record { name = name; found = found; devs = row.devs; ids = row.ids; bytes = row.bytes })

@@ -1,4 +1,4 @@
--- What a host knows of a pool, open or closed, and which acts keep it.
+-- What an open pool's state is by its history, and which acts are a pool's own.
 use Rattle.std.specs.Prelude.{◌≡◌, ◌≢◌, ℕ, ◌≤◌, ◌<◌, false, List, [], ◌∷◌, Option, Some}
 use Rattle.std.specs.List.{AllByRecursion}
 use Rattle.bank_core.specs.Disk.{Call, Read, Write, Flush, Admit, Eject}
@@ -6,19 +6,17 @@ use Rattle.label_store.specs.Records.{place_at}
 use Rattle.label_store.specs.Uberblock.{IsUberblock}
 use Rattle.label_store.specs.declared.uberblock.Uberblock.{Uberblock}
 use Rattle.txg_history.specs.Events.{Known}
-use Rattle.txg_history.specs.Moves.{Mays, ReadsTrue}
+use Rattle.txg_history.specs.Moves.{ReadsTrue}
 use Rattle.txg_history.specs.Pages.{Codec}
 use Rattle.txg_history.specs.Pools.{Pool}
-use Rattle.txg_history.specs.Survival.{Survives}
 use Rattle.pool_moves.specs.FreezeRow.{is_dev}
 use Rattle.pool_moves.specs.Keeping.{Kept}
 use Rattle.pool_moves.specs.Leaves.{Seat}
 use Rattle.pool_moves.specs.Moves.{Move, Makes, Comes}
 use Rattle.pool_moves.specs.Rosters.{IsRoster}
 use Rattle.pool_moves.specs.States.{PoolState}
-use Rattle.pool_runs.specs.Acts.{Act, Hears, Bare, Does, Marks, Looked, Shows, Reads_as, Enters, Names, Takes, Bears, Closes, events_for, pool_by}
+use Rattle.pool_runs.specs.Acts.{Act, Hears, Bare, Does, Marks, Looked, Shows, Reads_as, Enters, Names, Takes, Bears, Closes}
 use Rattle.pool_runs.specs.Devices.{Device, size_in}
-use Rattle.pool_runs.specs.Fairness.{IsFair}
 use Rattle.pool_runs.specs.Hosts.{Host, host_by, IsOpen}
 
 -- the state is what the pool's history says, at some seats of its leaves
@@ -28,25 +26,6 @@ HasSeats c s p = (seats : List Seat) × Kept c s (record { pool = p; seats = sea
 -- the members stand on a list, no two under one number
 abbrev pub HasRoster : Pool → Type 0
 HasRoster p = (devs : List ℕ) × IsRoster p devs
-
--- A pool in a host. Its history has its invariant, and its members stand on a list; where it is open its state is what its history says, and it is open once;
--- no device that
--- another pool owns is its member; and each device that this run has is as the history has it, in its size and its sectors.
-pub record Knows (c : Codec) (h : Host) (p : Pool) : Type 0 where
-  pub survives : Survives c p
-  pub roster : HasRoster p
-  pub stands : (s : PoolState) → IsOpen s h.pools → s.core.pool.0 ≡ p.pool.0 → HasSeats c s p
-  pub once : (s u : PoolState) → IsOpen s h.pools → IsOpen u h.pools → s.core.pool.0 ≡ p.pool.0 → u.core.pool.0 ≡ p.pool.0 → s ≡ u
-  pub apart : (d g : ℕ) → h.owner d ≡ Some g → g ≢ p.pool.0 → p.member d ≡ false
-  pub sizes : (d : ℕ) → 1 ≤ size_in h.table d → p.size d ≡ size_in h.table d
-  pub disk : (d s : ℕ) → 1 ≤ size_in h.table d → p.sectors d s ≡ h.disk d s
-
--- Each of these acts, as far as it is fair and those before it were, is a list of events that the pool's history may have, and the host goes on
--- knowing the pool.
-abbrev pub MayActs : Codec → Host → Pool → List Act → Type 0
-MayActs c h p [] = Unit {0}
-MayActs c h p (act ∷ acts) = IsFair c p act
-    → Mays c p (events_for act p) × Knows c (host_by act h) (pool_by act p) × MayActs c (host_by act h) (pool_by act p) acts
 
 -- a call writes to a device of the pool of this number alone
 abbrev pub IsOwnCall : (g : ℕ) → (owner : ℕ → Option ℕ) → Call → Type 0

@@ -10,10 +10,9 @@ use Rattle.pool_moves.specs.PageReads.{LeafShown}
 use Rattle.pool_moves.specs.ReadRow.{ReadReply}
 use Rattle.pool_moves.specs.ScanRows.{StepReply, ScrubReply, StopReply}
 use Rattle.pool_moves.specs.StampRow.{CreateReply}
-use Rattle.pool_moves.specs.TreeRows.{Graft, GraftReply, DetachReply}
 use Rattle.pool_runs.specs.Acts.{Act}
 
--- what a line asks. One that asks nothing is outside of the grammar, or empty
+-- what a line asks. One that asks nothing is outside of the grammar, or empty, or there was no memory to read it
 pub data Asked : Type 0 where
   Asks_nothing : Asked
   Asks_write : (name : List ℕ) (a : ℕ) (block : List ℕ) → Asked
@@ -24,9 +23,6 @@ pub data Asked : Type 0 where
   Asks_offline : (name device : List ℕ) (temporary : Bool) → Asked
   Asks_online : (name device : List ℕ) → Asked
   Asks_logs : (name : List ℕ) → Asked
-  -- a leaf is put in beside the one of this name, or takes over from it; and one is taken out
-  Asks_graft : (graft : Graft) (name leaf new : List ℕ) → Asked
-  Asks_detach : (name leaf : List ℕ) → Asked
   Asks_step : (name : List ℕ) → Asked
   Asks_scrub : (name : List ℕ) → Asked
   Asks_stop : (name : List ℕ) → Asked
@@ -35,15 +31,15 @@ pub data Asked : Type 0 where
   Asks_create : (name : List ℕ) (blocks : ℕ) (tops : List (List (List ℕ))) → Asked
 
 -- Why a create is refused: its name is taken; a limit would be passed; its blocks are too few or too many; a device is named twice, or isn't
--- there, or is an open pool's, which is named; or it is too small. Two of these are causes at an attach and a replace too.
-pub data Refusal : Type 0 where
-  NameTaken : Refusal
-  TooMany : (limit count : ℕ) → Refusal
-  BadBlocks : (limit : ℕ) → Refusal
-  NameTwice : Refusal
-  UnknownDevice : (name : List ℕ) → Refusal
-  InUse : (by : List ℕ) → Refusal
-  TooSmall : (need has : ℕ) → Refusal
+-- there, or is an open pool's, which is named; or it is too small.
+pub data CreateRefusal : Type 0 where
+  NameTaken : CreateRefusal
+  TooMany : (limit count : ℕ) → CreateRefusal
+  BadBlocks : (limit : ℕ) → CreateRefusal
+  NameTwice : CreateRefusal
+  UnknownDevice : (name : List ℕ) → CreateRefusal
+  InUse : (by : List ℕ) → CreateRefusal
+  TooSmall : (need has : ℕ) → CreateRefusal
 
 -- What an import answers: the number that it committed; that a pool of the name is open, or as many as may be; that no record of the name is
 -- there, or one of the last number; that a page of the map was lost, with what each leaf showed; or that its commit was suspended.
@@ -66,15 +62,13 @@ pub data Reply : Type 0 where
   To_offline : (reply : OfflineReply) → Reply
   To_online : (reply : OnlineReply) → Reply
   To_logs : (logs : List NamedLog) → Reply
-  To_graft : (reply : GraftReply) → Reply
-  To_detach : (reply : DetachReply) → Reply
   To_step : (reply : StepReply) → Reply
   To_scrub : (reply : ScrubReply) → Reply
   To_stop : (reply : StopReply) → Reply
   To_import : (reply : ImportReply) → Reply
   To_create : (reply : CreateReply) → Reply
-  -- the host refused it
-  To_refused : (refusal : Refusal) → Reply
+  -- a create was refused
+  To_uncreated : (refusal : CreateRefusal) → Reply
   -- no open pool has the name
   No_pool : Reply
   -- there was no memory

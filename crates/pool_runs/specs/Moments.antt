@@ -51,6 +51,10 @@ host_before {c} {past} {acts} {entries} h l = host_by (Hears l.entry.second) (ho
 abbrev pub calls_in_line : {c : Codec} {past : Past} {acts : List Act} {entries : List Entry} → LineOf c past acts entries → List Noted
 calls_in_line {c} {past} {acts} {entries} l = calls_along l.entry.acts
 
+-- and the host as the line leaves it
+abbrev pub host_after : {c : Codec} {past : Past} {acts : List Act} {entries : List Entry} → Host → LineOf c past acts entries → Host
+host_after {c} {past} {acts} {entries} h l = host_along l.entry.acts (host_before h l)
+
 -- The pool is open in this host under this name, as this state.
 pub record IsOpenAs (p : Pool) (h : Host) (name : List ℕ) (s : PoolState) : Type 0 where
   pub named : named name h.pools ≡ Some s

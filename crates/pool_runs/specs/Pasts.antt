@@ -1,13 +1,12 @@
 -- The past of a pool, over any number of runs.
 use Rattle.std.specs.Prelude.{◌≡◌, ◌⊎◌, ℕ, ◌≤◌, nat_le, Bool, true, false, cond, List, [], ◌∷◌, Some, None}
-use Rattle.mp_base.specs.Block.{zero_block}
 use Rattle.bank_core.specs.Disk.{Sector, Sectors, Nothing, IsImage, after_crash}
 use Rattle.txg_history.specs.Events.{Event, Freezes, Begins, Stops}
 use Rattle.txg_history.specs.Moves.{May, AreUnforged}
 use Rattle.txg_history.specs.Numbering.{renumbered}
 use Rattle.txg_history.specs.Pages.{Codec}
 use Rattle.txg_history.specs.Pools.{Pool, after}
-use Rattle.txg_history.specs.Records.{Rec, block_at}
+use Rattle.txg_history.specs.Records.{Rec, block_at, nothing}
 use Rattle.txg_history.specs.Stamps.{AreStamped}
 use Rattle.pool_runs.specs.Acts.{Birth, born}
 use Rattle.pool_runs.specs.Devices.{number_in, size_in}
@@ -42,8 +41,7 @@ KeepsNumbers p was = (now : ℕ → ℕ) × ((d : ℕ) → p.member (was d) ≡ 
 abbrev pub IsAllowed : Codec → Past → Type 0
 IsAllowed c (Born birth sectors) = AreStamped birth.pool birth.member birth.guid birth.size birth.room birth.home sectors × HasRoster (born birth sectors)
 IsAllowed c (Then past v) = IsAllowed c past × May c (pool_of past) v
-IsAllowed c (Numbered past was called) = IsAllowed c past × KeepsNumbers (pool_of past) was
-    × ((d : ℕ) → (pool_of past).member (was d) ≡ true → called d ≡ called_in past (was d))
+IsAllowed c (Numbered past was called) = IsAllowed c past × KeepsNumbers (pool_of past) was × ((d : ℕ) → (pool_of past).member (was d) ≡ true → called d ≡ called_in past (was d))
 
 -- more events behind it
 abbrev pub then_all : Past → List Event → Past
@@ -114,8 +112,8 @@ WasFrozen content (Born birth sectors) = ⊥
 WasFrozen content (Then past v) = frozen_by v (pool_of past) content (WasFrozen content past)
 WasFrozen content (Numbered past was called) = WasFrozen content past
 
--- A record's blocks are what a read answered at the last freeze before its round: the writes accepted until then. Those of the first record
--- of a pool are zeros.
+-- A record's blocks are what a read answered at the last freeze before its round: the writes accepted until then. Else it is what the pool read
+-- before its first commit: number 0, and nothing anywhere.
 abbrev pub HasFrozen : Past → Rec → Type 0
-HasFrozen past r = ((a : ℕ) → block_at r a ≡ zero_block)
+HasFrozen past r = (r ≡ nothing (pool_of past).pool)
     ⊎ ((mid : Past) × IsFront (Then mid (Begins r)) past × WasFrozen (block_at r) mid)

@@ -14,15 +14,16 @@ use Rattle.txg_history.specs.Records.{key}
 use Rattle.txg_history.specs.Turns.{write_plan, flush_plan}
 use Rattle.pool_moves.specs.AwayRows.{Taken}
 use Rattle.pool_moves.specs.Drafts.{kept_leaf, draft_of}
-use Rattle.pool_moves.specs.FreezeRow.{up_devs, joins}
+use Rattle.pool_moves.specs.FreezeRow.{up_devs}
 use Rattle.pool_moves.specs.LineRows.{TurnReply, Write as WriteTurn, Flush as FlushTurn, Committed, Ended, moves_in}
-use Rattle.pool_moves.specs.Moves.{Draft, Move, Puts, Freeze, Wrote_key, Flushed_all, Starts, Copies, Copied, Commits, steps}
+use Rattle.pool_moves.specs.Moves.{Draft, Move, Puts, Freeze, Wrote_key, Flushed_all, Copies, Copied, Commits, steps}
 use Rattle.pool_moves.specs.ReadRow.{Gives}
-use Rattle.pool_moves.specs.StampRow.{new_room, new_top_number, next_from, new_leaf_seen, Stamp, new_state, Created}
+use Rattle.pool_moves.specs.StampRow.{new_room, new_top_number, children_under, next_from, new_leaf_seen, Stamp, new_state, Created}
 use Rattle.pool_moves.specs.States.{PoolState}
+use Rattle.pool_moves.specs.TurnRows.{round_moves}
 use Rattle.pool_moves.specs.Walking.{as_moves}
 use Rattle.pool_runs.specs.Acts.{Act, Birth, Gives_for, Marks, Hears, Names, Bears, does, history}
-use Rattle.pool_runs.specs.Creating.{tops_of, leaves_of, new_birth, stamp_acts, host_stamped, commit_acts}
+use Rattle.pool_runs.specs.Creating.{tops_of, leaves_of, new_birth, stamp_acts, pool_number, host_stamped, commit_acts}
 use Rattle.pool_runs.specs.Devices.{Device, size_in}
 use Rattle.pool_runs.specs.Hosts.{Host, host_by}
 use Rattle.pool_runs.specs.HostRows.{acts_in}
@@ -37,20 +38,14 @@ abbrev pub small_table : List Device
 small_table = record { name = small_device; number = Some 0; sectors = 320 } ∷ []
 
 abbrev pub small_host : Host
-small_host = record {
-  table = small_table;
-  pools = [];
-  owner = λ d. None;
-  second = 0;
-  disk = λ d s. record { stable = zeros sector_size; pending = Nothing; damaged = false };
-}
+small_host = record { table = small_table; pools = []; owner = λ d. None; second = 0; disk = λ d s. record { stable = zeros sector_size; pending = Nothing; damaged = false } }
 
--- The pool that it makes: a volume of one block on the device.
+-- The pool that it makes: a volume of one block on the device. Its number is by its name and the second 1.
 abbrev pub small_name : List ℕ
 small_name = 112 ∷ []
 
 abbrev pub small_pool : Guid
-small_pool = record { 0 = 7 }
+small_pool = pool_number small_name 1
 
 abbrev pub small_tops : List (List (List ℕ))
 small_tops = (small_device ∷ []) ∷ []
@@ -91,6 +86,8 @@ small_codec block = record {
   room = λ config. new_room (size_in small_table) (leaves_of small_table small_tops);
   top_number = λ config. new_top_number (tops_of small_table small_tops);
   next_member = λ config. next_from 1 (tops_of small_table small_tops);
+  children = λ config. children_under (leaves_of small_table small_tops);
+  spares = λ config. [];
   root = small_root block;
   leaves = λ config. map kept_leaf (map new_leaf_seen (leaves_of small_table small_tops));
   is_page = λ page. true;
@@ -109,15 +106,17 @@ all_answered asks = map answered asks
 abbrev pub small_commit : (number : ℕ) → Commit
 small_commit number = record { pool = small_pool; number = record { 0 = number }; blob = 0 ∷ (0 ∷ replicate 4094 0); length = number }
 
+-- A round in which each call answers Ok, and its third phase.
+abbrev pub small_thirds : (draft : Draft) → List Move
+small_thirds draft = Copies draft 0 ∷ (as_moves (all_answered (third_plan (size_in small_table) draft.commit small_member)) ++ (Copied draft 0 ∷ []))
+
 abbrev pub small_round : (draft : Draft) → List Move
-small_round draft = Starts draft ∷ (as_moves (all_answered (first_plan (size_in small_table) draft.commit small_member))
-    ++ (as_moves (all_answered (second_plan (size_in small_table) draft.commit small_member))
-    ++ ((Copies draft 0 ∷ (as_moves (all_answered (third_plan (size_in small_table) draft.commit small_member)) ++ (Copied draft 0 ∷ []))) ++
-    (Commits draft ∷ []))))
+small_round draft = round_moves draft (all_answered (first_plan (size_in small_table) draft.commit small_member))
+    (all_answered (second_plan (size_in small_table) draft.commit small_member)) (small_thirds draft) ++ (Commits draft ∷ [])
 
 -- Its creation.
 abbrev pub small_first : List Move
-small_first = (Freeze (λ k. None) (up_devs small_state.core.leaves) ∷ joins small_state.core.leaves) ++ (Flushed_all ∷ [])
+small_first = Freeze (λ k. None) (up_devs small_state.core.leaves) ∷ (Flushed_all ∷ [])
 
 abbrev pub small_draft : (number : ℕ) → PoolState → Draft
 small_draft number s = draft_of (small_commit number) s.core.leaves
@@ -133,7 +132,7 @@ abbrev pub small_written : (block : List ℕ) → PoolState
 small_written block = steps (Puts 0 block ∷ []) small_made
 
 abbrev pub small_freeze : (block : List ℕ) → List Move
-small_freeze block = Freeze (branch_cells (small_branch block)) (up_devs small_made.core.leaves) ∷ joins small_made.core.leaves
+small_freeze block = Freeze (branch_cells (small_branch block)) (up_devs small_made.core.leaves) ∷ []
 
 abbrev pub small_turn : (block : List ℕ) → (level : ℕ) → List Move
 small_turn block level = as_moves (all_answered (write_plan (cell_on (small_branch block) level) small_member)) ++ (Wrote_key (key level 0) ∷ [])
@@ -162,21 +161,21 @@ abbrev pub small_create : Entry
 small_create = record {
   asked = Asks_create small_name 1 small_tops;
   second = 1;
-  acts = Names 7 ∷ (stamp_acts 7 (small_stamp ∷ []) ++ (Bears small_birth ∷ does 7 small_founding));
+  acts = Names small_pool.0 ∷ (stamp_acts small_pool.0 (small_stamp ∷ []) ++ (Bears small_birth ∷ does small_pool.0 small_founding));
   reply = To_create Created;
 }
 
 abbrev pub small_later : (block : List ℕ) → List Entry
-small_later block = record { asked = Asks_write small_name 0 block; second = 2; acts = does 7 (Puts 0 block ∷ []); reply = To_write Taken }
-    ∷ (record { asked = Asks_read small_name 0; second = 3; acts = Marks 7 (Gives_for 0 (Gives block)) ∷ []; reply = To_read (Gives block) }
-    ∷ (record { asked = Asks_sync small_name; second = 4; acts = does 7 (small_sync block); reply = To_sync (Ended (Committed 2)) } ∷ []))
+small_later block = record { asked = Asks_write small_name 0 block; second = 2; acts = does small_pool.0 (Puts 0 block ∷ []); reply = To_write Taken }
+    ∷ (record { asked = Asks_read small_name 0; second = 3; acts = Marks small_pool.0 (Gives_for 0 (Gives block)) ∷ []; reply = To_read (Gives block) }
+    ∷ (record { asked = Asks_sync small_name; second = 4; acts = does small_pool.0 (small_sync block); reply = To_sync (Ended (Committed 2)) } ∷ []))
 
 -- The pool's past where it begins, what is left of its creation and what follows, and its past behind that.
 abbrev pub small_born : Past
-small_born = Born small_birth (host_stamped (host_by (Hears 1) small_host) 7 (small_stamp ∷ [])).disk
+small_born = Born small_birth (host_stamped (host_by (Hears 1) small_host) small_pool.0 (small_stamp ∷ [])).disk
 
 abbrev pub small_rest : (block : List ℕ) → List Act
-small_rest block = commit_acts Created 7 small_founding ++ acts_in (small_later block)
+small_rest block = commit_acts Created small_pool.0 small_founding ++ acts_in (small_later block)
 
 abbrev pub small_past : (block : List ℕ) → Past
 small_past block = then_all small_born (history (small_rest block) (pool_of small_born))

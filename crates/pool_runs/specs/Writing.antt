@@ -1,38 +1,41 @@
--- What a line leaves of what was written last to a pool's blocks.
-use Rattle.std.specs.Prelude.{◌≡◌, ◌⊎◌, ℕ, ◌==◌, cond, List, [], ◌∷◌}
+-- What a line leaves of what was written last to each block, and what a read answers of it.
+use Rattle.std.specs.Prelude.{◌≡◌, ◌⊎◌, ℕ, ◌==◌, cond, List}
+use Rattle.bank_core.specs.Disk.{Noted, run}
+use Rattle.txg_history.specs.Pages.{Codec, IsClash}
 use Rattle.txg_history.specs.Pools.{Pool}
+use Rattle.txg_history.specs.Records.{key}
 use Rattle.pool_moves.specs.AwayRows.{Taken}
+use Rattle.pool_moves.specs.Missing.{AllMissed}
+use Rattle.pool_moves.specs.ReadRow.{Gives, Exhausted}
+use Rattle.pool_moves.specs.Showing.{LeafShown}
 use Rattle.pool_moves.specs.States.{PoolState}
-use Rattle.pool_runs.specs.Acts.{Act, Opening, Reads_as}
+use Rattle.pool_runs.specs.Fairness.{AreFair}
 use Rattle.pool_runs.specs.Hosts.{Host}
-use Rattle.pool_runs.specs.Lines.{Asks_write, Asks_import, To_write, Entry}
+use Rattle.pool_runs.specs.Lines.{Asks_write, Asks_import, Reply, To_write, To_read, Entry}
 use Rattle.pool_runs.specs.Moments.{IsOpenAs}
 
--- these acts read this record
-abbrev pub HasOpening : Opening → List Act → Type 0
-HasOpening opening [] = ⊥
-HasOpening opening (act ∷ acts) = (act ≡ Reads_as opening) ⊎ HasOpening opening acts
-
--- The line is a write to the pool that was taken.
-pub record IsTakenWrite (before : Pool) (h : Host) (e : Entry) : Type 0 where
+-- The line is a write to the open pool, and it was taken.
+pub record IsTakenWrite (h : Host) (p : Pool) (e : Entry) (a : ℕ) (block : List ℕ) : Type 0 where
   pub name : List ℕ
-  pub a : ℕ
-  pub block : List ℕ
   pub s : PoolState
   pub asked : e.asked ≡ Asks_write name a block
-  pub is_open : IsOpenAs before h name s
+  pub at : IsOpenAs p h name s
   pub reply : e.reply ≡ To_write Taken
 
--- The line is an import that read a record of the pool.
-pub record IsOpeningOf (before : Pool) (e : Entry) : Type 0 where
+-- The line is an import, and one of this pool by its name, as far as it is fair.
+pub record IsImport (c : Codec) (p : Pool) (e : Entry) : Type 0 where
   pub name : List ℕ
-  pub opening : Opening
   pub asked : e.asked ≡ Asks_import name
-  pub reads : HasOpening opening e.acts
-  pub ours : opening.found.pool.0 ≡ before.pool.0
+  pub ours : AreFair c p e.acts → p.name ≡ name
 
--- A write that is taken is what was written last to its address; and nothing else changes what was written last but an import of the pool.
-pub record WritesJust (before behind : Pool) (h : Host) (e : Entry) : Type 0 where
-  pub taken : (name : List ℕ) (a : ℕ) (block : List ℕ) (s : PoolState) → e.asked ≡ Asks_write name a block → IsOpenAs before h name s → e.reply ≡ To_write Taken
-      → (x : ℕ) → behind.written x ≡ cond (a == x) block (before.written x)
-  pub still : (behind.written ≡ before.written) ⊎ (IsTakenWrite before h e ⊎ IsOpeningOf before e)
+-- A write that is taken puts its block where it says, and leaves each other block as it was written; and so does each other line leave all of them,
+-- but an import of the pool, which begins with those of the record that it finds.
+pub record KeepsWrites (c : Codec) (h : Host) (before behind : Pool) (e : Entry) : Type 0 where
+  pub puts : (a : ℕ) (block : List ℕ) → IsTakenWrite h before e a block → (x : ℕ) → behind.written x ≡ cond (a == x) block (before.written x)
+  pub leaves : (((a : ℕ) × (block : List ℕ) × IsTakenWrite h before e a block) ⊎ IsImport c before e) ⊎ ((x : ℕ) → behind.written x ≡ before.written x)
+
+-- A read gives the block that was written last, or that block and the bytes that it gave are two byte strings with one SHA-256 sum; and it gives
+-- none only where each readable leaf of the block's top missed it in these calls of the line.
+pub record ReadsWritten (p : Pool) (s : PoolState) (a : ℕ) (made : List Noted) (reply : Reply) : Type 0 where
+  pub gives : (bytes : List ℕ) → reply ≡ To_read (Gives bytes) → (bytes ≡ p.written a) ⊎ IsClash (p.written a) bytes
+  pub loses : (shown : List LeafShown) → reply ≡ To_read (Exhausted shown) → AllMissed (s.core.committed (key 0 a)) made (run made p.sectors) s.core.leaves

@@ -1,44 +1,23 @@
-//! The laws of a host's acts and runs (docs/MODEL.md, "The host and its runs").
-ghost use Rattle.std.specs.Prelude.{◌≡◌, ℕ, List, [], ◌∷◌, length, take};
+//! The laws of a host's runs (docs/MODEL.md, "The host and its runs").
+ghost use Rattle.std.specs.Prelude.{◌≡◌, ℕ, List, [], ◌∷◌, length};
 ghost use Rattle.txg_history.specs.Numbering.{renumbered};
 ghost use Rattle.txg_history.specs.Pages.{Codec};
-ghost use Rattle.txg_history.specs.Pools.{Pool};
-ghost use Rattle.pool_runs.specs.Acts.{Act, Bears, pool_along};
+ghost use Rattle.pool_runs.specs.Acts.{Act, Bears};
 ghost use Rattle.pool_runs.specs.Creating.{Creates, IsNew, new_birth, host_stamped, commit_acts};
 ghost use Rattle.pool_runs.specs.Devices.{name_in};
 ghost use Rattle.pool_runs.specs.Fairness.{AreFair};
 ghost use Rattle.pool_runs.specs.Headline.{Headline};
 ghost use Rattle.pool_runs.specs.HostRows.{IsRun};
 ghost use Rattle.pool_runs.specs.Hosts.{Host, host_by, host_along};
-ghost use Rattle.pool_runs.specs.Knowing.{Knows, MayActs};
 ghost use Rattle.pool_runs.specs.Lines.{Reply, Entry};
 ghost use Rattle.pool_runs.specs.Pasts.{Past, Born, pool_of, IsAllowed, BeginsRun, IsNext, AreNamed, next_past};
-ghost use Rattle.pool_runs.specs.SmallRuns.{
-  small_table,
-  small_host,
-  small_codec,
-  small_create,
-  small_later,
-  small_born,
-  small_rest,
-  small_past,
-  small_images,
-  small_next,
-};
-
-/// Behind each front of its acts a host knows a pool, as far as they are fair up to there. It computes nothing: its clause
-/// is the law.
-pub fn acts_keep_what_is_known()
-    ensures { (c : Codec) (h : Host) (p : Pool) (acts : List Act) → Knows c h p → MayActs c h p acts → (i : ℕ) → AreFair c p (take i acts)
-        → Knows c (host_along (take i acts) h) (pool_along (take i acts) p) }
-{}
+ghost use Rattle.pool_runs.specs.SmallRuns.{small_table, small_host, small_codec, small_create, small_later, small_born, small_rest, small_past, small_images, small_next};
 
 /// A run keeps each pool that its devices had, and a stop at any moment of it leaves what a further run may begin with. It
 /// computes nothing: its clauses are the law.
 ///
 /// `first`: all that is said of a run, of a pool whose past the devices are left by when it begins, whatever lines it has, for this pool
-/// and for others. `born`: the same of a pool that a create makes, from its stamps' end on, where its number is no open pool's. `next`: behind a stop that
-/// left any images of the devices, the next run begins so, with its devices under any
+/// and for others. `born`: the same of a pool that a create makes, from its stamps' end on, where its number is no open pool's. `next`: behind a stop that left any images of the devices, the next run begins so, with its devices under any
 /// numbers, further ones, or without some.
 pub fn runs_keep_each_pool()
     ensures first { (c : Codec) (past : Past) (h : Host) (entries : List Entry) → BeginsRun c past h → IsRun c h entries → Headline c past h [] entries }

@@ -3,4 +3,4 @@
 
 mod laws;
 
-pub use laws::{acts_keep_what_is_known, runs_keep_each_pool};
+pub use laws::{runs_keep_each_pool, small_runs_are_runs};

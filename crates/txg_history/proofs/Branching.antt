@@ -298,7 +298,7 @@ pub day_may : (c : Codec) (p : Pool) (a : ℕ) (b : Branch) (q : Rec) (vs : List
 day_may c p a b q vs size w drawn_up round = (
   mays_more c (day_until_round a b) (vs ++ stop_and_open q size p6) p commit
       (mays_more c vs (stop_and_open q size p6) p5 may (stop, (stable_true p7, (live, tt)))),
-  λ none unhurt sums. finds (premises_met c.head_of p7 a q holds is_a unhurt (ends.missed ∙ none) sums),
+  λ none unhurt sums. finds (premises_met c p7 a q sv7 holds is_a unhurt (ends.missed ∙ none) sums),
 )
   where
     commit : Mays c p (day_until_round a b)

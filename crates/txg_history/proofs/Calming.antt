@@ -9,10 +9,12 @@ use Rattle.txg_history.specs.Calm.{stable_of}
 use Rattle.txg_history.specs.Events.{Known}
 use Rattle.txg_history.specs.Moves.{ReadsTrue}
 use Rattle.txg_history.specs.Openings.{IsVerifiedOn}
+use Rattle.txg_history.specs.Pages.{Codec}
 use Rattle.txg_history.specs.Pools.{Pool}
 use Rattle.txg_history.specs.Premises.{AreNotTorn, AreOwnConfigs, AreThere, HasNoClash, HoldsLabels, Premises}
 use Rattle.txg_history.specs.Records.{Rec, IsIn}
-use Rattle.txg_history.specs.Survival.{IsAmong}
+use Rattle.txg_history.specs.Survival.{IsAmong, Survives}
+use Rattle.txg_history.proofs.Verified.{labels_sound}
 
 shows_stable : (t : Bool) (stable bytes : List ℕ) → cond t (Some stable) None ≡ Some bytes → bytes ≡ stable
 shows_stable true stable bytes e = cc
@@ -30,27 +32,21 @@ pub stable_true : (p : Pool) → ReadsTrue p.sectors (stable_of p)
 stable_true p d s bytes e clean = shows_stable (p.member d) (p.sectors d s).stable bytes e
 
 -- A member's undamaged labels with a record, and nothing that an opening missed.
-pub premises_met : (head_of : List ℕ → Option Head) (p : Pool) (d : ℕ) (r : Rec) → HoldsLabels p d r → p.member d ≡ true
+pub premises_met : (c : Codec) (p : Pool) (d : ℕ) (r : Rec) → Survives c p → HoldsLabels p d r → p.member d ≡ true
     → AreUnhurt (p.size d) (p.sectors d) → p.missed ≡ []
-    → AreOwnConfigs head_of p (stable_of p)
-    → Premises head_of p (stable_of p)
-premises_met head_of p d r holds member unhurt none sums = record {
+    → AreOwnConfigs c.head_of p (stable_of p)
+    → Premises c.head_of p (stable_of p)
+premises_met c p d r sv holds member unhurt none sums = record {
   no_clash = record {
     sums = sums;
     rings = λ e place bytes u member inside is correct. inl (shows_stable (p.member e) _ bytes is);
   };
   no_stray = record {
     others = λ e u config non v. absurd (shows_none (p.member e) _ (uberblock_bytes u) non v.verified.uberblock);
-    passed = λ e u config r v is given missed. absurd (subst (IsIn r) none missed);
+    passed = λ d u config r v is given missed. absurd (subst (IsIn r) none missed);
   };
   good = d;
-  sound_labels = record {
-    is_member = member;
-    promised = r;
-    holds = holds;
-    unhurt = unhurt;
-    is_read = λ label s lt lo hi. (_, shows_some (p.member d) _ member);
-  };
+  sound_labels = labels_sound c p (stable_of p) d r sv member holds unhurt (λ label s lt lo hi. (_, shows_some (p.member d) _ member));
 }
 
 -- Where no two of the byte strings that are there have one sum, and no ring sector is torn, there is no clash.

@@ -1,84 +1,100 @@
--- An import that is stopped in its round, and a whole one that draws the same record, leave no stray.
-use Rattle.std.proofs.Common.{◌≡◌, ◌⊎◌, ℕ, ◌<◌, Bool, true, cond, List, [], ◌∷◌, ◌++◌, None, refl, sym, ap, ◌∙◌, subst, inl, inr, arith, ⊎_elim}
-use Rattle.bank_core.specs.Disk.{Noted, Sectors}
-use Rattle.label_store.specs.declared.member.Member.{Member}
-use Rattle.txg_history.specs.Branches.{stopped_import, import_to_round}
-use Rattle.txg_history.specs.Events.{Event, Known, calls_of, Opens, Freezes, Flushed, Begins, Stops}
-use Rattle.txg_history.specs.Moves.{IsDrawnUp, Mays}
+-- Where each record that was drawn is past, there is no stray; so imports that draw the very same record leave none.
+use Rattle.std.proofs.Common.{◌≡◌, ◌⊎◌, ◌<◌, ◌≤◌, List, [], ◌∷◌, ◌++◌, refl, sym, ap, ◌∙◌, subst, inl, inr, arith, ⊎_elim}
+use Rattle.std.specs.List.{AllByRecursion}
+use Rattle.txg_history.specs.Contents.{BegunAt}
+use Rattle.txg_history.specs.Events.{Event, Known, Begins, Acks, Opens}
+use Rattle.txg_history.specs.Imports.{IsPast, DrawsPast, DrawsJust}
+use Rattle.txg_history.specs.Moves.{May, Mays}
 use Rattle.txg_history.specs.Pages.{Codec}
 use Rattle.txg_history.specs.Pools.{Pool, after, pool_after}
-use Rattle.txg_history.specs.Premises.{AreOurs, AreTwins, HasNoStray, HasTwin}
+use Rattle.txg_history.specs.Premises.{AreOurs, HasNoStray, WasAcked, WasMissed}
 use Rattle.txg_history.specs.Records.{Rec, IsIn, number_of}
-use Rattle.txg_history.specs.Rounds.{all_true, IsRoundEvents, RoundEnds}
 use Rattle.txg_history.specs.Survival.{Survives}
-use Rattle.txg_history.proofs.Folding.{with_calls, calls_then, pool_more, mays_second}
+use Rattle.txg_history.proofs.Containing.{live_contents}
+use Rattle.txg_history.proofs.Folding.{mays_first, mays_second}
 use Rattle.txg_history.proofs.Listing.{only_one}
-use Rattle.txg_history.proofs.RoundMoves.{round_ends}
+use Rattle.txg_history.proofs.Moving.{event_survives}
+use Rattle.txg_history.proofs.Straying.{missed_by, no_stray}
+use Rattle.txg_history.proofs.Surviving.{history_survives}
 
-pub imports_leave_none : (c : Codec) (p : Pool) (r q same : Rec) (board other : ℕ → Bool) (made : List Noted) (sectors : Sectors) (size : ℕ → ℕ)
-    (sizes : ℕ → ℕ) (members : List Member) (results : List Bool) (vs : List Event) (known : Known) → Survives c p → p.live ≡ r ∷ [] → p.missed ≡ []
-    → AreTwins q same → IsRoundEvents sizes same members results vs → all_true results ≡ true
-    → Mays c p (stopped_import r q board made (Stops sectors size) ++ (import_to_round r other ++ vs))
-    → AreOurs c (pool_after (stopped_import r q board made (Stops sectors size) ++ (import_to_round r other ++ vs)) p) known
-    → HasNoStray c.head_of (pool_after (stopped_import r q board made (Stops sectors size) ++ (import_to_round r other ++ vs)) p) known
-imports_leave_none c p r q same board other made sectors size sizes members results vs known sv live missed twins round whole mays ours = record {
-  others = ours;
-  passed = λ d u config s verified is given was_missed. subst (λ x. (number_of s < number_of x.acked) ⊎ HasTwin x s) (sym end)
-      (of s (subst (IsIn s) given_are (subst (λ x. IsIn s x.given) end given)));
-}
+-- The acknowledged record's number never falls.
+acked_rises_by : (c : Codec) (v : Event) (p : Pool) → Survives c p → May c p v → number_of p.acked ≤ number_of (after v p).acked
+acked_rises_by c (Acks q) p sv may = sv.order.not_below q (subst (IsIn q) (sym may.newest) (inl refl))
+acked_rises_by c v p sv may = omega arith
+
+pub acked_rises : (c : Codec) (vs : List Event) (p : Pool) → Survives c p → Mays c p vs → number_of p.acked ≤ number_of (pool_after vs p).acked
+acked_rises c [] p sv mays = omega arith
+acked_rises c (v ∷ vs) p sv mays =
+    let now = acked_rises_by c v p sv mays.0 in
+    let later = acked_rises c vs (after v p) (event_survives c p v sv mays.0) mays.1 in omega (arith, now, later)
+
+-- what is so of all events is so of one among them
+all_at : (Kind : Event → Type 0) (before : List Event) (v : Event) (later : List Event) → AllByRecursion Kind (before ++ (v ∷ later)) → Kind v
+all_at Kind [] v later all = all.0
+all_at Kind (w ∷ before) v later all = all_at Kind before v later all.1
+
+all_front : (Kind : Event → Type 0) (first second : List Event) → AllByRecursion Kind (first ++ second) → AllByRecursion Kind first
+all_front Kind [] second all = tt
+all_front Kind (v ∷ first) second all = (all.0, all_front Kind first second all.1)
+
+-- A missed record was live before these events, above the acknowledged one, or was drawn among them.
+missed_from : (c : Codec) (p : Pool) (vs : List Event) (s : Rec) → Survives c p → Mays c p vs → (w : WasMissed p vs s)
+    → (IsIn s p.live × (number_of p.acked < number_of s)) ⊎ BegunAt p.written p.group.content w.before s
+missed_from c p vs s sv mays w = ⊎_elim (λ i. inl (i, high)) (λ b. inr b) (live_contents c w.before p s sv before w.was_live)
   where
-    first : List Event
-    first = stopped_import r q board made (Stops sectors size)
+    all : Mays c p (w.before ++ (Opens w.opened ∷ w.later))
+    all = subst (Mays c p) w.all mays
 
-    p1 : Pool
-    p1 = pool_after first p
+    before : Mays c p w.before
+    before = mays_first c w.before (Opens w.opened ∷ w.later) p all
 
-    -- the pool in which the first import began its round
-    begun : Pool
-    begun = pool_after (Opens r ∷ Freezes (λ k. None) board ∷ Flushed ∷ Begins q ∷ []) p
+    opened : IsIn w.opened (pool_after w.before p).live
+    opened = (mays_second c w.before (Opens w.opened ∷ w.later) p all).0
 
-    stopped : p1 ≡ after (Stops sectors size) (with_calls made begun)
-    stopped = calls_then made (Stops sectors size ∷ []) begun
+    high : number_of p.acked < number_of s
+    high = let rises = acked_rises c w.before p sv before in
+        let low = (history_survives c w.before p sv before).order.not_below w.opened opened in let lt = w.lower in omega (arith, rises, low, lt)
 
-    p2 : Pool
-    p2 = pool_after (import_to_round r other) p1
+-- Where each record that may have been missed is past, there is no stray.
+pub past_leave_none : (c : Codec) (p : Pool) (vs : List Event) (known : Known) → Survives c p → Mays c p vs
+    → ((r : Rec) → IsIn r p.live → number_of p.acked < number_of r → IsPast (pool_after vs p) r)
+    → ((r : Rec) → IsIn r p.missed → IsPast (pool_after vs p) r) → AllByRecursion (DrawsPast (pool_after vs p)) vs
+    → AreOurs c (pool_after vs p) known → HasNoStray c.head_of (pool_after vs p) known
+past_leave_none c p vs known sv mays live missed drawn ours = no_stray c behind known (history_survives c vs p sv mays) ours
+    (λ d u config s verified is was above. acked s above (past s was))
+  where
+    behind : Pool
+    behind = pool_after vs p
 
-    p3 : Pool
-    p3 = pool_after vs p2
+    acked : (s : Rec) → number_of behind.acked ≤ number_of s → IsPast behind s → WasAcked behind s
+    acked s above (inl is) = is
+    acked s above (inr below) = absurd (omega (arith, above, below))
 
-    end : pool_after (first ++ (import_to_round r other ++ vs)) p ≡ p3
-    end = pool_more first (import_to_round r other ++ vs) p ∙ pool_more (import_to_round r other) vs p1
+    begun : (s : Rec) (w : WasMissed p vs s) → BegunAt p.written p.group.content w.before s → IsPast behind s
+    begun s w b = all_at (DrawsPast behind) b.before (Begins s) b.later (subst (AllByRecursion (DrawsPast behind)) b.all
+        (all_front (DrawsPast behind) w.before (Opens w.opened ∷ w.later) (subst (AllByRecursion (DrawsPast behind)) w.all drawn)))
 
-    ends : RoundEnds p2 p3 same (all_true results) members results (calls_of vs)
-    ends = round_ends sizes p2 same members results vs round
+    past : (s : Rec) → IsIn s behind.missed → IsPast behind s
+    past s i = ⊎_elim (λ old. missed s old) (λ w. ⊎_elim (λ was. live s was.0 was.1) (λ b. begun s w b) (missed_from c p vs s sv mays w)) (missed_by vs p s i)
 
-    live_is : p3.live ≡ same ∷ []
-    live_is = subst (λ t. p3.live ≡ same ∷ cond t [] p2.live) whole ends.live
+-- records of q's bytes are past where q was acknowledged
+just_past : (q : Rec) (behind : Pool) (vs : List Event) → IsIn q behind.acks → AllByRecursion (DrawsJust q) vs → AllByRecursion (DrawsPast behind) vs
+just_past q behind [] acked all = tt
+just_past q behind (Begins r ∷ vs) acked all = (inl (record { twin = q; acked = acked; are = all.0 }), just_past q behind vs acked all.1)
+just_past q behind (v ∷ vs) acked all = (tt, just_past q behind vs acked all.1)
 
-    acked_is : p3.acked ≡ same
-    acked_is = subst (λ t. p3.acked ≡ cond t same p2.acked) whole ends.acked
-
-    given_are : p3.given ≡ (q ∷ r ∷ []) ++ p.given
-    given_are = subst (λ t. p3.given ≡ cond t (p2.live ++ p2.given) p2.given) whole ends.given
-        ∙ ap (λ x. x.live ++ x.given) stopped ∙ ap (λ rs. (q ∷ rs) ++ p.given) live
-
-    drawn_up : IsDrawnUp c p2 same
-    drawn_up = (subst (Mays c p2) round.all (mays_second c (import_to_round r other) vs p1 (mays_second c first (import_to_round r other ++ vs) p mays))).0
-
-    above_r : number_of r < number_of p3.acked
-    above_r = subst (λ x. number_of r < number_of x) (sym acked_is) (let e = drawn_up.number_is in omega (arith, e))
-
+-- Imports that draw the very same record leave no stray.
+pub imports_leave_none : (c : Codec) (p : Pool) (r q : Rec) (vs : List Event) (known : Known) → Survives c p → p.live ≡ r ∷ [] → p.missed ≡ []
+    → AllByRecursion (DrawsJust q) vs → Mays c p vs → IsIn q (pool_after vs p).acks
+    → AreOurs c (pool_after vs p) known → HasNoStray c.head_of (pool_after vs p) known
+imports_leave_none c p r q vs known sv live missed just mays acked ours = past_leave_none c p vs known sv mays
+    (λ s i above. absurd (not_above s i above)) (λ s i. absurd (subst (IsIn s) missed i)) (just_past q (pool_after vs p) vs acked just) ours
+  where
     acked_r : p.acked ≡ r
     acked_r = only_one (λ s. s ≡ r) r p.acked refl (subst (IsIn p.acked) live sv.order.acked_live)
 
-    of : (s : Rec) → IsIn s ((q ∷ r ∷ []) ++ p.given) → (number_of s < number_of p3.acked) ⊎ HasTwin p3 s
-    of s (inl e) = inr (record {
-      twin = same;
-      is_live = subst (IsIn same) (sym live_is) (inl refl);
-      are = subst (λ s. AreTwins s same) (sym e) twins;
-    })
-    of s (inr (inl e)) = inl (subst (λ s. number_of s < number_of p3.acked) (sym e) above_r)
-    of s (inr (inr i)) = ⊎_elim
-        (λ lt. inl (let below : number_of s < number_of r = subst
-        (λ x. number_of s < number_of x) acked_r lt in let above = above_r in omega (arith, below, above)))
-        (λ none. absurd (subst (IsIn s) missed none)) (sv.order.given_below s i)
+    is_r : (s : Rec) → IsIn s p.live → s ≡ r
+    is_r s i = only_one (λ s. s ≡ r) r s refl (subst (IsIn s) live i)
+
+    not_above : (s : Rec) → IsIn s p.live → number_of p.acked < number_of s → ⊥
+    not_above s i above = let e = ap number_of (is_r s i ∙ sym acked_r) in omega (arith, e, above)

@@ -34,7 +34,10 @@ pub mod RoundShapes
 pub mod RoundsSurvive
 pub mod ScansBring
 pub mod ScansSurvive
+pub mod Settling
 pub mod Showing
+pub mod SmallHistory
+pub mod SmallRounds
 pub mod Sparing
 pub mod Stamping
 pub mod Straying

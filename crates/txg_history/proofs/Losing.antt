@@ -18,6 +18,7 @@ use Rattle.std.proofs.Common.{
   List,
   [],
   ◌∷◌,
+  ◌++◌,
   Option,
   refl,
   sym,
@@ -43,7 +44,8 @@ use Rattle.label_store.proofs.Writing.{ring_sectors}
 use Rattle.txg_history.specs.Events.{Event, Calls, Joins, Loses, as_events}
 use Rattle.txg_history.specs.Groups.{at_device}
 use Rattle.txg_history.specs.Labels.{Status, Odd, Even}
-use Rattle.txg_history.specs.Losses.{IsStampCall, BeginsStamp, LoseJust, IsStampPlan, IsStamp, IsWipe, IsMark, IsLostBy, IsLostAmong}
+use Rattle.txg_history.specs.Losses.{IsStampCall, BeginsStamp, LoseJust, IsStampPlan, IsStamp, IsWipe, IsMark}
+use Rattle.txg_history.specs.Losses.{IsLostBy, IsLostAmong, IsStampedAmong, IsReplacedAmong}
 use Rattle.txg_history.specs.Moves.{Mays}
 use Rattle.txg_history.specs.Needs.{NeedsLabel}
 use Rattle.txg_history.specs.Pages.{Codec}
@@ -88,6 +90,41 @@ lost_among (v ∷ vs) p d is lost = by_bool ((after v p).member d)
     (λ still. let w = lost_among vs (after v p) d still lost in
     record { before = v ∷ w.before; v = w.v; later = w.later; all = ap (λ l. v ∷ l) w.all; by = w.by })
     (λ gone. record { before = []; v = v; later = vs; all = refl; by = lost_now v p d is gone })
+
+-- In a history that says it just where a stamp begins, one began there, or another device came under its number.
+just_behind : (before : List Event) (v : Event) (later : List Event) → LoseJust (before ++ (v ∷ later)) → LoseJust (v ∷ later)
+just_behind [] v later just = just
+just_behind (Loses d ∷ before) v later just = just_behind before v later just.1
+just_behind (w ∷ before) v later just = just_behind before v later just
+
+stamp_behind : (before : List Event) (d : ℕ) (later : List Event) → BeginsStamp d later → IsStampedAmong (before ++ (Loses d ∷ later)) d
+stamp_behind before d [] begins = absurd begins
+stamp_behind before d (Calls noted ∷ later) begins = record { before = before; noted = noted; later = later; all = refl; is_stamp = begins }
+stamp_behind before d (v ∷ later) begins = absurd begins
+
+lost_at : (p : Pool) (before : List Event) (v : Event) (later : List Event) (d : ℕ) → LoseJust (v ∷ later) → IsLostBy (pool_after before p) v d
+    → IsStampedAmong (before ++ (v ∷ later)) d ⊎ IsReplacedAmong p (before ++ (v ∷ later)) d
+lost_at p before (Loses e) later d just same = inl
+    (subst (λ e. IsStampedAmong (before ++ (Loses e ∷ later)) d) (sym same) (stamp_behind before d later (subst (λ e. BeginsStamp e later) same just.0)))
+lost_at p before (Joins e m top) later d just by = inr (record {
+  before = before;
+  e = e;
+  top = top;
+  m = m;
+  later = later;
+  all = refl;
+  other = by.0;
+  same_number = by.1;
+})
+lost_at p before v later d just by = absurd by
+
+pub lost_just : (vs : List Event) (p : Pool) (d : ℕ) → LoseJust vs → p.member d ≡ true → (pool_after vs p).member d ≡ false
+    → IsStampedAmong vs d ⊎ IsReplacedAmong p vs d
+lost_just vs p d just is lost = of (lost_among vs p d is lost)
+  where
+    of : IsLostAmong p vs d → IsStampedAmong vs d ⊎ IsReplacedAmong p vs d
+    of w = subst (λ vs. IsStampedAmong vs d ⊎ IsReplacedAmong p vs d) (sym w.all)
+        (lost_at p w.before w.v w.later d (just_behind w.before w.v w.later (subst LoseJust w.all just)) w.by)
 
 -- Such an event takes it.
 pub lost_by : (v : Event) (p : Pool) (d : ℕ) → IsLostBy p v d → (after v p).member d ≡ false

@@ -3,19 +3,24 @@ use Rattle.std.proofs.Common.{◌≡◌, ◌≢◌, ℕ, ◌+◌, ◌%◌, ◌<�
 use Rattle.std.proofs.lemmas.Bool.Decides.{nat_tests}
 use Rattle.mp_base.specs.declared.number.Guid.{Guid}
 use Rattle.label_store.specs.Layout.{slot_of}
-use Rattle.txg_history.specs.Events.{Event, Freezes, Draws, Burns, Begins, Third, Ends, Acks, Opens, Joins, Loses, Stops}
+use Rattle.label_store.specs.Records.{AreUnhurt}
+use Rattle.txg_history.specs.Events.{Event, Known, Freezes, Draws, Burns, Begins, Third, Ends, Acks, Opens, Joins, Loses, Stops}
 use Rattle.txg_history.specs.Groups.{at_device}
 use Rattle.txg_history.specs.Labels.{Status, Odd, Even, Lost, begun}
 use Rattle.txg_history.specs.Moves.{IsDrawnUp, MayStand, MayEnd, MayAck, Mays}
+use Rattle.txg_history.specs.Openings.{IsReadWhole}
 use Rattle.txg_history.specs.Pages.{Codec}
-use Rattle.txg_history.specs.Pools.{Pool, after, other_than}
+use Rattle.txg_history.specs.Pools.{Pool, after, pool_after, other_than}
+use Rattle.txg_history.specs.Premises.{HasSoundLabels}
 use Rattle.txg_history.specs.Records.{Rec, IsIn, number_of, takes_part}
 use Rattle.txg_history.specs.Survival.{Survives}
-use Rattle.txg_history.specs.Tracking.{MayBegin, Keeps, KeepsLabels, MayBeginNear, IsNotBelow, KeepsNear}
+use Rattle.txg_history.specs.Tracking.{MayBegin, Keeps, KeepsLabels, HasPromise, MayBeginNear, IsNotBelow, KeepsNear}
 use Rattle.txg_history.proofs.Listing.{only_one, new_or}
 use Rattle.txg_history.proofs.Logging.{true_not_false, at_away, same_device}
-use Rattle.txg_history.proofs.Tracked.{third_even}
 use Rattle.txg_history.proofs.Moving.{event_survives}
+use Rattle.txg_history.proofs.Surviving.{history_survives}
+use Rattle.txg_history.proofs.Tracked.{third_even, labels_stay_since, promise_holds}
+use Rattle.txg_history.proofs.Verified.{labels_sound}
 
 -- two numbers less than 32 apart have two slots
 slots_differ : (n a b : ℕ) → n ≤ a → a < n + 32 → n ≤ b → b < n + 32 → a < b → a % 32 ≢ b % 32
@@ -307,3 +312,14 @@ near_again c p d q vs sv member mays numbers near =
 
     even : (after (Third q d) p).status d ≡ Even q
     even = third_even p q d
+
+-- So the labels of a member that kept the rule since an acknowledged round are sound, where they are undamaged and were read.
+pub plain_labels : (c : Codec) (p : Pool) (d : ℕ) (q : Rec) (vs : List Event) (known : Known) → Survives c p → p.member d ≡ true
+    → takes_part q (p.guid d) ≡ true → Mays c p (Acks q ∷ vs) → KeepsNear d (p.guid d) q (Odd q) vs
+    → AreUnhurt ((pool_after (Acks q ∷ vs) p).size d) ((pool_after (Acks q ∷ vs) p).sectors d)
+    → IsReadWhole ((pool_after (Acks q ∷ vs) p).size d) (known d) → HasSoundLabels (pool_after (Acks q ∷ vs) p) known d
+plain_labels c p d q vs known sv member takes mays near unhurt whole =
+    let behind : Pool = pool_after (Acks q ∷ vs) p in
+    let here : Survives c behind = history_survives c (Acks q ∷ vs) p sv mays in
+    let has : HasPromise behind d = labels_stay_since c p d q vs member takes mays (near_labels c p d q vs sv member takes mays near) in
+    labels_sound c behind known d has.promised here has.is_member (promise_holds c behind d here has) unhurt whole

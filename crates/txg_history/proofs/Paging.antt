@@ -30,24 +30,24 @@ good_kept p r k cell answering i at good =
     })
 
 -- Where each page has a good leaf, each is found.
-pub good_found : (c : Codec) (p : Pool) (r : Rec) (answering : ℕ → Bool) (known : Known) (found : Key → Option (List ℕ)) → Survives c p → IsIn r p.live
+pub good_found : (c : Codec) (p : Pool) (r : Rec) (answering : Key → ℕ → Bool) (known : Known) (found : Key → Option (List ℕ)) → Survives c p → IsIn r p.live
     → HasGoodPages p r answering → ReadsTrue p.sectors known → IsSearched p r answering known found
     → (level index : ℕ) (cell : Cell) → 1 ≤ level → level ≤ 3 → r.cells (key level index) ≡ Some cell
     → (bytes : List ℕ) × (found (key level index) ≡ Some bytes) × (sha256 bytes ≡ sha256 cell.block)
 good_found c p r answering known found sv live pages true_to searched level index cell low high at = of (found (key level index)) refl
   where
-    good : HasGoodLeaf p r cell answering
+    good : HasGoodLeaf p r cell (answering (key level index))
     good = pages level index cell low high at
 
     right : (bytes : List ℕ) → known good.d (data_start + cell.sector) ≡ Some bytes → bytes ≡ cell.block
     right bytes shown =
         let clean = kept_clean c p good.d (data_start + cell.sector) cell.block sv good.is_member
-        (good_kept p r (key level index) cell answering live at good) good.unhurt in
+        (good_kept p r (key level index) cell (answering (key level index)) live at good) good.unhurt in
         true_to good.d (data_start + cell.sector) bytes shown (record { still = clean.1; sound = good.unhurt }) ∙ clean.0
 
-    not_missed : (answering good.d ≡ false) ⊎ ((bytes : List ℕ) × (known good.d (data_start + cell.sector) ≡ Some bytes)
+    not_missed : (answering (key level index) good.d ≡ false) ⊎ ((bytes : List ℕ) × (known good.d (data_start + cell.sector) ≡ Some bytes)
         × (sha256 bytes ≢ sha256 cell.block)) → ⊥
-    not_missed (inl silent) = true_not_false (answering good.d) good.answers silent
+    not_missed (inl silent) = true_not_false (answering (key level index) good.d) good.answers silent
     not_missed (inr (bytes, shown, other)) = other (ap sha256 (right bytes shown))
 
     of : (one : Option (List ℕ)) → found (key level index) ≡ one

@@ -216,8 +216,7 @@ week_may c p a b branch q vs w drawn knows round = (
   mays_more c (day_until_round a branch) (vs ++ resilver b (number_of q) branch) p commit
       (mays_more c vs (resilver b (number_of q) branch) p3 may (subst (λ n. Mays c p4 (resilver b n branch)) hi back.0)),
   ap (λ x. x.owes b branch.birth) (pool_more (day_until_round a branch) vs p) ∙ (ap (λ owes. owes b branch.birth) (ends.owes refl) ∙ owed),
-  ap (λ x. x.owes b branch.birth)
-      (pool_more (day_until_round a branch) (vs ++ resilver b (number_of q) branch) p ∙ pool_more vs (resilver b (number_of q) branch) p3)
+  ap (λ x. x.owes b branch.birth) (pool_more (day_until_round a branch) (vs ++ resilver b (number_of q) branch) p ∙ pool_more vs (resilver b (number_of q) branch) p3)
       ∙ subst (λ n. (pool_after (resilver b n branch) p4).owes b branch.birth ≡ false) hi back.1,
 )
   where
@@ -244,8 +243,7 @@ week_may c p a b branch q vs w drawn knows round = (
     off_board = let ne = w.two in grind (arith, nat_tests)
 
     owed : p3.owes b branch.birth ≡ true
-    owed = sv3.boards.off_board refl b branch.birth w.is_b off_board (let born = w.day.born in omega (arith, born))
-        (let born = w.day.born in omega (arith, born))
+    owed = sv3.boards.off_board refl b branch.birth w.is_b off_board (let born = w.day.born in omega (arith, born)) (let born = w.day.born in omega (arith, born))
 
     cells_are : (k : Key) → p4.reads.cells k ≡ branch_cells branch k
     cells_are k = ap (λ r. r.cells k) ends.reads ∙ (drawn.cells_are k ∙ over_none (branch_cells branch k) (p.reads.cells k) (w.day.none k))

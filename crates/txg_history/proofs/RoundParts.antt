@@ -113,8 +113,8 @@ pub few_of : (c : Codec) (name : List ℕ) (pool : Guid) (room : ℕ → ℕ) (r
 few_of c name pool room r fits = (fits.is_record (record { dev = 0; guid = record { 0 = 0 } }) (omega arith)).most
 
 -- a live record in which some member takes part isn't the first one
-pub taken_fits : (c : Codec) (name : List ℕ) (pool : Guid) (room : ℕ → ℕ) (r : Rec) (m : Guid) → IsFit c name pool room r
-    → takes_part r m ≡ true → Fits c name pool room r
+pub taken_fits : (c : Codec) (name : List ℕ) (pool : Guid) (room : ℕ → ℕ) (r : Rec) (m : Guid) → IsFit c name pool room r → takes_part r m ≡ true
+    → Fits c name pool room r
 taken_fits c name pool room r m ((inl e), tree) takes = true_not_false (takes_part r m) takes (ap (λ r. takes_part r m) e)
 taken_fits c name pool room r m ((inr fits), tree) takes = fits
 

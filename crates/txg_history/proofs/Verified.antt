@@ -1,6 +1,7 @@
--- The record that a member's sound labels promise is verified there.
+-- The record of a member's sound labels is verified there; and labels that hold a record are sound where they are undamaged
+-- and were read.
 use Rattle.std.proofs.Common.{◌≡◌, ◌⊎◌, ℕ, ◌+◌, ◌%◌, ◌/◌, ◌<◌, ◌≤◌, true, false, List, Some, refl, sym, ap, ◌∙◌, subst, arith, inl, inr, get_or}
-use Rattle.bank_core.specs.Disk.{Sector, Sectors, sectors_in, sector_of}
+use Rattle.bank_core.specs.Disk.{sectors_in, sector_of}
 use Rattle.label_store.specs.Layout.{labels_of, slot_of}
 use Rattle.label_store.specs.Records.{AreUnhurt, IsRecord, config_at, place_at}
 use Rattle.label_store.specs.Rounds.{config_of, uberblock_of}
@@ -11,24 +12,48 @@ use Rattle.txg_history.specs.Moves.{ReadsTrue}
 use Rattle.txg_history.specs.Needs.{Held, InPart, odd_part, even_part}
 use Rattle.txg_history.specs.Openings.{IsVerifiedOn, IsReadWhole}
 use Rattle.txg_history.specs.Pools.{Pool, seat}
-use Rattle.txg_history.specs.Premises.{HoldsLabels, HasSoundLabels}
+use Rattle.txg_history.specs.Premises.{HoldsLabels, IsReadClean, HasSoundLabels}
 use Rattle.txg_history.specs.Records.{Rec, number_of}
 use Rattle.txg_history.specs.Survival.{Fits, Survives}
+use Rattle.txg_history.proofs.ReadingBack.{numbered_fits}
 use Rattle.txg_history.proofs.RoundParts.{taken_fits}
 
-stable_is : (x : Sector) (bytes : List ℕ) → (x.stable ≡ bytes) ⊎ (x.damaged ≡ true) → x.damaged ≡ false → x.stable ≡ bytes
-stable_is x bytes (inl e) sound = e
-stable_is x bytes (inr hurt) sound = absurd (cc)
+-- what was read of a clean sector is what stands there
+read_is : (p : Pool) (known : Known) (d s : ℕ) (bytes : List ℕ) → ReadsTrue p.sectors known → IsReadClean p known d s bytes → known d s ≡ Some bytes
+read_is p known d s bytes true_to r = r.is_read.1 ∙ ap Some (true_to d s r.is_read.0 r.is_read.1 r.clean ∙ r.stands)
 
--- what was read of an undamaged sector is what is held there
-pub held_known : (sectors : Sectors) (known : Known) (d s : ℕ) (bytes shown : List ℕ) → ReadsTrue sectors known → Held (sectors d s) bytes
-    → (sectors d s).damaged ≡ false → known d s ≡ Some shown → known d s ≡ Some bytes
-held_known sectors known d s bytes shown true_to h sound is =
-    is ∙ ap Some (true_to d s shown is (record { still = h.still; sound = sound }) ∙ stable_is (sectors d s) bytes h.stands sound)
+-- the good member's record is verified there
+pub good_verified : (c : Codec) (p : Pool) (known : Known) (d : ℕ) → Survives c p → ReadsTrue p.sectors known → (sound : HasSoundLabels p known d)
+    → IsVerifiedOn c.head_of p.size known p.name d (uberblock_of sound.promised.commit (seat p d)) (config_of sound.promised.commit)
+good_verified c p known d sv true_to sound =
+    let fits = numbered_fits c p sound.promised sv sound.is_live sound.numbered in
+    let rec : IsRecord c.head_of (uberblock_of sound.promised.commit (seat p d)) sound.promised.commit.blob (config_of sound.promised.commit) =
+    fits.is_record (seat p d) (sv.roomy.guids d sound.is_member) in
+    record {
+      place = sound.place;
+      verified = record {
+        inside = sound.in_rings;
+        uberblock = read_is p known d _ _ true_to sound.uberblock;
+        label = sound.label;
+        is_label = sound.is_label;
+        blob = sound.promised.commit.blob;
+        shown = λ i lt. read_is p known d _ _ true_to (sound.config i lt);
+        is_record = rec;
+      };
+      is_read = sound.part_read;
+      head = rec.headed.head;
+      reads = rec.headed.reads;
+      name_is = fits.name_is rec.headed.head rec.headed.reads;
+    }
 
--- The record that a member's labels hold fits.
-pub promised_fits : (c : Codec) (p : Pool) (d : ℕ) (r : Rec) → Survives c p → HoldsLabels p d r → Fits c p.name p.pool p.room r
-promised_fits c p d r sv holds = taken_fits c p.name p.pool p.room r (p.guid d) (sv.fit r holds.is_live) holds.takes
+-- what is held on an undamaged sector that was read
+held_clean : (p : Pool) (known : Known) (d s : ℕ) (bytes : List ℕ) → Held (p.sectors d s) bytes → (p.sectors d s).damaged ≡ false
+    → (shown : List ℕ) × (known d s ≡ Some shown) → IsReadClean p known d s bytes
+held_clean p known d s bytes h sound read = record { clean = record { still = h.still; sound = sound }; stands = of h.stands; is_read = read }
+  where
+    of : ((p.sectors d s).stable ≡ bytes) ⊎ ((p.sectors d s).damaged ≡ true) → (p.sectors d s).stable ≡ bytes
+    of (inl e) = e
+    of (inr hurt) = absurd (cc)
 
 -- its uberblock in the ring of label 0, and its configuration in one of labels 0 and 1
 record HasIt (p : Pool) (d : ℕ) (r : Rec) : Type 0 where
@@ -61,45 +86,32 @@ slot_place size number =
 label_sector_is : (a i : ℕ) → a + (4 + i) ≡ (a + 4) + i
 label_sector_is a i = omega arith
 
--- Undamaged labels that were read whole show it.
-pub sound_shows : (c : Codec) (p : Pool) (known : Known) (d : ℕ) (r : Rec) → Survives c p → p.member d ≡ true → HoldsLabels p d r
-    → AreUnhurt (p.size d) (p.sectors d) → IsReadWhole (p.size d) (known d) → ReadsTrue p.sectors known
-    → IsVerifiedOn c.head_of p.size known p.name d (uberblock_of r.commit (seat p d)) (config_of r.commit)
-sound_shows c p known d r sv member holds unhurt whole true_to =
-    let fits = promised_fits c p d r sv holds in
+-- Labels that hold a record are sound where none of their sectors is damaged and each was read.
+pub labels_sound : (c : Codec) (p : Pool) (known : Known) (d : ℕ) (r : Rec) → Survives c p → p.member d ≡ true → HoldsLabels p d r
+    → AreUnhurt (p.size d) (p.sectors d) → IsReadWhole (p.size d) (known d) → HasSoundLabels p known d
+labels_sound c p known d r sv member holds unhurt whole =
+    let fits : Fits c p.name p.pool p.room r = taken_fits c p.name p.pool p.room r (p.guid d) (sv.fit r holds.is_live) holds.takes in
     let pr = has_it p d r holds in
-    let rec : IsRecord c.head_of (uberblock_of r.commit (seat p d)) r.commit.blob (config_of r.commit) = fits.is_record (seat p d) (sv.roomy.guids d member) in
-    let low : number_of r % 32 < 32 = omega arith in
+    let rec = fits.is_record (seat p d) (sv.roomy.guids d member) in
     let few : sectors_in r.commit.blob ≤ 28 = rec.most in
+    let low : number_of r % 32 < 32 = omega arith in
     let ring_at : 0 + (32 + number_of r % 32) ≡ 32 + slot_of (number_of r) = omega arith in
-    let ring_sound : (p.sectors d (32 + slot_of (number_of r))).damaged ≡ false =
-    subst (λ s. (p.sectors d s).damaged ≡ false) ring_at (unhurt 0 (32 + number_of r % 32) (omega arith) (omega arith)) in
-    let ring_read : (bytes : List ℕ) × (known d (32 + slot_of (number_of r)) ≡ Some bytes) =
-    subst (λ s. (bytes : List ℕ) × (known d s ≡ Some bytes)) ring_at (whole 0 (32 + number_of r % 32) (omega arith) (omega arith) (omega arith)) in
     let label_at = get_or (labels_of (p.size d)) pr.label 0 in
     record {
+      is_member = member;
+      promised = r;
+      is_live = holds.is_live;
+      numbered = rec.some;
       place = number_of r % 32;
-      verified = record {
-        inside = omega arith;
-        uberblock = subst (λ s. known d s ≡ Some (uberblock_bytes (uberblock_of r.commit (seat p d)))) (sym (slot_place (p.size d) (number_of r) ∙ ring_at))
-            (held_known p.sectors known d _ _ ring_read.0 true_to pr.ring ring_sound ring_read.1);
-        label = pr.label;
-        is_label = pr.is_label;
-        blob = r.commit.blob;
-        shown = λ i lt. let at : label_at + (4 + i) ≡ (label_at + 4) + i = label_sector_is label_at i in
-            let read : (bytes : List ℕ) × (known d ((label_at + 4) + i) ≡ Some bytes) =
-            subst (λ s. (bytes : List ℕ) × (known d s ≡ Some bytes)) at (whole pr.label (4 + i) pr.is_label (omega arith) (omega arith)) in
-            held_known p.sectors known d _ _ read.0 true_to (pr.part i lt)
-            (subst (λ s. (p.sectors d s).damaged ≡ false) at (unhurt pr.label (4 + i) pr.is_label (omega arith))) read.1;
-        is_record = rec;
-      };
-      is_read = whole pr.label 4 pr.is_label (omega arith) (omega arith);
-      head = rec.headed.head;
-      reads = rec.headed.reads;
-      name_is = fits.name_is rec.headed.head rec.headed.reads;
+      in_rings = omega arith;
+      uberblock = subst (λ s. IsReadClean p known d s (uberblock_bytes (uberblock_of r.commit (seat p d)))) (sym (slot_place (p.size d) (number_of r)))
+          (held_clean p known d _ _ (subst (λ s. Held (p.sectors d s) (uberblock_bytes (uberblock_of r.commit (seat p d)))) (sym ring_at) pr.ring)
+          (unhurt 0 (32 + number_of r % 32) (omega arith) (omega arith)) (whole 0 (32 + number_of r % 32) (omega arith) (omega arith) (omega arith)));
+      label = pr.label;
+      is_label = pr.is_label;
+      config = λ i lt. let at : label_at + (4 + i) ≡ (label_at + 4) + i = label_sector_is label_at i in
+          held_clean p known d _ _ (pr.part i lt)
+          (subst (λ s. (p.sectors d s).damaged ≡ false) at (unhurt pr.label (4 + i) pr.is_label (omega arith)))
+          (subst (λ s. (bytes : List ℕ) × (known d s ≡ Some bytes)) at (whole pr.label (4 + i) pr.is_label (omega arith) (omega arith)));
+      part_read = whole pr.label 4 pr.is_label (omega arith) (omega arith);
     }
-
--- the good member's record is verified there
-pub good_verified : (c : Codec) (p : Pool) (known : Known) (d : ℕ) → Survives c p → ReadsTrue p.sectors known → (sound : HasSoundLabels p known d)
-    → IsVerifiedOn c.head_of p.size known p.name d (uberblock_of sound.promised.commit (seat p d)) (config_of sound.promised.commit)
-good_verified c p known d sv true_to sound = sound_shows c p known d sound.promised sv sound.is_member sound.holds sound.unhurt sound.is_read true_to

@@ -104,7 +104,7 @@ yield_live c p known u config sv true_to premises y =
     above : number_of p.acked ≤ number_of drawn_one.0
     above =
         let good = premises.sound_labels in
-        let high = sv.order.not_below good.promised good.holds.is_live in
+        let high = sv.order.not_below good.promised good.is_live in
         let greatest : number_of good.promised ≤ u.number.0 = y.greatest premises.good _ _ (good_verified c p known premises.good sv true_to good) in
         omega (arith, high, greatest, number)
 

@@ -1,11 +1,11 @@
 -- A small history with a block: one is written and committed with the page above it on each level, the machine stops, and an
 -- opening finds the record.
-use Rattle.std.specs.Prelude.{◌≡◌, ℕ, suc, ◌+◌, ◌<◌, ◌≤◌, ◌==◌, ◌&&◌, nat_lt, Bool, true, false, cond, List, [], ◌∷◌, ◌++◌, length, Some, None}
+use Rattle.std.specs.Prelude.{◌≡◌, ℕ, suc, ◌+◌, ◌<◌, ◌≤◌, ◌==◌, ◌&&◌, nat_lt, true, false, cond, List, [], ◌∷◌, ◌++◌, length, Some, None}
 use Rattle.mp_base.specs.declared.place.Key.{Key}
 use Rattle.bank_core.specs.Disk.{Write, Flush, Noted, after_crash}
 use Rattle.label_store.specs.declared.uberblock.Uberblock.{Uberblock}
 use Rattle.txg_history.specs.Calm.{stable_of}
-use Rattle.txg_history.specs.Events.{Event, Calls, Accepts, Freezes, Wrote, Flushed, Begins, Looks, Opens, Stops, as_events}
+use Rattle.txg_history.specs.Events.{Event, Calls, Accepts, Freezes, Wrote, Flushed, Looks, Opens, Stops}
 use Rattle.txg_history.specs.Openings.{IsYield, FindsLive}
 use Rattle.txg_history.specs.Pages.{Codec, IsPageOf}
 use Rattle.txg_history.specs.Places.{IsFree}
@@ -81,10 +81,3 @@ pub record FindsJust (c : Codec) (p : Pool) (q : Rec) (block : List ℕ) : Type 
   pub found : (u : Uberblock) (config : List ℕ) → IsYield c.head_of p.size (stable_of p) p.name u config
       → (f : FindsLive p u config) × (f.found ≡ q)
   pub content : block_at q 0 ≡ block
-
--- An import that is stopped in the round of the record which it draws; and one up to the events of its round.
-abbrev pub stopped_import : (r q : Rec) → (board : ℕ → Bool) → List Noted → Event → List Event
-stopped_import r q board made stop = Opens r ∷ Freezes (λ k. None) board ∷ Flushed ∷ Begins q ∷ (as_events made ++ (stop ∷ []))
-
-abbrev pub import_to_round : Rec → (board : ℕ → Bool) → List Event
-import_to_round r board = Opens r ∷ Freezes (λ k. None) board ∷ Flushed ∷ []

@@ -4,6 +4,7 @@ pub mod Contents
 pub mod Copies
 pub mod Events
 pub mod Groups
+pub mod Imports
 pub mod Labels
 pub mod Looks
 pub mod Losses
@@ -19,10 +20,13 @@ pub mod Reads
 pub mod Records
 pub mod Rounds
 pub mod Scans
+pub mod Settled
+pub mod Small
 pub mod Sound
 pub mod Sparing
 pub mod Stamps
 pub mod Survival
 pub mod Tracking
+pub mod Trees
 pub mod Turns
 pub mod Weeks

@@ -1,10 +1,10 @@
--- Where a pool loses a device: a stamp, a wipe or the mark of a spare begins there, or another device is brought in under its
--- member number.
+-- Where a pool loses a device: a history may say so anywhere, and one that says it just where it must does where a stamp, a wipe
+-- or the mark of a spare begins there, or another device is brought in under its member number.
 use Rattle.std.specs.Prelude.{◌≡◌, ◌≢◌, ℕ, List, [], ◌∷◌, ◌++◌, Option}
 use Rattle.mp_base.specs.declared.number.Guid.{Guid}
 use Rattle.bank_core.specs.declared.bank.Fault.{Fault}
 use Rattle.bank_core.specs.Asks.{Ask}
-use Rattle.bank_core.specs.Disk.{Call, Write}
+use Rattle.bank_core.specs.Disk.{Call, Write, Noted}
 use Rattle.label_store.specs.Layout.{ring_offset}
 use Rattle.label_store.specs.Plans.{zero_ring, stamp_plan, wipe_plan, mark_plan}
 use Rattle.txg_history.specs.Events.{Event, Calls, Joins, Loses}
@@ -45,3 +45,22 @@ pub record IsLostAmong (p : Pool) (vs : List Event) (d : ℕ) : Type 0 where
   pub later : List Event
   pub all : vs ≡ before ++ (v ∷ later)
   pub by : IsLostBy (pool_after before p) v d
+
+-- a stamp, a wipe or a mark begins on device d among these events, right where it is lost
+pub record IsStampedAmong (vs : List Event) (d : ℕ) : Type 0 where
+  pub before : List Event
+  pub noted : Noted
+  pub later : List Event
+  pub all : vs ≡ before ++ (Loses d ∷ (Calls noted ∷ later))
+  pub is_stamp : IsStampCall d noted.call
+
+-- another device is brought in under its member number among them
+pub record IsReplacedAmong (p : Pool) (vs : List Event) (d : ℕ) : Type 0 where
+  pub before : List Event
+  pub e : ℕ
+  pub top : ℕ
+  pub m : Guid
+  pub later : List Event
+  pub all : vs ≡ before ++ (Joins e m top ∷ later)
+  pub other : e ≢ d
+  pub same_number : ((pool_after before p).guid d).0 ≡ m.0

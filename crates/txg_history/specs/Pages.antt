@@ -4,6 +4,7 @@ use Rattle.sha2.specs.Sha256.{sha256}
 use Rattle.mp_base.specs.declared.number.Guid.{Guid}
 use Rattle.mp_base.specs.declared.place.Key.{Key}
 use Rattle.vdev_tree.specs.declared.vdev.State.{State}
+use Rattle.txg_history.specs.Trees.{Child}
 use Rattle.label_store.specs.declared.rule.Head.{Head}
 use Rattle.label_store.specs.Rounds.{config_of}
 use Rattle.txg_history.specs.Records.{Cell, Cells, Rec, key, laid_over}
@@ -40,7 +41,7 @@ kept_log [] m g = true
 kept_log (leaf ∷ leaves) m g = cond (leaf.guid.0 == m.0) (leaf.owes g) (kept_log leaves m g)
 
 -- How bytes are read. Of a configuration its head, how many blocks the volume has, how many data sectors each top, the tops' own
--- numbers, the next member number, the root's pointer, and the leaves in tree order. Of a page whether bytes are one, and its 64
+-- numbers and the children of their mirrors, the names of the listed spares, the next member number, the root's pointer, and the leaves in tree order. Of a page whether bytes are one, and its 64
 -- pointers. None is a hole.
 pub record Codec : Type 0 where
   pub head_of : List ℕ → Option Head
@@ -48,6 +49,8 @@ pub record Codec : Type 0 where
   pub room : List ℕ → ℕ → ℕ
   pub top_number : List ℕ → ℕ → Guid
   pub next_member : List ℕ → ℕ
+  pub children : List ℕ → ℕ → List Child
+  pub spares : List ℕ → List (List ℕ)
   pub root : List ℕ → Option Sum
   pub leaves : List ℕ → List LeafKept
   pub is_page : List ℕ → Bool

@@ -3,14 +3,15 @@ use Rattle.std.specs.Prelude.{◌≡◌, ◌≢◌, ◌⊎◌, ℕ, ◌+◌, ◌
 use Rattle.sha2.specs.Sha256.{sha256}
 use Rattle.mp_base.specs.declared.number.Guid.{Guid}
 use Rattle.mp_base.specs.declared.place.Key.{Key}
+use Rattle.bank_core.specs.Disk.{IsClean, sectors_in, sector_of}
 use Rattle.label_store.specs.declared.rule.Head.{Head}
 use Rattle.label_store.specs.declared.uberblock.Uberblock.{Uberblock}
-use Rattle.label_store.specs.Records.{AreUnhurt, place_at}
+use Rattle.label_store.specs.Records.{config_at, place_at}
 use Rattle.label_store.specs.Rounds.{config_of, uberblock_of}
-use Rattle.label_store.specs.Uberblock.{IsUberblock}
+use Rattle.label_store.specs.Uberblock.{IsUberblock, uberblock_bytes}
 use Rattle.txg_history.specs.Events.{Event, Known, Looks, Opens}
 use Rattle.txg_history.specs.Needs.{Held, InRing, InPart, even_part, odd_part}
-use Rattle.txg_history.specs.Openings.{IsVerifiedOn, IsReadWhole, IsDrawnRecord}
+use Rattle.txg_history.specs.Openings.{IsVerifiedOn, IsDrawnRecord}
 use Rattle.txg_history.specs.Pages.{Codec}
 use Rattle.txg_history.specs.Pools.{Pool, after, pool_after, drawn, seat}
 use Rattle.txg_history.specs.Records.{Rec, Cell, IsIn, number_of, takes_part, key, data_start}
@@ -89,13 +90,26 @@ pub record HoldsLabels (p : Pool) (d : ℕ) (r : Rec) : Type 0 where
   pub part : ((s : ℕ) (bytes : List ℕ) → InPart odd_part r s bytes → Held (p.sectors d s) bytes)
       ⊎ ((s : ℕ) (bytes : List ℕ) → InPart even_part r s bytes → Held (p.sectors d s) bytes)
 
--- A member with sound labels: they hold a record, none of their sectors is damaged, and each was read.
+-- These bytes stand on sector s of the device, which is clean and was read.
+pub record IsReadClean (p : Pool) (known : Known) (d s : ℕ) (bytes : List ℕ) : Type 0 where
+  pub clean : IsClean (p.sectors d s)
+  pub stands : (p.sectors d s).stable ≡ bytes
+  pub is_read : (shown : List ℕ) × (known d s ≡ Some shown)
+
+-- A member with sound labels: some place of its rings has the uberblock of a live record, and some of its labels the
+-- configuration, each on clean sectors that were read. Nothing is asked of the other sectors of its labels.
 pub record HasSoundLabels (p : Pool) (known : Known) (d : ℕ) : Type 0 where
   pub is_member : p.member d ≡ true
   pub promised : Rec
-  pub holds : HoldsLabels p d promised
-  pub unhurt : AreUnhurt (p.size d) (p.sectors d)
-  pub is_read : IsReadWhole (p.size d) (known d)
+  pub is_live : IsIn promised p.live
+  pub numbered : 1 ≤ number_of promised
+  pub place : ℕ
+  pub in_rings : place < 128
+  pub uberblock : IsReadClean p known d (place_at (p.size d) place) (uberblock_bytes (uberblock_of promised.commit (seat p d)))
+  pub label : ℕ
+  pub is_label : label < 4
+  pub config : (i : ℕ) → i < sectors_in promised.commit.blob → IsReadClean p known d (config_at (p.size d) label + i) (sector_of i promised.commit.blob)
+  pub part_read : (bytes : List ℕ) × (known d (config_at (p.size d) label) ≡ Some bytes)
 
 -- The premises of finding a record.
 pub record Premises (head_of : List ℕ → Option Head) (p : Pool) (known : Known) : Type 0 where
@@ -104,8 +118,8 @@ pub record Premises (head_of : List ℕ → Option Head) (p : Pool) (known : Kno
   pub good : ℕ
   pub sound_labels : HasSoundLabels p known good
 
--- A leaf of the cell's top has its block: its log in the record lacks the birth, the sector is undamaged, and its reads
--- don't fail.
+-- A leaf of the cell's top has its block: its log in the record lacks the birth, the sector is undamaged, and its reads of the
+-- block don't fail.
 pub record HasGoodLeaf (p : Pool) (r : Rec) (cell : Cell) (answering : ℕ → Bool) : Type 0 where
   pub d : ℕ
   pub is_member : p.member d ≡ true
@@ -114,16 +128,17 @@ pub record HasGoodLeaf (p : Pool) (r : Rec) (cell : Cell) (answering : ℕ → B
   pub unhurt : (p.sectors d (data_start + cell.sector)).damaged ≡ false
   pub answers : answering d ≡ true
 
--- The premise of reading the found record's pages back: so it is of each of them.
-abbrev pub HasGoodPages : Pool → Rec → (answering : ℕ → Bool) → Type 0
-HasGoodPages p r answering = (level index : ℕ) (cell : Cell) → 1 ≤ level → level ≤ 3 → r.cells (key level index) ≡ Some cell → HasGoodLeaf p r cell answering
+-- The premise of reading the found record's pages back: so it is of each of them, by whose reads of that very page answer.
+abbrev pub HasGoodPages : Pool → Rec → (answering : Key → ℕ → Bool) → Type 0
+HasGoodPages p r answering = (level index : ℕ) (cell : Cell) → 1 ≤ level → level ≤ 3 → r.cells (key level index) ≡ Some cell
+    → HasGoodLeaf p r cell (answering (key level index))
 
 -- What an opening found of the pages of a record, where it read these sectors: of a page only bytes with the page's sum, and
--- none only where each leaf of its top missed it, since its reads don't answer, or gave bytes of another sum there.
-pub record IsSearched (p : Pool) (r : Rec) (answering : ℕ → Bool) (known : Known) (found : Key → Option (List ℕ)) : Type 0 where
+-- none only where each leaf of its top missed it, since its reads of the page don't answer, or gave bytes of another sum there.
+pub record IsSearched (p : Pool) (r : Rec) (answering : Key → ℕ → Bool) (known : Known) (found : Key → Option (List ℕ)) : Type 0 where
   pub summed : (k : Key) (cell : Cell) (bytes : List ℕ) → r.cells k ≡ Some cell → found k ≡ Some bytes → sha256 bytes ≡ sha256 cell.block
   pub missed : (k : Key) (cell : Cell) (d : ℕ) → r.cells k ≡ Some cell → found k ≡ None → p.member d ≡ true → r.tops (p.guid d) ≡ cell.top
-      → (answering d ≡ false) ⊎ ((bytes : List ℕ) × (known d (data_start + cell.sector) ≡ Some bytes) × (sha256 bytes ≢ sha256 cell.block))
+      → (answering k d ≡ false) ⊎ ((bytes : List ℕ) × (known d (data_start + cell.sector) ≡ Some bytes) × (sha256 bytes ≢ sha256 cell.block))
 
 -- By what was read of its rings this device has the identity of a member of the pool: a correct uberblock gives it.
 pub record HasIdentity (p : Pool) (known : Known) (d : ℕ) (m : Guid) : Type 0 where

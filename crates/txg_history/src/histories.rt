@@ -15,6 +15,7 @@ ghost use Rattle.txg_history.specs.Pages.{Codec};
 ghost use Rattle.txg_history.specs.Pools.{Pool, drawn, seat, pool_after};
 ghost use Rattle.txg_history.specs.Records.{Rec, Cells, IsIn, number_of};
 ghost use Rattle.txg_history.specs.Rounds.{all_true, IsRoundEvents};
+ghost use Rattle.txg_history.specs.Small.{numbered, small_codec, small_pool, small_second, small_history, small_stopped};
 ghost use Rattle.txg_history.specs.Survival.{Survives};
 ghost use Rattle.txg_history.specs.Turns.{AreJust, OnBoard};
 ghost use Rattle.txg_history.specs.Weeks.{IsWeek, resilver, suspended};
@@ -26,7 +27,8 @@ ghost use Rattle.txg_history.specs.Weeks.{IsWeek, resilver, suspended};
 /// as it was. `further`: a leaf fails in a round, a further number is drawn, and a round of the same keys follows over the
 /// leaves that are left. `day`: a block is written and committed with a page above it on each level, the machine stops, and an
 /// opening finds the record with the block. Its premises hold where no label sector of the leaf is damaged, no opening before missed a
-/// record, and no configuration there has the sum of another.
+/// record, and no configuration there has the sum of another. `whole`: such a day of a pool that was just made on one device of zeros, through
+/// its first commit, with nothing assumed: each call, record, page and configuration of it is written down.
 pub fn small_histories_are_allowed()
     ensures week { (c : Codec) (p : Pool) (a b : ℕ) (branch : Branch) (q : Rec) (vs : List Event) → IsWeek c p a b branch
         → IsDrawnUp c (pool_after (day_until_round a branch) p) q
@@ -42,6 +44,7 @@ pub fn small_histories_are_allowed()
         × (p.missed ≡ [] → AreUnhurt ((stopped_day a b vs size p).size a) ((stopped_day a b vs size p).sectors a)
         → AreOwnConfigs c.head_of (stopped_day a b vs size p) (stable_of (stopped_day a b vs size p))
         → FindsJust c (stopped_day a b vs size p) q (b.bytes 0)) }
+    ensures whole { Mays small_codec small_pool small_history × FindsJust small_codec small_stopped small_second (numbered 1) }
     ensures suspends { (c : Codec) (p : Pool) (cells : Cells) (board : ℕ → Bool) (d : ℕ) → Survives c p → MayFreeze c p cells board
         → Mays c p (suspended cells board d)
         × ((e g : ℕ) → p.member e ≡ true → 1 ≤ p.in_top e → (pool_after (suspended cells board d) p).owes e g ≡ p.owes e g) }

@@ -1,13 +1,15 @@
 //! Laws of labels (docs/MODEL.md, "The history of a pool").
 ghost use Rattle.std.specs.Prelude.{◌≡◌, ℕ, ◌+◌, ◌<◌, Bool, true, List, ◌∷◌, Option, Some, slice_get};
 ghost use Rattle.label_store.specs.declared.member.Member.{Member};
-ghost use Rattle.txg_history.specs.Events.{Event, Third, Acks, Ends};
+ghost use Rattle.label_store.specs.Records.{AreUnhurt};
+ghost use Rattle.txg_history.specs.Events.{Event, Known, Third, Acks, Ends};
 ghost use Rattle.txg_history.specs.Labels.{Odd, Even};
 ghost use Rattle.txg_history.specs.Moves.{May, Mays};
 ghost use Rattle.txg_history.specs.Needs.{Held, Landed, InPart, odd_part};
+ghost use Rattle.txg_history.specs.Openings.{IsReadWhole};
 ghost use Rattle.txg_history.specs.Pages.{Codec};
 ghost use Rattle.txg_history.specs.Pools.{Pool, seat, after, pool_after};
-ghost use Rattle.txg_history.specs.Premises.{HoldsLabels};
+ghost use Rattle.txg_history.specs.Premises.{HoldsLabels, HasSoundLabels};
 ghost use Rattle.txg_history.specs.Records.{Rec, IsIn, number_of, takes_part};
 ghost use Rattle.txg_history.specs.Survival.{Survives};
 ghost use Rattle.txg_history.specs.Turns.{IsFlushTurn};
@@ -22,7 +24,9 @@ ghost use Rattle.txg_history.specs.Tracking.{KeepsLabels, KeepsNear, HasPromise}
 /// stops may come anywhere. `stays` is the law from any moment at which the labels promise a record, and `since` from
 /// the acknowledgement of a round on in which the member took part. `near`: the rule by numbers gives these slots. By
 /// it each round in which the member takes part has a number less than 32 above the acknowledged one, and no
-/// opening reads a record of a lower number than the one that the labels hold. `again` and `near_again`: both rules from a
+/// opening reads a record of a lower number than the one that the labels hold. `plain`: so a member that took part in an
+/// acknowledged round and kept this rule since has sound labels at an opening, if none of their sectors is damaged and each was
+/// read. `again` and `near_again`: both rules from a
 /// third phase on, whatever the labels held before. So labels whose promise was lost, by a third phase that was cut and a round
 /// behind it, are sound behind a later one that ended. `holds`: labels that promise a record
 /// hold it. `mends`: where a third phase was cut and label 1 came to hold the configuration after all, it may be said to have
@@ -35,6 +39,10 @@ pub fn labels_stay_sound()
     ensures near { (c : Codec) (p : Pool) (d : ℕ) (q : Rec) (vs : List Event) → Survives c p → p.member d ≡ true
         → takes_part q (p.guid d) ≡ true → Mays c p (Acks q ∷ vs)
         → KeepsNear d (p.guid d) q (Odd q) vs → KeepsLabels (after (Acks q) p) d vs }
+    ensures plain { (c : Codec) (p : Pool) (d : ℕ) (q : Rec) (vs : List Event) (known : Known) → Survives c p → p.member d ≡ true
+        → takes_part q (p.guid d) ≡ true → Mays c p (Acks q ∷ vs) → KeepsNear d (p.guid d) q (Odd q) vs
+        → AreUnhurt ((pool_after (Acks q ∷ vs) p).size d) ((pool_after (Acks q ∷ vs) p).sectors d)
+        → IsReadWhole ((pool_after (Acks q ∷ vs) p).size d) (known d) → HasSoundLabels (pool_after (Acks q ∷ vs) p) known d }
     ensures again { (c : Codec) (p : Pool) (d : ℕ) (q : Rec) (vs : List Event) → p.member d ≡ true → Mays c p (Third q d ∷ vs)
         → KeepsLabels (after (Third q d) p) d vs → HasPromise (pool_after (Third q d ∷ vs) p) d }
     ensures near_again { (c : Codec) (p : Pool) (d : ℕ) (q : Rec) (vs : List Event) → Survives c p → p.member d ≡ true → Mays c p (Third q d ∷ vs)

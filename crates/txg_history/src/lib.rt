@@ -13,6 +13,7 @@ mod pages;
 mod refusals;
 mod rounds;
 mod scans;
+mod settled;
 mod turns;
 mod writes;
 
@@ -32,5 +33,6 @@ pub use pages::pages_are_read_back;
 pub use refusals::wrong_moves_are_refused;
 pub use rounds::rounds_may_be_made;
 pub use scans::scans_clear_only_copied_groups;
+pub use settled::settled_groups_were_owed_throughout;
 pub use turns::{empty_groups_may_be_frozen, flush_turns_may_be_made, write_turns_may_be_made};
 pub use writes::{keys_may_be_written_again, plans_may_be_made, reads_show_the_block};

@@ -1,5 +1,6 @@
 //! Laws of openings (docs/MODEL.md, "The history of a pool").
 ghost use Rattle.std.specs.Prelude.{◌≡◌, ◌⊎◌, ℕ, ◌*◌, ◌<◌, ◌≤◌, Bool, true, false, List, [], ◌∷◌, ◌++◌, length, Option, Some, None, slice_get, take};
+ghost use Rattle.std.specs.List.{AllByRecursion};
 ghost use Rattle.sha2.specs.Sha256.{sha256};
 ghost use Rattle.bank_core.specs.Disk.{Sectors, Noted, AllAnswer, run};
 ghost use Rattle.label_store.specs.Newest.{Parts, IsLook, IsBest};
@@ -10,20 +11,18 @@ ghost use Rattle.label_store.specs.declared.found.Found.{Found};
 ghost use Rattle.label_store.specs.declared.rule.Head.{Head};
 ghost use Rattle.label_store.specs.declared.uberblock.Uberblock.{Uberblock};
 ghost use Rattle.mp_base.specs.declared.number.Guid.{Guid};
-ghost use Rattle.label_store.specs.declared.member.Member.{Member};
-ghost use Rattle.txg_history.specs.Branches.{stopped_import, import_to_round};
 ghost use Rattle.txg_history.specs.Calm.{stable_of};
 ghost use Rattle.txg_history.specs.Contents.{BegunAt};
-ghost use Rattle.txg_history.specs.Events.{Event, Known, Begins, Acks, Looks, Stops};
+ghost use Rattle.txg_history.specs.Events.{Event, Known, Begins, Acks, Looks};
+ghost use Rattle.txg_history.specs.Imports.{IsPast, DrawsPast, DrawsJust};
 ghost use Rattle.txg_history.specs.Looks.{known_by, AreDistinct, HaveRoom, NoneFailed};
 ghost use Rattle.txg_history.specs.Moves.{Mays, ReadsTrue};
 ghost use Rattle.txg_history.specs.Openings.{IsVerifiedOn, IsYield, IsReadWhole, IsDrawnRecord, Finds, FindsLive};
 ghost use Rattle.txg_history.specs.Pages.{Codec};
 ghost use Rattle.txg_history.specs.Pools.{Pool, drawn, after, pool_after};
 ghost use Rattle.txg_history.specs.Premises.{AreOurs, AreClaims, AreGood, AreNamesKept, AreTwins, HasNoClash, AreNotTorn, AreOwnConfigs};
-ghost use Rattle.txg_history.specs.Premises.{AreThere, HasNoTwin, HasNoStray, HasTwin, HoldsLabels, Premises, WasAcked, WasMissed};
+ghost use Rattle.txg_history.specs.Premises.{AreThere, HasNoTwin, HasSoundLabels, HasNoStray, HasTwin, HoldsLabels, Premises, WasAcked, WasMissed};
 ghost use Rattle.txg_history.specs.Records.{Rec, IsIn, number_of};
-ghost use Rattle.txg_history.specs.Rounds.{all_true, IsRoundEvents};
 ghost use Rattle.txg_history.specs.Survival.{IsAmong, Survives};
 
 /// An opening finds the last acknowledged record or a later live one, whatever crash came before it. It
@@ -78,14 +77,18 @@ pub fn looks_show_the_labels()
 ///
 /// `calm`: they hold where each read of a member gives what stands there, some member's labels hold a record
 /// and none of their sectors is damaged, no opening ever missed a record, and no configuration that is
-/// verified has the sum of another drawn one. `true_to`: so read, each clean sector shows what stands there. `no_clash`: there is none
+/// verified has the sum of another drawn one. `sound`: labels that hold a record are sound where none of their sectors is damaged
+/// and each was read, though the premise asks this only of the sectors of one uberblock and of one configuration. `true_to`: so
+/// read, each clean sector shows what stands there. `no_clash`: there is none
 /// where no two different byte strings of those that are there have one sum, and no ring sector is torn into a correct
 /// uberblock.
 pub fn premises_can_be_met()
-    ensures calm { (head_of : List ℕ → Option Head) (p : Pool) (d : ℕ) (r : Rec) → HoldsLabels p d r → p.member d ≡ true
+    ensures calm { (c : Codec) (p : Pool) (d : ℕ) (r : Rec) → Survives c p → HoldsLabels p d r → p.member d ≡ true
         → AreUnhurt (p.size d) (p.sectors d) → p.missed ≡ []
-        → AreOwnConfigs head_of p (stable_of p)
-        → Premises head_of p (stable_of p) }
+        → AreOwnConfigs c.head_of p (stable_of p)
+        → Premises c.head_of p (stable_of p) }
+    ensures sound { (c : Codec) (p : Pool) (known : Known) (d : ℕ) (r : Rec) → Survives c p → p.member d ≡ true → HoldsLabels p d r
+        → AreUnhurt (p.size d) (p.sectors d) → IsReadWhole (p.size d) (known d) → HasSoundLabels p known d }
     ensures true_to { (p : Pool) → ReadsTrue p.sectors (stable_of p) }
     ensures no_clash { (head_of : List ℕ → Option Head) (p : Pool) (known : Known) (strings : List (List ℕ))
         → ((a b : List ℕ) → IsAmong a strings → IsAmong b strings → sha256 a ≡ sha256 b → a ≡ b) → AreThere head_of p known strings → AreNotTorn p known
@@ -101,8 +104,12 @@ pub fn premises_can_be_met()
 /// missed record that is found, and isn't below the acknowledged one, was acknowledged. `again`: a record that is drawn
 /// a second time, the very same, is live from its round's beginning on. So
 /// an opening that is stopped before any of its uberblocks, and is followed by one that draws the same record, leaves no stray.
-/// `imports`: so behind a create an import that is stopped in its round, and a whole one that reads and draws the same records,
-/// leave none to the next.
+/// `past`: a record is past where it was acknowledged, told by its bytes, or is below the acknowledged one. There is no stray
+/// behind events where the record of each of their rounds is past at their end, and so is what was missed before them, and what was
+/// live then above the acknowledged record.
+/// `imports`: so behind a create any number of imports that draw the very same record leave none to the next, once that record was
+/// acknowledged. Each may be stopped anywhere in its round or before it, whatever it reads, rewrites and flushes, and whichever
+/// leaves leave its board.
 pub fn strays_were_never_acknowledged()
     ensures missed { (vs : List Event) (p : Pool) (r : Rec) → IsIn r (pool_after vs p).missed → IsIn r p.missed ⊎ WasMissed p vs r }
     ensures acked { (c : Codec) (p : Pool) (r : Rec) → Survives c p → WasAcked p r → (number_of r < number_of p.acked) ⊎ HasTwin p r }
@@ -112,12 +119,13 @@ pub fn strays_were_never_acknowledged()
         → IsDrawnRecord p u config r → IsIn r p.missed
         → number_of p.acked ≤ number_of r → WasAcked p r)
         → HasNoStray c.head_of p known }
-    ensures imports { (c : Codec) (p : Pool) (r q same : Rec) (board other : ℕ → Bool) (made : List Noted) (sectors : Sectors) (size : ℕ → ℕ)
-        (sizes : ℕ → ℕ) (members : List Member) (results : List Bool) (vs : List Event) (known : Known) → Survives c p → p.live ≡ r ∷ [] → p.missed ≡ []
-        → AreTwins q same → IsRoundEvents sizes same members results vs → all_true results ≡ true
-        → Mays c p (stopped_import r q board made (Stops sectors size) ++ (import_to_round r other ++ vs))
-        → AreOurs c (pool_after (stopped_import r q board made (Stops sectors size) ++ (import_to_round r other ++ vs)) p) known
-        → HasNoStray c.head_of (pool_after (stopped_import r q board made (Stops sectors size) ++ (import_to_round r other ++ vs)) p) known }
+    ensures past { (c : Codec) (p : Pool) (vs : List Event) (known : Known) → Survives c p → Mays c p vs
+        → ((r : Rec) → IsIn r p.live → number_of p.acked < number_of r → IsPast (pool_after vs p) r)
+        → ((r : Rec) → IsIn r p.missed → IsPast (pool_after vs p) r) → AllByRecursion (DrawsPast (pool_after vs p)) vs
+        → AreOurs c (pool_after vs p) known → HasNoStray c.head_of (pool_after vs p) known }
+    ensures imports { (c : Codec) (p : Pool) (r q : Rec) (vs : List Event) (known : Known) → Survives c p → p.live ≡ r ∷ [] → p.missed ≡ []
+        → AllByRecursion (DrawsJust q) vs → Mays c p vs → IsIn q (pool_after vs p).acks
+        → AreOurs c (pool_after vs p) known → HasNoStray c.head_of (pool_after vs p) known }
     ensures again { (p : Pool) (q r : Rec) → AreTwins r q → HasTwin (after (Begins q) p) r × HasTwin (after (Acks q) p) r }
 {}
 

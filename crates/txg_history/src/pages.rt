@@ -20,7 +20,7 @@ ghost use Rattle.txg_history.specs.Survival.{Fits, Survives};
 /// pointers, or it found bytes of a page that aren't the record's and have their sum. `config`: the configuration tells
 /// the tops and the logs too. `good`: a leaf of the premise has to have its page, so that a read of it that
 /// answers, where the sector is undamaged, gives the page. `found`: so where each page has a good leaf, each is found, by
-/// bytes of its sum.
+/// bytes of its sum. Which leaves' reads answer may differ from page to page.
 pub fn pages_are_read_back()
     ensures freezes { (c : Codec) (new old : Cells) → IsTree c old → AreDirty c new old → IsTree c (laid_over new old) }
     ensures back { (c : Codec) (p : Pool) (r : Rec) (config : List ℕ) (found : Key → Option (List ℕ))
@@ -31,7 +31,7 @@ pub fn pages_are_read_back()
     ensures good { (p : Pool) (r : Rec) (k : Key) (cell : Cell) (answering : ℕ → Bool) → IsIn r p.live
         → r.cells k ≡ Some cell → (good : HasGoodLeaf p r cell answering)
         → IsKeptAt p good.d (data_start + cell.sector) cell.block }
-    ensures found { (c : Codec) (p : Pool) (r : Rec) (answering : ℕ → Bool) (known : Known) (found : Key → Option (List ℕ)) → Survives c p → IsIn r p.live
+    ensures found { (c : Codec) (p : Pool) (r : Rec) (answering : Key → ℕ → Bool) (known : Known) (found : Key → Option (List ℕ)) → Survives c p → IsIn r p.live
         → HasGoodPages p r answering → ReadsTrue p.sectors known → IsSearched p r answering known found
         → (level index : ℕ) (cell : Cell) → 1 ≤ level → level ≤ 3 → r.cells (key level index) ≡ Some cell
         → (bytes : List ℕ) × (found (key level index) ≡ Some bytes) × (sha256 bytes ≡ sha256 cell.block) }

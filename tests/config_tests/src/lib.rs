@@ -1,4 +1,5 @@
-//! Tests of edits of trees and of whole configurations by public calls alone: a file for each subject.
+//! Tests of edits of trees, of whole configurations, and of these on devices, by public calls alone: a file for each
+//! subject.
 #![tactic(auto)]
 
 #[cfg(test)]
@@ -7,6 +8,8 @@ mod by_hand;
 mod edits;
 #[cfg(test)]
 mod largest;
+#[cfg(test)]
+mod openings;
 #[cfg(test)]
 mod random;
 #[cfg(test)]

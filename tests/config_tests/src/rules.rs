@@ -19,7 +19,7 @@ use std::test::Fail;
 /// | 49 | its top | 124 | its name, `a` | 175 | its ranges |
 /// | 53 | its sector, 63 | 126 | its flags | 179 | spares |
 /// | 61 | its sum | | | 183, 185 | `s` and `t` |
-fn two_leaves(alloc: Global) -> Result<Spelled, Fail> {
+pub(crate) fn two_leaves(alloc: Global) -> Result<Spelled, Fail> {
     let mut spelled = Spelled::new(alloc);
     spelled.head(&Head {
         pool: 77,
@@ -54,9 +54,9 @@ fn two_leaves(alloc: Global) -> Result<Spelled, Fail> {
 }
 
 /// What is said of a change, the place of the bytes that are put instead, and these.
-type Row = (&'static str, usize, &'static [u8]);
+pub(crate) type Row = (&'static str, usize, &'static [u8]);
 
-const REFUSED_HEADS: &[Row] = &[
+pub(crate) const REFUSED_HEADS: &[Row] = &[
     ("version 0", 3, &[0]),
     ("version 2", 3, &[2]),
     ("version 2^24 + 1", 0, &[1]),
@@ -88,7 +88,7 @@ const REFUSED_HEADS: &[Row] = &[
     ("1,048,321 sectors", 97, &[0, 0, 0, 0, 0, 15, 255, 1]),
 ];
 
-const REFUSED_VDEVS: &[Row] = &[
+pub(crate) const REFUSED_VDEVS: &[Row] = &[
     ("a top of kind leaf", 105, &[0]),
     ("a top that replaces", 105, &[2]),
     ("a top of kind spare", 105, &[3]),
@@ -124,7 +124,7 @@ const REFUSED_VDEVS: &[Row] = &[
     ("a range from above the number", 147, &[1]),
 ];
 
-const REFUSED_SPARES: &[Row] = &[
+pub(crate) const REFUSED_SPARES: &[Row] = &[
     ("a spare fewer than are there", 182, &[1]),
     ("a spare more than are there", 182, &[3]),
     ("no spare, and two names", 182, &[0]),
@@ -160,7 +160,7 @@ const VALID: &[Row] = &[
 ];
 
 /// The bytes with others put in at a place.
-fn changed(alloc: Global, bytes: &[u8], at: usize, put: &[u8]) -> Result<Vec<u8>, Fail> {
+pub(crate) fn changed(alloc: Global, bytes: &[u8], at: usize, put: &[u8]) -> Result<Vec<u8>, Fail> {
     let mut changed = Vec::from_slice(alloc, bytes)?;
     for (i, byte) in put.iter().enumerate() {
         let place = at.saturating_add(i);

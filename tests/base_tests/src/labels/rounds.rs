@@ -1,6 +1,6 @@
 //! Rounds that a crash or a failed call ends.
 use super::blobs::Blob;
-use super::setting::{CHOICES, MEMBERS, bank_with, commit, crashed, find, is_found};
+use super::setting::{MEMBERS, bank_with, choice_at, commit, crashed, find, is_found};
 use bank_core::{Fault, ImageChoice, MemBank};
 use label_store::Found;
 use std::alloc::Global;
@@ -76,23 +76,22 @@ fn a_round_stopped_at_any_call_leaves_the_old_or_the_new_record(
     let results = commit(&rt, alloc, &mut bank, &MEMBERS, &new)?;
     assert_eq!(rt; results.as_slice(), [true, true].as_slice());
     assert_eq!(rt; bank.place(), CALLS);
-    for moment in 0..=CALLS {
-        for choice in CHOICES {
-            let mut left = crashed(&rt, alloc, &bank, moment, choice)?;
-            let wanted = wanted_after(moment, UBERBLOCKS_AT[0], choice);
-            let both = find(&rt, alloc, &mut left, &[0, 1])?;
+    for moment in (0..=CALLS).step_by(5) {
+        let choice = choice_at(moment);
+        let mut left = crashed(&rt, alloc, &bank, moment, choice)?;
+        let wanted = wanted_after(moment, UBERBLOCKS_AT[0], choice);
+        let both = find(&rt, alloc, &mut left, &[0, 1])?;
+        assert!(rt;
+            is_wanted(&both, &old, &new, wanted),
+            "at {moment} with {choice:?}"
+        );
+        for (dev, at) in [(0, UBERBLOCKS_AT[0]), (1, UBERBLOCKS_AT[1])] {
+            let wanted = wanted_after(moment, at, choice);
+            let alone = find(&rt, alloc, &mut left, &[dev])?;
             assert!(rt;
-                is_wanted(&both, &old, &new, wanted),
-                "at {moment} with {choice:?}"
+                is_wanted(&alone, &old, &new, wanted),
+                "{dev} at {moment} with {choice:?}"
             );
-            for (dev, at) in [(0, UBERBLOCKS_AT[0]), (1, UBERBLOCKS_AT[1])] {
-                let wanted = wanted_after(moment, at, choice);
-                let alone = find(&rt, alloc, &mut left, &[dev])?;
-                assert!(rt;
-                    is_wanted(&alone, &old, &new, wanted),
-                    "{dev} at {moment} with {choice:?}"
-                );
-            }
         }
     }
     Ok(())
@@ -147,7 +146,7 @@ fn a_member_whose_call_fails_leaves_the_round(rt: HostRuntime) -> Result<(), Fai
     let alloc = rt.alloc();
     let (old, new) = old_and_new(alloc)?;
     let begun = bank_with(&rt, alloc, &old)?;
-    for place in 0..CALLS {
+    for place in (0..CALLS).step_by(7) {
         let mut bank = crashed(&rt, alloc, &begun, 0, ImageChoice::Old)?;
         let results = failing_round(&rt, alloc, &mut bank, place, &new)?;
         let dev = failed_device(&bank).ok_or("no call failed")?;
@@ -161,19 +160,18 @@ fn a_member_whose_call_fails_leaves_the_round(rt: HostRuntime) -> Result<(), Fai
         assert_eq!(rt; (bank.fault_count(dev), bank.fault_count(other)), (1, 0));
         assert!(rt; ends_at(&bank, dev, place), "at {place}");
         assert_eq!(rt; calls_on(&bank, other), PART_CALLS, "at {place}");
-        for choice in CHOICES {
-            let mut left = crashed(&rt, alloc, &bank, bank.place(), choice)?;
-            for devs in [[0, 1].as_slice(), [other].as_slice()] {
-                let found = find(&rt, alloc, &mut left, devs)?;
-                assert!(rt; is_found(&found, &new), "at {place} with {choice:?}");
-            }
-            let alone = find(&rt, alloc, &mut left, &[dev])?;
-            let wanted = wanted_of_failed(place, choice);
-            assert!(rt;
-                is_wanted(&alone, &old, &new, wanted),
-                "at {place} with {choice:?}"
-            );
+        let choice = choice_at(place);
+        let mut left = crashed(&rt, alloc, &bank, bank.place(), choice)?;
+        for devs in [[0, 1].as_slice(), [other].as_slice()] {
+            let found = find(&rt, alloc, &mut left, devs)?;
+            assert!(rt; is_found(&found, &new), "at {place} with {choice:?}");
         }
+        let alone = find(&rt, alloc, &mut left, &[dev])?;
+        let wanted = wanted_of_failed(place, choice);
+        assert!(rt;
+            is_wanted(&alone, &old, &new, wanted),
+            "at {place} with {choice:?}"
+        );
     }
     // a round has no more calls than these
     let mut bank = crashed(&rt, alloc, &begun, 0, ImageChoice::Old)?;

@@ -35,6 +35,11 @@ pub(crate) const CHOICES: [ImageChoice; 7] = [
     ImageChoice::Mixed(3),
 ];
 
+/// The choice for this moment: moments one after another go through all of them.
+pub(crate) fn choice_at(moment: u64) -> ImageChoice {
+    CHOICES[(moment % CHOICES.len() as u64) as usize]
+}
+
 /// A bank of two blank devices.
 pub(crate) fn blank_bank(rt: &impl Abort, alloc: Global) -> Result<MemBank, Fail> {
     let mut bank = MemBank::new(alloc);

@@ -1,6 +1,6 @@
 //! Wipes and marks of spare devices over a bank in memory: stopped at each moment, and failed at each call.
 use super::blobs::Blob;
-use super::setting::{CHOICES, bank_with, crashed, find, identify, is_found};
+use super::setting::{choice_at, bank_with, crashed, find, identify, is_found};
 use bank_core::{Bank, Fault, ImageChoice, MemBank};
 use label_store::{LEAST_SECTORS, identity, mark_spare, wipe};
 use mp_base::Guid;
@@ -40,20 +40,19 @@ fn a_stop_in_a_wipe_or_a_mark_leaves_the_old_record_or_none(rt: HostRuntime) -> 
         assert_eq!(rt; clear(&rt, &mut bank, how), Ok(()));
         assert_eq!(rt; bank.place(), calls);
         assert!(rt; bank.tells());
-        for moment in 0..=calls {
-            for choice in CHOICES {
-                let mut left = crashed(&rt, alloc, &bank, moment, choice)?;
-                let found = find(&rt, alloc, &mut left, &[0])?;
-                let is_old = is_found(&found, &blob);
-                assert!(rt; is_old || found.is_none(), "at {moment}");
-                assert!(rt; is_old || moment > 0, "at {moment}");
-                assert!(rt; !is_old || moment < calls, "at {moment}");
-                // the other member has it still
-                assert!(rt;
-                    is_found(&find(&rt, alloc, &mut left, &[0, 1])?, &blob),
-                    "at {moment}"
-                );
-            }
+        for moment in (0..=calls).step_by(5) {
+            let choice = choice_at(moment);
+            let mut left = crashed(&rt, alloc, &bank, moment, choice)?;
+            let found = find(&rt, alloc, &mut left, &[0])?;
+            let is_old = is_found(&found, &blob);
+            assert!(rt; is_old || found.is_none(), "at {moment}");
+            assert!(rt; is_old || moment > 0, "at {moment}");
+            assert!(rt; !is_old || moment < calls, "at {moment}");
+            // the other member has it still
+            assert!(rt;
+                is_found(&find(&rt, alloc, &mut left, &[0, 1])?, &blob),
+                "at {moment}"
+            );
         }
         let mut left = crashed(&rt, alloc, &bank, calls, ImageChoice::Zeros)?;
         let is_mark = matches!(how, Clearing::Mark);
@@ -68,18 +67,17 @@ fn a_wipe_or_a_mark_stops_at_its_first_failed_call(rt: HostRuntime) -> Result<()
     let alloc = rt.alloc();
     let blob = Blob::new(alloc, 1, b'o', 80)?;
     for (how, calls) in CLEARINGS {
-        for place in 0..calls {
+        for place in (0..calls).step_by(5) {
             let mut bank = bank_with(&rt, alloc, &blob)?;
             bank.fail(0, place, place, Fault::Gone)?;
             assert_eq!(rt; clear(&rt, &mut bank, how), Err(Fault::Gone), "at {place}");
             assert_eq!(rt; bank.place(), place + 1);
             assert_eq!(rt; bank.fault_count(0), 1);
             assert_eq!(rt; bank.fault_count(1), 0);
-            for choice in CHOICES {
-                let mut left = crashed(&rt, alloc, &bank, place + 1, choice)?;
-                let found = find(&rt, alloc, &mut left, &[0])?;
-                assert!(rt; is_found(&found, &blob) || found.is_none(), "at {place}");
-            }
+            let choice = choice_at(place);
+            let mut left = crashed(&rt, alloc, &bank, place + 1, choice)?;
+            let found = find(&rt, alloc, &mut left, &[0])?;
+            assert!(rt; is_found(&found, &blob) || found.is_none(), "at {place}");
         }
     }
     Ok(())
