@@ -26,7 +26,7 @@ use Rattle.pool_runs.specs.Devices.{Device, number_in, size_in}
 use Rattle.pool_runs.specs.HostRows.{WriteLine, OnPool, RowOf, ChangesNone, MayRewrite, HostRow, graft_acts, ByGraft, GraftUnless, GraftOnto, GraftIf, ByDetach, GraftLine, DetachLine}
 use Rattle.pool_runs.specs.Hosts.{Host, named, holder}
 use Rattle.pool_runs.specs.Importing.{read_in, all_shown, OpensBy, FollowsMap, ImportBy, host_behind, ImportFor, ImportUnless}
-use Rattle.pool_runs.specs.Lines.{Asked, Asks_write, Asks_read, Asks_import, Asks_create, Reply, To_create, Entry, Asks_graft, Asks_detach, To_graft, To_detach}
+use Rattle.pool_runs.specs.Lines.{Asked, Asks_write, Asks_import, Asks_create, Reply, To_create, Entry, Asks_graft, Asks_detach, To_graft, To_detach}
 use Rattle.pool_runs.specs.Taking.{IsWriteTo, HasWriteTo, IsTakenBy, IsCreatedOn, IsGraftedOn, IsDetachedFrom}
 use Rattle.pool_runs.proofs.LineMoves.{IsLineKind, IsActKind, line_resume, line_does, plain_line}
 use Rattle.pool_runs.proofs.GroupMoves.{IsKind, more, all_found, all_calls, all_commits}
@@ -636,7 +636,6 @@ none_keeps d (act ∷ acts) all = (one act all.0, none_keeps d acts all.1)
     one act is = tt
 
 rewrite_front : (c : Codec) (h : Host) (asked : Asked) (acts rest : List Act) (reply : Reply) (d : Held) → MayRewrite asked acts → RowOf c h asked (acts ++ rest) reply → Keep d acts
-rewrite_front c h (Asks_read name a) acts rest reply d is row = keep_front d acts rest (row_keeps c h (Asks_read name a) (acts ++ rest) reply d tt row)
 rewrite_front c h (Asks_import name) acts rest reply d is row = none_keeps d acts is
 rewrite_front c h asked acts rest reply d is row = absurd is
 

@@ -278,7 +278,7 @@ first_commit block = record { whole = true; row = founded block; says = refl }
 creates : (block : List ℕ) → Creates (small_codec block) (host_by (Hears 1) small_host) small_name 1 small_tops small_create.acts small_create.reply
 creates block = record {
   pool = small_pool;
-  may = record { none = none_refused; number = refl; some = (omega arith, tt); apart = (tt, tt) };
+  may = record { none = none_refused; number = refl; one = omega arith; some = (omega arith, tt); apart = (tt, tt) };
   stamps = small_stamp ∷ [];
   are = stamped;
   moves = small_founding;

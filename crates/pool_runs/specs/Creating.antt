@@ -126,11 +126,12 @@ pool_sum name second = from_be_bytes w64 (take 8 (sha256 (name ++ to_be_bytes w6
 abbrev pub pool_number : (name : List ℕ) → (second : ℕ) → Guid
 pool_number name second = record { 0 = cond (pool_sum name second == 0) 1 (pool_sum name second) }
 
--- What each create has that isn't refused: its pool's number by its name and the last second, at least one device for each mirror, and its leaves
+-- What each create has that isn't refused: its pool's number by its name and the last second, a mirror, at least one device for each, and its leaves
 -- on devices of their own.
 pub record MayCreate (h : Host) (name : List ℕ) (blocks : ℕ) (tops : List (List (List ℕ))) (pool : Guid) : Type 0 where
   pub none : create_refusal h name blocks tops ≡ None
   pub number : pool ≡ pool_number name h.second
+  pub one : 1 ≤ length tops
   pub some : AllByRecursion (λ names. 1 ≤ length names) tops
   pub apart : AreDevicesApart (leaves_of h.table tops)
 

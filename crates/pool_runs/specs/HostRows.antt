@@ -190,19 +190,19 @@ ChangesNone (Bears birth) = ⊥
 ChangesNone (Closes g) = ⊥
 ChangesNone act = Unit {0}
 
--- the line may rewrite copies: a read, and an import before its pool is open
+-- the line may rewrite copies: an import, before its pool is open
 abbrev pub MayRewrite : Asked → List Act → Type 0
-MayRewrite (Asks_read name a) acts = Unit {0}
 MayRewrite (Asks_import name) acts = AllByRecursion ChangesNone acts
 MayRewrite asked acts = ⊥
 
--- a line that may want memory: one that makes a turn takes none
+-- a line that may want memory: a read takes none, nor does one that makes a turn
 abbrev pub TakesMemory : Asked → Type 0
+TakesMemory (Asks_read name a) = ⊥
 TakesMemory (Asks_turn name) = ⊥
 TakesMemory asked = Unit {0}
 
 -- A line for which there was no memory, where it takes any: it did what some row of this line begins with. Each call so far answered Ok; none of them wrote or
--- flushed, and no pool changed, but where a read rewrote copies and counted, or an import rewrote pages. (A sync that ended a group before is a row of its own.)
+-- flushed, and no open pool changed, but where an import rewrote pages of its own. (A sync that ended a group before is a row of its own.)
 pub record RunsOut (c : Codec) (h : Host) (e : Entry) : Type 0 where
   pub takes : TakesMemory e.asked
   pub rest : List Act
