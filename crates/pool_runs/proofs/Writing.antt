@@ -1,4 +1,7 @@
 -- Which lines leave what was written last.
+use Rattle.pool_runs.specs.Acts.{Opening, Act, Bare, Does, Looked, Reads_as, Takes, Bears, Closes, does, bare, calls_along, pool_by, pool_along, read_by, events_for}
+use Rattle.pool_runs.specs.Writing.{HasOpening, IsTakenWrite, IsImport, KeepsWrites}
+use Rattle.pool_runs.proofs.Knowing.{acts_number}
 use Rattle.std.proofs.Common.{◌≡◌, ◌⊎◌, inl, inr, ⊎_elim, ℕ, ◌==◌, Bool, true, false, cond, List, [], ◌∷◌, ◌++◌, Option, Some, None, refl, sym, ap, ◌∙◌, subst, nat_le, length, ◌+◌, nat_lt}
 use Rattle.std.specs.List.{AllByRecursion}
 use Rattle.std.specs.Str.{bytes_eq}
@@ -16,7 +19,6 @@ use Rattle.pool_moves.specs.OpeningRow.{SeekReply, NoRecord, NumbersEnd, TakesRe
 use Rattle.pool_moves.specs.ReadRow.{made_in}
 use Rattle.pool_moves.specs.StampRow.{Stamp, CreateReply, Created, FaultOn, new_state}
 use Rattle.pool_moves.specs.States.{PoolState, PoolSeen}
-use Rattle.pool_runs.specs.Acts.{Act, Bare, Does, Looked, Reads_as, Takes, Bears, Closes, does, bare, calls_along, pool_by, pool_along, read_by, events_for}
 use Rattle.pool_runs.specs.Creating.{tops_of, stamp_acts, new_birth, commit_acts, RowCreate}
 use Rattle.pool_runs.specs.Devices.{size_in, number_in}
 use Rattle.pool_runs.specs.HostRows.{WriteLine, OnPool, RowOf, ChangesNone, MayRewrite, HostRow, graft_acts, GraftUnless, GraftOnto, GraftIf, GraftLine, DetachLine}
@@ -24,7 +26,6 @@ use Rattle.pool_runs.specs.Fairness.{IsFairOpening, IsFair, AreFair}
 use Rattle.pool_runs.specs.Hosts.{Host, named, holder}
 use Rattle.pool_runs.specs.Importing.{read_in, all_shown, OpensBy, FollowsMap, ImportBy, host_behind, ImportFor, ImportUnless}
 use Rattle.pool_runs.specs.Lines.{Asked, Asks_write, Asks_import, Asks_create, Reply, To_write, No_memory, Entry, Asks_graft, Asks_detach}
-use Rattle.pool_runs.specs.Writing.{IsTakenWrite, IsImport, KeepsWrites}
 use Rattle.pool_runs.proofs.Acting.{number_of_test, own_events}
 use Rattle.pool_runs.proofs.Committing.{KeepsWritten, written_kind, move_written}
 use Rattle.pool_runs.proofs.GroupMoves.{all_found, more, all_calls, all_commits}
@@ -367,24 +368,40 @@ named_import : (found : Option PoolState) (c : Codec) (h : Host) (name : List �
 named_import (Some s) c h name acts reply row = subst (AllNamed name) (sym row.0) tt
 named_import None c h name acts reply row = named_for (nat_le 16 (length h.pools)) c h name acts reply row
 
-act_named : (c : Codec) (name : List ℕ) (act : Act) (p : Pool) → NamedAt name act → (IsFair c p act → p.name ≡ name) ⊎ ((pool_by act p).written ≡ p.written)
+act_named : (c : Codec) (name : List ℕ) (act : Act) (p : Pool) → NamedAt name act
+    → ((opening : Opening) × (act ≡ Reads_as opening) × (opening.found.pool.0 ≡ p.pool.0) × (IsFair c p act → p.name ≡ name)) ⊎ ((pool_by act p).written ≡ p.written)
 act_named c name (Reads_as opening) p is = by (p.pool.0 == opening.found.pool.0) refl
   where
     by : (t : Bool) → (p.pool.0 == opening.found.pool.0) ≡ t
-        → ((p.pool.0 ≡ opening.found.pool.0 → IsFairOpening c p opening) → p.name ≡ name) ⊎ ((pool_after (cond t (Opens (read_by opening p) ∷ []) []) p).written ≡ p.written)
-    by true same = inl (λ fair. (fair (number_of_test p.pool.0 opening.found.pool.0 same)).named ∙ is)
+        → ((o : Opening) × (Reads_as opening ≡ Reads_as o) × (o.found.pool.0 ≡ p.pool.0) × ((p.pool.0 ≡ opening.found.pool.0 → IsFairOpening c p opening) → p.name ≡ name)) ⊎ ((pool_after (cond t (Opens (read_by opening p) ∷ []) []) p).written ≡ p.written)
+    by true same = inl (opening, refl, sym (number_of_test p.pool.0 opening.found.pool.0 same), λ fair. (fair (number_of_test p.pool.0 opening.found.pool.0 same)).named ∙ is)
     by false off = inr refl
 act_named c name (Does g v) p is = inr (act_still (Does g v) p is)
 act_named c name act p is = inr (act_still act p tt)
 
-acts_named : (c : Codec) (name : List ℕ) (acts : List Act) (p : Pool) → AllNamed name acts → (AreFair c p acts → p.name ≡ name) ⊎ ((pool_along acts p).written ≡ p.written)
+-- acts that read a record of the pool's number
+record ReadsOurs (c : Codec) (name : List ℕ) (acts : List Act) (p : Pool) : Type 0 where
+  opening : Opening
+  reads : HasOpening opening acts
+  number : opening.found.pool.0 ≡ p.pool.0
+  ours : AreFair c p acts → p.name ≡ name
+
+acts_named : (c : Codec) (name : List ℕ) (acts : List Act) (p : Pool) → AllNamed name acts → ReadsOurs c name acts p ⊎ ((pool_along acts p).written ≡ p.written)
 acts_named c name [] p all = inr refl
-acts_named c name (act ∷ acts) p all = ⊎_elim (λ ours. inl (λ fair. ours fair.0))
-    (λ one. ⊎_elim (λ ours. inl (λ fair. sym (name_kept (events_for act p) p) ∙ ours fair.1)) (λ rest. inr (rest ∙ one)) (acts_named c name acts (pool_by act p) all.1))
+acts_named c name (act ∷ acts) p all = ⊎_elim
+    (λ here. inl (record { opening = here.0; reads = inl here.1; number = here.2; ours = λ fair. here.3 fair.0 }))
+    (λ one. ⊎_elim (λ later. inl (record {
+      opening = later.opening;
+      reads = inr later.reads;
+      number = later.number ∙ ap (λ n. n.0) (acts_number (act ∷ []) p);
+      ours = λ fair. sym (name_kept (events_for act p) p) ∙ later.ours fair.1;
+    })) (λ rest. inr (rest ∙ one)) (acts_named c name acts (pool_by act p) all.1))
     (act_named c name act p all.0)
 
 import_leaves : (c : Codec) (h : Host) (p : Pool) (e : Entry) (name : List ℕ) → e.asked ≡ Asks_import name → AllNamed name e.acts → Leaves c h p e
-import_leaves c h p e name is all = ⊎_elim (λ ours. inl (inr (record { name = name; asked = is; ours = ours }))) (λ same. inr (λ x. ap (λ f. f x) same)) (acts_named c name e.acts p all)
+import_leaves c h p e name is all = ⊎_elim
+    (λ ours. inl (inr (record { name = name; asked = is; opening = ours.opening; reads = ours.reads; number = ours.number; ours = ours.ours })))
+    (λ same. inr (λ x. ap (λ f. f x) same)) (acts_named c name e.acts p all)
 
 row_leaves : (c : Codec) (h : Host) (p : Pool) (e : Entry) (asked : Asked) → e.asked ≡ asked → RowOf c h asked e.acts e.reply → Leaves c h p e
 row_leaves c h p e (Asks_write name a block) is row = write_leaves c h p e name a block (named name h.pools) refl is row

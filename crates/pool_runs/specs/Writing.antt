@@ -1,5 +1,6 @@
 -- What a line leaves of what was written last to each block, and what a read answers of it.
-use Rattle.std.specs.Prelude.{◌≡◌, ◌⊎◌, ℕ, ◌==◌, cond, List}
+use Rattle.std.specs.Prelude.{[], ◌∷◌, ◌≡◌, ◌⊎◌, ℕ, ◌==◌, cond, List}
+use Rattle.pool_runs.specs.Acts.{Act, Opening, Reads_as}
 use Rattle.bank_core.specs.Disk.{Noted, run}
 use Rattle.txg_history.specs.Pages.{Codec, IsClash}
 use Rattle.txg_history.specs.Pools.{Pool}
@@ -22,10 +23,18 @@ pub record IsTakenWrite (h : Host) (p : Pool) (e : Entry) (a : ℕ) (block : Lis
   pub at : IsOpenAs p h name s
   pub reply : e.reply ≡ To_write Taken
 
--- The line is an import, and one of this pool by its name, as far as it is fair.
+-- these acts read this record
+abbrev pub HasOpening : Opening → List Act → Type 0
+HasOpening opening [] = ⊥
+HasOpening opening (act ∷ acts) = (act ≡ Reads_as opening) ⊎ HasOpening opening acts
+
+-- The line is an import that read a record of this pool's number, and one of this pool by its name, as far as it is fair.
 pub record IsImport (c : Codec) (p : Pool) (e : Entry) : Type 0 where
   pub name : List ℕ
   pub asked : e.asked ≡ Asks_import name
+  pub opening : Opening
+  pub reads : HasOpening opening e.acts
+  pub number : opening.found.pool.0 ≡ p.pool.0
   pub ours : AreFair c p e.acts → p.name ≡ name
 
 -- A write that is taken puts its block where it says, and leaves each other block as it was written; and so does each other line leave all of them,
