@@ -31,27 +31,41 @@ use Rattle.pool_moves.specs.FreezeRow.{is_dev}
 use Rattle.pool_moves.specs.Keeping.{IsElsewhere, AreSeatsApart, IsAway, IsSeated}
 use Rattle.pool_moves.specs.Leaves.{LeafSeen, Seat, At, Adrift, told, leaf_seen}
 use Rattle.pool_moves.specs.ReadRow.{copy_at, copy_of}
-use Rattle.pool_moves.specs.ScanRows.{is_settled_under, targets, AreLooked, has_copied, WereRead}
+use Rattle.pool_moves.specs.ScanRows.{is_read_call, first_reads, is_settled_under, targets, AreLooked, has_copied, WereRead}
 use Rattle.pool_moves.proofs.ReadWalks.{IsCopy, hurt_one, read_one, write_call}
 
 -- What a read gave was read.
-pub outcome_read : (at : ℕ) (sum : List ℕ) (copies : List CopyOf) (made : List Noted) (wrong : List CopyOf) (bytes : List ℕ)
-    → IsReads at sum copies made wrong (Some bytes) → WereRead bytes made
-outcome_read at sum [] made wrong bytes reads = absurd (let none : Some bytes ≡ None = reads.2 in cc)
-outcome_read at sum (copy ∷ more) [] wrong bytes reads = absurd reads
-outcome_read at sum (copy ∷ more) (noted ∷ made) wrong bytes (inl (fails, rest)) = inr (outcome_read at sum more made wrong bytes rest)
-outcome_read at sum (copy ∷ more) (noted ∷ made) wrong bytes (inr (inl (others, differs, wrong_is, rest))) =
-    inr (outcome_read at sum more made others bytes rest)
-outcome_read at sum (copy ∷ more) (noted ∷ made) wrong bytes (inr (inr (found, serves, made_is, wrong_is, outcome_is))) =
-    inl (copy.dev, at, serves.gives.is ∙ ap (λ b. Read copy.dev at b None) (sym (some_same bytes found outcome_is)))
+is_read_gives : {dev at : ℕ} {bytes : List ℕ} {fault : Option Fault} (call : Call) → call ≡ Read dev at bytes fault → is_read_call call ≡ true
+is_read_gives call is = ap is_read_call is
+
+read_behind : (bytes : List ℕ) (noted : Noted) (made : List Noted) → is_read_call noted.call ≡ true → WereRead bytes made
+    → WereRead bytes (cond (is_read_call noted.call) (noted ∷ made) [])
+read_behind bytes noted made is read = subst (WereRead bytes) (sym (ap (λ t. cond t (noted ∷ made) []) is)) (inr read)
+
+pub first_longer : (bytes : List ℕ) (first second : List Noted) → WereRead bytes (first_reads first) → WereRead bytes (first_reads (first ++ second))
+first_longer bytes [] second read = absurd read
+first_longer bytes (noted ∷ first) second read = by (λ more. first_longer bytes first second more) (is_read_call noted.call) read
+  where
+    by : (WereRead bytes (first_reads first) → WereRead bytes (first_reads (first ++ second))) → (t : Bool)
+        → WereRead bytes (cond t (noted ∷ first_reads first) []) → WereRead bytes (cond t (noted ∷ first_reads (first ++ second)) [])
+    by longer true (inl is) = inl is
+    by longer true (inr more) = inr (longer more)
+    by longer false none = absurd none
+
+pub outcome_first : (at : ℕ) (sum : List ℕ) (copies : List CopyOf) (made more : List Noted) (wrong : List CopyOf) (bytes : List ℕ)
+    → IsReads at sum copies made wrong (Some bytes) → WereRead bytes (first_reads (made ++ more))
+outcome_first at sum [] made more wrong bytes reads = absurd (let none : Some bytes ≡ None = reads.2 in cc)
+outcome_first at sum (copy ∷ copies) [] more wrong bytes reads = absurd reads
+outcome_first at sum (copy ∷ copies) (noted ∷ made) more wrong bytes (inl (fails, rest)) =
+    read_behind bytes noted (first_reads (made ++ more)) (is_read_gives noted.call fails.gives.is) (outcome_first at sum copies made more wrong bytes rest)
+outcome_first at sum (copy ∷ copies) (noted ∷ made) more wrong bytes (inr (inl (others, differs, wrong_is, rest))) =
+    read_behind bytes noted (first_reads (made ++ more)) (is_read_gives noted.call differs.gives.is) (outcome_first at sum copies made more others bytes rest)
+outcome_first at sum (copy ∷ copies) (noted ∷ made) more wrong bytes (inr (inr (found, serves, made_is, wrong_is, outcome_is))) =
+    subst (WereRead bytes) (sym (ap (λ t. cond t (noted ∷ first_reads (made ++ more)) []) (is_read_gives noted.call serves.gives.is)))
+    (inl (copy.dev, at, serves.gives.is ∙ ap (λ b. Read copy.dev at b None) (sym (some_same bytes found outcome_is))))
   where
     some_same : (a b : List ℕ) → Some a ≡ Some b → a ≡ b
     some_same a b e = cc
-
-pub read_more : (bytes : List ℕ) (first second : List Noted) → WereRead bytes first → WereRead bytes (first ++ second)
-read_more bytes [] second read = absurd read
-read_more bytes (noted ∷ first) second (inl is) = inl is
-read_more bytes (noted ∷ first) second (inr more) = inr (read_more bytes first second more)
 
 -- A target: a copy whose leaf owes the key, for which the key's birth is settled.
 pub record IsTarget (member : ℕ → Bool) (in_top : ℕ → ℕ) (owes settled : Logs) (cell : Cell) (copy : CopyOf) : Type 0 where

@@ -23,7 +23,7 @@ use Rattle.pool_moves.specs.Leaves.{LeafSeen, Seat, At, Adrift, dev_if, told, le
 use Rattle.pool_moves.specs.LineRows.{has_number, write_failed, sets_failed}
 use Rattle.pool_moves.specs.Moves.{Move, Makes, Sets, Drop, Clear, Rest, Scrubs, step, steps, state_step, after_move, after_moves}
 use Rattle.pool_moves.specs.ReadRow.{made_in}
-use Rattle.pool_moves.specs.ScanRows.{FlushEnds, AreFlushed, is_eligible, RowScanEnd, StepReply, StepBy, RowStep, FoundClash, starts_scan, ScrubReply, ScrubBy, RowScrub, StopReply, StopBy, RowStopScrub}
+use Rattle.pool_moves.specs.ScanRows.{first_reads, FlushEnds, AreFlushed, is_eligible, RowScanEnd, StepReply, StepBy, RowStep, FoundClash, starts_scan, ScrubReply, ScrubBy, RowScrub, StopReply, StopBy, RowStopScrub}
 use Rattle.pool_moves.specs.States.{PoolSeen, PoolState, Side}
 use Rattle.pool_moves.specs.Widening.{IsWidened, seen_along}
 use Rattle.pool_moves.proofs.AwayWalks.{only_found}
@@ -237,14 +237,14 @@ end_walks c s t vs kept is row =
 -- `step`
 step_by : (c : Codec) (running : Bool) (s : PoolState) (t : Side) (vs : List Move) (reply : StepReply) → Kept c s t → s.core.scan.running ≡ running
     → AllAnswer t.pool.sectors (made_in vs)
-    → StepBy running s vs reply → Walks c t vs ⊎ FoundClash t.pool (made_in vs)
+    → StepBy running s vs reply → Walks c t vs ⊎ FoundClash t.pool (first_reads (made_in vs))
 step_by c false s t vs reply kept is answers row = inl (subst (Walks c t) (sym row.0) tt)
 step_by c true s t vs reply kept is answers (inl row) = key_walks c s t s.own.scrubs vs kept is answers row.0
 step_by c true s t vs reply kept is answers (inr row) = inl (end_walks c s t vs kept is row.0)
 
 pub step_walks : (c : Codec) (s : PoolState) (t : Side) (vs : List Move) (reply : StepReply) → Kept c s t → AllAnswer t.pool.sectors (made_in vs)
     → RowStep s vs reply
-    → Walks c t vs ⊎ FoundClash t.pool (made_in vs)
+    → Walks c t vs ⊎ FoundClash t.pool (first_reads (made_in vs))
 step_walks c s t vs reply kept answers row = step_by c s.core.scan.running s t vs reply kept refl answers row
 
 -- A scan starts for the readable leaves, over the record that the pool reads.

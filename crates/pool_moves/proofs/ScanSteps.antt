@@ -29,13 +29,13 @@ use Rattle.pool_moves.specs.Keeping.{IsAway, Kept, Walks}
 use Rattle.pool_moves.specs.Leaves.{LeafSeen, Seat, At, Adrift, told, leaf_seen}
 use Rattle.pool_moves.specs.Moves.{Move, Makes, Sets, Pass, after_move, after_moves}
 use Rattle.pool_moves.specs.ReadRow.{copies_of, stands_under, count_reads, made_in}
-use Rattle.pool_moves.specs.ScanRows.{IsNextKey, targets, AreCopied, untried, LooksBy, AreStepCalls, reads_key, StepCalls, has_copied, is_spared, is_scrubbed, RowKey, WereRead, FoundClash}
+use Rattle.pool_moves.specs.ScanRows.{first_reads, IsNextKey, targets, AreCopied, untried, LooksBy, AreStepCalls, reads_key, StepCalls, has_copied, is_spared, is_scrubbed, RowKey, WereRead, FoundClash}
 use Rattle.pool_moves.specs.States.{PoolSeen, PoolState, Side, seen_by}
 use Rattle.pool_moves.specs.Walking.{as_moves}
 use Rattle.pool_moves.proofs.FreeWalks.{walks_more}
 use Rattle.pool_moves.proofs.LineWalks.{sets_walk}
 use Rattle.pool_moves.proofs.ReadWalks.{IsCopy, AreRead, copies_read, heals_may, copies_on, tried_all, all_filter, calls_walk, read_sets, outcome_sum, made_calls, answers_front, sum_of_cell}
-use Rattle.pool_moves.proofs.ScanCalls.{outcome_read, read_more, copies_may, looks_may, AreOthers, looks_untouched, copied_at, targets_are, targets_apart}
+use Rattle.pool_moves.proofs.ScanCalls.{outcome_first, first_longer, copies_may, looks_may, AreOthers, looks_untouched, copied_at, targets_are, targets_apart}
 
 -- The state while a scan runs.
 running_of : (r : Bool) (s : PoolSeen) (t : Side) → s ≡ seen_by t.pool.group.frozen r t.seats t.pool → s.scan.running ≡ true → r ≡ true
@@ -338,7 +338,7 @@ no_looks false at sum copies looks is = is
 step_calls : (c : Codec) (s : PoolState) (t : Side) (k : Key) (cell : Cell) (scrubs : Bool) (calls copied : List Noted) → Kept c s t
     → t.pool.reads.cells k ≡ Some cell
     → t.pool.scan.passed k ≡ false → AllAnswer t.pool.sectors calls → AreStepCalls scrubs (scan_core t) (sum_of_cell cell) calls copied
-    → IsGood c t cell calls copied ⊎ FoundClash t.pool calls
+    → IsGood c t cell calls copied ⊎ FoundClash t.pool (first_reads calls)
 step_calls c s t k cell scrubs calls copied kept at ahead answers row = by_outcome row.outcome row.is_read row.is_healed row.is_copied row.is_looked
   where
     split : AllAnswer t.pool.sectors (row.reads ++ (row.rewritten ++ (copied ++ row.looks)))
@@ -353,7 +353,7 @@ step_calls c s t k cell scrubs calls copied kept at ahead answers row = by_outco
         → AreCopied (data_start + cell.sector) outcome (targets (sum_of_cell cell) (scan_core t).leaves) copied
         → LooksBy scrubs (data_start + cell.sector) (sha256 cell.block) outcome
         (untried (copies_of (sum_of_cell cell) (scan_core t).leaves) row.reads) row.looks
-        → IsGood c t cell calls copied ⊎ FoundClash t.pool calls
+        → IsGood c t cell calls copied ⊎ FoundClash t.pool (first_reads calls)
     by_outcome None reads healed copies looks = inl (record {
       may = subst (λ made. Mays c t.pool (as_events made)) (sym row.all) (mays_both c row.reads (row.rewritten ++ (copied ++ row.looks)) t.pool
           (none_good c s t k cell row.reads row.wrong kept at (answers_front row.reads (row.rewritten ++ (copied ++ row.looks)) t.pool.sectors split) reads)
@@ -379,9 +379,8 @@ step_calls c s t k cell scrubs calls copied kept at ahead answers row = by_outco
           cell = cell;
           cell_is = at;
           bytes = bytes;
-          read = subst (WereRead bytes) (sym row.all) (read_more bytes row.reads (row.rewritten ++ (copied ++ row.looks))
-              (outcome_read (data_start + cell.sector) (sha256 cell.block)
-              (tries (copies_of (sum_of_cell cell) (scan_core t).leaves)) row.reads row.wrong bytes reads));
+          read = subst (λ made. WereRead bytes (first_reads made)) (sym row.all) (outcome_first (data_start + cell.sector) (sha256 cell.block)
+              (tries (copies_of (sum_of_cell cell) (scan_core t).leaves)) row.reads (row.rewritten ++ (copied ++ row.looks)) row.wrong bytes reads);
           clash = record {
             other = λ equal. absurd (let never : true ≡ false = sym ((bytes_eq-Decides bytes cell.block).1 equal) ∙ other in cc);
             same_sum = outcome_sum (data_start + cell.sector) (sha256 cell.block)
@@ -403,7 +402,7 @@ key_at : (c : Codec) (s : PoolState) (t : Side) (scrubs : Bool) (k : Key) (cell 
     → (reading : Bool) → StepCalls reading scrubs (scan_core t) (sum_of_cell cell) calls copied
     → vs ≡ as_moves calls ++ (count_reads (sha256 cell.block) calls (filter (stands_under cell.top) (scan_core t).leaves)
     ++ (Pass k cell.birth (is_scrubbed scrubs (sum_of_cell cell) calls copied (scan_core t).leaves) ∷ []))
-    → Walks c t vs ⊎ FoundClash t.pool (made_in vs)
+    → Walks c t vs ⊎ FoundClash t.pool (first_reads (made_in vs))
 key_at c s t scrubs k cell calls copied vs kept running at answers next false row moves = inl (subst (Walks c t) (sym moves)
     (key_walk c s t calls k cell (filter (stands_under cell.top) (scan_core t).leaves)
     (is_scrubbed scrubs (sum_of_cell cell) calls copied (scan_core t).leaves) running at next
@@ -418,8 +417,7 @@ key_at c s t scrubs k cell calls copied vs kept running at answers next true row
       cell = clash.cell;
       cell_is = clash.cell_is;
       bytes = clash.bytes;
-      read = subst (WereRead clash.bytes) (sym made_is)
-          (read_more clash.bytes calls rest clash.read);
+      read = subst (λ made. WereRead clash.bytes (first_reads made)) (sym made_is) (first_longer clash.bytes calls rest clash.read);
       clash = clash.clash;
     }))
     (step_calls c s t k cell scrubs calls copied kept at next.ahead (answers_front calls rest t.pool.sectors
@@ -435,7 +433,7 @@ key_at c s t scrubs k cell calls copied vs kept running at answers next true row
 
 key_row : (c : Codec) (s : PoolState) (t : Side) (scrubs : Bool) (vs : List Move) → Kept c s t → t.pool.scan.running ≡ true
     → AllAnswer t.pool.sectors (made_in vs)
-    → RowKey scrubs (scan_core t) vs → Walks c t vs ⊎ FoundClash t.pool (made_in vs)
+    → RowKey scrubs (scan_core t) vs → Walks c t vs ⊎ FoundClash t.pool (first_reads (made_in vs))
 key_row c s t scrubs vs kept running answers row = let is = sum_cell (t.pool.reads.cells row.k) row.sum row.next.sum_is in
     subst Goal is.2 (λ next made moves. key_at c s t scrubs row.k is.0 row.calls row.copied vs kept running is.1 answers next
     (reads_key scrubs (scan_core t) (sum_of_cell is.0)) made moves) row.next row.made row.moves
@@ -444,10 +442,10 @@ key_row c s t scrubs vs kept running answers row = let is = sum_cell (t.pool.rea
     Goal sum = IsNextKey (scan_core t) row.k sum → StepCalls (reads_key scrubs (scan_core t) sum) scrubs (scan_core t) sum row.calls row.copied
         → vs ≡ as_moves row.calls ++ (count_reads sum.sum row.calls (filter (stands_under sum.top) (scan_core t).leaves)
         ++ (Pass row.k sum.birth (is_scrubbed scrubs sum row.calls row.copied (scan_core t).leaves) ∷ []))
-        → Walks c t vs ⊎ FoundClash t.pool (made_in vs)
+        → Walks c t vs ⊎ FoundClash t.pool (first_reads (made_in vs))
 
 pub key_walks : (c : Codec) (s : PoolState) (t : Side) (scrubs : Bool) (vs : List Move) → Kept c s t → s.core.scan.running ≡ true
     → AllAnswer t.pool.sectors (made_in vs)
-    → RowKey scrubs s.core vs → Walks c t vs ⊎ FoundClash t.pool (made_in vs)
+    → RowKey scrubs s.core vs → Walks c t vs ⊎ FoundClash t.pool (first_reads (made_in vs))
 key_walks c s t scrubs vs kept is answers row = let running = is_running c s t kept is in
     key_row c s t scrubs vs kept running answers (subst (λ core. RowKey scrubs core vs) (seen_running c s t kept running) row)

@@ -162,6 +162,16 @@ abbrev pub WereRead : List ℕ → List Noted → Type 0
 WereRead bytes [] = ⊥
 WereRead bytes (noted ∷ made) = IsRead bytes noted.call ⊎ WereRead bytes made
 
+-- the call is a read of a device
+abbrev pub is_read_call : Call → Bool
+is_read_call (Read dev at bytes fault) = true
+is_read_call call = false
+
+-- the calls up to the first that isn't a read
+abbrev pub first_reads : List Noted → List Noted
+first_reads [] = []
+first_reads (noted ∷ made) = cond (is_read_call noted.call) (noted ∷ first_reads made) []
+
 pub record FoundClash (p : Pool) (made : List Noted) : Type 0 where
   pub k : Key
   pub cell : Cell

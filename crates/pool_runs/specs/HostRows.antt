@@ -2,7 +2,7 @@
 use Rattle.std.specs.Prelude.{◌≡◌, ◌⊎◌, ℕ, ◌≤◌, Bool, true, false, cond, List, [], ◌∷◌, ◌++◌, Option, Some, None}
 use Rattle.std.specs.List.{AllByRecursion}
 use Rattle.bank_core.specs.Calls.{device_of, fault_of}
-use Rattle.bank_core.specs.Disk.{Call, Read, Noted, AllAnswer}
+use Rattle.bank_core.specs.Disk.{Noted, AllAnswer}
 use Rattle.label_store.specs.Newest.{AreReads}
 use Rattle.txg_history.specs.Pages.{Codec}
 use Rattle.pool_moves.specs.AwayRows.{WriteReply, RowWrite, OfflineReply, is_listed, leaf_named, RowOffline}
@@ -12,7 +12,7 @@ use Rattle.pool_moves.specs.LineRows.{TurnReply, FreezeReply, SyncReply, RowTurn
 use Rattle.pool_moves.specs.Moves.{Move, Makes, Finds}
 use Rattle.pool_moves.specs.OnlineRow.{HostDevice, NoneFound, HeldBy, Handed, OnlineReply, RowOnline}
 use Rattle.pool_moves.specs.ReadRow.{ReadReply, RowRead, made_in}
-use Rattle.pool_moves.specs.ScanRows.{StepReply, RowStep, ScrubReply, RowScrub, StopReply, RowStopScrub}
+use Rattle.pool_moves.specs.ScanRows.{is_read_call, first_reads, StepReply, RowStep, ScrubReply, RowScrub, StopReply, RowStopScrub}
 use Rattle.pool_moves.specs.States.{PoolState}
 use Rattle.pool_runs.specs.Acts.{Act, Mark, Gives_for, Steps_by, Seeks_by, Hears, Does, Marks, Enters, Takes, Bears, Closes, does, calls_along}
 use Rattle.pool_runs.specs.Creating.{RowCreate}
@@ -36,12 +36,8 @@ pub record ByMoves (h : Host) (s : PoolState) (Row : List Move → Type 0) (acts
   pub own : AreOwnActs s.core.pool.0 h acts
 
 -- the move is a read of a device
-abbrev pub is_read : Call → Bool
-is_read (Read dev at bytes fault) = true
-is_read call = false
-
 abbrev pub is_reading : Move → Bool
-is_reading (Makes noted) = is_read noted.call
+is_reading (Makes noted) = is_read_call noted.call
 is_reading v = false
 
 -- the acts of these moves, with a mark behind their first reads
@@ -75,12 +71,12 @@ abbrev pub device_for : (name : List ℕ) → Option ℕ → Host → (g : ℕ) 
 device_for name None h g = NoneFound
 device_for name (Some d) h g = held_by (holder name d h.pools) g d
 
--- It looks for the identity of a leaf that comes back, and a device on which it finds it is the pool's.
+-- It looks for the identity of a leaf that comes back, marks what it read, and a device on which it finds it is the pool's.
 pub record ByOnline (h : Host) (s : PoolState) (device : List ℕ) (reply : OnlineReply) (acts : List Act) : Type 0 where
   pub moves : List Move
   pub row : RowOnline (size_in h.table) s device (is_listed device s) (device_for device (number_in device h.table) h s.core.pool.0) moves reply
-  pub are : acts ≡ Marks s.core.pool.0 (Seeks_by (made_in moves) (found_in moves))
-      ∷ (does s.core.pool.0 moves ++ all_shown s.core.pool.0 (read_in (made_in moves)) (found_in moves))
+  pub are : acts ≡ marked (Marks s.core.pool.0 (Seeks_by (made_in moves) (found_in moves))) s.core.pool.0 moves
+      ++ all_shown s.core.pool.0 (read_in (made_in moves)) (found_in moves)
   pub own : AreOwnActs s.core.pool.0 h acts
 
 -- It puts a leaf in on this device, which is taken as its stamp begins.
@@ -145,7 +141,7 @@ abbrev pub DetachLine : Codec → Host → (leaf : List ℕ) → PoolState → L
 DetachLine c h leaf s acts reply = (r : DetachReply) × (reply ≡ To_detach r) × ByDetach c h s leaf r acts
 
 abbrev pub StepLine : Host → PoolState → List Act → Reply → Type 0
-StepLine h s acts reply = (r : StepReply) × (reply ≡ To_step r) × ByMarked h s (λ vs. Steps_by (made_in vs)) (λ vs. RowStep s vs r) acts
+StepLine h s acts reply = (r : StepReply) × (reply ≡ To_step r) × ByMarked h s (λ vs. Steps_by (first_reads (made_in vs))) (λ vs. RowStep s vs r) acts
 
 abbrev pub ScrubLine : Host → PoolState → List Act → Reply → Type 0
 ScrubLine h s acts reply = (r : ScrubReply) × (reply ≡ To_scrub r) × ByMoves h s (λ vs. RowScrub s vs r) acts
