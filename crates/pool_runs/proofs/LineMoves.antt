@@ -26,7 +26,7 @@ use Rattle.pool_moves.specs.ScanRows.{FlushEnds, AreFlushed, is_eligible, StepRe
 use Rattle.pool_moves.specs.States.{PoolSeen, PoolState}
 use Rattle.pool_moves.specs.Walking.{as_moves}
 use Rattle.pool_moves.specs.Widening.{seen_along}
-use Rattle.pool_runs.specs.Acts.{Act, Mark, Gives_for, Steps_by, Does, Marks, Shows, does}
+use Rattle.pool_runs.specs.Acts.{Act, Mark, Gives_for, Steps_by, Seeks_by, Does, Marks, Shows, does}
 use Rattle.pool_runs.specs.Devices.{number_in, size_in}
 use Rattle.pool_runs.specs.HostRows.{ByMoves, is_reading, marked_behind, marked, ByMarked, found_in, device_for, ByOnline, OnlineLine, StepLine, ScrubLine, StopLine, ReadLine, FreezeLine, TurnLine, SyncLine, OfflineLine, LogsLine, OnPool, RowOf}
 use Rattle.pool_runs.specs.Hosts.{Host, named}
@@ -252,12 +252,10 @@ module _ (P : Move → Type 0) (k : IsLineKind P) where
 
     by_online : (h : Host) (s : PoolState) (device : List ℕ) (reply : OnlineReply) (acts : List Act) → ByOnline h s device reply acts → AllActs acts
     by_online h s device reply acts line = let g = s.core.pool.0 in let vs = line.moves in
-        subst AllActs (sym line.are) (
-          a.marks g _,
-          both_acts (does g vs) (all_shown g (read_in (made_in vs)) (found_in vs))
-              (line_does g vs (line_online (leaf_named device s.core.leaves) (is_listed device s) (device_for device (number_in device h.table) h g) (size_in h.table) s vs reply line.row))
-              (line_shown g (read_in (made_in vs)) (found_in vs)),
-        )
+        subst AllActs (sym line.are) (both_acts (marked (Marks g (Seeks_by (made_in vs) (found_in vs))) g vs) (all_shown g (read_in (made_in vs)) (found_in vs))
+              (line_marked g (Seeks_by (made_in vs) (found_in vs)) vs
+              (line_online (leaf_named device s.core.leaves) (is_listed device s) (device_for device (number_in device h.table) h g) (size_in h.table) s vs reply line.row))
+              (line_shown g (read_in (made_in vs)) (found_in vs)))
 
     -- A line but a write, an import, a create, and one that changes a tree.
     abbrev pub IsPlainLine : Asked → Type 0

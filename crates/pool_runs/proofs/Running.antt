@@ -15,6 +15,8 @@ use Rattle.pool_moves.specs.Keeping.{Kept, Walks}
 use Rattle.pool_moves.specs.LineRows.{IsSized, RowTurn, RowFreezeLine, RowSync}
 use Rattle.pool_moves.specs.Moves.{Move, Makes, Finds, state_step, after_move}
 use Rattle.pool_moves.specs.OnlineRow.{OnlineReply, FindMembers}
+use Rattle.pool_moves.specs.OpeningRow.{AreWholeReads, read_of}
+use Rattle.txg_history.specs.Premises.{AreNotTorn}
 use Rattle.pool_moves.specs.ReadRow.{RowRead, made_in}
 use Rattle.pool_moves.specs.ScanRows.{FoundClash, RowStep, RowScrub, RowStopScrub}
 use Rattle.pool_moves.specs.States.{PoolState, Side}
@@ -28,7 +30,7 @@ use Rattle.pool_moves.proofs.LineWalks.{turn_walks, freeze_line_walks, sync_walk
 use Rattle.pool_moves.proofs.OnlineWalks.{online_walks}
 use Rattle.pool_moves.proofs.ReadWalks.{read_walks}
 use Rattle.pool_moves.proofs.ScanEnds.{step_walks, scrub_walks, stop_walks}
-use Rattle.pool_runs.specs.Acts.{Act, Mark, Gives_for, Steps_by, Does, Marks, Shows, Hears, does, calls_along, events_for, pool_by, pool_along, Takes}
+use Rattle.pool_runs.specs.Acts.{Act, Mark, Gives_for, Steps_by, Seeks_by, Does, Marks, Shows, Hears, does, calls_along, events_for, pool_by, pool_along, Takes}
 use Rattle.pool_runs.specs.Devices.{number_in, size_in}
 use Rattle.pool_runs.specs.Fairness.{IsMember, IsFairMark}
 use Rattle.pool_runs.specs.HostRows.{AreMade, ByMoves, is_read, is_reading, marked_behind, marked, ByMarked, found_in, device_for, ByOnline, OnlineLine, StepLine, ScrubLine, StopLine, WriteLine, ReadLine, FreezeLine, TurnLine, SyncLine, OfflineLine, LogsLine, OnPool, RowOf, HostRow, acts_of, acts_in, IsRun, graft_acts, ByGraft, GraftUnless, GraftOnto, GraftIf, ByDetach, GraftLine, DetachLine}
@@ -90,7 +92,7 @@ MarkedMay c h s t g mark vs acts = Knows c h t.pool → IsOpen s h.pools → t.p
     → AreOwnActs g h acts → MayActs c h t.pool acts
 
 marked_may : (reading : Bool) (c : Codec) (h : Host) (s : PoolState) (t : Side) (g : ℕ) (mark : Mark) (v : Move) (vs : List Move) → is_reading v ≡ reading
-    → ((noted : Noted) (p : Pool) → IsFairMark (after (Calls noted) p) mark → IsFairMark p mark)
+    → ((noted : Noted) (p : Pool) → is_read noted.call ≡ true → IsFairMark (after (Calls noted) p) mark → IsFairMark p mark)
     → MarkedMay c (host_by (Does g v) h) (state_step v s) (after_move v t) g mark vs (marked (Marks g mark) g vs)
     → MarkedMay c h s t g mark (v ∷ vs) (marked_behind reading (Marks g mark) g v vs (marked (Marks g mark) g vs))
 marked_may true c h s t g mark (Makes noted) vs reads was rest knows is number kept walks own = λ fair.
@@ -103,14 +105,15 @@ marked_may true c h s t g mark (Makes noted) vs reads was rest knows is number k
       subst (Knows c (host_by (Does g (Makes noted)) h)) (sym pool_is) behind,
       subst (λ q. MayActs c (host_by (Does g (Makes noted)) h) q (marked (Marks g mark) g vs)) (sym pool_is)
           (rest behind (subst (λ x. IsOpen x (map (moved g (Makes noted)) h.pools)) (moved_own g (Makes noted) s mine) (open_moved g (Makes noted) s h.pools is)) number
-          (move_keeps c (Makes noted) s t may tt kept) (λ ok. (walks (was noted t.pool ok)).1) own.1),
+          (move_keeps c (Makes noted) s t may tt kept) (λ ok. (walks (was noted t.pool reads ok)).1) own.1),
     )
 marked_may true c h s t g mark v vs reads was rest knows is number kept walks own = absurd (cc)
 marked_may false c h s t g mark v vs reads was rest knows is number kept walks own = λ fair.
     (tt, knows, walk_may c h s t g (v ∷ vs) knows is number kept (walks (fair number)) own.1)
 
 all_marked_may : (c : Codec) (h : Host) (s : PoolState) (t : Side) (g : ℕ) (mark : Mark) (vs : List Move)
-    → ((noted : Noted) (p : Pool) → IsFairMark (after (Calls noted) p) mark → IsFairMark p mark) → MarkedMay c h s t g mark vs (marked (Marks g mark) g vs)
+    → ((noted : Noted) (p : Pool) → is_read noted.call ≡ true → IsFairMark (after (Calls noted) p) mark → IsFairMark p mark)
+    → MarkedMay c h s t g mark vs (marked (Marks g mark) g vs)
 all_marked_may c h s t g mark [] was = λ knows is number kept walks own fair. (tt, knows, tt)
 all_marked_may c h s t g mark (v ∷ vs) was = marked_may (is_reading v) c h s t g mark v vs refl was
     (all_marked_may c (host_by (Does g v) h) (state_step v s) (after_move v t) g mark vs was)
@@ -119,7 +122,7 @@ clash_behind : (noted : Noted) (p : Pool) (made : List Noted) → FoundClash p m
 clash_behind noted p made clash = record { k = clash.k; cell = clash.cell; cell_is = clash.cell_is; bytes = clash.bytes; read = clash.read; clash = clash.clash }
 
 marked_line_may : (c : Codec) (h : Host) (p : Pool) (s : PoolState) (mark : List Move → Mark) (Row : List Move → Type 0) (acts : List Act) → Knows c h p → IsOpen s h.pools
-    → AreMade h (calls_along acts) → ((vs : List Move) (noted : Noted) (p : Pool) → IsFairMark (after (Calls noted) p) (mark vs) → IsFairMark p (mark vs))
+    → AreMade h (calls_along acts) → ((vs : List Move) (noted : Noted) (p : Pool) → is_read noted.call ≡ true → IsFairMark (after (Calls noted) p) (mark vs) → IsFairMark p (mark vs))
     → ((t : Side) (vs : List Move) → Kept c s t → AllAnswer t.pool.sectors (made_in vs) → Row vs → IsFairMark t.pool (mark vs) → Walks c t vs)
     → ByMarked h s mark Row acts → MayActs c h p acts
 marked_line_may c h p s mark Row acts knows is made was walks line = by_bool (s.core.pool.0 == p.pool.0)
@@ -133,6 +136,25 @@ marked_line_may c h p s mark Row acts knows is made was walks line = by_bool (s.
     (λ fair. walks t line.moves has.1 (all_answer h.table (made_in line.moves) h.disk p.sectors calls.here (λ d x one. sym (knows.disk d x one)) calls.answer) line.row fair)
     (subst (AreOwnActs g h) line.are line.own)))
     (λ off. other_may c h p s.core.pool.0 acts knows (not_same s.core.pool.0 p.pool.0 off) line.own)
+
+-- What was fair of a search behind a read was so before it.
+untorn : (call : Call) (damage : ℕ → ℕ → Bool) (p : Pool) (known : Known) → is_read call ≡ true
+    → AreNotTorn (after (Calls (record { call = call; damage = damage })) p) known → AreNotTorn p known
+untorn (Read dev at bytes fault) damage p known is torn = torn
+untorn call damage p known is torn = absurd (cc)
+
+whole_behind : (noted : Noted) (p : Pool) (made : List Noted) → is_read noted.call ≡ true → AreWholeReads (after (Calls noted) p) made → AreWholeReads p made
+whole_behind noted p [] reads all = tt
+whole_behind noted p (one ∷ made) reads all = (untorn noted.call noted.damage p (read_of one.call) reads all.0, whole_behind noted p made reads all.1)
+
+members_behind : (noted : Noted) (p : Pool) (found : List (Option ℕ)) → AllByRecursion (IsMember (after (Calls noted) p)) found → AllByRecursion (IsMember p) found
+members_behind noted p [] all = tt
+members_behind noted p (None ∷ found) all = (tt, members_behind noted p found all.1)
+members_behind noted p (Some d ∷ found) all = (all.0, members_behind noted p found all.1)
+
+seeks_behind : (noted : Noted) (p : Pool) (made : List Noted) (found : List (Option ℕ)) → is_read noted.call ≡ true → IsFairMark (after (Calls noted) p) (Seeks_by made found)
+    → IsFairMark p (Seeks_by made found)
+seeks_behind noted p made found reads ok = (whole_behind noted p made reads ok.0, members_behind noted p found ok.1)
 
 -- A leaf that comes back.
 shown_may : (c : Codec) (h : Host) (p : Pool) (g : ℕ) (known : Known) (devs : List (Option ℕ)) → Knows c h p → p.pool.0 ≡ g → MayActs c h p (all_shown g known devs)
@@ -159,16 +181,14 @@ online_may c h p s device reply acts knows is line = by_bool (s.core.pool.0 == p
     let g = s.core.pool.0 in
     let known = read_in (made_in line.moves) in
     let own = subst (AreOwnActs g h) line.are line.own in
-    subst (MayActs c h p) (sym line.are) (λ fair. let ok = fair (sym number) in (
-      tt,
-      knows,
-      may_more c h p (does g line.moves) (all_shown g known (found_in line.moves))
-          (walk_may c h s t g line.moves knows is (sym number) has.1
-          (online_walks c (size_in h.table) s t device (is_listed device s) (device_for device (number_in device h.table) h g) line.moves reply has.1 knows.sizes line.row ok.0
-          (found_members p line.moves ok.1)) (own_front g h (does g line.moves) (all_shown g known (found_in line.moves)) own.1))
-          (λ fair known_behind. shown_may c (host_along (does g line.moves) h) (pool_along (does g line.moves) p) g known (found_in line.moves) known_behind
-          (ap (λ n. n.0) (acts_number (does g line.moves) p) ∙ sym number)) knows,
-    )))
+    let mark = Seeks_by (made_in line.moves) (found_in line.moves) in
+    let acts = marked (Marks g mark) g line.moves in
+    subst (MayActs c h p) (sym line.are) (may_more c h p acts (all_shown g known (found_in line.moves))
+        (all_marked_may c h s t g mark line.moves (λ noted q reads ok. seeks_behind noted q (made_in line.moves) (found_in line.moves) reads ok) knows is (sym number) has.1
+        (λ ok. online_walks c (size_in h.table) s t device (is_listed device s) (device_for device (number_in device h.table) h g) line.moves reply has.1 knows.sizes
+        line.row ok.0 (found_members p line.moves ok.1)) (own_front g h acts (all_shown g known (found_in line.moves)) own))
+        (λ fair known_behind. shown_may c (host_along acts h) (pool_along acts p) g known (found_in line.moves) known_behind
+        (ap (λ n. n.0) (acts_number acts p) ∙ sym number)) knows))
     (λ off. other_may c h p s.core.pool.0 acts knows (not_same s.core.pool.0 p.pool.0 off) line.own)
 
 -- A leaf that is put in, and one that is taken out.
@@ -241,7 +261,7 @@ row_may c h p Asks_nothing acts reply knows made row = subst (MayActs c h p) (sy
 row_may c h p (Asks_write name a block) acts reply knows made row = on_pool c h p name (named name h.pools) (WriteLine h a block) acts reply refl
     (λ s is line. line_may c h p s (λ vs. RowWrite s a block vs line.0) acts knows is (λ t vs kept at row. write_walks c s t a block vs line.0 row) line.2) row
 row_may c h p (Asks_read name a) acts reply knows made row = on_pool c h p name (named name h.pools) (ReadLine h a) acts reply refl
-    (λ s is line. marked_line_may c h p s (λ vs. Gives_for a line.0) (λ vs. RowRead s a vs line.0) acts knows is made (λ vs noted p fair. fair)
+    (λ s is line. marked_line_may c h p s (λ vs. Gives_for a line.0) (λ vs. RowRead s a vs line.0) acts knows is made (λ vs noted p reads fair. fair)
     (λ t vs kept answers row fair. ⊎_elim (λ w. w) (λ clash. absurd (fair clash)) (read_walks c s t a vs line.0 kept answers row)) line.2) row
 row_may c h p (Asks_freeze name) acts reply knows made row = on_pool c h p name (named name h.pools) (FreezeLine c h) acts reply refl
     (λ s is line. line_may c h p s (λ vs. RowFreezeLine c s vs line.0) acts knows is (λ t vs kept at row. freeze_line_walks c s t vs line.0 kept row) line.2) row
@@ -260,7 +280,7 @@ row_may c h p (Asks_graft graft name leaf new) acts reply knows made row = on_po
 row_may c h p (Asks_detach name leaf) acts reply knows made row = on_pool c h p name (named name h.pools) (DetachLine c h leaf) acts reply refl
     (λ s is line. detach_may c h p s leaf line.0 acts knows is line.2) row
 row_may c h p (Asks_step name) acts reply knows made row = on_pool c h p name (named name h.pools) (StepLine h) acts reply refl
-    (λ s is line. marked_line_may c h p s (λ vs. Steps_by (made_in vs)) (λ vs. RowStep s vs line.0) acts knows is made (λ vs noted p fair clash. fair (clash_behind noted p (made_in vs) clash))
+    (λ s is line. marked_line_may c h p s (λ vs. Steps_by (made_in vs)) (λ vs. RowStep s vs line.0) acts knows is made (λ vs noted p reads fair clash. fair (clash_behind noted p (made_in vs) clash))
     (λ t vs kept answers row fair. ⊎_elim (λ w. w) (λ clash. absurd (fair clash)) (step_walks c s t vs line.0 kept answers row)) line.2) row
 row_may c h p (Asks_scrub name) acts reply knows made row = on_pool c h p name (named name h.pools) (ScrubLine h) acts reply refl
     (λ s is line. line_may c h p s (λ vs. RowScrub s vs line.0) acts knows is (λ t vs kept at row. scrub_walks c s t vs line.0 kept row) line.2) row

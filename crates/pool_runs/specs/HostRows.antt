@@ -75,12 +75,12 @@ abbrev pub device_for : (name : List ℕ) → Option ℕ → Host → (g : ℕ) 
 device_for name None h g = NoneFound
 device_for name (Some d) h g = held_by (holder name d h.pools) g d
 
--- It looks for the identity of a leaf that comes back, and a device on which it finds it is the pool's.
+-- It looks for the identity of a leaf that comes back, marks what it read, and a device on which it finds it is the pool's.
 pub record ByOnline (h : Host) (s : PoolState) (device : List ℕ) (reply : OnlineReply) (acts : List Act) : Type 0 where
   pub moves : List Move
   pub row : RowOnline (size_in h.table) s device (is_listed device s) (device_for device (number_in device h.table) h s.core.pool.0) moves reply
-  pub are : acts ≡ Marks s.core.pool.0 (Seeks_by (made_in moves) (found_in moves))
-      ∷ (does s.core.pool.0 moves ++ all_shown s.core.pool.0 (read_in (made_in moves)) (found_in moves))
+  pub are : acts ≡ marked (Marks s.core.pool.0 (Seeks_by (made_in moves) (found_in moves))) s.core.pool.0 moves
+      ++ all_shown s.core.pool.0 (read_in (made_in moves)) (found_in moves)
   pub own : AreOwnActs s.core.pool.0 h acts
 
 -- It puts a leaf in on this device, which is taken as its stamp begins.
