@@ -1,17 +1,22 @@
 -- What is acknowledged where a group ends so.
 use Rattle.std.proofs.Common.{◌≡◌, inl, inr, ℕ, ◌≤◌, Bool, true, false, cond, List, [], ◌∷◌, ◌++◌, Option, Some, None, refl, sym, ap, ◌∙◌, subst, append-nil, append_assoc, arith}
 use Rattle.std.specs.List.{AllByRecursion}
+use Rattle.bank_core.specs.Disk.{Noted}
 use Rattle.txg_history.specs.Pages.{Codec}
 use Rattle.txg_history.specs.Pools.{Pool, pool_after}
 use Rattle.txg_history.specs.Records.{Cells, number_of, block_at, block_in}
+use Rattle.pool_moves.specs.AwayRows.{is_spare, leaf_named}
 use Rattle.pool_moves.specs.Boards.{board_of, board_under, emptied}
 use Rattle.pool_moves.specs.FreezeRow.{up_devs}
 use Rattle.pool_moves.specs.Keeping.{over, Kept, Walks}
+use Rattle.pool_moves.specs.Leaves.{LeafSeen, Seat}
 use Rattle.pool_moves.specs.LineRows.{TurnReply, Idle, Write, Flush, Round, Committed, Suspended, count_moves, EndsBy, EndsTurn, IsTurnOf, IsRoundPart, StartsBy, TurnBy, RowTurn, AreTurns, moves_in, EndsGroup, CommitsOpen, Ended, CommitsFor, SyncBehind, SyncBy, RowSync}
-use Rattle.pool_moves.specs.Moves.{Draft, Move, Makes, Puts, Freeze, Draw, Burn, Commits, Sets, events_of, step, state_step, steps, after_move, after_moves}
+use Rattle.pool_moves.specs.Moves.{Draft, Move, Makes, Lose, Puts, Freeze, Draw, Burn, Commits, Sets, events_of, step, state_step, steps, after_move, after_moves}
 use Rattle.pool_moves.specs.Refusing.{FreezeRefusal}
 use Rattle.pool_moves.specs.States.{PoolState, Side}
+use Rattle.pool_moves.specs.TreeRows.{goes_out, is_there, IsCleaned, Detached, DetachBehind, CommitsWithout, DetachFor, DetachLeaf, DetachBy, RowDetach}
 use Rattle.pool_moves.specs.TurnRows.{round_moves, RowRound}
+use Rattle.pool_moves.specs.Walking.{as_moves}
 use Rattle.pool_moves.specs.Widening.{IsWidened}
 use Rattle.pool_moves.proofs.FreeWalks.{moves_more}
 use Rattle.pool_moves.proofs.Keeping.{walk_keeps}
@@ -19,7 +24,7 @@ use Rattle.pool_moves.proofs.LineWalks.{IsSet, counts_set}
 use Rattle.pool_runs.specs.Acts.{does, pool_along}
 use Rattle.pool_runs.specs.Committing.{CommitsAll, CommitsGroup}
 use Rattle.pool_runs.proofs.Acting.{own_events, move_number}
-use Rattle.pool_runs.proofs.GroupMoves.{IsKind, more, all_group, all_sync, all_widens, all_turn}
+use Rattle.pool_runs.proofs.GroupMoves.{IsKind, more, all_group, all_sync, all_widens, all_turn, all_commits}
 
 -- Moves that end in an acknowledgement of record n.
 pub record EndsIn (vs : List Move) (n : ℕ) : Type 0 where
@@ -319,3 +324,78 @@ turn_all c size s t vs n kept walks row =
 pub does_pool : (g : ℕ) (vs : List Move) (t : Side) → t.pool.pool.0 ≡ g → pool_along (does g vs) t.pool ≡ (after_moves vs t).pool
 does_pool g [] t number = refl
 does_pool g (v ∷ vs) t number = ap (pool_along (does g vs)) (ap (λ vs. pool_after vs t.pool) (own_events g v t.pool number)) ∙ does_pool g vs (after_move v t) (ap (λ n. n.0) (move_number v t.pool) ∙ number)
+
+-- A detach: the pool commits without the leaf, and then the leaf's device is cleaned, which acknowledges nothing.
+record CommitsFirst (s : PoolState) (vs : List Move) (n : ℕ) : Type 0 where
+  front : List Move
+  rest : List Move
+  moves : vs ≡ front ++ rest
+  ends : EndsIn front n
+  none : (steps front s).own.writes ≡ (λ x. None)
+  keeps : AllByRecursion KeepsWritten front
+  acked : (t : Side) → (after_moves rest t).pool.acked ≡ t.pool.acked
+
+cleaned_acked : (there : Bool) (dev : Option ℕ) (spare : Bool) (size : ℕ → ℕ) (vs : List Move) (t : Side) → IsCleaned there dev spare size vs → (after_moves vs t).pool.acked ≡ t.pool.acked
+cleaned_acked true (Some d) spare size vs t row = ap (λ l. (after_moves l t).pool.acked) row.3 ∙ made_acked row.0 (after_move (Lose d) t)
+  where
+    made_acked : (made : List Noted) (t : Side) → (after_moves (as_moves made) t).pool.acked ≡ t.pool.acked
+    made_acked [] t = refl
+    made_acked (noted ∷ made) t = made_acked made (after_move (Makes noted) t)
+cleaned_acked true None spare size vs t row = ap (λ l. (after_moves l t).pool.acked) row
+cleaned_acked false dev spare size vs t row = ap (λ l. (after_moves l t).pool.acked) row
+
+without_commits : (c : Codec) (size : ℕ → ℕ) (s : PoolState) (name : List ℕ) (leaf : LeafSeen) (seat : Seat) (vs : List Move) (n : ℕ)
+    → CommitsWithout c size s name leaf seat vs (Detached n) → CommitsFirst s vs n
+without_commits c size s name leaf seat vs n row = by row.turn row.commit row.behind
+  where
+    same : (a b : ℕ) → Detached a ≡ Detached b → a ≡ b
+    same a b e = cc
+
+    by : (turn : TurnReply) → CommitsOpen c size (steps (goes_out s name leaf) s) row.part turn → DetachBehind turn size s name leaf seat row.rest (Detached n) → CommitsFirst s vs n
+    by (Committed k) commit behind =
+        let out = goes_out s name leaf in
+        let gone = steps out s in
+        let w : CommitsOpen c size gone row.part (Committed n) = subst (λ k. CommitsOpen c size gone row.part (Committed k)) (sym (same n k behind.1)) commit in
+        let rest = group_commits c size (steps w.first gone) w.rest n w.ends in record {
+          front = out ++ row.part;
+          rest = row.rest;
+          moves = row.moves ∙ sym (append_assoc out row.part row.rest);
+          ends = ends_behind out row.part n (subst (λ l. EndsIn l n) (sym w.moves) (ends_behind w.first w.rest n rest.ends));
+          none = ap (λ x. x.own.writes) (steps_more out row.part s) ∙ (ap (λ l. (steps l gone).own.writes) w.moves
+              ∙ frozen_writes w.first w.rest gone w.freeze.cells (up_devs gone.core.leaves) w.freeze.moves
+              (all_group KeepsWrites writes_kind c size (steps w.first gone) w.rest (Committed n) (λ bad. absurd bad) w.ends));
+          keeps = (tt, (tt, all_commits KeepsWritten written_kind (λ cells board. tt) c size gone row.part (Committed n) (λ bad. tt) w));
+          acked = λ t. cleaned_acked (is_there leaf.own.mode) leaf.dev (is_spare s leaf) size row.rest t behind.0;
+        }
+    by (Suspended g top faults) commit behind = absurd (let no = behind.1 in cc)
+    by Idle commit behind = absurd behind
+    by Write commit behind = absurd behind
+    by Flush commit behind = absurd behind
+    by (Round k) commit behind = absurd behind
+
+detach_commits : (found : Option LeafSeen) (c : Codec) (size : ℕ → ℕ) (s : PoolState) (name : List ℕ) (seat : Seat) (vs : List Move) (n : ℕ) → DetachBy found c size s name seat vs (Detached n)
+    → CommitsFirst s vs n
+detach_commits None c size s name seat vs n row = absurd (let no = row.1 in cc)
+detach_commits (Some leaf) c size s name seat vs n row = by s.core.group.frozen row
+  where
+    for : (refusal : Option FreezeRefusal) → DetachFor refusal c size s name leaf seat vs (Detached n) → CommitsFirst s vs n
+    for (Some refusal) row = absurd (let no = row.1 in cc)
+    for None row = without_commits c size s name leaf seat vs n row
+
+    by : (frozen : Bool) → DetachLeaf frozen c size s name leaf seat vs (Detached n) → CommitsFirst s vs n
+    by true row = absurd (let no = row.1 in cc)
+    by false (inl row) = absurd (let no = row.3 in cc)
+    by false (inr row) = for row.1.0 row.1.2
+
+pub detach_all : (c : Codec) (size : ℕ → ℕ) (s : PoolState) (t : Side) (name : List ℕ) (seat : Seat) (vs : List Move) (n : ℕ) → Kept c s t → Walks c t vs
+    → RowDetach c size s name seat vs (Detached n) → CommitsAll t.pool (after_moves vs t).pool n
+detach_all c size s t name seat vs n kept walks row =
+    let w = detach_commits (leaf_named name s.core.leaves) c size s name seat vs n row in
+    let before = walk_keeps c w.front s t (walk_first c w.front w.rest t (subst (Walks c t) w.moves walks)) kept in
+    let acked = ends_acked w.front n t w.ends in
+    let same : (after_moves vs t).pool.acked ≡ (after_moves w.front t).pool.acked =
+    ap (λ l. (after_moves l t).pool.acked) w.moves ∙ (ap (λ x. x.pool.acked) (moves_more w.front w.rest t) ∙ w.acked (after_moves w.front t)) in record {
+      acked = ap number_of same ∙ acked.number;
+      blocks = λ a. ap (λ r. block_at r a) same
+          ∙ (kept_blocks c (steps w.front s) (after_moves w.front t) n before acked w.none a ∙ ap (λ f. f a) (written_along w.front t w.keeps));
+    }

@@ -1,7 +1,7 @@
 -- The headline, from what a host knows of a pool and from the rows of a run.
-use Rattle.bank_core.specs.Disk.{Noted, run}
-use Rattle.txg_history.specs.Records.{number_of, Rec, IsIn, key}
-use Rattle.std.proofs.Common.{◌≡◌, ◌⊎◌, inl, inr, ℕ, ◌<◌, Bool, true, false, List, [], ◌∷◌, ◌++◌, take, Some, refl, sym, ap, ◌∙◌, subst, arith, Option, None, append_assoc}
+use Rattle.bank_core.specs.Disk.{run}
+use Rattle.txg_history.specs.Records.{Rec, IsIn, key}
+use Rattle.std.proofs.Common.{◌≡◌, ◌⊎◌, inl, inr, ℕ, ◌<◌, Bool, true, false, List, [], ◌∷◌, ◌++◌, take, map, Some, refl, sym, ap, ◌∙◌, subst, arith, Option, None}
 use Rattle.mp_base.specs.Outside.{Rose}
 use Rattle.mp_base.specs.declared.number.Guid.{Guid}
 use Rattle.bank_core.specs.Calls.{AllCaused}
@@ -16,17 +16,16 @@ use Rattle.txg_history.proofs.Surviving.{survives_sound}
 use Rattle.pool_moves.specs.AwayRows.{OfflineReply, Gone, Required, LeastOut, is_offline, is_spare, leaf_named, siblings, OfflineLeaf, OfflineHere, OfflineBy}
 use Rattle.pool_moves.specs.Keeping.{Kept}
 use Rattle.pool_moves.specs.Leaves.{LeafSeen, Seat}
-use Rattle.pool_moves.specs.LineRows.{TurnReply, SyncReply, Ended, Committed, Suspended, RowTurn, RowSync, Idle, Write, Flush, Round, CommitsOpen}
+use Rattle.pool_moves.specs.LineRows.{TurnReply, SyncReply, Ended, Committed, Suspended, RowTurn, RowSync, Idle, Write, Flush, Round}
 use Rattle.pool_moves.specs.Missing.{AllMissed}
-use Rattle.pool_moves.specs.Moves.{Move, Makes, Lose, steps, after_move, after_moves}
+use Rattle.pool_moves.specs.Moves.{Move, steps, after_moves}
 use Rattle.pool_moves.specs.ReadRow.{ReadReply, Gives, Exhausted, RowRead, made_in}
 use Rattle.pool_moves.specs.Showing.{LeafShown}
 use Rattle.pool_moves.specs.StampRow.{leaf_at, is_leaf_at, FaultOn}
 use Rattle.pool_moves.specs.States.{PoolState, Side}
 use Rattle.pool_moves.specs.Refusing.{FreezeRefusal}
-use Rattle.pool_moves.specs.TreeRows.{Graft, TreeRefusal, graft_refusal, GraftReply, DeviceFault, goes_out, is_there, IsCleaned, DetachReply, Detached, Undone, Required as DetachRequired, DetachBehind, CommitsWithout, DetachFor, DetachLeaf, DetachBy}
-use Rattle.pool_moves.specs.Walking.{as_moves}
-use Rattle.pool_moves.proofs.FreeWalks.{moves_more}
+use Rattle.pool_moves.specs.TreeRows.{Graft, TreeRefusal, graft_refusal, GraftReply, DeviceFault, DetachReply, Detached, Undone, Required as DetachRequired, DetachBehind, DetachFor, DetachLeaf, DetachBy, RowDetach}
+use Rattle.pool_moves.proofs.DetachWalks.{detach_walks}
 use Rattle.pool_moves.proofs.Keeping.{walk_keeps}
 use Rattle.pool_moves.proofs.LineWalks.{turn_walks, sync_walks}
 use Rattle.pool_moves.proofs.Missing.{exhausted_missed}
@@ -38,7 +37,7 @@ use Rattle.pool_runs.specs.Creating.{leaves_of}
 use Rattle.pool_runs.specs.Devices.{number_in, size_in}
 use Rattle.pool_runs.specs.Fairness.{AreFair}
 use Rattle.pool_runs.specs.Headline.{TakesFor, IsRequiredFor, Headline}
-use Rattle.pool_runs.specs.HostRows.{AreMade, ReadLine, TurnLine, SyncLine, OfflineLine, OnPool, RowOf, HostRow, acts_in, IsRun, graft_acts, GraftUnless, GraftOnto, GraftIf, GraftLine, DetachLine}
+use Rattle.pool_runs.specs.HostRows.{AreMade, ReadLine, TurnLine, SyncLine, OfflineLine, OnPool, RowOf, HostRow, acts_in, IsRun, GraftUnless, GraftOnto, GraftIf, GraftLine, DetachLine}
 use Rattle.pool_runs.specs.Hosts.{Host, named, host_by, host_along, holder}
 use Rattle.pool_runs.proofs.Known.{Knows, MayActs}
 use Rattle.pool_runs.specs.Knowing.{HasSeats}
@@ -47,14 +46,15 @@ use Rattle.pool_runs.specs.Moments.{Moment, events_at, pool_at, past_at, host_at
 use Rattle.pool_runs.specs.Pasts.{Past, pool_of, Left, BeginsRun, HasFrozen}
 use Rattle.pool_runs.proofs.Acting.{history_pool}
 use Rattle.pool_runs.proofs.Answering.{all_answer, does_calls, marked_calls}
-use Rattle.pool_runs.proofs.Committing.{sync_all, does_pool, turn_all, EndsIn, ends_behind, group_commits, ends_acked}
+use Rattle.pool_runs.proofs.Committing.{sync_all, does_pool, turn_all, detach_all}
 use Rattle.pool_runs.proofs.Suspending.{turn_counts, sync_counts, import_counts, create_counts, detach_counts, graft_counts}
 use Rattle.pool_runs.proofs.Finding.{import_finds}
 use Rattle.pool_runs.proofs.Knowing.{may_more, acts_keep}
 use Rattle.pool_runs.proofs.Losing.{turn_loses}
-use Rattle.pool_runs.proofs.Members.{entry_keeps}
+use Rattle.pool_runs.proofs.Grafting.{graft_calls, entry_keeps}
 use Rattle.pool_runs.proofs.Moments.{has_moments, acts_mays, keeps_all, may_take, acts_table, host_more, run_at, run_front}
 use Rattle.pool_runs.proofs.Pasting.{begins_known, then_pool, then_called, then_allowed, live_frozen}
+use Rattle.pool_runs.proofs.Seating.{seat_as, detach_as, some_seat, along_as}
 use Rattle.pool_runs.proofs.Running.{named_open, heard, run_may}
 use Rattle.pool_runs.proofs.Writing.{entry_writes}
 
@@ -238,61 +238,23 @@ line_turns c h p e name s n met asked at is = of met.row
         (turn_all c (size_in h.table) s t vs n has.1 (turn_walks c (size_in h.table) s t vs (Committed n) has.1 met.knows.sizes done) done)
     of (inr out) = turn_not_memory (Committed n) (sym is ∙ out.says)
 
--- A detach that answers a number acknowledged it: behind the commit the leaf's device is cleaned.
-cleaned_acked : (there : Bool) (dev : Option ℕ) (spare : Bool) (size : ℕ → ℕ) (vs : List Move) (t : Side) → IsCleaned there dev spare size vs → (after_moves vs t).pool.acked ≡ t.pool.acked
-cleaned_acked true (Some d) spare size vs t row = ap (λ l. (after_moves l t).pool.acked) row.3 ∙ made_acked row.0 (after_move (Lose d) t)
-  where
-    made_acked : (made : List Noted) (t : Side) → (after_moves (as_moves made) t).pool.acked ≡ t.pool.acked
-    made_acked [] t = refl
-    made_acked (noted ∷ made) t = made_acked made (after_move (Makes noted) t)
-cleaned_acked true None spare size vs t row = ap (λ l. (after_moves l t).pool.acked) row
-cleaned_acked false dev spare size vs t row = ap (λ l. (after_moves l t).pool.acked) row
-
-without_acks : (c : Codec) (size : ℕ → ℕ) (s : PoolState) (name : List ℕ) (leaf : LeafSeen) (seat : Seat) (vs : List Move) (r : DetachReply) (n : ℕ) (t : Side)
-    → CommitsWithout c size s name leaf seat vs r → r ≡ Detached n → number_of (after_moves vs t).pool.acked ≡ n
-without_acks c size s name leaf seat vs r n t row is = by row.turn row.commit row.behind
-  where
-    same : (a b : ℕ) → Detached a ≡ Detached b → a ≡ b
-    same a b e = cc
-
-    by : (turn : TurnReply) → CommitsOpen c size (steps (goes_out s name leaf) s) row.part turn → DetachBehind turn size s name leaf seat row.rest r → number_of (after_moves vs t).pool.acked ≡ n
-    by (Committed k) commit behind =
-        let ends : EndsIn (goes_out s name leaf ++ row.part) n = ends_behind (goes_out s name leaf) row.part n (subst (λ l. EndsIn l n) (sym commit.moves)
-        (ends_behind commit.first commit.rest n (subst (EndsIn commit.rest) (same k n (sym behind.1 ∙ is)) (group_commits c size (steps commit.first (steps (goes_out s name leaf) s)) commit.rest k commit.ends).ends))) in
-        ap (λ l. number_of (after_moves l t).pool.acked) (row.moves ∙ sym (append_assoc (goes_out s name leaf) row.part row.rest))
-        ∙ (ap (λ x. number_of x.pool.acked) (moves_more (goes_out s name leaf ++ row.part) row.rest t)
-        ∙ (ap number_of (cleaned_acked (is_there leaf.own.mode) leaf.dev (is_spare s leaf) size row.rest (after_moves (goes_out s name leaf ++ row.part) t) behind.0)
-        ∙ (ends_acked (goes_out s name leaf ++ row.part) n t ends).number))
-    by (Suspended g top faults) commit behind = absurd (let no = sym behind.1 ∙ is in cc)
-    by Idle commit behind = absurd behind
-    by Write commit behind = absurd behind
-    by Flush commit behind = absurd behind
-    by (Round k) commit behind = absurd behind
-
-detach_acks : (found : Option LeafSeen) (c : Codec) (size : ℕ → ℕ) (s : PoolState) (name : List ℕ) (seat : Seat) (vs : List Move) (r : DetachReply) (n : ℕ) (t : Side) → DetachBy found c size s name seat vs r
-    → r ≡ Detached n → number_of (after_moves vs t).pool.acked ≡ n
-detach_acks None c size s name seat vs r n t row is = absurd (let no = sym row.1 ∙ is in cc)
-detach_acks (Some leaf) c size s name seat vs r n t row is = by s.core.group.frozen row
-  where
-    for : (refusal : Option FreezeRefusal) → DetachFor refusal c size s name leaf seat vs r → number_of (after_moves vs t).pool.acked ≡ n
-    for (Some refusal) row = absurd (let no = sym row.1 ∙ is in cc)
-    for None row = without_acks c size s name leaf seat vs r n t row is
-
-    by : (frozen : Bool) → DetachLeaf frozen c size s name leaf seat vs r → number_of (after_moves vs t).pool.acked ≡ n
-    by true row = absurd (let no = sym row.1 ∙ is in cc)
-    by false (inl row) = absurd (let no = sym row.3 ∙ is in cc)
-    by false (inr row) = for row.1.0 row.1.2
-
+-- A detach acknowledges what was written.
 line_detaches : (c : Codec) (h : Host) (p : Pool) (e : Entry) (name leaf : List ℕ) (s : PoolState) (n : ℕ) → Meets c h p e → e.asked ≡ Asks_detach name leaf → IsOpenAs p h name s
-    → e.reply ≡ To_detach (Detached n) → number_of (pool_along e.acts p).acked ≡ n
+    → e.reply ≡ To_detach (Detached n) → CommitsAll p (pool_along e.acts p) n
 line_detaches c h p e name leaf s n met asked at is = of met.row
   where
-    of : HostRow c h e → number_of (pool_along e.acts p).acked ≡ n
+    of : HostRow c h e → CommitsAll p (pool_along e.acts p) n
     of (inl row) = let line = on_open h name s (DetachLine c h leaf) e.acts e.reply at.named (subst (λ x. RowOf c h x e.acts e.reply) asked row.0) in
         let has = met.knows.stands s (named_open name s h.pools at.named) at.ours in
         let t : Side = record { pool = p; seats = has.0 } in
-        ap (λ q. number_of q.acked) (ap (λ a. pool_along a p) line.2.are ∙ does_pool s.core.pool.0 line.2.moves t (sym at.ours))
-        ∙ detach_acks (leaf_named leaf s.core.leaves) c (size_in h.table) s leaf line.2.seat line.2.moves line.0 n t line.2.row (detach_reply line.0 (Detached n) (sym line.1 ∙ is))
+        let g = s.core.pool.0 in
+        let seat = some_seat c s t leaf line.2.seat has.1 in
+        let vs = map (seat_as seat.0) line.2.moves in
+        let done : RowDetach c (size_in h.table) s leaf seat.0 vs (Detached n) = detach_as c (size_in h.table) s leaf line.2.seat seat.0 line.2.moves (Detached n)
+        (subst (RowDetach c (size_in h.table) s leaf line.2.seat line.2.moves) (detach_reply line.0 (Detached n) (sym line.1 ∙ is)) line.2.row) in
+        subst (λ q. CommitsAll p q n)
+        (sym (ap (λ a. pool_along a p) line.2.are ∙ (sym (along_as g seat.0 line.2.moves p) ∙ does_pool g vs t (sym at.ours))))
+        (detach_all c (size_in h.table) s t leaf seat.0 vs n has.1 (detach_walks c (size_in h.table) s t leaf seat.0 vs (Detached n) has.1 met.knows.sizes seat.1 done) done)
     of (inr out) = detach_not_memory (Detached n) (sym is ∙ out.says)
 
 -- The outage rule.
@@ -422,10 +384,6 @@ line_counts c h p e from to met caused = record {
 
         same_graft : (a b : GraftReply) → To_graft a ≡ To_graft b → a ≡ b
         same_graft a b e = cc
-
-        graft_calls : (g d : ℕ) (vs : List Move) → calls_along (graft_acts g d vs) ≡ made_in vs
-        graft_calls g d [] = refl
-        graft_calls g d (v ∷ vs) = does_calls g (v ∷ vs)
 
         unless : (s : PoolState) (d : ℕ) → number_in new h.table ≡ Some d → (found : Option PoolState) → GraftUnless found h s graft leaf new d e.acts e.reply → A
         unless s d here (Some u) row = absurd (let no = sym row.1 ∙ says in cc)

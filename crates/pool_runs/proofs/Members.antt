@@ -1,5 +1,5 @@
 -- Which lines leave a pool's members.
-use Rattle.std.proofs.Common.{◌≡◌, ◌⊎◌, inl, inr, ⊎_elim, ℕ, suc, ◌+◌, ◌==◌, nat_le, Bool, true, false, cond, List, [], ◌∷◌, ◌++◌, length, Option, Some, None, refl, sym, ap, ◌∙◌, subst, nat_lt, arith}
+use Rattle.std.proofs.Common.{◌≡◌, ◌⊎◌, inl, inr, ⊎_elim, ℕ, suc, ◌+◌, ◌==◌, nat_le, Bool, true, false, cond, List, [], ◌∷◌, ◌++◌, length, Option, Some, None, refl, sym, ap, ◌∙◌, subst}
 use Rattle.std.specs.List.{AllByRecursion}
 use Rattle.std.specs.Str.{bytes_eq}
 use Rattle.mp_base.specs.declared.number.Guid.{Guid}
@@ -10,39 +10,31 @@ use Rattle.label_store.specs.Layout.{ring_offset}
 use Rattle.label_store.specs.Plans.{zero_ring, stamp_plan}
 use Rattle.txg_history.specs.Events.{Known, Calls, Looks, Opens, Loses, as_events}
 use Rattle.txg_history.specs.Pages.{Codec}
-use Rattle.txg_history.specs.Pools.{Pool, after, pool_after, other_than}
+use Rattle.txg_history.specs.Pools.{Pool, other_than, after, pool_after}
 use Rattle.txg_history.specs.Survival.{IsAmong}
-use Rattle.txg_history.proofs.Logging.{by_bool, same_device, true_not_false}
-use Rattle.pool_moves.specs.AwayRows.{WriteReply, WriteFits, WriteBy, RowWrite, is_spare, leaf_named}
+use Rattle.txg_history.proofs.Logging.{by_bool, same_device}
+use Rattle.pool_moves.specs.AwayRows.{WriteReply, WriteFits, WriteBy, RowWrite}
 use Rattle.pool_moves.specs.LineRows.{TurnReply, Committed, Suspended, Idle, Write, Flush, Round}
-use Rattle.pool_moves.specs.Moves.{Move, Makes, Lose, Comes, events_of, Widen, step, steps}
+use Rattle.pool_moves.specs.Moves.{Move, Makes, Lose, Comes, events_of}
 use Rattle.pool_moves.specs.OpeningRow.{SeekReply, NoRecord, NumbersEnd, TakesRecord, OpenReply, Opens_state, NoPage, lacking_of}
 use Rattle.pool_moves.specs.ReadRow.{made_in}
 use Rattle.pool_moves.specs.StampRow.{NewLeaf, top_leaves, leaves_from, Stamp, AreStamps, new_state, CreateReply, Created, FaultOn}
-use Rattle.pool_moves.specs.States.{PoolState, PoolSeen}
+use Rattle.pool_moves.specs.States.{PoolState}
 use Rattle.pool_runs.specs.Acts.{Act, Bare, Does, Looked, Reads_as, Takes, Bears, Closes, does, bare, calls_of_act, calls_along, read_by, pool_by, pool_along}
 use Rattle.pool_runs.specs.Creating.{dev_or_none, members_of, tops_of, leaves_of, new_birth, or_else, all_names, unknown_by, unknown, create_refusal, stamp_acts, commit_acts, RowCreate}
 use Rattle.pool_runs.specs.Devices.{Device, number_in, size_in}
-use Rattle.pool_runs.specs.HostRows.{WriteLine, OnPool, RowOf, ChangesNone, MayRewrite, HostRow, graft_acts, ByGraft, GraftUnless, GraftOnto, GraftIf, ByDetach, GraftLine, DetachLine}
-use Rattle.pool_runs.specs.Hosts.{Host, named, holder}
+use Rattle.pool_runs.specs.HostRows.{WriteLine, OnPool, RowOf, ChangesNone, MayRewrite}
+use Rattle.pool_runs.specs.Hosts.{Host, named}
 use Rattle.pool_runs.specs.Importing.{read_in, all_shown, OpensBy, FollowsMap, ImportBy, host_behind, ImportFor, ImportUnless}
-use Rattle.pool_runs.specs.Lines.{Asked, Asks_write, Asks_import, Asks_create, Reply, To_create, Entry, Asks_graft, Asks_detach, To_graft, To_detach}
-use Rattle.pool_runs.specs.Taking.{IsWriteTo, HasWriteTo, IsTakenBy, IsCreatedOn, IsGraftedOn, IsDetachedFrom}
-use Rattle.pool_runs.proofs.LineMoves.{IsLineKind, IsActKind, line_resume, line_does, plain_line}
-use Rattle.pool_runs.proofs.GroupMoves.{IsKind, more, all_found, all_calls, all_commits}
-use Rattle.pool_runs.proofs.Creating.{or_first, or_second, none_refused}
--- Moves that leave the members.
-use Rattle.std.proofs.lemmas.Bool.Decides.{nat_tests}
-use Rattle.pool_moves.specs.FreezeRow.{is_dev}
-use Rattle.pool_moves.specs.Leaves.{LeafSeen, Seat}
-use Rattle.pool_moves.specs.Refusing.{FreezeRefusal}
-use Rattle.pool_moves.specs.ScanRows.{starts_scan}
-use Rattle.pool_moves.specs.TreeRows.{Graft, TreeRefusal, graft_refusal, new_number, comes_in, graft_first, graft_moves, GraftReply, Grafted, DeviceFault, GraftEnds, GraftOn, GraftAt, GraftFor, RowGraft, goes_out, is_there, IsCleaned, DetachReply, Detached, DetachBehind, CommitsWithout, DetachFor, DetachLeaf, DetachBy}
-use Rattle.pool_moves.specs.Walking.{as_moves}
-use Rattle.pool_moves.specs.Widening.{AreWidens}
+use Rattle.pool_runs.specs.Lines.{Asked, Asks_write, Asks_graft, Asks_detach, Asks_import, Asks_create, Reply, To_create, Entry}
+use Rattle.pool_runs.specs.Taking.{IsWriteTo, HasWriteTo, IsCreatedOn}
 use Rattle.pool_runs.proofs.Acting.{calls_number}
+use Rattle.pool_runs.proofs.LineMoves.{IsLineKind, IsActKind, line_resume, line_does, plain_line}
+use Rattle.pool_runs.proofs.GroupMoves.{IsKind, more, all_found}
+use Rattle.pool_runs.proofs.Creating.{or_first, or_second, none_refused}
 
-abbrev KeepsMembers : Move → Type 0
+-- Moves that leave the members.
+abbrev pub KeepsMembers : Move → Type 0
 KeepsMembers (Lose d) = ⊥
 KeepsMembers (Comes i d m top own) = ⊥
 KeepsMembers v = Unit {0}
@@ -58,24 +50,24 @@ calls_members [] p = refl
 calls_members (noted ∷ made) p = calls_members made (after (Calls noted) p)
 
 -- A member that a pool has: the pool's number, the device, and its member number there.
-record Held : Type 0 where
-  pool : ℕ
-  d : ℕ
-  guid : Guid
+pub record Held : Type 0 where
+  pub pool : ℕ
+  pub d : ℕ
+  pub guid : Guid
 
-record IsHeld (x : Held) (p : Pool) : Type 0 where
-  number : p.pool.0 ≡ x.pool
-  member : p.member x.d ≡ true
-  guid_is : p.guid x.d ≡ x.guid
+pub record IsHeld (x : Held) (p : Pool) : Type 0 where
+  pub number : p.pool.0 ≡ x.pool
+  pub member : p.member x.d ≡ true
+  pub guid_is : p.guid x.d ≡ x.guid
 
 -- a move of its own pool that keeps it
-abbrev KeepsIt : Held → Move → Type 0
+abbrev pub KeepsIt : Held → Move → Type 0
 KeepsIt x (Lose e) = (e == x.d) ≡ false
 KeepsIt x (Comes i e m top own) = ((e == x.d) ≡ false) × ((x.guid.0 == m.0) ≡ false)
 KeepsIt x v = Unit {0}
 
 -- acts that take it from no pool
-abbrev KeepsAt : Held → Act → Type 0
+abbrev pub KeepsAt : Held → Act → Type 0
 KeepsAt x (Does g v) = (x.pool == g) ≡ true → KeepsIt x v
 KeepsAt x (Takes g e) = (e == x.d) ≡ false
 KeepsAt x act = Unit {0}
@@ -132,21 +124,21 @@ act_held x (Takes g e) p keeps is = by (p.pool.0 == g)
     by false = record { number = is.number; member = ap (λ t. cond t false (p.member x.d)) keeps ∙ is.member; guid_is = is.guid_is }
 act_held x act p keeps is = is
 
-acts_held : (x : Held) (acts : List Act) (p : Pool) → AllByRecursion (KeepsAt x) acts → IsHeld x p → IsHeld x (pool_along acts p)
+pub acts_held : (x : Held) (acts : List Act) (p : Pool) → AllByRecursion (KeepsAt x) acts → IsHeld x p → IsHeld x (pool_along acts p)
 acts_held x [] p keeps is = is
 acts_held x (act ∷ acts) p keeps is = acts_held x acts (pool_by act p) keeps.1 (act_held x act p keeps.0 is)
 
 -- a move that leaves the members keeps it
-it_keeps : (x : Held) (v : Move) → KeepsMembers v → KeepsIt x v
+pub it_keeps : (x : Held) (v : Move) → KeepsMembers v → KeepsIt x v
 it_keeps x (Lose e) keeps = absurd keeps
 it_keeps x (Comes i e m top own) keeps = absurd keeps
 it_keeps x v keeps = tt
 
 -- Lists of moves.
-abbrev AllKeep : List Move → Type 0
+abbrev pub AllKeep : List Move → Type 0
 AllKeep vs = AllByRecursion KeepsMembers vs
 
-kept_kind : IsKind KeepsMembers
+pub kept_kind : IsKind KeepsMembers
 kept_kind = record {
   calls = λ noted. tt;
   leave = λ d. tt;
@@ -194,7 +186,7 @@ keep_write s a block vs reply (inr row) = keep_write_by _ s a block vs reply row
 keep_does : (d : Held) (g : ℕ) (vs : List Move) → AllKeep vs → AllByRecursion (KeepsAt d) (does g vs)
 keep_does d g vs all = line_does KeepsMembers kept_line (KeepsAt d) (kept_acts d) g vs all
 
-abbrev Keep : Held → List Act → Type 0
+abbrev pub Keep : Held → List Act → Type 0
 Keep d acts = AllByRecursion (KeepsAt d) acts
 
 keep_acts : (d : Held) (first second : List Act) → Keep d first → Keep d second → Keep d (first ++ second)
@@ -211,14 +203,14 @@ keep_bare d [] rest all = all
 keep_bare d (noted ∷ made) rest all = (tt, keep_bare d made rest all)
 
 -- A stamp writes to its device.
-write_asked : (d at : ℕ) (bytes : List ℕ) (call : Call) → ask_of call ≡ Writes d at bytes → IsWriteTo d call
+pub write_asked : (d at : ℕ) (bytes : List ℕ) (call : Call) → ask_of call ≡ Writes d at bytes → IsWriteTo d call
 write_asked d at bytes (WriteCall dev x written fault) is = cc
 write_asked d at bytes (Read dev x read fault) is = absurd (cc)
 write_asked d at bytes (FlushCall dev fault) is = absurd (cc)
 write_asked d at bytes (Admit dev holds) is = absurd (cc)
 write_asked d at bytes (Eject dev) is = absurd (cc)
 
-stamp_wrote : (d size : ℕ) (pool member : Guid) (made : List Noted) (outcome : Option Fault) → IsPart (stamp_plan d size pool member) made outcome
+pub stamp_wrote : (d size : ℕ) (pool member : Guid) (made : List Noted) (outcome : Option Fault) → IsPart (stamp_plan d size pool member) made outcome
     → HasWriteTo d made
 stamp_wrote d size pool member [] outcome part = absurd part
 stamp_wrote d size pool member (noted ∷ made) outcome part = inl (write_asked d (0 + ring_offset) zero_ring noted.call part.0)
@@ -351,7 +343,7 @@ all_have : (h : Host) (name : List ℕ) (blocks : ℕ) (tops : List (List (List 
     → AllByRecursion (HasName h.table (all_names tops)) (leaves_of h.table tops)
 all_have h name blocks tops none = all_named h.table tops 1 1 (none_refused h name blocks tops none).1.1.1.1.1.1.1.0
 
-create_keeps : (c : Codec) (h : Host) (e : Entry) (d : Held) (name : List ℕ) (blocks : ℕ) (tops : List (List (List ℕ))) → e.asked ≡ Asks_create name blocks tops → RowCreate c h name blocks tops e.acts e.reply
+pub create_keeps : (c : Codec) (h : Host) (e : Entry) (d : Held) (name : List ℕ) (blocks : ℕ) (tops : List (List (List ℕ))) → e.asked ≡ Asks_create name blocks tops → RowCreate c h name blocks tops e.acts e.reply
     → Keep d e.acts ⊎ IsCreatedOn h e d.d
 create_keeps c h e d name blocks tops asked (inl row) = inl (subst (Keep d) (sym row.2) tt)
 create_keeps c h e d name blocks tops asked (inr (inl row)) = ⊎_elim (λ keeps. inl (subst (Keep d) (sym row.all) (tt, keeps)))
@@ -414,207 +406,21 @@ keep_unless : (found : Option PoolState) (c : Codec) (h : Host) (name : List ℕ
 keep_unless (Some s) c h name acts reply d row = subst (Keep d) (sym row.0) tt
 keep_unless None c h name acts reply d row = keep_for (nat_le 16 (length h.pools)) c h name acts reply d row
 
--- A leaf that is put in.
-abbrev KeepAll : Held → (g : ℕ) → List Move → Type 0
-KeepAll x g vs = AllByRecursion (λ v. (x.pool == g) ≡ true → KeepsIt x v) vs
-
-all_does : (x : Held) (g : ℕ) (vs : List Move) → KeepAll x g vs → Keep x (does g vs)
-all_does x g [] all = tt
-all_does x g (v ∷ vs) all = (all.0, all_does x g vs all.1)
-
-all_more : (x : Held) (g : ℕ) (vs ws : List Move) → KeepAll x g vs → KeepAll x g ws → KeepAll x g (vs ++ ws)
-all_more x g [] ws a b = b
-all_more x g (v ∷ vs) ws a b = (a.0, all_more x g vs ws a.1 b)
-
-all_plain : (x : Held) (g : ℕ) (vs : List Move) → AllKeep vs → KeepAll x g vs
-all_plain x g [] all = tt
-all_plain x g (v ∷ vs) all = ((λ mine. it_keeps x v all.0), all_plain x g vs all.1)
-
-all_widens : (x : Held) (g : ℕ) (s : PoolSeen) (vs : List Move) → AreWidens s vs → KeepAll x g vs
-all_widens x g s [] are = tt
-all_widens x g s (Widen m low high ∷ vs) are = ((λ mine. tt), all_widens x g (step (Widen m low high) s) vs are.2)
-all_widens x g s (v ∷ vs) are = absurd are
-
--- what a graft makes is of no other device, and, in its pool, of no other number
-record Begins (x : Held) (g e : ℕ) (m : Guid) (vs : List Move) (reply : GraftReply) : Type 0 where
-  begun : (reply ≡ Grafted) ⊎ (reply ≡ DeviceFault)
-  keeps : (e == x.d) ≡ false → ((x.pool == g) ≡ true → (x.guid.0 == m.0) ≡ false) → KeepAll x g vs
-
-ends_begin : (outcome : Option Fault) (x : Held) (g : ℕ) (graft : Graft) (s : PoolState) (name : List ℕ) (leaf : LeafSeen) (new : List ℕ) (e : ℕ) (made : List Noted) (vs : List Move) (reply : GraftReply)
-    → GraftEnds outcome graft s name leaf new e made vs reply → Begins x g e (new_number graft s) vs reply
-ends_begin (Some fault) x g graft s name leaf new e made vs reply row = record {
-  begun = inr row.1;
-  keeps = λ away other. subst (KeepAll x g) (sym row.0) ((λ mine. away), all_plain x g (as_moves made) (all_calls KeepsMembers kept_kind made));
-}
-ends_begin None x g graft s name leaf new e made vs reply row = record {
-  begun = inl row.1;
-  keeps = λ away other. subst (KeepAll x g) (sym row.0.moves) (all_more x g (graft_moves graft s name leaf new e made) row.0.widens (
-    (λ mine. away),
-    all_more x g (as_moves made ++ comes_in graft s name leaf new e) (starts_scan (steps (graft_first graft s name leaf new e made) s) ∷ [])
-        (all_more x g (as_moves made) (comes_in graft s name leaf new e) (all_plain x g (as_moves made) (all_calls KeepsMembers kept_kind made))
-        ((λ mine. tt), ((λ mine. (away, other mine)), ((λ mine. tt), tt)))) ((λ mine. tt), tt),
-  )
-      (all_widens x g (steps (graft_moves graft s name leaf new e made) s).core row.0.widens row.0.are));
-}
-
-graft_begins : (x : Held) (g : ℕ) (size : ℕ → ℕ) (graft : Graft) (s : PoolState) (name new : List ℕ) (e : ℕ) (vs : List Move) (reply : GraftReply) → RowGraft size graft s name new e vs reply
-    → (vs ≡ []) ⊎ Begins x g e (new_number graft s) vs reply
-graft_begins x g size graft s name new e vs reply row = for (graft_refusal graft s name (leaf_named name s.core.leaves)) row
-  where
-    on : (small : Bool) (leaf : LeafSeen) → GraftOn small size graft s name leaf new e vs reply → (vs ≡ []) ⊎ Begins x g e (new_number graft s) vs reply
-    on true leaf row = inl row.0
-    on false leaf row = inr (ends_begin row.outcome x g graft s name leaf new e row.made vs reply row.ends)
-
-    at : (found : Option LeafSeen) → GraftAt found size graft s name new e vs reply → (vs ≡ []) ⊎ Begins x g e (new_number graft s) vs reply
-    at None row = absurd row
-    at (Some leaf) row = on (nat_lt (size e) (s.core.room leaf.top + 256)) leaf row
-
-    for : (refusal : Option TreeRefusal) → GraftFor refusal size graft s name new e vs reply → (vs ≡ []) ⊎ Begins x g e (new_number graft s) vs reply
-    for (Some refusal) row = inl row.0
-    for None row = at (leaf_named name s.core.leaves) row
-
-graft_acts_keep : (x : Held) (g e : ℕ) (vs : List Move) → (e == x.d) ≡ false → KeepAll x g vs → Keep x (graft_acts g e vs)
-graft_acts_keep x g e [] away all = tt
-graft_acts_keep x g e (v ∷ vs) away all = (away, all_does x g (v ∷ vs) all)
-
-same_guid : (a b : Guid) → (a.0 == b.0) ≡ true → a ≡ b
-same_guid a b is = ap (λ n. record { 0 = n }) (same_device a.0 b.0 is)
-
-graft_keeps : (h : Host) (e : Entry) (p : Pool) (d : ℕ) (graft : Graft) (name leaf new : List ℕ) (s : PoolState) → e.asked ≡ Asks_graft graft name leaf new → named name h.pools ≡ Some s
-    → GraftLine h graft leaf new s e.acts e.reply → Keep (record { pool = p.pool.0; d = d; guid = p.guid d }) e.acts ⊎ IsGraftedOn p h e d
-graft_keeps h e p d graft name leaf new s asked stands row = refused (graft_refusal graft s leaf (leaf_named leaf s.core.leaves)) row
-  where
-    x : Held
-    x = record { pool = p.pool.0; d = d; guid = p.guid d }
-
-    g : ℕ
-    g = s.core.pool.0
-
-    by : (k : ℕ) → number_in new h.table ≡ Some k → (r : GraftReply) → e.reply ≡ To_graft r → ByGraft h s graft leaf new k r e.acts → Keep x e.acts ⊎ IsGraftedOn p h e d
-    by k here r reply line = of (graft_begins x g (size_in h.table) graft s leaf new k line.moves r line.row)
-      where
-        taken : (begun : (r ≡ Grafted) ⊎ (r ≡ DeviceFault)) → (number_in new h.table ≡ Some d) ⊎ ((s.core.pool.0 ≡ p.pool.0) × (p.guid d ≡ new_number graft s)) → IsGraftedOn p h e d
-        taken begun why = record { graft = graft; name = name; leaf = leaf; new = new; asked = asked; s = s; is_open = stands; answer = r; reply = reply; begun = begun; why = why }
-
-        stays : Begins x g k (new_number graft s) line.moves r → (k == d) ≡ false → Keep x e.acts ⊎ IsGraftedOn p h e d
-        stays begins away = by_bool (p.pool.0 == g)
-            (λ mine. by_bool ((p.guid d).0 == (new_number graft s).0)
-            (λ same. inr (taken begins.begun (inr (sym (same_device p.pool.0 g mine), same_guid (p.guid d) (new_number graft s) same))))
-            (λ other. inl (subst (Keep x) (sym line.are) (graft_acts_keep x g k line.moves away (begins.keeps away (λ ours. other))))))
-            (λ off. inl (subst (Keep x) (sym line.are) (graft_acts_keep x g k line.moves away (begins.keeps away (λ ours. true_not_false (p.pool.0 == g) ours off)))))
-
-        of : (line.moves ≡ []) ⊎ Begins x g k (new_number graft s) line.moves r → Keep x e.acts ⊎ IsGraftedOn p h e d
-        of (inl none) = inl (subst (Keep x) (sym (line.are ∙ ap (graft_acts g k) none)) tt)
-        of (inr begins) = by_bool (k == d) (λ same. inr (taken begins.begun (inl (here ∙ ap Some (same_device k d same))))) (λ away. stays begins away)
-
-    unless : (k : ℕ) → number_in new h.table ≡ Some k → (found : Option PoolState) → GraftUnless found h s graft leaf new k e.acts e.reply → Keep x e.acts ⊎ IsGraftedOn p h e d
-    unless k here (Some u) row = inl (subst (Keep x) (sym row.0) tt)
-    unless k here None row = by k here row.0 row.1 row.2
-
-    onto : (number : Option ℕ) → number_in new h.table ≡ number → GraftOnto number h s graft leaf new e.acts e.reply → Keep x e.acts ⊎ IsGraftedOn p h e d
-    onto None here row = inl (subst (Keep x) (sym row.0) tt)
-    onto (Some k) here row = unless k here (holder new k h.pools) row
-
-    refused : (refusal : Option TreeRefusal) → GraftIf refusal h s graft leaf new e.acts e.reply → Keep x e.acts ⊎ IsGraftedOn p h e d
-    refused (Some refusal) row = inl (subst (Keep x) (sym row.0) tt)
-    refused None row = onto (number_in new h.table) refl row
-
--- A leaf that is taken out.
-cleaned_keeps : (there : Bool) (dev : Option ℕ) (spare : Bool) (size : ℕ → ℕ) (x : Held) (g : ℕ) (vs : List Move) → is_dev x.d dev ≡ false → IsCleaned there dev spare size vs → KeepAll x g vs
-cleaned_keeps true (Some k) spare size x g vs away row = subst (KeepAll x g) (sym row.3) ((λ mine. let back : (k == x.d) ≡ false = other_way x.d k away in back), all_plain x g (as_moves row.0) (all_calls KeepsMembers kept_kind row.0))
-  where
-    other_way : (a b : ℕ) → (a == b) ≡ false → (b == a) ≡ false
-    other_way a b off = grind (arith, nat_tests)
-cleaned_keeps true None spare size x g vs away row = subst (KeepAll x g) (sym row) tt
-cleaned_keeps false dev spare size x g vs away row = subst (KeepAll x g) (sym row) tt
-
--- it keeps each device, or the leaf's own goes and it was committed
-behind_keeps : (turn : TurnReply) (size : ℕ → ℕ) (s : PoolState) (name : List ℕ) (at : LeafSeen) (seat : Seat) (x : Held) (g : ℕ) (vs : List Move) (reply : DetachReply)
-    → DetachBehind turn size s name at seat vs reply → KeepAll x g vs ⊎ ((is_dev x.d at.dev ≡ true) × (n : ℕ) × (reply ≡ Detached n))
-behind_keeps (Committed number) size s name at seat x g vs reply row = by_bool (is_dev x.d at.dev) (λ here. inr (here, number, row.1))
-    (λ away. inl (cleaned_keeps (is_there at.own.mode) at.dev (is_spare s at) size x g vs away row.0))
-behind_keeps (Suspended group top faults) size s name at seat x g vs reply row = inl (subst (KeepAll x g) (sym row.0) ((λ mine. tt), ((λ mine. tt), tt)))
-behind_keeps Idle size s name at seat x g vs reply row = absurd row
-behind_keeps Write size s name at seat x g vs reply row = absurd row
-behind_keeps Flush size s name at seat x g vs reply row = absurd row
-behind_keeps (Round number) size s name at seat x g vs reply row = absurd row
-
-without_keeps : (c : Codec) (size : ℕ → ℕ) (s : PoolState) (name : List ℕ) (at : LeafSeen) (seat : Seat) (x : Held) (g : ℕ) (vs : List Move) (reply : DetachReply)
-    → CommitsWithout c size s name at seat vs reply → KeepAll x g vs ⊎ ((is_dev x.d at.dev ≡ true) × (n : ℕ) × (reply ≡ Detached n))
-without_keeps c size s name at seat x g vs reply row = ⊎_elim
-    (λ keeps. inl (subst (KeepAll x g) (sym row.moves) (
-      (λ mine. tt),
-      (
-        (λ mine. tt),
-        all_more x g row.part row.rest
-            (all_plain x g row.part (all_commits KeepsMembers kept_kind (λ cells board. tt) c size (steps (goes_out s name at) s) row.part row.turn (λ bad. tt) row.commit)) keeps,
-      ),
-    )))
-    (λ taken. inr taken) (behind_keeps row.turn size s name at seat x g row.rest reply row.behind)
-
-detach_keeps_by : (found : Option LeafSeen) (c : Codec) (size : ℕ → ℕ) (s : PoolState) (name : List ℕ) (seat : Seat) (x : Held) (g : ℕ) (vs : List Move) (reply : DetachReply)
-    → DetachBy found c size s name seat vs reply → KeepAll x g vs ⊎ ((at : LeafSeen) × (found ≡ Some at) × (is_dev x.d at.dev ≡ true) × (n : ℕ) × (reply ≡ Detached n))
-detach_keeps_by None c size s name seat x g vs reply row = inl (subst (KeepAll x g) (sym row.0) tt)
-detach_keeps_by (Some at) c size s name seat x g vs reply row = leaf s.core.group.frozen row
-  where
-    for : (refusal : Option FreezeRefusal) → DetachFor refusal c size s name at seat vs reply → KeepAll x g vs ⊎ ((is_dev x.d at.dev ≡ true) × (n : ℕ) × (reply ≡ Detached n))
-    for (Some refusal) row = inl (subst (KeepAll x g) (sym row.0) tt)
-    for None row = without_keeps c size s name at seat x g vs reply row
-
-    leaf : (frozen : Bool) → DetachLeaf frozen c size s name at seat vs reply → KeepAll x g vs ⊎ ((y : LeafSeen) × (Some at ≡ Some y) × (is_dev x.d y.dev ≡ true) × (n : ℕ) × (reply ≡ Detached n))
-    leaf true row = inl (subst (KeepAll x g) (sym row.0) tt)
-    leaf false (inl row) = inl (subst (KeepAll x g) (sym row.2) tt)
-    leaf false (inr row) = ⊎_elim (λ keeps. inl keeps) (λ taken. inr (at, refl, taken.0, taken.1, taken.2)) (for row.1.0 row.1.2)
-
-dev_is : (d : ℕ) (dev : Option ℕ) → is_dev d dev ≡ true → dev ≡ Some d
-dev_is d None is = absurd (cc)
-dev_is d (Some e) is = ap Some (sym (same_device d e is))
-
-detach_keeps : (c : Codec) (h : Host) (e : Entry) (p : Pool) (d : ℕ) (name leaf : List ℕ) (s : PoolState) → e.asked ≡ Asks_detach name leaf → named name h.pools ≡ Some s
-    → DetachLine c h leaf s e.acts e.reply → Keep (record { pool = p.pool.0; d = d; guid = p.guid d }) e.acts ⊎ IsDetachedFrom p h e d
-detach_keeps c h e p d name leaf s asked stands row = by_bool (p.pool.0 == g)
-    (λ mine. ⊎_elim (λ keeps. inl (subst (Keep x) (sym line.are) (all_does x g line.moves keeps)))
-    (λ taken. inr (record {
-      name = name;
-      leaf = leaf;
-      asked = asked;
-      s = s;
-      is_open = stands;
-      ours = sym (same_device p.pool.0 g mine);
-      at = taken.0;
-      is_named = taken.1;
-      dev = dev_is d taken.0.dev taken.2;
-      number = taken.3;
-      reply = row.1 ∙ ap To_detach taken.4;
-    })) (detach_keeps_by (leaf_named leaf s.core.leaves) c (size_in h.table) s leaf line.seat x g line.moves row.0 line.row))
-    (λ off. inl (subst (Keep x) (sym line.are) (all_does x g line.moves (vacuous line.moves off))))
-  where
-    x : Held
-    x = record { pool = p.pool.0; d = d; guid = p.guid d }
-
-    g : ℕ
-    g = s.core.pool.0
-
-    line : ByDetach c h s leaf row.0 e.acts
-    line = row.2
-
-    vacuous : (vs : List Move) → (p.pool.0 == s.core.pool.0) ≡ false → KeepAll x s.core.pool.0 vs
-    vacuous [] off = tt
-    vacuous (v ∷ vs) off = ((λ mine. true_not_false (p.pool.0 == s.core.pool.0) mine off), vacuous vs off)
-
--- a row's acts keep the device, but those of lines that may take it
+-- a row's acts keep the device, but those of a create that takes it
 keep_written : (d : Held) (h : Host) (a : ℕ) (block : List ℕ) (found : Option PoolState) (acts : List Act) (reply : Reply)
     → OnPool found (WriteLine h a block) acts reply → Keep d acts
 keep_written d h a block None acts reply row = subst (Keep d) (sym row.0) tt
 keep_written d h a block (Some s) acts reply row = subst (Keep d) (sym row.2.are) (keep_does d s.core.pool.0 row.2.moves (keep_write s a block row.2.moves row.0 row.2.row))
 
-abbrev TakesNone : Asked → Type 0
+-- but for a line that may take a device
+abbrev pub TakesNone : Asked → Type 0
 TakesNone (Asks_create name blocks tops) = ⊥
 TakesNone (Asks_graft graft name leaf new) = ⊥
 TakesNone (Asks_detach name leaf) = ⊥
 TakesNone asked = Unit {0}
 
-row_keeps : (c : Codec) (h : Host) (asked : Asked) (acts : List Act) (reply : Reply) (d : Held) → TakesNone asked → RowOf c h asked acts reply → Keep d acts
+pub row_keeps : (c : Codec) (h : Host) (asked : Asked) (acts : List Act) (reply : Reply) (d : Held) → TakesNone asked
+    → RowOf c h asked acts reply → Keep d acts
 row_keeps c h (Asks_write name a block) acts reply d other row = keep_written d h a block (named name h.pools) acts reply row
 row_keeps c h (Asks_import name) acts reply d other row = keep_unless (named name h.pools) c h name acts reply d row
 row_keeps c h (Asks_create name blocks tops) acts reply d other row = absurd other
@@ -622,7 +428,7 @@ row_keeps c h (Asks_graft graft name leaf new) acts reply d other row = absurd o
 row_keeps c h (Asks_detach name leaf) acts reply d other row = absurd other
 row_keeps c h asked acts reply d other row = plain_line KeepsMembers kept_line (KeepsAt d) (kept_acts d) c h asked acts reply tt row
 
-none_keeps : (d : Held) (acts : List Act) → AllByRecursion ChangesNone acts → Keep d acts
+pub none_keeps : (d : Held) (acts : List Act) → AllByRecursion ChangesNone acts → Keep d acts
 none_keeps d [] all = tt
 none_keeps d (act ∷ acts) all = (one act all.0, none_keeps d acts all.1)
   where
@@ -635,36 +441,6 @@ none_keeps d (act ∷ acts) all = (one act all.0, none_keeps d acts all.1)
     one (Takes g e) is = absurd is
     one act is = tt
 
-rewrite_front : (c : Codec) (h : Host) (asked : Asked) (acts rest : List Act) (reply : Reply) (d : Held) → MayRewrite asked acts → RowOf c h asked (acts ++ rest) reply → Keep d acts
+pub rewrite_front : (c : Codec) (h : Host) (asked : Asked) (acts rest : List Act) (reply : Reply) (d : Held) → MayRewrite asked acts → RowOf c h asked (acts ++ rest) reply → Keep d acts
 rewrite_front c h (Asks_import name) acts rest reply d is row = none_keeps d acts is
 rewrite_front c h asked acts rest reply d is row = absurd is
-
--- the open pool of a line
-on_found : (h : Host) (name : List ℕ) (found : Option PoolState) (Line : PoolState → List Act → Reply → Type 0) (acts : List Act) (reply : Reply) (A : Type 0) → named name h.pools ≡ found
-    → OnPool found Line acts reply → ((acts ≡ []) → A) → ((s : PoolState) → named name h.pools ≡ Some s → Line s acts reply → A) → A
-on_found h name None Line acts reply A is row none line = none row.0
-on_found h name (Some s) Line acts reply A is row none line = line s is row
-
-entry_row : (c : Codec) (h : Host) (e : Entry) (p : Pool) (d : ℕ) (asked : Asked) → e.asked ≡ asked → RowOf c h asked e.acts e.reply
-    → Keep (record { pool = p.pool.0; d = d; guid = p.guid d }) e.acts ⊎ IsTakenBy p h e d
-entry_row c h e p d (Asks_create name blocks tops) is row =
-    ⊎_elim (λ keeps. inl keeps) (λ taken. inr (inl taken)) (create_keeps c h e (record { pool = p.pool.0; d = d; guid = p.guid d }) name blocks tops is row)
-entry_row c h e p d (Asks_graft graft name leaf new) is row = on_found h name (named name h.pools) (GraftLine h graft leaf new) e.acts e.reply
-    (Keep (record { pool = p.pool.0; d = d; guid = p.guid d }) e.acts ⊎ IsTakenBy p h e d) refl row
-    (λ none. inl (subst (Keep (record { pool = p.pool.0; d = d; guid = p.guid d })) (sym none) tt))
-    (λ s stands line. ⊎_elim (λ keeps. inl keeps) (λ taken. inr (inr (inl taken))) (graft_keeps h e p d graft name leaf new s is stands line))
-entry_row c h e p d (Asks_detach name leaf) is row = on_found h name (named name h.pools) (DetachLine c h leaf) e.acts e.reply
-    (Keep (record { pool = p.pool.0; d = d; guid = p.guid d }) e.acts ⊎ IsTakenBy p h e d) refl row
-    (λ none. inl (subst (Keep (record { pool = p.pool.0; d = d; guid = p.guid d })) (sym none) tt))
-    (λ s stands line. ⊎_elim (λ keeps. inl keeps) (λ taken. inr (inr (inr taken))) (detach_keeps c h e p d name leaf s is stands line))
-entry_row c h e p d asked is row = inl (row_keeps c h asked e.acts e.reply (record { pool = p.pool.0; d = d; guid = p.guid d }) tt row)
-
-pub entry_keeps : (c : Codec) (h : Host) (e : Entry) (d : ℕ) (p : Pool) → HostRow c h e → p.member d ≡ true → ((pool_along e.acts p).member d ≡ true) ⊎ IsTakenBy p h e d
-entry_keeps c h e d p (inl row) is = ⊎_elim (λ keeps. inl (acts_held (record { pool = p.pool.0; d = d; guid = p.guid d }) e.acts p keeps (record { number = refl; member = is; guid_is = refl })).member)
-    (λ taken. inr taken) (entry_row c h e p d e.asked refl row.0)
-entry_keeps c h e d p (inr out) is = inl (acts_held x e.acts p
-    (⊎_elim (λ early. none_keeps x e.acts early.0) (λ rewrites. rewrite_front c h e.asked e.acts out.rest out.reply x rewrites out.goes_on) out.early)
-    (record { number = refl; member = is; guid_is = refl })).member
-  where
-    x : Held
-    x = record { pool = p.pool.0; d = d; guid = p.guid d }

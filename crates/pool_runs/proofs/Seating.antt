@@ -16,7 +16,7 @@ use Rattle.pool_moves.specs.Refusing.{FreezeRefusal}
 use Rattle.pool_moves.specs.States.{PoolState, Side}
 use Rattle.pool_moves.specs.TreeRows.{place_where, place_named, goes_out, is_there, IsCleaned, DetachReply, DetachBehind, DetachFor, DetachLeaf, DetachBy, RowDetach, IsSeatOf}
 use Rattle.pool_moves.specs.Walking.{as_moves}
-use Rattle.pool_runs.specs.Acts.{Does, does, events_for, pool_by}
+use Rattle.pool_runs.specs.Acts.{Does, does, events_for, pool_by, pool_along}
 use Rattle.pool_runs.specs.Hosts.{Host, host_by}
 use Rattle.pool_runs.proofs.Known.{Knows, MayActs}
 use Rattle.pool_runs.specs.Knowing.{IsOwnAct, AreOwnActs}
@@ -151,3 +151,8 @@ some_seat c s t name other kept = of (leaf_named name s.core.leaves) refl
         let found = seat_at (leaf_seen t.pool.group.frozen t.pool.scan.running (told t.pool)) (λ x. bytes_eq x.own.name name) t.seats leaf
         (subst (λ l. leaf_named name l ≡ Some leaf) leaves is) in
         (found.0, λ x same. subst (λ l. slice_get t.seats (place_named name l) ≡ Some found.0) (sym leaves) found.1)
+
+-- so the pool behind its acts is the same
+pub along_as : (g : ℕ) (seat : Seat) (vs : List Move) (p : Pool) → pool_along (does g (map (seat_as seat) vs)) p ≡ pool_along (does g vs) p
+along_as g seat [] p = refl
+along_as g seat (v ∷ vs) p = along_as g seat vs (pool_by (Does g (seat_as seat v)) p) ∙ ap (pool_along (does g vs)) (ap (λ events. pool_after events p) (same_events g seat v p))

@@ -33,7 +33,7 @@ pub record Acknowledges (h : Host) (before behind : Pool) (e : Entry) : Type 0 w
   pub turns : (name : List ℕ) (s : PoolState) (n : ℕ) → e.asked ≡ Asks_turn name → IsOpenAs before h name s → e.reply ≡ To_turn (Committed n)
       → CommitsGroup before behind n
   pub detaches : (name leaf : List ℕ) (s : PoolState) (n : ℕ) → e.asked ≡ Asks_detach name leaf → IsOpenAs before h name s → e.reply ≡ To_detach (Detached n)
-      → number_of behind.acked ≡ n
+      → CommitsAll before behind n
 
 -- An opening that answers n found a live record, not below the acknowledged one, and acknowledged its blocks again as record n, above it; and what
 -- was written last is what the record found has.
