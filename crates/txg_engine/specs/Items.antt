@@ -1,0 +1,46 @@
+-- The keys of a frozen group, and the pointers that a map has with them.
+use Rattle.std.specs.Prelude.{◌≡◌, ℕ, ◌+◌, ◌/◌, ◌==◌, ◌&&◌, Bool, List, [], ◌∷◌, map, Option, Some, None, if◌then◌else◌}
+use Rattle.mp_base.specs.declared.place.Key.{Key}
+use Rattle.mp_base.specs.declared.place.Place.{Place}
+use Rattle.mp_base.specs.declared.place.Pointer.{Pointer}
+use Rattle.txg_history.specs.Groups.{same_key}
+use Rattle.txg_history.specs.Records.{Cell, key}
+use Rattle.txg_engine.specs.declared.item.Item.{Item}
+
+-- the key's pointer stands in this page
+abbrev pub is_child : (page : Key) → Key → Bool
+is_child page k = (k.level + 1 == page.level) && (k.index / 64 == page.index)
+
+abbrev pub key_of : Item → Key
+key_of item = item.key
+
+abbrev pub place_of : Item → Place
+place_of item = item.pointer.place
+
+-- the pointers of a map, with this one at a key
+abbrev pub put : Item → (Key → Pointer) → Key → Pointer
+put item at k = if same_key item.key k then item.pointer else at k
+
+-- the pointers of a map, with those of these keys over them
+abbrev pub laid : List Item → (Key → Pointer) → Key → Pointer
+laid [] at k = at k
+laid (item ∷ items) at k = laid items (put item at) k
+
+-- the block of an address among these keys
+abbrev pub frozen_block : List Item → ℕ → Option (List ℕ)
+frozen_block [] a = None
+frozen_block (item ∷ items) a = if same_key item.key (key 0 a) then Some item.block else frozen_block items a
+
+-- a key as the history has it, where tops count from 1
+abbrev pub cell_of : Item → Cell
+cell_of item = record {
+  birth = item.pointer.birth.0;
+  top = item.pointer.place.top + 1;
+  sector = item.pointer.place.sector;
+  block = item.block;
+}
+
+-- the group's keys as the history has them
+abbrev pub cells_of : List Item → Key → Option Cell
+cells_of [] k = None
+cells_of (item ∷ items) k = if same_key item.key k then Some (cell_of item) else cells_of items k

@@ -1,0 +1,118 @@
+//! Frozen groups.
+ghost use Rattle.std.specs.Prelude.{◌≡◌, ℕ, ◌<◌, ◌≤◌, ◌==◌, length, nat_le};
+ghost use Rattle.std.specs.Option.{option_copied};
+ghost use Rattle.block_map.specs.Map.{pointer_at};
+ghost use Rattle.block_map.specs.Keys.{root};
+ghost use Rattle.mp_base.specs.declared.place.Pointer.{Pointer};
+ghost use Rattle.txg_engine.specs.Items.{laid, frozen_block};
+ghost use Rattle.txg_engine.specs.Frozen.{is_written_out};
+
+use crate::board::Board;
+use crate::item::Item;
+use crate::seat::Numbers;
+use crate::write::Write;
+use block_map::BlockMap;
+use mp_base::{Group, Key, Pointer};
+use std::marker::Model;
+
+/// The page over all others.
+const ROOT: Key = Key { level: 3, index: 0 };
+
+/// A group whose writes have their places, with the pages above them, and which is on its way to the devices of its board:
+/// by a write turn for each key, then the flush turn, then rounds. It has all memory of its commit, so no turn takes any.
+#[derive(Drop)]
+pub struct Frozen {
+    pub(crate) numbers: Numbers,
+    /// Its keys, blocks first, and then pages by rising levels, each level by rising index.
+    pub(crate) items: Vec<Item>,
+    /// How many of them were written.
+    pub(crate) written: usize,
+    pub(crate) flushed: bool,
+    /// One of its rounds has begun.
+    pub(crate) begun: bool,
+    pub(crate) board: Board,
+    /// Room for the writes of the open group that it becomes where it is suspended.
+    pub(crate) back: Vec<Write>,
+}
+
+impl Model for Frozen {
+    ghost use Rattle.std.specs.Vec.{vec_capacity};
+    ghost use Rattle.txg_engine.specs.Frozen.{FrozenGroup, IsGroup};
+
+    ghost Value = { FrozenGroup };
+
+    ghost view = { λ group. record {
+      numbers = group.numbers;
+      items = group.items.items;
+      written = group.written;
+      flushed = group.flushed;
+      begun = group.begun;
+      board = group.board;
+      room = vec_capacity group.back;
+    } };
+
+    ghost invariant = { λ group. IsGroup group.numbers group.items.items group.written group.board group.back.items
+        (vec_capacity group.back) };
+}
+
+impl Frozen {
+    /// The numbers that were drawn for it.
+    pub fn numbers(&self) -> Numbers
+        ensures { result ≡ self.now.numbers }
+    {
+        self.numbers
+    }
+
+    /// Whether each key was written.
+    pub fn is_written_out(&self) -> bool
+        ensures { result ≡ is_written_out self.now }
+    {
+        self.written == self.items.len()
+    }
+
+    /// Whether its flush turn has ended.
+    pub fn is_flushed(&self) -> bool
+        ensures { result ≡ self.now.flushed }
+    {
+        self.flushed
+    }
+
+    /// Its keys, in their order.
+    pub fn items(&self) -> &[Item]
+        ensures { result.now ≡ self.now.items }
+    {
+        &self.items
+    }
+
+    /// The leaves of its board at the freeze, and which of them are on it still.
+    pub fn board(&self) -> &Board
+        ensures { result.now ≡ self.now.board }
+    {
+        &self.board
+    }
+
+    /// Its block of an address, where it has one.
+    pub fn block(&self, addr: u64) -> Option<&[u8]>
+        ensures { option_copied result ≡ frozen_block self.now.items addr }
+    {
+        let key = Key {
+            level: 0,
+            index: addr,
+        };
+        let at = self
+            .items
+            .binary_search_by_key(&key, |item| item.key)
+            .ok()?;
+        Some(self.items[at].block.as_bytes())
+    }
+
+    /// The pointer of the volume's root page once the group is acknowledged, over the map that it was frozen over.
+    pub fn root(&self, map: &BlockMap) -> Pointer
+        ensures { result ≡ laid self.now.items (pointer_at map.now) root }
+    {
+        match self.items.last() {
+            Some(item) => item.pointer,
+            None => map.get(ROOT).unwrap_or(Pointer::HOLE),
+        }
+    }
+}

@@ -1,0 +1,26 @@
+//! The keys of a frozen group.
+use mp_base::{Block, Key, Pointer};
+
+/// The pointers of a page.
+pub(crate) const FANOUT: u64 = 64;
+
+/// A key of a frozen group: its bytes, and the pointer that it has once the group is acknowledged.
+#[derive(Drop)]
+pub struct Item {
+    pub key: Key,
+    pub pointer: Pointer,
+    pub block: Block,
+}
+
+impl Item {
+    ghost use Rattle.std.specs.Prelude.{◌≡◌, ◌^◌, ◌<◌};
+    ghost use Rattle.txg_engine.specs.Items.{is_child};
+
+    /// Whether its pointer stands in this page.
+    pub(crate) fn is_child_of(&self, page: Key) -> bool
+        requires { self.now.key.level < 2 ^ 16 }
+        ensures { result ≡ is_child page self.now.key }
+    {
+        self.key.level + 1 == page.level && self.key.index / FANOUT == page.index
+    }
+}

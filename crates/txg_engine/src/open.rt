@@ -1,0 +1,101 @@
+//! The open group: what was written since the last freeze.
+ghost use Rattle.std.specs.Prelude.{◌≡◌, ℕ, ◌+◌, ◌<◌, ◌≤◌, ◌==◌, true, false, [], length, Some, IfOk, OnOk, OnErr, if◌then◌else◌};
+ghost use Rattle.std.specs.Option.{option_copied};
+ghost use Rattle.txg_engine.specs.Writes.{block_at, is_written, IsFound, RiseFrom};
+
+use crate::write::Write;
+use mp_base::{Block, MemFault};
+use std::alloc::Global;
+use std::marker::Model;
+
+/// The most addresses that the open group and the frozen one have together.
+pub const MOST_WRITES: usize = 4096;
+
+/// The writes of a group, one for each address, by rising addresses. A new one has room for 4,096 of them.
+#[derive(Drop)]
+pub struct Open {
+    pub(crate) writes: Vec<Write>,
+}
+
+impl Model for Open {
+    ghost use Rattle.std.specs.Vec.{vec_capacity};
+    ghost use Rattle.txg_engine.specs.Writes.{OpenGroup, RiseFrom};
+
+    ghost Value = { OpenGroup };
+
+    ghost view = { λ open. record { writes = open.writes.items; room = vec_capacity open.writes } };
+
+    ghost invariant = { λ open. RiseFrom 0 open.writes.items };
+}
+
+impl Open {
+    /// No write.
+    pub fn new(alloc: Global) -> Result<Open, MemFault>
+        ensures none { IfOk result (λ open. open.writes ≡ []) }
+        ensures room { IfOk result (λ open. 4096 ≤ open.room) }
+    {
+        Ok(Open {
+            writes: Vec::with_capacity(alloc, MOST_WRITES)?,
+        })
+    }
+
+    /// How many addresses were written.
+    pub fn len(&self) -> usize
+        ensures { result ≡ length self.now.writes }
+    {
+        self.writes.len()
+    }
+
+    pub fn is_empty(&self) -> bool
+        ensures { result ≡ (length self.now.writes == 0) }
+    {
+        self.writes.is_empty()
+    }
+
+    /// Whether the address was written.
+    pub fn has(&self, addr: u64) -> bool
+        ensures { result ≡ is_written self.now.writes addr }
+    {
+        find(&self.writes, addr).is_ok()
+    }
+
+    /// What was written last at an address.
+    pub fn block(&self, addr: u64) -> Option<&[u8]>
+        ensures { option_copied result ≡ block_at self.now.writes addr }
+    {
+        match find(&self.writes, addr) {
+            Ok(at) => Some(self.writes[at].block.as_bytes()),
+            Err(_) => None,
+        }
+    }
+
+    /// Takes a write of 4,096 bytes. A later one at the same address takes its place. The block's own memory is all that it
+    /// takes.
+    pub fn put(&mut self, addr: u64, block: &[u8]) -> Result<(), MemFault>
+        requires block { length block.now ≡ 4096 }
+        requires room { is_written self.old.writes addr ≡ false → length self.old.writes < self.old.room }
+        ensures ok { OnOk result ((a : ℕ) → block_at self.new.writes a ≡ (if addr == a then Some block.now
+            else block_at self.old.writes a)) }
+        ensures count { OnOk result (length self.new.writes ≡ (if is_written self.old.writes addr
+            then length self.old.writes else length self.old.writes + 1)) }
+        ensures room { self.old.room ≤ self.new.room }
+        ensures err { OnErr result (self.new ≡ self.old) }
+    {
+        let block = Block::from_slice(*self.writes.allocator(), block)?;
+        match find(&self.writes, addr) {
+            Ok(at) => self.writes[at].block = block,
+            Err(at) => {
+                let _ = self.writes.insert(at, Write { addr, block });
+            }
+        }
+        Ok(())
+    }
+}
+
+// Where the write of an address is, or where it belongs.
+fn find(writes: &[Write], addr: u64) -> Result<usize, usize>
+    requires { RiseFrom 0 writes.now }
+    ensures { IsFound writes.now addr result }
+{
+    writes.binary_search_by_key(&addr, |write| write.addr)
+}

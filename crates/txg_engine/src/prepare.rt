@@ -1,0 +1,98 @@
+//! All memory of a commit, taken before anything changes.
+use crate::board::Board;
+use crate::freezing::FreezeFault;
+use crate::item::Item;
+use crate::open::{MOST_WRITES, Open};
+use crate::pins::Pins;
+use crate::write::Write;
+use block_map::{BlockMap, pages_above};
+use mp_base::{BLOCK_BYTES, Key, MemFault};
+use std::alloc::Global;
+use vdev_tree::Top;
+
+/// Runs of groups that a commit adds to a log at most.
+const RUNS: usize = 2;
+
+/// What a freeze needs: the dirty pages with the memory for their bytes, the board, and room for the group's keys and for the
+/// open group that it becomes where it is suspended.
+#[derive(Drop)]
+pub(crate) struct Prepared {
+    pub(crate) pages: Vec<Key>,
+    pub(crate) buffers: Vec<Vec<u8>>,
+    pub(crate) items: Vec<Item>,
+    pub(crate) board: Board,
+    pub(crate) back: Vec<Write>,
+}
+
+/// Takes all memory of a commit of this group, where it has the places and each top a leaf to be written. Else nothing has
+/// changed but the room in logs.
+pub(crate) fn prepare(
+    alloc: Global,
+    group: &Open,
+    map: &BlockMap,
+    tops: &mut [Top],
+    pins: &mut Pins,
+) -> Result<Prepared, FreezeFault> {
+    let board = Board::over(alloc, tops)?;
+    if let Some(top) = board.emptied(tops.len() as u32) {
+        return Err(FreezeFault::NoBoard {
+            top: tops[top as usize].mirror.guid(),
+        });
+    }
+    let pages = dirty_pages(alloc, group)?;
+    let keys = group.len() + pages.len();
+    check_room(map, keys)?;
+    let buffers = buffers_for(alloc, pages.len())?;
+    let items = Vec::with_capacity(alloc, keys)?;
+    let back = Vec::with_capacity(alloc, keys + MOST_WRITES)?;
+    pins.reserve(keys)?;
+    reserve_logs(tops)?;
+    Ok(Prepared {
+        pages,
+        buffers,
+        items,
+        board,
+        back,
+    })
+}
+
+// Whether there are places for so many keys.
+fn check_room(map: &BlockMap, keys: usize) -> Result<(), FreezeFault> {
+    let need = keys as u64;
+    let free = map.free_count();
+    if need > free {
+        return Err(FreezeFault::NoRoom { need, free });
+    }
+    Ok(())
+}
+
+// The pages above the group's blocks, in the order of keys.
+fn dirty_pages(alloc: Global, group: &Open) -> Result<Vec<Key>, MemFault> {
+    let mut addrs = Vec::with_capacity(alloc, group.len())?;
+    for write in &group.writes {
+        addrs.push(write.addr)?;
+    }
+    let mut pages = Vec::with_capacity(alloc, 3 * group.len())?;
+    for level in 1..4 {
+        pages_above(level, &addrs, &mut pages);
+    }
+    Ok(pages)
+}
+
+// As many pages of zeros.
+fn buffers_for(alloc: Global, count: usize) -> Result<Vec<Vec<u8>>, MemFault> {
+    let mut buffers = Vec::with_capacity(alloc, count)?;
+    for _ in 0..count {
+        buffers.push(vec![in alloc; 0; BLOCK_BYTES]?)?;
+    }
+    Ok(buffers)
+}
+
+// Makes room for the runs that a commit may add to each log.
+fn reserve_logs(tops: &mut [Top]) -> Result<(), MemFault> {
+    for i in 0..tops.len() {
+        let top = &mut tops[i];
+        top.reserve(RUNS)?;
+    }
+    Ok(())
+}
