@@ -1,7 +1,9 @@
 -- A frozen group as its callers see it.
-use Rattle.std.specs.Prelude.{◌≡◌, ℕ, ◌+◌, ◌^◌, ◌<◌, ◌≤◌, ◌==◌, Bool, List, [], ◌∷◌, length, count_by}
-use Rattle.block_map.specs.Keys.{IsBefore}
+use Rattle.std.specs.Prelude.{◌≡◌, ◌≢◌, ℕ, ◌+◌, ◌^◌, ◌<◌, ◌≤◌, ◌==◌, Bool, true, false, List, [], ◌∷◌, length, map, count_by, slice_index, All, AllPairs}
+use Rattle.mp_base.specs.declared.number.Group.{Group}
 use Rattle.mp_base.specs.declared.place.Key.{Key}
+use Rattle.block_map.specs.Keys.{IsBefore}
+use Rattle.block_map.specs.Places.{IsPlace}
 use Rattle.txg_engine.specs.declared.item.Item.{Item}
 use Rattle.txg_engine.specs.declared.seat.Numbers.{Numbers}
 use Rattle.txg_engine.specs.declared.seat.Seat.{Seat}
@@ -22,6 +24,9 @@ pub record FrozenGroup : Type 0 where
 abbrev pub is_written_out : FrozenGroup → Bool
 is_written_out group = group.written == length group.items
 
+abbrev pub one_number : Group → Numbers
+one_number number = record { first = number; last = number }
+
 -- keys rise: by level, and then by index
 abbrev pub KeysRise : List Item → Type 0
 KeysRise [] = Unit {0}
@@ -34,6 +39,18 @@ pub record IsGroup (numbers : Numbers) (items : List Item) (written : ℕ) (boar
   pub order : numbers.first.0 ≤ numbers.last.0
   pub high : numbers.last.0 + count_by is_on board ≤ 2 ^ 62
   pub rise : KeysRise items
+  pub levels : All (λ item. item.key.level ≤ 3) items
   pub within : written ≤ length items
   pub empty : back ≡ []
   pub roomy : length items + 4096 ≤ room
+
+-- A leaf's device has room for its labels and for each data sector of its top.
+pub record IsSeated (size : ℕ → ℕ) (sectors : List ℕ) (seat : Seat) : Type 0 where
+  pub labels : 320 ≤ size seat.member.dev
+  pub data_sectors : slice_index sectors seat.top + 256 ≤ size seat.member.dev
+
+-- The devices of the board have room for the group's keys, and no two leaves have one device.
+pub record AreSeated (size : ℕ → ℕ) (sectors : List ℕ) (group : FrozenGroup) : Type 0 where
+  pub seats : All (IsSeated size sectors) group.board
+  pub apart : AllPairs (λ one other. one.member.dev ≢ other.member.dev) group.board
+  pub places : All (λ item. IsPlace sectors item.pointer.place) group.items

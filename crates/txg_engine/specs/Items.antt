@@ -17,6 +17,12 @@ key_of item = item.key
 abbrev pub place_of : Item → Place
 place_of item = item.pointer.place
 
+abbrev pub keys_of : List Item → List Key
+keys_of items = map key_of items
+
+abbrev pub places_of : List Item → List Place
+places_of items = map place_of items
+
 -- the pointers of a map, with this one at a key
 abbrev pub put : Item → (Key → Pointer) → Key → Pointer
 put item at k = if same_key item.key k then item.pointer else at k

@@ -1,6 +1,12 @@
 pub mod Boards
+pub mod Ending
+pub mod Freezing
 pub mod Frozen
 pub mod Items
 pub mod Logs
+pub mod Merging
 pub mod Pins
+pub mod Preparing
+pub mod Refusing
+pub mod Turns
 pub mod Writes

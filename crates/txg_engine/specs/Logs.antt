@@ -22,10 +22,9 @@ is_leaf m leaf = leaf.guid.0 == m.0
 abbrev pub has_spare : LeafVdev → Type 0
 has_spare leaf = 1 ≤ leaf.log.spare
 
--- The log of a leaf of this kind grows by the groups from `low` to `high`; another leaf is as it was.
+-- The log of a leaf of this kind grows by the groups from `low` to `high`; another leaf is as it was, but for the room in its log.
 pub record Grows (which : LeafVdev → Bool) (low high : ℕ) (old new : LeafVdev) : Type 0 where
   pub groups : (g : ℕ) → holds new.log g ≡ (holds old.log g || (which old && between low high g))
-  pub others : which old ≡ false → new ≡ old
   pub spare : old.log.spare ≤ new.log.spare + 1
   -- where the log has a group next to them, they only lengthen a run
   pub lengthens : (g : ℕ) → low ≤ g + 1 → g ≤ high + 1 → holds old.log g ≡ true → old.log.spare ≤ new.log.spare
@@ -52,14 +51,19 @@ count_write m leaf =
 abbrev pub Counted : Guid → (old new : List LeafVdev) → Type 0
 Counted m old new = AllZip (λ was is. is ≡ count_write m was) old new
 
--- The leaves behind a turn: each of these members whose call failed is counted, and owes the numbers of the group.
+-- A call on the leaf of this number failed: it is counted, and the leaf owes the numbers of the group.
+pub record Fails (numbers : Numbers) (m : Guid) (old new : List LeafVdev) : Type 0 where
+  pub counted : List LeafVdev
+  pub count : Counted m old counted
+  pub grown : AreGrown (is_leaf m) numbers.first.0 numbers.last.0 counted new
+
+-- The leaves behind a turn: so for each of these members whose call failed.
 abbrev pub AreBehind : Numbers → List Member → (done : List Bool) → (old new : List LeafVdev) → Type 0
 AreBehind numbers [] done old new = new ≡ old
 AreBehind numbers (m ∷ ms) [] old new = new ≡ old
 AreBehind numbers (m ∷ ms) (true ∷ done) old new = AreBehind numbers ms done old new
 AreBehind numbers (m ∷ ms) (false ∷ done) old new =
-    (counted : List LeafVdev) × (left : List LeafVdev) × Counted m.guid old counted
-    × AreGrown (is_leaf m.guid) numbers.first.0 numbers.last.0 counted left × AreBehind numbers ms done left new
+    (left : List LeafVdev) × Fails numbers m.guid old left × AreBehind numbers ms done left new
 
 -- there is room to settle what the leaf owes
 abbrev pub HasSettledRoom : LeafVdev → Type 0

@@ -1,5 +1,7 @@
 //! The board of a frozen group: the leaves that made each of its calls so far.
-ghost use Rattle.std.specs.Prelude.{◌≡◌, ◌+◌, ◌-◌, ◌^◌, ◌≤◌, min, length, map, IfOk};
+ghost use Rattle.std.specs.Prelude.{◌≡◌, ◌+◌, ◌-◌, ◌^◌, ◌≤◌, ◌++◌, min, length, map, IfOk, OnOk};
+ghost use Rattle.std.specs.List.{filter_map};
+ghost use Rattle.vdev_tree.specs.Tree.{leaves};
 ghost use Rattle.vdev_tree.specs.declared.vdev.LeafVdev.{LeafVdev};
 ghost use Rattle.dtl_rules.specs.Widening.{leaves_of};
 ghost use Rattle.txg_engine.specs.Boards.{is_on_under, board_of, board_under, has_on, on_board, emptied, faults_under, without, failed, seat_of, seats_of};
@@ -134,8 +136,10 @@ impl Board {
     }
 }
 
-// Gives each leaf of a top that may be written a seat, for which there is room.
-fn seat_all(seats: &mut Vec<Seat>, top: &Top, number: u32) -> Result<(), MemFault> {
+// Gives each leaf of a top that may be written a seat.
+fn seat_all(seats: &mut Vec<Seat>, top: &Top, number: u32) -> Result<(), MemFault>
+    ensures { OnOk result (seats.new.items ≡ seats.old.items ++ filter_map (seat_of number) (leaves top.now.mirror)) }
+{
     let mut place = 0;
     while let Some(leaf) = top.leaf_at(place) {
         if let Some(seat) = seat_of(leaf, number) {

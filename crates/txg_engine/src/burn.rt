@@ -1,4 +1,12 @@
 //! Burning: a suspended group becomes open again.
+ghost use Rattle.std.specs.Prelude.{◌≡◌, ℕ, ◌+◌, ◌≤◌, length, All};
+ghost use Rattle.std.specs.List.{AllZip};
+ghost use Rattle.block_map.specs.Places.{IsPlace};
+ghost use Rattle.dtl_rules.specs.Widening.{leaves_of, marks_of, sectors_of};
+ghost use Rattle.txg_engine.specs.Ending.{AreMerged, GivesBack, pins_after};
+ghost use Rattle.txg_engine.specs.Items.{places_of};
+ghost use Rattle.txg_engine.specs.Logs.{IsCut};
+
 use crate::changes::cut_all;
 use crate::frozen::Frozen;
 use crate::item::Item;
@@ -19,7 +27,18 @@ impl Frozen {
         map: &mut BlockMap,
         tops: &mut [Top],
         pins: &mut Pins,
-    ) -> Open {
+    ) -> Open
+        requires places { All (λ item. IsPlace map.old.sectors item.pointer.place) self.items }
+        requires room { length newer.writes ≤ 4096 }
+        requires pins_room { length pins.old.places + length self.items ≤ pins.old.room }
+        ensures writes { AreMerged self.items newer.writes result.writes }
+        ensures room { 4096 ≤ result.room }
+        ensures places { GivesBack self.begun (places_of self.items) map.old map.new }
+        ensures pins { pins.new.places ≡ pins_after self.begun (places_of self.items) pins.old.places }
+        ensures logs { AllZip (IsCut self.numbers.first.0) (leaves_of tops.old) (leaves_of tops.new) }
+        ensures built { marks_of tops.new ≡ marks_of tops.old }
+        ensures sectors { sectors_of tops.new ≡ sectors_of tops.old }
+    {
         let Frozen {
             numbers,
             items,
@@ -42,7 +61,12 @@ impl Frozen {
 }
 
 // Frees the places of these keys, and pins them where a round had begun.
-fn give_back(map: &mut BlockMap, items: &[Item], begun: bool, pins: &mut Pins) {
+fn give_back(map: &mut BlockMap, items: &[Item], begun: bool, pins: &mut Pins)
+    requires places { All (λ item. IsPlace map.old.sectors item.pointer.place) items.now }
+    requires room { length pins.old.places + length items.now ≤ pins.old.room }
+    ensures places { GivesBack begun (places_of items.now) map.old map.new }
+    ensures pins { pins.new.places ≡ pins_after begun (places_of items.now) pins.old.places }
+{
     for item in items {
         map.give_place(item.pointer.place);
         if begun {

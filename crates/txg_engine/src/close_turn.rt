@@ -1,4 +1,11 @@
 //! A round: the record of the group goes onto the labels of each leaf that is on the board.
+ghost use Rattle.std.specs.Prelude.{◌≡◌, ℕ, ◌<◌, ◌≤◌, true, false, length, take, All};
+ghost use Rattle.label_store.specs.Committing.{IsSealed};
+ghost use Rattle.label_store.specs.Records.{IsHeaded};
+ghost use Rattle.dtl_rules.specs.Widening.{leaves_of, marks_of, sectors_of};
+ghost use Rattle.txg_engine.specs.Logs.{IsReady};
+ghost use Rattle.txg_engine.specs.Logs.{HasSettledRoom};
+
 use crate::changes::settle_all;
 use crate::fails::drop_failed;
 use crate::frozen::Frozen;
@@ -19,6 +26,9 @@ pub enum Closed {
 }
 
 impl Frozen {
+    ghost use Rattle.txg_engine.specs.Frozen.{FrozenGroup, AreSeated};
+    ghost use Rattle.txg_engine.specs.Turns.{Scene, IsCloseTurn, numbers_of};
+
     /// Makes one round over the board, of the configuration with the group's last number that is the first `config_bytes` of
     /// `blob`. Where no leaf failed, the record is acknowledged, and what each leaf owes is settled. A leaf that failed leaves
     /// the board, the others go on, and the next number is drawn.
@@ -31,7 +41,21 @@ impl Frozen {
         pool: Guid,
         blob: &[u8],
         config_bytes: usize,
-    ) -> Result<Closed, Suspended> {
+    ) -> Result<Closed, Suspended>
+        requires flushed { self.old.flushed ≡ true }
+        requires sealed { IsSealed blob.now config_bytes }
+        requires headed { IsHeaded R.head_of pool self.old.numbers.last (take config_bytes blob.now) }
+        requires settled { All HasSettledRoom (leaves_of tops.old) }
+        requires seated { AreSeated (B.view bank.old).size (sectors_of tops.old) self.old }
+        requires tops { length tops.old ≤ 8 }
+        requires ready { All (IsReady self.old.board self.old.numbers.last.0) (leaves_of tops.old) }
+        ensures turn { IsCloseTurn R.head_of (record { pool = pool; number = self.old.numbers.last; blob = blob.now; length = config_bytes })
+            (numbers_of tops.new) (record { group = self.old; leaves = leaves_of tops.old; bank = B.view bank.old })
+            (record { group = self.new; leaves = leaves_of tops.new; bank = B.view bank.new }) result }
+        ensures ready { All (IsReady self.new.board self.new.numbers.last.0) (leaves_of tops.new) }
+        ensures built { marks_of tops.new ≡ marks_of tops.old }
+        ensures sectors { sectors_of tops.new ≡ sectors_of tops.old }
+    {
         self.check(tops)?;
         let members = self.board.members();
         let mut done = [true; MOST_LEAVES];

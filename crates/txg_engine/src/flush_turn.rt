@@ -1,4 +1,9 @@
 //! The flush turn: each leaf that is on the board is flushed.
+ghost use Rattle.std.specs.Prelude.{◌≡◌, ℕ, ◌<◌, ◌≤◌, false, length, map, All};
+ghost use Rattle.dtl_rules.specs.Widening.{leaves_of, marks_of, sectors_of};
+ghost use Rattle.txg_engine.specs.Logs.{IsReady};
+ghost use Rattle.txg_engine.specs.Turns.{FlushesAll};
+
 use crate::fails::drop_failed;
 use crate::frozen::Frozen;
 use crate::seat::{MOST_LEAVES, Suspended};
@@ -7,6 +12,9 @@ use label_store::Member;
 use vdev_tree::Top;
 
 impl Frozen {
+    ghost use Rattle.txg_engine.specs.Frozen.{FrozenGroup, AreSeated, is_written_out};
+    ghost use Rattle.txg_engine.specs.Turns.{Scene, IsFlushTurn, numbers_of};
+
     /// Flushes each leaf that is on the board, in tree order, once each key was written. A leaf whose flush failed leaves the
     /// board, and the others go on. Behind it each key is safe on each leaf of its top that is still on the board.
     ///
@@ -15,7 +23,19 @@ impl Frozen {
         &mut self,
         bank: &mut B,
         tops: &mut [Top],
-    ) -> Result<(), Suspended> {
+    ) -> Result<(), Suspended>
+        requires written { self.old.written ≡ length self.old.items }
+        requires unflushed { self.old.flushed ≡ false }
+        requires seated { AreSeated (B.view bank.old).size (sectors_of tops.old) self.old }
+        requires tops { length tops.old ≤ 8 }
+        requires ready { All (IsReady self.old.board self.old.numbers.last.0) (leaves_of tops.old) }
+        ensures turn { IsFlushTurn (numbers_of tops.new)
+            (record { group = self.old; leaves = leaves_of tops.old; bank = B.view bank.old })
+            (record { group = self.new; leaves = leaves_of tops.new; bank = B.view bank.new }) result }
+        ensures ready { All (IsReady self.new.board self.new.numbers.last.0) (leaves_of tops.new) }
+        ensures built { marks_of tops.new ≡ marks_of tops.old }
+        ensures sectors { sectors_of tops.new ≡ sectors_of tops.old }
+    {
         self.check(tops)?;
         let members = self.board.members();
         let mut done = [true; MOST_LEAVES];
@@ -34,7 +54,11 @@ impl Frozen {
 }
 
 // Flushes each of these members, and says of each whether it answered.
-fn flush_all<B: Bank>(bank: &mut B, members: &[Member], done: &mut [bool]) {
+fn flush_all<B: Bank>(bank: &mut B, members: &[Member], done: &mut [bool])
+    requires paired { length done.old ≡ length members.now }
+    requires devices { All (λ m. 0 < (B.view bank.old).size m.dev) members.now }
+    ensures { FlushesAll members.now done.new (B.view bank.old) (B.view bank.new) }
+{
     for i in 0..members.len() {
         done[i] = bank.flush(members[i].dev).is_ok();
     }

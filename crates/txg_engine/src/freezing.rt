@@ -1,4 +1,14 @@
 //! A freeze.
+ghost use Rattle.std.specs.Prelude.{◌≡◌, ◌+◌, ◌^◌, ◌<◌, ◌≤◌, List, length, All, IfOk, IfErr, OnOk, OnErr};
+ghost use Rattle.vdev_tree.specs.declared.top.Top.{Top};
+ghost use Rattle.std.specs.List.{AllZip};
+ghost use Rattle.vdev_tree.specs.Changes.{KeepsLog};
+ghost use Rattle.dtl_rules.specs.Widening.{leaves_of, marks_of, sectors_of};
+ghost use Rattle.txg_engine.specs.Boards.{seats_of};
+ghost use Rattle.txg_engine.specs.Logs.{AreGrown, is_off, IsReady};
+ghost use Rattle.txg_engine.specs.Preparing.{IsPrepared};
+ghost use Rattle.txg_engine.specs.Refusing.{BeginsGroup, IsCause};
+
 use crate::changes::owe_off;
 use crate::frozen::Frozen;
 use crate::open::Open;
@@ -46,7 +56,8 @@ pub struct Unfrozen {
 /// that are free and not pinned, in the order of their keys, and their sums; the board is the leaves that may be written, and
 /// every other leaf owes the number. The map keeps the pointers of the record that the pool reads.
 ///
-/// It takes all memory of the commit, before anything changes. At `Err` nothing has changed but the room in logs.
+/// It takes all memory of the commit, before anything changes. At `Err` nothing has changed but the room in logs: a top has no
+/// leaf that may be written, else there are too few places, or there was no memory.
 pub fn freeze(
     alloc: Global,
     group: Open,
@@ -54,7 +65,23 @@ pub fn freeze(
     tops: &mut [Top],
     pins: &mut Pins,
     number: Group,
-) -> Result<Frozen, Unfrozen> {
+) -> Result<Frozen, Unfrozen>
+    requires volume { All (λ write. write.addr < map.old.blocks) group.writes }
+    requires few { length (leaves_of tops.old) ≤ 32 }
+    requires low { 1 ≤ number.0 }
+    requires high { number.0 + 64 ≤ 2 ^ 62 }
+    ensures group { IfOk result (BeginsGroup number group.writes map.old map.new tops.old) }
+    ensures logs { OnOk result (AreGrown (is_off (seats_of 0 tops.old)) number.0 number.0 (leaves_of tops.old) (leaves_of tops.new)) }
+    ensures ready { IfOk result (λ frozen. All (IsReady frozen.board number.0) (leaves_of tops.new)) }
+    ensures pins_room { IfOk result (λ frozen. length pins.new.places + length frozen.items ≤ pins.new.room) }
+    ensures pins { pins.new.places ≡ pins.old.places }
+    ensures built { marks_of tops.new ≡ marks_of tops.old }
+    ensures sectors { sectors_of tops.new ≡ sectors_of tops.old }
+    ensures cause { IfErr result (λ unfrozen. IsCause group.writes map.old tops.old unfrozen.why) }
+    ensures back { IfErr result (λ unfrozen. unfrozen.group ≡ group) }
+    ensures map { OnErr result (map.new ≡ map.old) }
+    ensures leaves { OnErr result (AllZip KeepsLog (leaves_of tops.old) (leaves_of tops.new)) }
+{
     let prepared = match prepare(alloc, &group, map, tops, pins) {
         Ok(prepared) => prepared,
         Err(why) => return Err(Unfrozen { why, group }),
@@ -66,7 +93,15 @@ pub fn freeze(
 }
 
 // Gives each key of the group its place.
-fn settle_group(prepared: Prepared, group: Open, map: &mut BlockMap, number: Group) -> Frozen {
+fn settle_group(prepared: Prepared, group: Open, map: &mut BlockMap, number: Group) -> Frozen
+    ghost tops: { List Top }
+    requires volume { All (λ write. write.addr < map.old.blocks) group.writes }
+    requires low { 1 ≤ number.0 }
+    requires high { number.0 + 64 ≤ 2 ^ 62 }
+    requires prepared { IsPrepared group.writes map.old tops prepared }
+    requires few { length prepared.board ≤ 32 }
+    ensures { BeginsGroup number group.writes map.old map.new tops result }
+{
     let Prepared {
         pages,
         buffers,

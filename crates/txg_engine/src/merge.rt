@@ -1,4 +1,12 @@
 //! Two lists of writes become one.
+ghost use Rattle.std.specs.Prelude.{◌≡◌, ℕ, ◌+◌, ◌<◌, ◌≤◌, []};
+ghost use Rattle.std.specs.Vec.{vec_capacity};
+ghost use Rattle.std.specs.VecDeque.{deque_len};
+ghost use Rattle.txg_engine.specs.Ending.{AreMerged};
+ghost use Rattle.txg_engine.specs.Frozen.{KeysRise};
+ghost use Rattle.txg_engine.specs.Merging.{block_addr, TakesNext};
+ghost use Rattle.txg_engine.specs.Writes.{RiseFrom};
+
 use crate::item::Item;
 use crate::write::Write;
 use std::collections::VecDeque;
@@ -9,14 +17,24 @@ pub(crate) fn merge(
     mut older: VecDeque<Item>,
     mut newer: VecDeque<Write>,
     out: &mut Vec<Write>,
-) {
+)
+    requires none { out.old.items ≡ [] }
+    requires room { deque_len older + deque_len newer ≤ vec_capacity out.old }
+    requires older { KeysRise older.items }
+    requires newer { RiseFrom 0 newer.items }
+    ensures merged { AreMerged older.items newer.items out.new.items }
+    ensures rise { RiseFrom 0 out.new.items }
+    ensures room { vec_capacity out.old ≤ vec_capacity out.new }
+{
     while let Some(write) = next(&mut older, &mut newer) {
         let _ = out.push(write);
     }
 }
 
 // Takes the write of the least address out of the lists.
-fn next(older: &mut VecDeque<Item>, newer: &mut VecDeque<Write>) -> Option<Write> {
+fn next(older: &mut VecDeque<Item>, newer: &mut VecDeque<Write>) -> Option<Write>
+    ensures { TakesNext older.old.items newer.old.items older.new.items newer.new.items result }
+{
     let Some(old) = older.front().and_then(addr_of) else {
         return newer.pop_front();
     };
@@ -33,7 +51,9 @@ fn next(older: &mut VecDeque<Item>, newer: &mut VecDeque<Write>) -> Option<Write
 }
 
 // The address of a block. A page has none, and stands behind all blocks.
-fn addr_of(item: &Item) -> Option<u64> {
+fn addr_of(item: &Item) -> Option<u64>
+    ensures { result ≡ block_addr item.now }
+{
     if item.key.level == 0 {
         Some(item.key.index)
     } else {

@@ -23,16 +23,16 @@ impl Model for Open {
 
     ghost Value = { OpenGroup };
 
-    ghost view = { λ open. record { writes = open.writes.items; room = vec_capacity open.writes } };
+    ghost view = { λ group. record { writes = group.writes.items; room = vec_capacity group.writes } };
 
-    ghost invariant = { λ open. RiseFrom 0 open.writes.items };
+    ghost invariant = { λ group. RiseFrom 0 group.writes.items };
 }
 
 impl Open {
     /// No write.
     pub fn new(alloc: Global) -> Result<Open, MemFault>
-        ensures none { IfOk result (λ open. open.writes ≡ []) }
-        ensures room { IfOk result (λ open. 4096 ≤ open.room) }
+        ensures none { IfOk result (λ group. group.writes ≡ []) }
+        ensures room { IfOk result (λ group. 4096 ≤ group.room) }
     {
         Ok(Open {
             writes: Vec::with_capacity(alloc, MOST_WRITES)?,

@@ -1,4 +1,13 @@
 //! All memory of a commit, taken before anything changes.
+ghost use Rattle.std.specs.Prelude.{◌≡◌, ℕ, ◌+◌, ◌*◌, ◌<◌, ◌≤◌, ◌++◌, None, [], length, map, vec_len, All, IfOk, IfErr, OnOk, OnErr};
+ghost use Rattle.std.specs.List.{AllZip};
+ghost use Rattle.std.specs.Vec.{vec_capacity};
+ghost use Rattle.vdev_tree.specs.Changes.{has_room, KeepsLog};
+ghost use Rattle.dtl_rules.specs.Widening.{leaves_of, marks_of, sectors_of};
+ghost use Rattle.txg_engine.specs.Freezing.{addr_of, page_keys};
+ghost use Rattle.txg_engine.specs.Preparing.{IsPrepared};
+ghost use Rattle.txg_engine.specs.Refusing.{IsCause, need, unwritable};
+
 use crate::board::Board;
 use crate::freezing::FreezeFault;
 use crate::item::Item;
@@ -32,7 +41,18 @@ pub(crate) fn prepare(
     map: &BlockMap,
     tops: &mut [Top],
     pins: &mut Pins,
-) -> Result<Prepared, FreezeFault> {
+) -> Result<Prepared, FreezeFault>
+    requires few { length (leaves_of tops.old) ≤ 32 }
+    requires writes { length group.now.writes ≤ 262144 }
+    ensures prepared { IfOk result (IsPrepared group.now.writes map.now tops.old) }
+    ensures room { OnOk result (All (has_room 2) (leaves_of tops.new)) }
+    ensures cause { IfErr result (IsCause group.now.writes map.now tops.old) }
+    ensures leaves { AllZip KeepsLog (leaves_of tops.old) (leaves_of tops.new) }
+    ensures built { marks_of tops.new ≡ marks_of tops.old }
+    ensures sectors { sectors_of tops.new ≡ sectors_of tops.old }
+    ensures pins { pins.new.places ≡ pins.old.places }
+    ensures pins_room { OnOk result (length pins.new.places + need group.now.writes ≤ pins.new.room) }
+{
     let board = Board::over(alloc, tops)?;
     if let Some(top) = board.emptied(tops.len() as u32) {
         return Err(FreezeFault::NoBoard {
@@ -57,7 +77,10 @@ pub(crate) fn prepare(
 }
 
 // Whether there are places for so many keys.
-fn check_room(map: &BlockMap, keys: usize) -> Result<(), FreezeFault> {
+fn check_room(map: &BlockMap, keys: usize) -> Result<(), FreezeFault>
+    ensures ok { OnOk result (keys ≤ map.now.count) }
+    ensures err { IfErr result (λ fault. (fault ≡ FreezeFault.NoRoom keys map.now.count) × (map.now.count < keys)) }
+{
     let need = keys as u64;
     let free = map.free_count();
     if need > free {
@@ -67,7 +90,10 @@ fn check_room(map: &BlockMap, keys: usize) -> Result<(), FreezeFault> {
 }
 
 // The pages above the group's blocks, in the order of keys.
-fn dirty_pages(alloc: Global, group: &Open) -> Result<Vec<Key>, MemFault> {
+fn dirty_pages(alloc: Global, group: &Open) -> Result<Vec<Key>, MemFault>
+    requires { length group.now.writes ≤ 262144 }
+    ensures { IfOk result (λ pages. pages.items ≡ page_keys (map addr_of group.now.writes)) }
+{
     let mut addrs = Vec::with_capacity(alloc, group.len())?;
     for write in &group.writes {
         addrs.push(write.addr)?;
@@ -80,7 +106,10 @@ fn dirty_pages(alloc: Global, group: &Open) -> Result<Vec<Key>, MemFault> {
 }
 
 // As many pages of zeros.
-fn buffers_for(alloc: Global, count: usize) -> Result<Vec<Vec<u8>>, MemFault> {
+fn buffers_for(alloc: Global, count: usize) -> Result<Vec<Vec<u8>>, MemFault>
+    ensures count { IfOk result (λ buffers. length buffers.items ≡ count) }
+    ensures sizes { IfOk result (λ buffers. All (λ buffer. length buffer.items ≡ 4096) buffers.items) }
+{
     let mut buffers = Vec::with_capacity(alloc, count)?;
     for _ in 0..count {
         buffers.push(vec![in alloc; 0; BLOCK_BYTES]?)?;
@@ -89,7 +118,12 @@ fn buffers_for(alloc: Global, count: usize) -> Result<Vec<Vec<u8>>, MemFault> {
 }
 
 // Makes room for the runs that a commit may add to each log.
-fn reserve_logs(tops: &mut [Top]) -> Result<(), MemFault> {
+fn reserve_logs(tops: &mut [Top]) -> Result<(), MemFault>
+    ensures room { OnOk result (All (has_room 2) (leaves_of tops.new)) }
+    ensures leaves { AllZip KeepsLog (leaves_of tops.old) (leaves_of tops.new) }
+    ensures built { marks_of tops.new ≡ marks_of tops.old }
+    ensures sectors { sectors_of tops.new ≡ sectors_of tops.old }
+{
     for i in 0..tops.len() {
         let top = &mut tops[i];
         top.reserve(RUNS)?;

@@ -1,19 +1,35 @@
 //! Places, bytes and sums of a group's keys, in the order of the keys.
+ghost use Rattle.std.specs.Prelude.{◌≡◌, ℕ, ◌+◌, ◌^◌, ◌<◌, ◌≤◌, ◌++◌, length, vec_len, All};
+ghost use Rattle.std.specs.Vec.{vec_capacity};
+ghost use Rattle.block_map.specs.Keys.{IsPage};
+ghost use Rattle.block_map.specs.Map.{Map, pointer_at, children};
+ghost use Rattle.block_map.specs.Pages.{page_bytes};
+ghost use Rattle.txg_engine.specs.Freezing.{AreSettled, SettlesNext, block_keys};
+ghost use Rattle.txg_engine.specs.Items.{keys_of, frozen_block, laid};
+ghost use Rattle.txg_engine.specs.Writes.{block_at};
+
 use crate::item::{FANOUT, Item};
+use crate::write::Write;
 use block_map::{BlockMap, write_page};
 use mp_base::{Block, Group, Key, Pointer};
 use sha2::{Digest, Sha256};
 use std::collections::VecDeque;
 
-use crate::write::Write;
-
-/// Gives each of these blocks the next place.
+/// Gives each of these blocks the next place. There are places, and room for the keys.
 pub(crate) fn settle_blocks(
     map: &mut BlockMap,
     items: &mut Vec<Item>,
     writes: Vec<Write>,
     number: Group,
-) {
+)
+    requires places { length writes.items ≤ map.old.count }
+    requires room { vec_len items.old + length writes.items ≤ vec_capacity items.old }
+    requires none { vec_len items.old ≡ 0 }
+    ensures settled { AreSettled number.0 map.old map.new items.new.items }
+    ensures keys { keys_of items.new.items ≡ block_keys writes.items }
+    ensures blocks { (a : ℕ) → frozen_block items.new.items a ≡ block_at writes.items a }
+    ensures room { vec_capacity items.old ≤ vec_capacity items.new }
+{
     let mut writes = VecDeque::from_vec(writes);
     while let Some(write) = writes.pop_front() {
         let Write { addr, block } = write;
@@ -25,14 +41,26 @@ pub(crate) fn settle_blocks(
     }
 }
 
-/// Gives each of these pages the pointers below it, and the next place.
+/// Gives each of these pages the pointers below it, and the next place. There are places, room for the keys, and a buffer for
+/// each page.
 pub(crate) fn settle_pages(
     map: &mut BlockMap,
     items: &mut Vec<Item>,
     pages: &[Key],
     mut buffers: Vec<Vec<u8>>,
     number: Group,
-) {
+)
+    ghost first: { Map }
+    requires pages { All (IsPage first.blocks) pages.now }
+    requires places { length pages.now ≤ map.old.count }
+    requires room { vec_len items.old + length pages.now ≤ vec_capacity items.old }
+    requires buffers { length buffers.items ≡ length pages.now }
+    requires sizes { All (λ buffer. length buffer.items ≡ 4096) buffers.items }
+    requires before { AreSettled number.0 first map.old items.old.items }
+    ensures settled { AreSettled number.0 first map.new items.new.items }
+    ensures keys { keys_of items.new.items ≡ keys_of items.old.items ++ pages.now }
+    ensures blocks { (a : ℕ) → frozen_block items.new.items a ≡ frozen_block items.old.items a }
+{
     for page in pages {
         let mut bytes = buffers.pop().unwrap();
         fill_page(map, items, *page, &mut bytes);
@@ -41,7 +69,12 @@ pub(crate) fn settle_pages(
 }
 
 // Gives a key the least place that is free and not pinned. There is one, and room for the key.
-fn settle(map: &mut BlockMap, items: &mut Vec<Item>, key: Key, block: Block, number: Group) {
+fn settle(map: &mut BlockMap, items: &mut Vec<Item>, key: Key, block: Block, number: Group)
+    requires place { 1 ≤ map.old.count }
+    requires room { vec_len items.old < vec_capacity items.old }
+    ensures next { SettlesNext number.0 map.old map.new items.old.items items.new.items key block }
+    ensures room { vec_capacity items.old ≤ vec_capacity items.new }
+{
     let pointer = Pointer {
         birth: number,
         place: map.alloc().unwrap(),
@@ -55,7 +88,11 @@ fn settle(map: &mut BlockMap, items: &mut Vec<Item>, key: Key, block: Block, num
 }
 
 // Writes a page's bytes: the pointers of its keys, as they are once these keys are committed.
-fn fill_page(map: &BlockMap, items: &[Item], page: Key, bytes: &mut [u8]) {
+fn fill_page(map: &BlockMap, items: &[Item], page: Key, bytes: &mut [u8])
+    requires page { IsPage map.now.blocks page }
+    requires room { length bytes.old ≡ 4096 }
+    ensures { bytes.new ≡ page_bytes (children (laid items.now (pointer_at map.now)) page) }
+{
     let mut pointers = [Pointer::HOLE; 64];
     pointers.copy_from_slice(map.children(page));
     for item in items {

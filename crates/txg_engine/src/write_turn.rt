@@ -1,4 +1,10 @@
 //! A write turn: one key's bytes go to each leaf of its top that is on the board.
+ghost use Rattle.std.specs.Prelude.{◌≡◌, ℕ, ◌+◌, ◌<◌, ◌≤◌, Some, length, map, All, slice_get};
+ghost use Rattle.std.specs.List.{AllZip};
+ghost use Rattle.mirror_io.specs.Mirror.{WritesBlock, IsExcused};
+ghost use Rattle.dtl_rules.specs.Widening.{leaves_of, marks_of, sectors_of};
+ghost use Rattle.txg_engine.specs.Logs.{IsReady};
+
 use crate::fails::drop_failed;
 use crate::frozen::Frozen;
 use crate::members::Members;
@@ -11,6 +17,10 @@ use vdev_tree::Top;
 const DATA_START: u64 = 128;
 
 impl Frozen {
+    ghost use Rattle.txg_engine.specs.declared.item.Item.{Item};
+    ghost use Rattle.txg_engine.specs.Frozen.{FrozenGroup, AreSeated};
+    ghost use Rattle.txg_engine.specs.Turns.{Scene, IsWriteTurn, WritesNext, numbers_of};
+
     /// Writes the first key that wasn't written yet, on each leaf of its top that is on the board, in tree order. A leaf whose
     /// write failed leaves the board, and the others go on.
     ///
@@ -19,7 +29,18 @@ impl Frozen {
         &mut self,
         bank: &mut B,
         tops: &mut [Top],
-    ) -> Result<(), Suspended> {
+    ) -> Result<(), Suspended>
+        requires left { self.old.written < length self.old.items }
+        requires seated { AreSeated (B.view bank.old).size (sectors_of tops.old) self.old }
+        requires tops { length tops.old ≤ 8 }
+        requires ready { All (IsReady self.old.board self.old.numbers.last.0) (leaves_of tops.old) }
+        ensures turn { (item : Item) → slice_get self.old.items self.old.written ≡ Some item → IsWriteTurn (numbers_of tops.new) item
+            (record { group = self.old; leaves = leaves_of tops.old; bank = B.view bank.old })
+            (record { group = self.new; leaves = leaves_of tops.new; bank = B.view bank.new }) result }
+        ensures ready { All (IsReady self.new.board self.new.numbers.last.0) (leaves_of tops.new) }
+        ensures built { marks_of tops.new ≡ marks_of tops.old }
+        ensures sectors { sectors_of tops.new ≡ sectors_of tops.old }
+    {
         self.check(tops)?;
         let members = self
             .board
@@ -37,7 +58,16 @@ impl Frozen {
         self.check(tops)
     }
 
-    fn write_next<B: Bank>(&mut self, bank: &mut B, members: &Members, done: &mut [bool]) {
+    // Writes the next key on the devices of these members.
+    fn write_next<B: Bank>(&mut self, bank: &mut B, members: &Members, done: &mut [bool])
+        requires left { self.old.written < length self.old.items }
+        requires paired { length done.old ≡ length members.now }
+        requires within { (item : Item) → slice_get self.old.items self.old.written ≡ Some item
+            → All (λ m. 128 + item.pointer.place.sector < (B.view bank.old).size m.dev) members.now }
+        ensures group { self.new ≡ record self.old { written = self.old.written + 1 } }
+        ensures writes { (item : Item) → slice_get self.old.items self.old.written ≡ Some item
+            → WritesNext item members.now done.new (B.view bank.old) (B.view bank.new) }
+    {
         let item = &self.items[self.written];
         let devs = members.devs();
         let devs = &devs[..done.len()];
