@@ -1,5 +1,5 @@
 //! Leaves that leave the board, and numbers that are drawn.
-ghost use Rattle.std.specs.Prelude.{◌≡◌, ◌+◌, ◌^◌, ◌<◌, ◌≤◌, true, false, length, map, All};
+ghost use Rattle.std.specs.Prelude.{◌≡◌, ◌+◌, ◌^◌, ◌<◌, ◌≤◌, Some, true, false, length, map, All, slice_get};
 ghost use Rattle.dtl_rules.specs.Widening.{leaves_of, marks_of, sectors_of};
 ghost use Rattle.txg_engine.specs.Boards.{on_board, without, failed, emptied};
 ghost use Rattle.txg_engine.specs.Logs.{AreGrown, is_leaf, is_off, IsReady};
@@ -92,7 +92,16 @@ pub(crate) fn check(board: &Board, tops: &[Top], group: Group) -> Result<(), Sus
     };
     Err(Suspended {
         group,
-        top: tops[top as usize].mirror.guid(),
+        top: number_of_top(tops, top),
         faults: board.faults_under(top),
     })
+}
+
+// The member number of a top.
+pub(crate) fn number_of_top(tops: &[Top], top: u32) -> Guid
+    requires { top < length tops.now }
+    ensures { slice_get (numbers_of tops.now) top ≡ Some result }
+{
+    let top = &tops[top as usize];
+    top.mirror.guid()
 }

@@ -11,6 +11,7 @@ ghost use Rattle.txg_engine.specs.Refusing.{IsCause, need, unwritable};
 use crate::board::Board;
 use crate::freezing::FreezeFault;
 use crate::item::Item;
+use crate::leave::number_of_top;
 use crate::open::{MOST_WRITES, Open};
 use crate::pins::Pins;
 use crate::write::Write;
@@ -56,7 +57,7 @@ pub(crate) fn prepare(
     let board = Board::over(alloc, tops)?;
     if let Some(top) = board.emptied(tops.len() as u32) {
         return Err(FreezeFault::NoBoard {
-            top: tops[top as usize].mirror.guid(),
+            top: number_of_top(tops, top),
         });
     }
     let pages = dirty_pages(alloc, group)?;
