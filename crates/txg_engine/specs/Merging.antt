@@ -10,6 +10,11 @@ block_addr item = if item.key.level == 0 then Some item.key.index else None
 abbrev pub write_of : Item → Write
 write_of item = record { addr = item.key.index; block = item.block }
 
+-- The first key is taken out of its list, as a write.
+abbrev pub PopsWrite : (older older' : List Item) → Option Write → Type 0
+PopsWrite [] older' taken = (older' ≡ []) × (taken ≡ None)
+PopsWrite (item ∷ items) older' taken = (older' ≡ items) × (taken ≡ Some (write_of item))
+
 -- What is taken: nothing of two lists without writes, and else a write of the least address, the newer one where both have it.
 pub record TakesNewer (newer newer' : List Write) (taken : Option Write) : Type 0 where
   pub none : taken ≡ None → (newer ≡ []) × (newer' ≡ [])

@@ -4,7 +4,7 @@ ghost use Rattle.std.specs.Vec.{vec_capacity};
 ghost use Rattle.std.specs.VecDeque.{deque_len};
 ghost use Rattle.txg_engine.specs.Ending.{AreMerged};
 ghost use Rattle.txg_engine.specs.Frozen.{KeysRise};
-ghost use Rattle.txg_engine.specs.Merging.{block_addr, TakesNext};
+ghost use Rattle.txg_engine.specs.Merging.{block_addr, PopsWrite, TakesNext};
 ghost use Rattle.txg_engine.specs.Writes.{RiseFrom};
 
 use crate::item::Item;
@@ -61,7 +61,9 @@ fn addr_of(item: &Item) -> Option<u64>
     }
 }
 
-fn pop_write(older: &mut VecDeque<Item>) -> Option<Write> {
+fn pop_write(older: &mut VecDeque<Item>) -> Option<Write>
+    ensures { PopsWrite older.old.items older.new.items result }
+{
     let Item { key, block, .. } = older.pop_front()?;
     Some(Write {
         addr: key.index,
