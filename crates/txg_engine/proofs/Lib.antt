@@ -1,2 +1,4 @@
 pub mod EachTop
+pub mod GivenBack
 pub mod Merged
+pub mod Places

@@ -1,5 +1,5 @@
 //! Burning: a suspended group becomes open again.
-ghost use Rattle.std.specs.Prelude.{◌≡◌, ℕ, ◌+◌, ◌≤◌, length, All};
+ghost use Rattle.std.specs.Prelude.{◌≡◌, ◌+◌, ◌<◌, ◌≤◌, ◌∷◌, [], length, All};
 ghost use Rattle.std.specs.List.{AllZip};
 ghost use Rattle.block_map.specs.Places.{IsPlace};
 ghost use Rattle.dtl_rules.specs.Widening.{leaves_of, marks_of, sectors_of};
@@ -14,6 +14,7 @@ use crate::merge::merge;
 use crate::open::Open;
 use crate::pins::Pins;
 use block_map::BlockMap;
+use mp_base::Place;
 use std::collections::VecDeque;
 use vdev_tree::Top;
 
@@ -68,10 +69,21 @@ fn give_back(map: &mut BlockMap, items: &[Item], begun: bool, pins: &mut Pins)
     ensures pins { pins.new.places ≡ pins_after begun (places_of items.now) pins.old.places }
 {
     for item in items {
-        map.give_place(item.pointer.place);
-        if begun {
-            map.pin(item.pointer.place);
-            pins.push(item.pointer.place);
-        }
+        give_one(map, item.pointer.place, begun, pins);
     }
+}
+
+fn give_one(map: &mut BlockMap, place: Place, begun: bool, pins: &mut Pins)
+    requires place { IsPlace map.old.sectors place }
+    requires room { length pins.old.places < pins.old.room }
+    ensures place { GivesBack begun (place ∷ []) map.old map.new }
+    ensures pins { pins.new.places ≡ pins_after begun (place ∷ []) pins.old.places }
+    ensures room { pins.old.room ≤ pins.new.room }
+{
+    map.give_place(place);
+    if !begun {
+        return;
+    }
+    map.pin(place);
+    pins.push(place);
 }
