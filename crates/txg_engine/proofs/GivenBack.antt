@@ -4,10 +4,7 @@ use Rattle.std.proofs.lemmas.List.Elements.{Contains-append_left, Contains-appen
 use Rattle.mp_base.specs.declared.place.Place.{Place}
 use Rattle.block_map.specs.Map.{Map, is_free, is_pinned, pointer_at, SameVolume, FreeIs, PinnedIs}
 use Rattle.txg_engine.specs.Ending.{GivesBack, pins_after}
-use Rattle.txg_engine.proofs.Places.{cases_place, cases_among, only_one}
-
-pub same_volume : (old mid new : Map) → SameVolume old mid → SameVolume mid new → SameVolume old new
-same_volume old mid new first second = record { blocks = second.blocks ∙ first.blocks; sectors = second.sectors ∙ first.sectors }
+use Rattle.txg_engine.proofs.Places.{cases_place, cases_among, only_one, same_volume}
 
 -- no place is given
 pub gives_none : (begun : Bool) (map : Map) → GivesBack begun [] map map

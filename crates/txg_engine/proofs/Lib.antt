@@ -1,4 +1,6 @@
+pub mod Adopted
 pub mod EachTop
 pub mod GivenBack
 pub mod Merged
 pub mod Places
+pub mod Unpinned
