@@ -1,5 +1,6 @@
 pub mod Adopted
 pub mod EachTop
+pub mod Found
 pub mod GivenBack
 pub mod Merged
 pub mod Places
