@@ -4,10 +4,10 @@ use Rattle.std.specs.List.{insert, slice_get}
 use Rattle.std.specs.List.Sorted.{IsBinarySearchResult}
 use Rattle.std.specs.Option.{is_some}
 use Rattle.std.specs.Ordering.{nat_cmp, ordering_index}
-use Rattle.std.specs.Result.{MatchResult}
+use Rattle.std.specs.Result.{MatchResult, is_ok}
 use Rattle.std.proofs.lemmas.Bool.{cases_Bool, eqb-true, eq-eqb, ne_eqb, cond-true, cond-false}
 use Rattle.std.proofs.lemmas.Bool.Decides.{nat_tests}
-use Rattle.std.proofs.lemmas.Option.{get_or_from_slice_get, slice_get_within}
+use Rattle.std.proofs.lemmas.Option.{get_or_from_slice_get, slice_get_within, slice_get_read}
 use Rattle.txg_engine.specs.declared.write.Write.{Write}
 use Rattle.txg_engine.specs.Writes.{RiseFrom, block_at, is_written, IsGap, IsThere, IsFound}
 
@@ -130,3 +130,21 @@ module _ (addr : ℕ) (v : Write) (one : v.addr ≡ addr) where
   insert_block (w ∷ ws) (suc at) a gap =
       ap (cond (eqb w.addr a) (Some w.block)) (insert_block ws at a (gap_tail w ws addr at gap))
       ∙ cond_swap (Some w.block) (Some v.block) (block_at ws a) w.addr addr a (λ e. omega (arith, gap.before 0 w (omega arith) refl))
+
+-- whether an address was written
+pub found_written : (ws : List Write) (addr : ℕ) (r : Result ℕ ℕ) → RiseFrom 0 ws → IsFound ws addr r → is_ok r ≡ is_written ws addr
+found_written ws addr (Ok at) rise there = rw (there_some 0 ws addr at (record { addr = 0; block = [] }) rise there) refl
+found_written ws addr (Err at) rise gap = rw (gap_none ws addr at gap) refl
+
+no_write : Write
+no_write = record { addr = 0; block = [] }
+
+pub is_there : (ws : List Write) (addr at : ℕ) → RiseFrom 0 ws → IsThere ws addr at → is_written ws addr ≡ true
+is_there ws addr at rise there = ap is_some (there_some 0 ws addr at no_write rise there)
+
+pub is_not_there : (ws : List Write) (addr at : ℕ) → IsGap ws addr at → is_written ws addr ≡ false
+is_not_there ws addr at gap = ap is_some (gap_none ws addr at gap)
+
+-- the write at a place that is read
+pub there_read : (ws : List Write) (addr at : ℕ) (w : Write) → IsThere ws addr at → w ≡ get_or ws at w → w.addr ≡ addr
+there_read ws addr at w there is = there.is w (slice_get_read ws (length ws) at w refl there.inside is)

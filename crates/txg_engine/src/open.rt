@@ -1,6 +1,7 @@
 //! The open group: what was written since the last freeze.
 ghost use Rattle.std.specs.Prelude.{◌≡◌, ℕ, ◌+◌, ◌<◌, ◌≤◌, ◌==◌, true, false, [], length, Some, IfOk, OnOk, OnErr, if◌then◌else◌};
 ghost use Rattle.std.specs.Option.{option_copied};
+ghost use Rattle.std.specs.Vec.{vec_capacity};
 ghost use Rattle.txg_engine.specs.Writes.{block_at, is_written, IsFound, RiseFrom};
 
 use crate::write::Write;
@@ -82,13 +83,26 @@ impl Open {
         ensures err { OnErr result (self.new ≡ self.old) }
     {
         let block = Block::from_slice(*self.writes.allocator(), block)?;
-        match find(&self.writes, addr) {
-            Ok(at) => self.writes[at].block = block,
-            Err(at) => {
-                let _ = self.writes.insert(at, Write { addr, block });
-            }
-        }
+        put_write(&mut self.writes, addr, block);
         Ok(())
+    }
+}
+
+// Takes a write, which takes the place of an earlier one at its address.
+fn put_write(writes: &mut Vec<Write>, addr: u64, block: Block)
+    requires rise { RiseFrom 0 writes.old.items }
+    requires room { is_written writes.old.items addr ≡ false → length writes.old.items < vec_capacity writes.old }
+    ensures rise { RiseFrom 0 writes.new.items }
+    ensures blocks { (a : ℕ) → block_at writes.new.items a ≡ (if addr == a then Some block else block_at writes.old.items a) }
+    ensures count { length writes.new.items ≡ (if is_written writes.old.items addr
+        then length writes.old.items else length writes.old.items + 1) }
+    ensures room { vec_capacity writes.old ≤ vec_capacity writes.new }
+{
+    match find(writes, addr) {
+        Ok(at) => writes[at].block = block,
+        Err(at) => {
+            let _ = writes.insert(at, Write { addr, block });
+        }
     }
 }
 
