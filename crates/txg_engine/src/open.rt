@@ -70,8 +70,8 @@ impl Open {
         }
     }
 
-    /// Takes a write of 4,096 bytes. A later one at the same address takes its place. The block's own memory is all that it
-    /// takes.
+    /// Takes a write of 4,096 bytes. A later one at the same address takes its place. The block's own memory is all
+    /// that it takes.
     pub fn put(&mut self, addr: u64, block: &[u8]) -> Result<(), MemFault>
         requires block { length block.now ≡ 4096 }
         requires room { is_written self.old.writes addr ≡ false → length self.old.writes < self.old.room }
@@ -93,7 +93,8 @@ fn put_write(writes: &mut Vec<Write>, addr: u64, block: Block)
     requires rise { RiseFrom 0 writes.old.items }
     requires room { is_written writes.old.items addr ≡ false → length writes.old.items < vec_capacity writes.old }
     ensures rise { RiseFrom 0 writes.new.items }
-    ensures blocks { (a : ℕ) → block_at writes.new.items a ≡ (if addr == a then Some block else block_at writes.old.items a) }
+    ensures blocks { (a : ℕ) → block_at writes.new.items a ≡ (if addr == a then Some block
+        else block_at writes.old.items a) }
     ensures count { length writes.new.items ≡ (if is_written writes.old.items addr
         then length writes.old.items else length writes.old.items + 1) }
     ensures room { vec_capacity writes.old ≤ vec_capacity writes.new }

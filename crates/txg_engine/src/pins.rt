@@ -5,8 +5,8 @@ use mp_base::{MemFault, Place};
 use std::alloc::Global;
 use std::marker::Model;
 
-/// The places of suspended groups of which a round had begun. A crash may yet leave the record of such a round, so these
-/// places stay pinned until the next record is acknowledged.
+/// The places of suspended groups of which a round had begun. A crash may yet leave the record of such a round, so
+/// these places stay pinned until the next record is acknowledged.
 #[derive(Drop)]
 pub struct Pins {
     pub(crate) places: Vec<Place>,

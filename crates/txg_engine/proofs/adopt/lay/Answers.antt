@@ -7,9 +7,12 @@ use Rattle.txg_engine.proofs.adopt.lay.Goals.{in-Some, in_default}
 pub returns : goal.returns
 returns c =
     let item = c.args.item.now in
+    let old = c.args.map.now in
+    let mid = c.match-get.map in
+    let new = c.set.new.self in
     elim c.match-get.branch [
-      in-Some w ↦
-        lays_over item w.in-Some.old c.args.map.now c.match-get.map c.set.new.self (sym c.get.ensures.pointer ∙ w.in-Some.is) (rw w.map-is w.give_place.ensures) c.set.ensures
-    | in_default w ↦ 
-        lays_new item c.args.map.now c.set.new.self (sym c.get.ensures.pointer ∙ w.in_default.is) (subst (λ map. PointerIs map c.set.new.self item.key item.pointer) w.map-is c.set.ensures)
+      | in-Some w ↦ lays_over item w.in-Some.old old mid new (sym c.get.ensures.pointer ∙ w.in-Some.is)
+          (rw w.map-is w.give_place.ensures) c.set.ensures
+      | in_default w ↦ lays_new item old new (sym c.get.ensures.pointer ∙ w.in_default.is)
+          (subst (λ map. PointerIs map new item.key item.pointer) w.map-is c.set.ensures)
     ]

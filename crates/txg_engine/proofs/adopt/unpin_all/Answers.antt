@@ -10,4 +10,5 @@ loop-place-preserved c =
     let i = c.loop-place.place-index in
     let d : Place = record { top = 0; sector = 0 } in
     rw (take_more places i d c.loop-place-test.true)
-    (unpins_more (take i places) (get_or places i d) c.args.map.now c.loop-place.map c.unpin.new.self c.loop-place.invariant c.unpin.ensures)
+    (unpins_more (take i places) (get_or places i d) c.args.map.now c.loop-place.map c.unpin.new.self
+    c.loop-place.invariant c.unpin.ensures)

@@ -15,9 +15,12 @@ loop-item-preserved c =
     let places = places_of (take i items) in
     let place = item.pointer.place in
     let more : places_of (take (i + 1) items) ≡ places ++ place ∷ [] =
-        map_more place_of items i item (omega arith) ∙ ap (λ (x : Item). places ++ place_of x ∷ []) (sym c.item-item.is) in
+    map_more place_of items i item (omega arith) ∙ ap (λ (x : Item). places ++ place_of x ∷ []) (sym c.item-item.is) in
+    let now = c.loop-item.invariant in
     record {
-      back = rw more (gives_more begun places place c.args.map.now c.loop-item.map c.give_one.new.map c.loop-item.invariant.back c.give_one.ensures.place);
-      pins = rw more (c.give_one.ensures.pins ∙ ap (pins_after begun (place ∷ [])) c.loop-item.invariant.pins ∙ pins_more begun places c.args.pins.now.places place);
+      back = rw more (gives_more begun places place c.args.map.now c.loop-item.map c.give_one.new.map
+          now.back c.give_one.ensures.place);
+      pins = rw more (c.give_one.ensures.pins ∙ ap (pins_after begun (place ∷ [])) now.pins
+          ∙ pins_more begun places c.args.pins.now.places place);
       room = omega (arith, c.give_one.ensures.room);
     }

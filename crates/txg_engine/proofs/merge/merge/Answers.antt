@@ -25,12 +25,17 @@ pub loop-write-preserved : goal.loop-write-preserved
 loop-write-preserved c =
     let w = c.in-Some.write in
     let out = c.loop-write.out.items in
+    let older = c.loop-write.older.items in
+    let older' = c.next.new.older.items in
+    let newer = c.loop-write.newer.items in
+    let newer' = c.next.new.newer.items in
     let now = c.loop-write.invariant in
-    let steps = next_steps c.loop-write.older.items c.next.new.older.items c.loop-write.newer.items c.next.new.newer.items w now.rise
-        (rise_back 0 out c.loop-write.newer.items now.merging.newer_rise) c.in-Some.ensures in
-    let more : c.push.new.self.items ≡ out ++ w ∷ [] = c.push.ensures.items ∙ cond-true _ _ _ (c.push.ensures.succeeds (omega (arith, steps.less))) in
+    let rise = rise_back 0 out newer now.merging.newer_rise in
+    let steps = next_steps older older' newer newer' w now.rise rise c.in-Some.ensures in
+    let more : c.push.new.self.items ≡ out ++ w ∷ [] =
+    c.push.ensures.items ∙ cond-true _ _ _ (c.push.ensures.succeeds (omega (arith, steps.less))) in
     record {
-      merging = rw more (merging_more (writes_of c.loop-write.older.items) c.loop-write.newer.items (writes_of c.next.new.older.items) c.next.new.newer.items w
+      merging = rw more (merging_more (writes_of older) newer (writes_of older') newer' w
           out (writes_of c.args.older.items) c.args.newer.items now.merging steps.least);
       rise = steps.rise;
       room = rw (more, length_push) (omega (arith, steps.less, c.push.ensures.capacity));
@@ -39,7 +44,13 @@ loop-write-preserved c =
 
 pub returns-clause-merged : goal.returns-clause-merged
 returns-clause-merged c =
-    let ends = next_ends c.loop-write.older.items c.next.new.older.items c.loop-write.newer.items c.next.new.newer.items c.loop-write.invariant.rise c.in_default.ensures in
-    merged_all c.loop-write.out.items c.args.older.items c.args.newer.items
-        (subst (λ ws. IsMerging c.loop-write.out.items ws [] (writes_of c.args.older.items) c.args.newer.items) ends.0
-        (subst (λ ws. IsMerging c.loop-write.out.items (writes_of c.loop-write.older.items) ws (writes_of c.args.older.items) c.args.newer.items) ends.1 c.loop-write.invariant.merging))
+    let out = c.loop-write.out.items in
+    let older = c.loop-write.older.items in
+    let newer = c.loop-write.newer.items in
+    let old = writes_of c.args.older.items in
+    let new = c.args.newer.items in
+    let now = c.loop-write.invariant in
+    let ends = next_ends older c.next.new.older.items newer c.next.new.newer.items now.rise c.in_default.ensures in
+    merged_all out c.args.older.items new
+    (subst (λ ws. IsMerging out ws [] old new) ends.0
+    (subst (λ ws. IsMerging out (writes_of older) ws old new) ends.1 now.merging))

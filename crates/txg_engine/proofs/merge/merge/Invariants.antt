@@ -6,7 +6,8 @@ use Rattle.txg_engine.proofs.merge.merge.Given as goal
 
 abbrev pub invariant-loop-write : goal.invariant-loop-write
 invariant-loop-write l = record {
-  merging : IsMerging l.out.items (writes_of l.older.items) l.newer.items (writes_of l.fn.older.items) l.fn.newer.items;
+  merging : IsMerging l.out.items (writes_of l.older.items) l.newer.items
+      (writes_of l.fn.older.items) l.fn.newer.items;
   rise : KeysRise l.older.items;
   room : length l.out.items + (length l.older.items + length l.newer.items) ≤ vec_capacity l.out;
   capacity : vec_capacity l.fn.out ≤ vec_capacity l.out;

@@ -6,5 +6,6 @@ use Rattle.txg_engine.proofs.open.find.Goals as goal
 
 pub returns : goal.returns
 returns c =
-    is_found c.args.writes.now c.args.addr c.binary_search_by_key.result c.requires c.binary_search_by_key.ensures.bound
-    (c.binary_search_by_key.ensures.position (λ (w : Write). w.addr) (always_returns_same _ _ _ (λ a r f' k. search rules)))
+    let search_is = c.binary_search_by_key.ensures in
+    is_found c.args.writes.now c.args.addr c.binary_search_by_key.result c.requires search_is.bound
+    (search_is.position (λ (w : Write). w.addr) (always_returns_same _ _ _ (λ a r f' k. search rules)))

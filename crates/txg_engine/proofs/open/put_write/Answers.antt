@@ -12,13 +12,17 @@ pub returns-in-Ok-clause-rise : goal.returns-in-Ok-clause-rise
 returns-in-Ok-clause-rise c =
     let ws = c.args.writes.now.items in
     let there : IsThere ws c.args.addr c.in-Ok.at = rw c.deref.ensures.value at c.in-Ok.ensures in
-    set_rise c.args.addr _ (there_read ws c.args.addr c.in-Ok.at c.index_mut.result.now there c.index_mut.ensures.value) 0 ws c.in-Ok.at c.requires.rise there
+    let was = c.index_mut.result.now in
+    let same : was.addr ≡ c.args.addr = there_read ws c.args.addr c.in-Ok.at was there c.index_mut.ensures.value in
+    set_rise c.args.addr _ same 0 ws c.in-Ok.at c.requires.rise there
 
 pub returns-in-Ok-clause-blocks : goal.returns-in-Ok-clause-blocks
 returns-in-Ok-clause-blocks c = λ a.
     let ws = c.args.writes.now.items in
     let there : IsThere ws c.args.addr c.in-Ok.at = rw c.deref.ensures.value at c.in-Ok.ensures in
-    set_block c.args.addr _ (there_read ws c.args.addr c.in-Ok.at c.index_mut.result.now there c.index_mut.ensures.value) 0 ws c.in-Ok.at a c.requires.rise there
+    let was = c.index_mut.result.now in
+    let same : was.addr ≡ c.args.addr = there_read ws c.args.addr c.in-Ok.at was there c.index_mut.ensures.value in
+    set_block c.args.addr _ same 0 ws c.in-Ok.at a c.requires.rise there
 
 pub returns-in-Ok-clause-count : goal.returns-in-Ok-clause-count
 returns-in-Ok-clause-count c =
@@ -32,7 +36,8 @@ returns-in-Err-clause-rise c =
     let v : Write = record { addr = c.args.addr; block = c.args.block } in
     let gap : IsGap ws c.args.addr c.in-Err.at = rw c.deref.ensures.value at c.in-Err.ensures in
     let room = c.requires.room (is_not_there ws c.args.addr c.in-Err.at gap) in
-    let more : c.insert.new.self.items ≡ insert ws c.in-Err.at v = c.insert.ensures.items ∙ cond-true _ _ _ (c.insert.ensures.succeeds (omega arith)) in
+    let more : c.insert.new.self.items ≡ insert ws c.in-Err.at v =
+    c.insert.ensures.items ∙ cond-true _ _ _ (c.insert.ensures.succeeds (omega arith)) in
     rw more (insert_rise c.args.addr v refl 0 ws c.in-Err.at (omega arith) c.requires.rise gap)
 
 pub returns-in-Err-clause-blocks : goal.returns-in-Err-clause-blocks
@@ -41,7 +46,8 @@ returns-in-Err-clause-blocks c = λ a.
     let v : Write = record { addr = c.args.addr; block = c.args.block } in
     let gap : IsGap ws c.args.addr c.in-Err.at = rw c.deref.ensures.value at c.in-Err.ensures in
     let room = c.requires.room (is_not_there ws c.args.addr c.in-Err.at gap) in
-    let more : c.insert.new.self.items ≡ insert ws c.in-Err.at v = c.insert.ensures.items ∙ cond-true _ _ _ (c.insert.ensures.succeeds (omega arith)) in
+    let more : c.insert.new.self.items ≡ insert ws c.in-Err.at v =
+    c.insert.ensures.items ∙ cond-true _ _ _ (c.insert.ensures.succeeds (omega arith)) in
     ap (λ (xs : List Write). block_at xs a) more ∙ insert_block c.args.addr v refl ws c.in-Err.at a gap
 
 pub returns-in-Err-clause-count : goal.returns-in-Err-clause-count
@@ -51,5 +57,6 @@ returns-in-Err-clause-count c =
     let gap : IsGap ws c.args.addr c.in-Err.at = rw c.deref.ensures.value at c.in-Err.ensures in
     let none = is_not_there ws c.args.addr c.in-Err.at gap in
     let room = c.requires.room none in
-    let more : c.insert.new.self.items ≡ insert ws c.in-Err.at v = c.insert.ensures.items ∙ cond-true _ _ _ (c.insert.ensures.succeeds (omega arith)) in
+    let more : c.insert.new.self.items ≡ insert ws c.in-Err.at v =
+    c.insert.ensures.items ∙ cond-true _ _ _ (c.insert.ensures.succeeds (omega arith)) in
     ap length more ∙ length-insert ws c.in-Err.at v gap.inside ∙ sym (cond-false _ _ _ none)

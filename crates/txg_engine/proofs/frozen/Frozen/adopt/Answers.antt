@@ -19,17 +19,24 @@ loop-item-preserved c =
     let rise : KeysRise items = subst KeysRise seen c.self.invariant.rise in
     let inside : i < length items = subst (λ (xs : List Item). i < length xs) same c.loop-item-test.true in
     let here : item ≡ get_or items i item = c.item-item.is ∙ ap (λ (xs : List Item). get_or xs i item) same in
-    let lay : LaysOne (get_or items i item) c.loop-item.map c.lay.new.map = subst (λ (x : Item). LaysOne x c.loop-item.map c.lay.new.map) here c.lay.ensures in
+    let mid = c.loop-item.map in
+    let new = c.lay.new.map in
+    let lay : LaysOne (get_or items i item) mid new = subst (λ (x : Item). LaysOne x mid new) here c.lay.ensures in
     rw (take_more items i item inside)
-    (lays_more (take i items) (get_or items i item) old c.loop-item.map c.lay.new.map c.loop-item.invariant lay (laid_before items i item inside rise _))
+    (lays_more (take i items) (get_or items i item) old mid new c.loop-item.invariant lay
+    (laid_before items i item inside rise _))
 
 pub returns-clause-map : goal.returns-clause-map
 returns-clause-map c =
     let items = c.args.self.items in
     let pins = c.args.pins.now.places in
     let i = c.loop-item.item-index in
-    let seen : c.deref-item-items.result.now ≡ items = c.deref-item-items.ensures.value ∙ ap (λ (group : FrozenGroup). group.items) c.self.view_is in
+    let seen : c.deref-item-items.result.now ≡ items =
+    c.deref-item-items.ensures.value ∙ ap (λ (group : FrozenGroup). group.items) c.self.view_is in
+    let old = c.args.map.now in
+    let mid = c.loop-item.map in
+    let new = c.unpin_all.new.map in
+    let all : take i items ≡ items = take_all i items (omega (arith, ap length seen)) in
     let same : c.deref.result.now ≡ pins = c.deref.ensures.value ∙ ap (λ (p : PinsSeen). p.places) c.pins.view_is in
-    adopted_all items pins c.args.map.now c.loop-item.map c.unpin_all.new.map
-        (subst (λ (xs : List Item). LaysAll xs c.args.map.now c.loop-item.map) (take_all i items (omega (arith, ap length seen))) c.loop-item.invariant)
-        (subst (λ (ps : List Place). Unpins ps c.loop-item.map c.unpin_all.new.map) same c.unpin_all.ensures)
+    adopted_all items pins old mid new (subst (λ (xs : List Item). LaysAll xs old mid) all c.loop-item.invariant)
+    (subst (λ (ps : List Place). Unpins ps mid new) same c.unpin_all.ensures)

@@ -16,4 +16,5 @@ pub returns-in-Err : goal.returns-in-Err
 returns-in-Err c =
     let ws = c.self.inside.writes.items in
     let gap : IsGap ws c.args.addr c.in-Err.field-0 = rw c.deref.ensures.value at c.in-Err.ensures in
-    sym (gap_none ws c.args.addr c.in-Err.field-0 gap) ∙ ap (λ (group : OpenGroup). block_at group.writes c.args.addr) c.self.view_is
+    sym (gap_none ws c.args.addr c.in-Err.field-0 gap)
+    ∙ ap (λ (group : OpenGroup). block_at group.writes c.args.addr) c.self.view_is
