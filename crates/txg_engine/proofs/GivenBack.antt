@@ -1,8 +1,8 @@
 -- Places that are free again.
-use Rattle.std.proofs.Common.{◌≡◌, ℕ, ◌+◌, ◌<◌, Bool, true, false, ◌||◌, List, [], ◌∷◌, ◌++◌, length, Contains, refl, ap, sym, subst, ◌∙◌, ⊎_elim, arith, append_assoc}
+use Rattle.std.proofs.Common.{◌≡◌, Bool, true, false, ◌||◌, List, [], ◌∷◌, ◌++◌, Contains, refl, ap, sym, subst, ◌∙◌, ⊎_elim, append_assoc}
 use Rattle.std.proofs.lemmas.List.Elements.{Contains-append_left, Contains-append_right, Contains-push_cases, Contains-push}
 use Rattle.mp_base.specs.declared.place.Place.{Place}
-use Rattle.block_map.specs.Map.{Map, is_free, is_pinned, pointer_at, SameVolume, FreeIs, PinnedIs}
+use Rattle.block_map.specs.Map.{Map, is_free, is_pinned, FreeIs, PinnedIs}
 use Rattle.txg_engine.specs.Ending.{GivesBack, pins_after}
 use Rattle.txg_engine.proofs.Places.{cases_place, cases_among, only_one, same_volume}
 

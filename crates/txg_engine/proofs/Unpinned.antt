@@ -1,8 +1,8 @@
 -- Places that are not pinned any more.
-use Rattle.std.proofs.Common.{◌≡◌, ℕ, ◌+◌, ◌<◌, Bool, true, false, List, [], ◌∷◌, ◌++◌, length, Contains, refl, ap, sym, subst, ◌∙◌, ⊎_elim, arith}
-use Rattle.std.proofs.lemmas.List.Elements.{Contains-append_left, Contains-append_right, Contains-push_cases, Contains-push}
+use Rattle.std.proofs.Common.{false, List, [], ◌∷◌, ◌++◌, Contains, ap, sym, subst, ◌∙◌, ⊎_elim}
+use Rattle.std.proofs.lemmas.List.Elements.{Contains-append_left, Contains-push_cases, Contains-push}
 use Rattle.mp_base.specs.declared.place.Place.{Place}
-use Rattle.block_map.specs.Map.{Map, is_free, is_pinned, PinnedIs}
+use Rattle.block_map.specs.Map.{Map, is_pinned, PinnedIs}
 use Rattle.txg_engine.specs.Ending.{Unpins}
 use Rattle.txg_engine.proofs.Places.{cases_place, same_volume}
 

@@ -1,4 +1,4 @@
-use Rattle.std.proofs.Common.{Some, None, sym, subst, ◌∙◌}
+use Rattle.std.proofs.Common.{sym, subst, ◌∙◌}
 use Rattle.block_map.specs.Map.{PointerIs}
 use Rattle.txg_engine.proofs.Adopted.{lays_new, lays_over}
 use Rattle.txg_engine.proofs.adopt.lay.Goals as goal

@@ -1,4 +1,4 @@
-use Rattle.std.proofs.Common.{◌+◌, take, get_or}
+use Rattle.std.proofs.Common.{take, get_or}
 use Rattle.std.proofs.lemmas.List.{take_more}
 use Rattle.mp_base.specs.declared.place.Place.{Place}
 use Rattle.txg_engine.proofs.Unpinned.{unpins_more}

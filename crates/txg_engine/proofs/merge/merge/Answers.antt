@@ -1,10 +1,7 @@
-use Rattle.std.proofs.Common.{◌≡◌, ℕ, ◌+◌, ◌<◌, ◌≤◌, [], ◌∷◌, ◌++◌, length, refl, sym, ap, subst, ◌∙◌, arith}
-use Rattle.std.specs.Vec.{vec_len, vec_capacity}
+use Rattle.std.proofs.Common.{◌≡◌, [], ◌∷◌, ◌++◌, refl, subst, ◌∙◌, arith}
 use Rattle.std.proofs.lemmas.Bool.{cond-true}
 use Rattle.std.proofs.lemmas.List.{length_push}
-use Rattle.txg_engine.specs.Ending.{or_else}
-use Rattle.txg_engine.specs.Writes.{block_at}
-use Rattle.txg_engine.proofs.Merged.{writes_of, IsMerging, Steps, block_of_writes, keys_rise, next_steps, next_ends, merging_more, rise_back, merged_all}
+use Rattle.txg_engine.proofs.Merged.{writes_of, IsMerging, keys_rise, next_steps, next_ends, merging_more, rise_back, merged_all}
 use Rattle.txg_engine.proofs.merge.merge.Goals as goal
 
 pub loop-write-init : goal.loop-write-init

@@ -1,4 +1,4 @@
-use Rattle.std.proofs.Common.{ℕ, rules}
+use Rattle.std.proofs.Common.{rules}
 use Rattle.std.proofs.lemmas.Fn.{always_returns_same}
 use Rattle.txg_engine.specs.declared.write.Write.{Write}
 use Rattle.txg_engine.proofs.Found.{is_found}

@@ -1,4 +1,4 @@
-use Rattle.std.proofs.Common.{◌≡◌, List, Some, ap, sym, subst, ◌∙◌}
+use Rattle.std.proofs.Common.{Some, ap, sym, ◌∙◌}
 use Rattle.txg_engine.specs.declared.write.Write.{Write}
 use Rattle.txg_engine.specs.Writes.{OpenGroup, IsThere, IsGap, block_at}
 use Rattle.txg_engine.proofs.Found.{there_some, gap_none}
