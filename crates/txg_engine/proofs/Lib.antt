@@ -1,1 +1,2 @@
 pub mod EachTop
+pub mod Seating
