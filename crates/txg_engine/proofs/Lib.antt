@@ -1,2 +1,4 @@
+pub mod Calling
 pub mod EachTop
 pub mod Seating
+pub mod Settling

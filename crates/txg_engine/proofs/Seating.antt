@@ -3,6 +3,7 @@ use Rattle.std.proofs.Common.{◌≡◌, ℕ, zero, suc, ◌+◌, ◌-◌, ◌^�
 use Rattle.std.specs.Prelude.{slice_get}
 use Rattle.std.specs.List.{filter_map, cons_option}
 use Rattle.std.proofs.lemmas.List.{take_more, drop_more}
+use Rattle.std.proofs.lemmas.List.Elements.{filter_map-append}
 use Rattle.std.proofs.lemmas.Option.{none-some, same_Some}
 use Rattle.vdev_tree.specs.Tree.{leaves}
 use Rattle.vdev_tree.specs.declared.top.Top.{Top}
@@ -26,14 +27,6 @@ module _ {X : Type 0} where
   got_there [] i x d e = absurd (none-some x e)
   got_there (y ∷ xs) zero x d e = same_Some y x e
   got_there (y ∷ xs) (suc i) x d e = got_there xs i x d e
-
-one_more : {Y : Type 0} (o : Option Y) (xs ys : List Y) → cons_option o (xs ++ ys) ≡ cons_option o xs ++ ys
-one_more None xs ys = refl
-one_more (Some y) xs ys = refl
-
-filter_map-append : {X Y : Type 0} (f : X → Option Y) (xs ys : List X) → filter_map f (xs ++ ys) ≡ filter_map f xs ++ filter_map f ys
-filter_map-append f [] ys = refl
-filter_map-append f (x ∷ xs) ys = ap (cons_option (f x)) (filter_map-append f xs ys) ∙ one_more (f x) (filter_map f xs) (filter_map f ys)
 
 -- one leaf more has its seat
 pub seat_more : (number place : ℕ) (ls : List LeafVdev) (leaf : LeafVdev) (before now after : List Seat) → slice_get ls place ≡ Some leaf

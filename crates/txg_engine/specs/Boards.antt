@@ -34,6 +34,9 @@ is_on_as m seat = seat.on && (seat.member.guid.0 == m.0)
 abbrev pub member_of : Seat → Member
 member_of seat = seat.member
 
+abbrev pub dev_of : Member → ℕ
+dev_of m = m.dev
+
 -- who is on the board, and who of them under a top
 abbrev pub board_of : List Seat → List Member
 board_of seats = map member_of (filter is_on seats)

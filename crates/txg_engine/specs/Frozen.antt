@@ -3,7 +3,7 @@ use Rattle.std.specs.Prelude.{◌≡◌, ◌≢◌, ℕ, ◌+◌, ◌^◌, ◌<�
 use Rattle.mp_base.specs.declared.number.Group.{Group}
 use Rattle.mp_base.specs.declared.place.Key.{Key}
 use Rattle.block_map.specs.Keys.{IsBefore}
-use Rattle.block_map.specs.Places.{IsPlace}
+use Rattle.block_map.specs.Places.{IsPlace, AreTops}
 use Rattle.txg_engine.specs.declared.item.Item.{Item}
 use Rattle.txg_engine.specs.declared.seat.Numbers.{Numbers}
 use Rattle.txg_engine.specs.declared.seat.Seat.{Seat}
@@ -51,6 +51,7 @@ pub record IsSeated (size : ℕ → ℕ) (sectors : List ℕ) (seat : Seat) : Ty
 
 -- The devices of the board have room for the group's keys, and no two leaves have one device.
 pub record AreSeated (size : ℕ → ℕ) (sectors : List ℕ) (group : FrozenGroup) : Type 0 where
+  pub tops : AreTops sectors
   pub seats : All (IsSeated size sectors) group.board
   pub apart : AllPairs (λ one other. one.member.dev ≢ other.member.dev) group.board
   pub places : All (λ item. IsPlace sectors item.pointer.place) group.items
