@@ -1,4 +1,5 @@
 pub mod Calling
 pub mod EachTop
+pub mod Pages
 pub mod Seating
 pub mod Settling

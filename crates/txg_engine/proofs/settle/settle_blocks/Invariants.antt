@@ -1,5 +1,4 @@
 use Rattle.std.proofs.Common.{◌≡◌, ◌+◌, ◌≤◌, ℕ, ◌++◌, length}
-use Rattle.std.specs.Prelude.{vec_len}
 use Rattle.std.specs.Vec.{vec_capacity}
 use Rattle.txg_engine.specs.Freezing.{AreSettled, block_keys}
 use Rattle.txg_engine.specs.Items.{keys_of, frozen_block}
@@ -13,7 +12,7 @@ invariant-loop-write l = record {
   keys : keys_of l.items.items ++ block_keys l.writes.items ≡ block_keys l.initial.writes.items;
   blocks : (a : ℕ) → first_block (frozen_block l.items.items a) (block_at l.writes.items a) ≡ block_at l.initial.writes.items a;
   places : length l.writes.items ≤ l.map.count;
-  room : vec_len l.items + length l.writes.items ≤ vec_capacity l.items;
+  room : length l.items.items + length l.writes.items ≤ vec_capacity l.items;
   more : vec_capacity l.initial.items ≤ vec_capacity l.items;
 }
 
