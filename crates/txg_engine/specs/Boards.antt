@@ -51,6 +51,11 @@ has_on top seats = list_any (is_on_under top) seats
 abbrev pub on_board : List Seat → Guid → Bool
 on_board seats m = list_any (is_on_as m) seats
 
+-- how many are on the board
+abbrev pub count_on : List Seat → ℕ
+count_on [] = 0
+count_on (seat ∷ seats) = (if seat.on then 1 else 0) + count_on seats
+
 -- the first of so many tops, from this one on, that has nobody on the board
 abbrev pub emptied_from : (top count : ℕ) → List Seat → Option ℕ
 emptied_from top zero seats = None
