@@ -5,3 +5,4 @@ pub mod Pages
 pub mod Ready
 pub mod Seating
 pub mod Settling
+pub mod TurnEnds
