@@ -20,7 +20,7 @@ const DATA_START: u64 = 128;
 impl Frozen {
     ghost use Rattle.txg_engine.specs.declared.item.Item.{Item};
     ghost use Rattle.txg_engine.specs.Frozen.{FrozenGroup, AreSeated};
-    ghost use Rattle.txg_engine.specs.Turns.{Scene, IsWriteTurn, WritesItem, numbers_of};
+    ghost use Rattle.txg_engine.specs.Turns.{Scene, IsWriteTurn, numbers_of};
 
     /// Writes the first key that wasn't written yet, on each leaf of its top that is on the board, in tree order. A leaf whose
     /// write failed leaves the board, and the others go on.
@@ -48,7 +48,13 @@ impl Frozen {
             .members_under(self.items[self.written].pointer.place.top);
         let mut done = [true; MOST_LEAVES];
         let done = &mut done[..members.as_slice().len()];
-        self.write_next(bank, members.as_slice(), done);
+        write_item(
+            bank,
+            &self.items[self.written],
+            members.as_slice(),
+            done,
+        );
+        self.written += 1;
         drop_failed(
             &mut self.board,
             tops,
@@ -57,22 +63,6 @@ impl Frozen {
             done,
         );
         self.check(tops)
-    }
-
-    // Writes the next key on the devices of these members.
-    fn write_next<B: Bank>(&mut self, bank: &mut B, members: &[Member], done: &mut [bool])
-        requires few { length members.now ≤ 32 }
-        requires left { self.old.written < length self.old.items }
-        requires paired { length done.old ≡ length members.now }
-        requires sector { (item : Item) → slice_get self.old.items self.old.written ≡ Some item → item.pointer.place.sector < 2 ^ 32 }
-        requires within { (item : Item) → slice_get self.old.items self.old.written ≡ Some item
-            → All (λ m. 128 + item.pointer.place.sector < (B.view bank.old).size m.dev) members.now }
-        ensures group { self.new ≡ record self.old { written = self.old.written + 1 } }
-        ensures writes { (item : Item) → slice_get self.old.items self.old.written ≡ Some item
-            → WritesItem item members.now done.new (B.view bank.old) (B.view bank.new) }
-    {
-        write_item(bank, &self.items[self.written], members, done);
-        self.written += 1;
     }
 }
 
