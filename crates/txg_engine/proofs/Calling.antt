@@ -90,7 +90,7 @@ pub so_all : {plan : Member → List Ask} (ms : List Member) (done : List Bool) 
     → CallsSo plan (take i ms) (take i done) old new → MakesCalls plan ms done old new
 so_all {plan} ms done i {old} {new} past paired so =
     let so' : CallsSo plan ms done old new =
-        subst (λ ns. CallsSo plan ns done old new) (take_all i ms past) (subst (λ cs. CallsSo plan (take i ms) cs old new) (take_all i done (omega arith)) so) in
+    subst (λ ns. CallsSo plan ns done old new) (take_all i ms past) (subst (λ cs. CallsSo plan (take i ms) cs old new) (take_all i done (omega arith)) so) in
     record { made = so'.phase.made; calls = so'.phase.calls; phase = so'.phase.phase; excused = zip_excused old.faults new.faults ms done so'.excused }
 
 -- a phase over devices is one over the members on them

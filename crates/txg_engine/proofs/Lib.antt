@@ -6,3 +6,4 @@ pub mod Ready
 pub mod Seating
 pub mod Settling
 pub mod TurnEnds
+pub mod Unpinning

@@ -34,7 +34,7 @@ pub seat_more : (number place : ℕ) (ls : List LeafVdev) (leaf : LeafVdev) (bef
     → after ≡ before ++ filter_map (seat_of number) (take (place + 1) ls)
 seat_more number place ls leaf before now after at is is' =
     let next : take (place + 1) ls ≡ take place ls ++ leaf ∷ [] =
-        take_more ls place leaf (got_inside ls place leaf at) ∙ ap (λ l. take place ls ++ l ∷ []) (got_there ls place leaf leaf at) in
+    take_more ls place leaf (got_inside ls place leaf at) ∙ ap (λ l. take place ls ++ l ∷ []) (got_there ls place leaf leaf at) in
     is' ∙ ap (λ l. l ++ filter_map (seat_of number) (leaf ∷ [])) is ∙ append_assoc before (filter_map (seat_of number) (take place ls)) (filter_map (seat_of number) (leaf ∷ []))
     ∙ ap (λ l. before ++ l) (sym (filter_map-append (seat_of number) (take place ls) (leaf ∷ [])) ∙ ap (filter_map (seat_of number)) (sym next))
 
@@ -65,8 +65,13 @@ length-filter_map f (x ∷ xs) = omega (arith, length-one_more (f x) (filter_map
 length-seats : (first : ℕ) (tops : List Top) → length (seats_of first tops) ≤ length (leaves_of tops)
 length-seats first [] = omega arith
 length-seats first (top ∷ tops) =
-    omega (arith, length-append (leaves top.mirror) (leaves_of tops), length-append (filter_map (seat_of first) (leaves top.mirror)) (seats_of (first + 1) tops),
-    length-filter_map (seat_of first) (leaves top.mirror), length-seats (first + 1) tops)
+    omega (
+      arith,
+      length-append (leaves top.mirror) (leaves_of tops),
+      length-append (filter_map (seat_of first) (leaves top.mirror)) (seats_of (first + 1) tops),
+      length-filter_map (seat_of first) (leaves top.mirror),
+      length-seats (first + 1) tops,
+    )
 
 -- there are no more seats than leaves
 pub few_seats : (tops : List Top) (seats : List Seat) → seats ≡ seats_of 0 tops → length (leaves_of tops) ≤ 32 → length seats ≤ 32

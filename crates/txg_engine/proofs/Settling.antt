@@ -24,7 +24,7 @@ are_equal : (a b : ℕ) → a ≡ b → (a == b) ≡ true
 are_equal a b e = grind (arith, nat_tests)
 
 -- two places are one, or they aren't
-place_cases : (p q : Place) → (p ≡ q) ⊎ (p ≢ q)
+pub place_cases : (p q : Place) → (p ≡ q) ⊎ (p ≢ q)
 place_cases p q =
     ⊎_elim {A = p.top ≡ q.top} {B = p.top ≢ q.top}
     (λ top. ⊎_elim {A = p.sector ≡ q.sector} {B = p.sector ≢ q.sector}
@@ -42,7 +42,7 @@ only_one q p (zero, lt, e) = e
 only_one q p (suc k, lt, e) = absurd (omega arith)
 
 -- a place is among these, or it isn't
-contains_cases : (ps : List Place) (p : Place) → Contains ps p ⊎ (Contains ps p → ⊥)
+pub contains_cases : (ps : List Place) (p : Place) → Contains ps p ⊎ (Contains ps p → ⊥)
 contains_cases [] p = inr (λ c. absurd (omega (arith, c.1)))
 contains_cases (q ∷ ps) p =
     ⊎_elim {A = Contains ps p} {B = Contains ps p → ⊥}
@@ -150,7 +150,7 @@ pub settled_next : {number : ℕ} {old mid new : Map} {items after : List Item} 
 settled_next {number} {old} {mid} {new} {items} {after} {k} {block} so page next =
     let item = next.item in
     let filled : IsFilled (laid items (pointer_at old)) item =
-        λ level. next.block_is ∙ page (subst (λ (j : Key). 1 ≤ j.level) next.key_is level) ∙ ap (λ j. page_bytes (children (laid items (pointer_at old)) j)) (sym next.key_is) in
+    λ level. next.block_is ∙ page (subst (λ (j : Key). 1 ≤ j.level) next.key_is level) ∙ ap (λ j. page_bytes (children (laid items (pointer_at old)) j)) (sym next.key_is) in
     subst (AreSettled number old new) (sym next.more) (record {
       places = subst (AreNextPlaces old []) (sym (places_append items item))
           (places_snoc old [] (places_of items) item.pointer.place so.places (next_place old mid (places_of items) so.takes item.pointer.place next.least));

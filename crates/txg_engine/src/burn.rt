@@ -21,13 +21,7 @@ impl Frozen {
     /// Ends a suspended group. Its writes stand in the open group again, where newer ones win, its numbers leave every log and
     /// what is settled, and its places are free. Where one of its rounds had begun, a crash may leave that round's record, so
     /// the places stay pinned until the next record is acknowledged. It takes no memory.
-    pub fn burn(
-        self,
-        newer: Open,
-        map: &mut BlockMap,
-        tops: &mut [Top],
-        pins: &mut Pins,
-    ) -> Open
+    pub fn burn(self, newer: Open, map: &mut BlockMap, tops: &mut [Top], pins: &mut Pins) -> Open
         requires places { All (λ item. IsPlace map.old.sectors item.pointer.place) self.items }
         requires room { length newer.writes ≤ 4096 }
         requires pins_room { length pins.old.places + length self.items ≤ pins.old.room }

@@ -37,13 +37,7 @@ pub(crate) fn drop_failed(
 }
 
 // A call on this member failed, unless it is done.
-fn fail_unless(
-    board: &mut Board,
-    tops: &mut [Top],
-    numbers: Numbers,
-    member: Member,
-    done: bool,
-)
+fn fail_unless(board: &mut Board, tops: &mut [Top], numbers: Numbers, member: Member, done: bool)
     requires low { 1 ≤ numbers.first.0 }
     requires order { numbers.first.0 ≤ numbers.last.0 }
     requires high { numbers.last.0 ≤ 2 ^ 62 }

@@ -13,11 +13,7 @@ use std::collections::VecDeque;
 
 /// Appends the blocks of a group's keys and the newer writes, by rising addresses. At an address of both the newer one wins.
 /// There is room for all.
-pub(crate) fn merge(
-    mut older: VecDeque<Item>,
-    mut newer: VecDeque<Write>,
-    out: &mut Vec<Write>,
-)
+pub(crate) fn merge(mut older: VecDeque<Item>, mut newer: VecDeque<Write>, out: &mut Vec<Write>)
     requires none { out.old.items ≡ [] }
     requires room { deque_len older + deque_len newer ≤ vec_capacity out.old }
     requires older { KeysRise older.items }

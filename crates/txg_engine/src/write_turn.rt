@@ -26,11 +26,7 @@ impl Frozen {
     /// write failed leaves the board, and the others go on.
     ///
     /// At `Err` a top had nobody on the board: before the turn, and then no call was made, or behind it. Then `burn` is due.
-    pub fn write_turn<B: Bank>(
-        &mut self,
-        bank: &mut B,
-        tops: &mut [Top],
-    ) -> Result<(), Suspended>
+    pub fn write_turn<B: Bank>(&mut self, bank: &mut B, tops: &mut [Top]) -> Result<(), Suspended>
         requires left { self.old.written < length self.old.items }
         requires seated { AreSeated (B.view bank.old).size (sectors_of tops.old) self.old }
         requires tops { length tops.old ≤ 8 }
@@ -48,12 +44,7 @@ impl Frozen {
             .members_under(self.items[self.written].pointer.place.top);
         let mut done = [true; MOST_LEAVES];
         let done = &mut done[..members.as_slice().len()];
-        write_item(
-            bank,
-            &self.items[self.written],
-            members.as_slice(),
-            done,
-        );
+        write_item(bank, &self.items[self.written], members.as_slice(), done);
         self.written += 1;
         drop_failed(
             &mut self.board,
@@ -76,5 +67,11 @@ fn write_item<B: Bank>(bank: &mut B, item: &Item, members: &[Member], done: &mut
 {
     let devs = devs_of(members);
     let at = DATA_START + item.pointer.place.sector;
-    write_block(bank, &devs[..members.len()], at, item.block.as_bytes(), done);
+    write_block(
+        bank,
+        &devs[..members.len()],
+        at,
+        item.block.as_bytes(),
+        done,
+    );
 }

@@ -23,7 +23,7 @@ write_item-requires-clause-sector g c =
     let seated = rw (← c.self.view_is) at c.requires.seated in
     let inside : c.self.inside.written < _ = (rw (← c.self.view_is) at c.requires.left) in
     let place : IsPlace (sectors_of c.args.tops.now) c.index-2.result.now.pointer.place =
-        subst (λ (item : Item). IsPlace (sectors_of c.args.tops.now) item.pointer.place) (sym c.index-2.ensures) (seated.places c.self.inside.written c.index-2.result.now inside) in
+    subst (λ (item : Item). IsPlace (sectors_of c.args.tops.now) item.pointer.place) (sym c.index-2.ensures) (seated.places c.self.inside.written c.index-2.result.now inside) in
     small_sector (sectors_of c.args.tops.now) c.index-2.result.now.pointer.place seated.tops place
 
 pub write_item-requires-clause-within : goal.write_item-requires-clause-within
@@ -34,9 +34,9 @@ write_item-requires-clause-within g c =
     let inside : c.self.inside.written < _ = (rw (← c.self.view_is) at c.requires.left) in
     let at : Place = c.index-2.result.now.pointer.place in
     let place : IsPlace sectors at =
-        subst (λ (item : Item). IsPlace sectors item.pointer.place) (sym c.index-2.ensures) (seated.places c.self.inside.written c.index-2.result.now inside) in
+    subst (λ (item : Item). IsPlace sectors item.pointer.place) (sym c.index-2.ensures) (seated.places c.self.inside.written c.index-2.result.now inside) in
     let same : c.index.result.now ≡ c.index-2.result.now =
-        c.index.ensures ∙ any_default c.self.inside.items.items c.self.inside.written c.index.result.now c.index-2.result.now inside ∙ sym c.index-2.ensures in
+    c.index.ensures ∙ any_default c.self.inside.items.items c.self.inside.written c.index.result.now c.index-2.result.now inside ∙ sym c.index-2.ensures in
     subst (All (λ (m : Member). 128 + at.sector < size m.dev))
     (sym (c.as_slice-2.ensures.members ∙ c.members_under-members.ensures.members ∙ ap (λ (item : Item). board_under item.pointer.place.top c.self.inside.board) same))
     (members_if (λ (m : Member). 128 + at.sector < size m.dev) (IsSeated size sectors) (is_on_under at.top) (has_sector size sectors at place) c.self.inside.board seated.seats)
