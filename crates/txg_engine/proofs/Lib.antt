@@ -1,7 +1,14 @@
 pub mod Adopted
+pub mod Calling
 pub mod EachTop
+pub mod Failing
 pub mod Found
 pub mod GivenBack
 pub mod Merged
+pub mod Pages
 pub mod Places
+pub mod Ready
+pub mod Seating
+pub mod Settling
+pub mod TurnEnds
 pub mod Unpinned

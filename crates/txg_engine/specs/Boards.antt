@@ -34,6 +34,9 @@ is_on_as m seat = seat.on && (seat.member.guid.0 == m.0)
 abbrev pub member_of : Seat → Member
 member_of seat = seat.member
 
+abbrev pub dev_of : Member → ℕ
+dev_of m = m.dev
+
 -- who is on the board, and who of them under a top
 abbrev pub board_of : List Seat → List Member
 board_of seats = map member_of (filter is_on seats)
@@ -47,6 +50,11 @@ has_on top seats = list_any (is_on_under top) seats
 
 abbrev pub on_board : List Seat → Guid → Bool
 on_board seats m = list_any (is_on_as m) seats
+
+-- how many are on the board
+abbrev pub count_on : List Seat → ℕ
+count_on [] = 0
+count_on (seat ∷ seats) = (if seat.on then 1 else 0) + count_on seats
 
 -- the first of so many tops, from this one on, that has nobody on the board
 abbrev pub emptied_from : (top count : ℕ) → List Seat → Option ℕ

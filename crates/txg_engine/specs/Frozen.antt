@@ -1,14 +1,14 @@
 -- A frozen group as its callers see it.
-use Rattle.std.specs.Prelude.{◌≡◌, ◌≢◌, ℕ, ◌+◌, ◌^◌, ◌<◌, ◌≤◌, ◌==◌, Bool, true, false, List, [], ◌∷◌, length, map, count_by, slice_index, All, AllPairs}
+use Rattle.std.specs.Prelude.{◌≡◌, ◌≢◌, ℕ, ◌+◌, ◌^◌, ◌<◌, ◌≤◌, ◌==◌, Bool, true, false, List, [], ◌∷◌, length, map, slice_index, All, AllPairs}
 use Rattle.mp_base.specs.declared.number.Group.{Group}
 use Rattle.mp_base.specs.declared.place.Key.{Key}
 use Rattle.block_map.specs.Keys.{IsBefore}
-use Rattle.block_map.specs.Places.{IsPlace}
+use Rattle.block_map.specs.Places.{IsPlace, AreTops}
 use Rattle.txg_engine.specs.declared.item.Item.{Item}
 use Rattle.txg_engine.specs.declared.seat.Numbers.{Numbers}
 use Rattle.txg_engine.specs.declared.seat.Seat.{Seat}
 use Rattle.txg_engine.specs.declared.write.Write.{Write}
-use Rattle.txg_engine.specs.Boards.{is_on}
+use Rattle.txg_engine.specs.Boards.{count_on}
 
 -- Its numbers, its keys in order, how many of them were written, whether its flush turn has ended and whether a round has
 -- begun, its board, and how many writes the open group may have that it becomes.
@@ -37,7 +37,7 @@ KeysRise (item ∷ (next ∷ items)) = IsBefore item.key next.key × KeysRise (n
 pub record IsGroup (numbers : Numbers) (items : List Item) (written : ℕ) (board : List Seat) (back : List Write) (room : ℕ) : Type 0 where
   pub low : 1 ≤ numbers.first.0
   pub order : numbers.first.0 ≤ numbers.last.0
-  pub high : numbers.last.0 + count_by is_on board ≤ 2 ^ 62
+  pub high : numbers.last.0 + count_on board ≤ 2 ^ 62
   pub rise : KeysRise items
   pub levels : All (λ item. item.key.level ≤ 3) items
   pub within : written ≤ length items
@@ -51,6 +51,7 @@ pub record IsSeated (size : ℕ → ℕ) (sectors : List ℕ) (seat : Seat) : Ty
 
 -- The devices of the board have room for the group's keys, and no two leaves have one device.
 pub record AreSeated (size : ℕ → ℕ) (sectors : List ℕ) (group : FrozenGroup) : Type 0 where
+  pub tops : AreTops sectors
   pub seats : All (IsSeated size sectors) group.board
   pub apart : AllPairs (λ one other. one.member.dev ≢ other.member.dev) group.board
   pub places : All (λ item. IsPlace sectors item.pointer.place) group.items

@@ -1,5 +1,5 @@
 -- The keys of a frozen group, and the pointers that a map has with them.
-use Rattle.std.specs.Prelude.{◌≡◌, ℕ, ◌+◌, ◌/◌, ◌==◌, ◌&&◌, Bool, List, [], ◌∷◌, map, Option, Some, None, if◌then◌else◌}
+use Rattle.std.specs.Prelude.{◌≡◌, ℕ, ◌+◌, ◌-◌, ◌/◌, ◌==◌, ◌&&◌, Bool, List, [], ◌∷◌, map, Option, Some, None, if◌then◌else◌}
 use Rattle.mp_base.specs.declared.place.Key.{Key}
 use Rattle.mp_base.specs.declared.place.Place.{Place}
 use Rattle.mp_base.specs.declared.place.Pointer.{Pointer}
@@ -9,7 +9,7 @@ use Rattle.txg_engine.specs.declared.item.Item.{Item}
 
 -- the key's pointer stands in this page
 abbrev pub is_child : (page : Key) → Key → Bool
-is_child page k = (k.level + 1 == page.level) && (k.index / 64 == page.index)
+is_child page k = (k.level == page.level - 1) && (k.index / 64 == page.index)
 
 abbrev pub key_of : Item → Key
 key_of item = item.key

@@ -26,6 +26,7 @@ has_spare leaf = 1 ≤ leaf.log.spare
 pub record Grows (which : LeafVdev → Bool) (low high : ℕ) (old new : LeafVdev) : Type 0 where
   pub groups : (g : ℕ) → holds new.log g ≡ (holds old.log g || (which old && between low high g))
   pub spare : old.log.spare ≤ new.log.spare + 1
+  pub kept : which old ≡ false → old.log.spare ≤ new.log.spare
   -- where the log has a group next to them, they only lengthen a run
   pub lengthens : (g : ℕ) → low ≤ g + 1 → g ≤ high + 1 → holds old.log g ≡ true → old.log.spare ≤ new.log.spare
   pub rest : (log : Groups) → record new { log = log } ≡ record old { log = log }

@@ -65,8 +65,8 @@ pub record MakesCalls (plan : Member → List Ask) (members : List Member) (resu
   pub phase : IsPhase plan members (map (λ m. true) members) results made
   pub excused : AreExcused members results old.faults new.faults
 
-abbrev pub WritesNext : Item → List Member → (results : List Bool) → (old new : BankView) → Type 0
-WritesNext item members results old new = MakesCalls (write_plan (cell_of item)) members results old new
+abbrev pub WritesItem : Item → List Member → (results : List Bool) → (old new : BankView) → Type 0
+WritesItem item members results old new = MakesCalls (write_plan (cell_of item)) members results old new
 
 abbrev pub FlushesAll : List Member → (results : List Bool) → (old new : BankView) → Type 0
 FlushesAll members results old new = MakesCalls flush_plan members results old new

@@ -1,5 +1,5 @@
 //! The board of a frozen group: the leaves that made each of its calls so far.
-ghost use Rattle.std.specs.Prelude.{◌≡◌, ◌+◌, ◌-◌, ◌^◌, ◌≤◌, ◌++◌, min, length, map, IfOk, OnOk};
+ghost use Rattle.std.specs.Prelude.{◌≡◌, ◌+◌, ◌-◌, ◌^◌, ◌≤◌, ◌<◌, ◌∷◌, ◌++◌, [], min, length, map, IfOk, IfSome, OnOk};
 ghost use Rattle.std.specs.List.{filter_map};
 ghost use Rattle.vdev_tree.specs.Tree.{leaves};
 ghost use Rattle.vdev_tree.specs.declared.vdev.LeafVdev.{LeafVdev};
@@ -34,7 +34,8 @@ impl Model for Board {
 impl Board {
     /// Each readable leaf that has a device.
     pub(crate) fn over(alloc: Global, tops: &[Top]) -> Result<Board, MemFault>
-        requires { length (leaves_of tops.now) ≤ 32 }
+        requires tops { length tops.now ≤ 8 }
+        requires few { length (leaves_of tops.now) ≤ 32 }
         ensures { IfOk result (λ board. board ≡ seats_of 0 tops.now) }
     {
         let mut seats = Vec::with_capacity(alloc, MOST_LEAVES)?;
@@ -62,28 +63,18 @@ impl Board {
 
     /// Who is on the board.
     pub(crate) fn members(&self) -> Members
-        ensures { result ≡ board_of self.now }
+        ensures members { result ≡ board_of self.now }
+        ensures few { length result ≤ 32 }
     {
-        let mut members = Members::new();
-        for seat in &self.seats {
-            if seat.on {
-                members.push(seat.member);
-            }
-        }
-        members
+        members_of(&self.seats)
     }
 
     /// Who is on the board under a top.
     pub(crate) fn members_under(&self, top: u32) -> Members
-        ensures { result ≡ board_under top self.now }
+        ensures members { result ≡ board_under top self.now }
+        ensures few { length result ≤ 32 }
     {
-        let mut members = Members::new();
-        for seat in &self.seats {
-            if seat.on && seat.top == top {
-                members.push(seat.member);
-            }
-        }
-        members
+        members_of_top(&self.seats, top)
     }
 
     fn has_under(&self, top: u32) -> bool
@@ -94,7 +85,8 @@ impl Board {
 
     /// The first of so many tops that has nobody on the board.
     pub(crate) fn emptied(&self, tops: u32) -> Option<u32>
-        ensures { result ≡ emptied tops self.now }
+        ensures top { result ≡ emptied tops self.now }
+        ensures inside { IfSome result (λ top. top < tops) }
     {
         for top in 0..tops {
             if !self.has_under(top) {
@@ -108,44 +100,129 @@ impl Board {
     pub(crate) fn faults_under(&self, top: u32) -> u64
         ensures { result ≡ min (2 ^ 64 - 1) (faults_under top self.now) }
     {
-        let mut faults = 0u64;
-        for seat in &self.seats {
-            faults = faults.saturating_add(if seat.top == top { seat.faults } else { 0 });
-        }
-        faults
+        faults_of_top(&self.seats, top)
     }
 
     /// The leaf of this number is off the board.
     pub(crate) fn remove(&mut self, member: Guid)
         ensures { self.new ≡ map (without member) self.old }
     {
-        for seat in &mut self.seats {
-            seat.on &= seat.member.guid != member;
-        }
+        remove_from(&mut self.seats, member);
     }
 
     /// A call on the leaf of this number failed.
     pub(crate) fn count_fault(&mut self, member: Guid)
         ensures { self.new ≡ map (failed member) self.old }
     {
-        for seat in &mut self.seats {
-            if seat.member.guid == member {
-                seat.faults = seat.faults.saturating_add(1);
-            }
+        count_in(&mut self.seats, member);
+    }
+}
+
+fn members_of(seats: &[Seat]) -> Members
+    requires { length seats.now ≤ 32 }
+    ensures members { result ≡ board_of seats.now }
+    ensures few { length result ≤ 32 }
+{
+    let mut members = Members::new();
+    for seat in seats {
+        if seat.on {
+            members.push(seat.member);
         }
+    }
+    members
+}
+
+fn members_of_top(seats: &[Seat], top: u32) -> Members
+    requires { length seats.now ≤ 32 }
+    ensures members { result ≡ board_under top seats.now }
+    ensures few { length result ≤ 32 }
+{
+    let mut members = Members::new();
+    for seat in seats {
+        if seat.on && seat.top == top {
+            members.push(seat.member);
+        }
+    }
+    members
+}
+
+fn faults_of_top(seats: &[Seat], top: u32) -> u64
+    ensures { result ≡ min (2 ^ 64 - 1) (faults_under top seats.now) }
+{
+    let mut faults = 0;
+    for seat in seats {
+        faults = with_faults(faults, seat, top);
+    }
+    faults
+}
+
+// One leaf more, where it is under this top.
+fn with_faults(faults: u64, seat: &Seat, top: u32) -> u64
+    ensures { result ≡ min (2 ^ 64 - 1) (faults + faults_under top (seat.now ∷ [])) }
+{
+    if seat.top == top {
+        faults.saturating_add(seat.faults)
+    } else {
+        faults
+    }
+}
+
+fn remove_from(seats: &mut Vec<Seat>, member: Guid)
+    ensures { seats.new.items ≡ map (without member) seats.old.items }
+{
+    for i in 0..seats.len() {
+        seats[i] = without(seats[i], member);
+    }
+}
+
+fn without(seat: Seat, member: Guid) -> Seat
+    ensures { result ≡ without member seat }
+{
+    Seat {
+        on: seat.on && seat.member.guid != member,
+        ..seat
+    }
+}
+
+fn count_in(seats: &mut Vec<Seat>, member: Guid)
+    ensures { seats.new.items ≡ map (failed member) seats.old.items }
+{
+    for i in 0..seats.len() {
+        seats[i] = failed(seats[i], member);
+    }
+}
+
+fn failed(seat: Seat, member: Guid) -> Seat
+    ensures { result ≡ failed member seat }
+{
+    if seat.member.guid != member {
+        return seat;
+    }
+    Seat {
+        faults: seat.faults.saturating_add(1),
+        ..seat
     }
 }
 
 // Gives each leaf of a top that may be written a seat.
 fn seat_all(seats: &mut Vec<Seat>, top: &Top, number: u32) -> Result<(), MemFault>
+    requires { length (leaves top.now.mirror) ≤ 32 }
     ensures { OnOk result (seats.new.items ≡ seats.old.items ++ filter_map (seat_of number) (leaves top.now.mirror)) }
 {
-    let mut place = 0;
-    while let Some(leaf) = top.leaf_at(place) {
-        if let Some(seat) = seat_of(leaf, number) {
-            seats.push(seat)?;
-        }
-        place += 1;
+    for place in 0..MOST_LEAVES {
+        let Some(leaf) = top.leaf_at(place) else {
+            return Ok(());
+        };
+        seat_one(seats, leaf, number)?;
+    }
+    Ok(())
+}
+
+fn seat_one(seats: &mut Vec<Seat>, leaf: &LeafVdev, number: u32) -> Result<(), MemFault>
+    ensures { OnOk result (seats.new.items ≡ seats.old.items ++ filter_map (seat_of number) (leaf.now ∷ [])) }
+{
+    if let Some(seat) = seat_of(leaf, number) {
+        seats.push(seat)?;
     }
     Ok(())
 }

@@ -47,8 +47,7 @@ impl LeafChange for OweAll {
 
     fn change(&self, leaf: &mut LeafVdev) {
         if leaf.guid == self.member {
-            leaf.log
-                .insert_range(self.numbers.first, self.numbers.last);
+            leaf.log.insert_range(self.numbers.first, self.numbers.last);
         }
     }
 }

@@ -1,7 +1,6 @@
 //! Leaves whose calls failed in a turn.
-ghost use Rattle.std.specs.Prelude.{◌≡◌, ℕ, ◌^◌, ◌≤◌, true, length, map, All};
+ghost use Rattle.std.specs.Prelude.{◌≡◌, ℕ, ◌^◌, ◌≤◌, ◌∷◌, [], length, map, All};
 ghost use Rattle.dtl_rules.specs.Widening.{leaves_of, marks_of, sectors_of};
-ghost use Rattle.vdev_tree.specs.declared.vdev.LeafVdev.{LeafVdev};
 ghost use Rattle.txg_engine.specs.Boards.{behind_turn, without, failed};
 ghost use Rattle.txg_engine.specs.Logs.{AreBehind, Fails, IsReady};
 
@@ -33,10 +32,26 @@ pub(crate) fn drop_failed(
     ensures sectors { sectors_of tops.new ≡ sectors_of tops.old }
 {
     for i in 0..members.len() {
-        if !done[i] {
-            fail(board, tops, numbers, members[i].guid);
-        }
+        fail_unless(board, tops, numbers, members[i], done[i]);
     }
+}
+
+// A call on this member failed, unless it is done.
+fn fail_unless(board: &mut Board, tops: &mut [Top], numbers: Numbers, member: Member, done: bool)
+    requires low { 1 ≤ numbers.first.0 }
+    requires order { numbers.first.0 ≤ numbers.last.0 }
+    requires high { numbers.last.0 ≤ 2 ^ 62 }
+    requires ready { All (IsReady board.old numbers.last.0) (leaves_of tops.old) }
+    ensures board { board.new ≡ behind_turn (member ∷ []) (done ∷ []) board.old }
+    ensures leaves { AreBehind numbers (member ∷ []) (done ∷ []) (leaves_of tops.old) (leaves_of tops.new) }
+    ensures ready { All (IsReady board.new numbers.last.0) (leaves_of tops.new) }
+    ensures built { marks_of tops.new ≡ marks_of tops.old }
+    ensures sectors { sectors_of tops.new ≡ sectors_of tops.old }
+{
+    if done {
+        return;
+    }
+    fail(board, tops, numbers, member.guid);
 }
 
 // A call on this member failed.

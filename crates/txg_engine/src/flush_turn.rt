@@ -19,11 +19,7 @@ impl Frozen {
     /// board, and the others go on. Behind it each key is safe on each leaf of its top that is still on the board.
     ///
     /// At `Err` a top had nobody on the board: before the turn, and then no call was made, or behind it. Then `burn` is due.
-    pub fn flush_turn<B: Bank>(
-        &mut self,
-        bank: &mut B,
-        tops: &mut [Top],
-    ) -> Result<(), Suspended>
+    pub fn flush_turn<B: Bank>(&mut self, bank: &mut B, tops: &mut [Top]) -> Result<(), Suspended>
         requires written { self.old.written ≡ length self.old.items }
         requires unflushed { self.old.flushed ≡ false }
         requires seated { AreSeated (B.view bank.old).size (sectors_of tops.old) self.old }

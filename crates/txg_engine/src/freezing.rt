@@ -67,6 +67,7 @@ pub fn freeze(
     number: Group,
 ) -> Result<Frozen, Unfrozen>
     requires volume { All (λ write. write.addr < map.old.blocks) group.writes }
+    requires tops { length tops.old ≤ 8 }
     requires few { length (leaves_of tops.old) ≤ 32 }
     requires low { 1 ≤ number.0 }
     requires high { number.0 + 64 ≤ 2 ^ 62 }

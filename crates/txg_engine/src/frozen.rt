@@ -99,10 +99,7 @@ impl Frozen {
             level: 0,
             index: addr,
         };
-        let at = self
-            .items
-            .binary_search_by_key(&key, |item| item.key)
-            .ok()?;
+        let at = self.items.binary_search_by_key(&key, |item| item.key).ok()?;
         Some(self.items[at].block.as_bytes())
     }
 

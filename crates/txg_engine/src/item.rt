@@ -13,14 +13,14 @@ pub struct Item {
 }
 
 impl Item {
-    ghost use Rattle.std.specs.Prelude.{◌≡◌, ◌^◌, ◌<◌};
+    ghost use Rattle.std.specs.Prelude.{◌≡◌, ◌≤◌};
     ghost use Rattle.txg_engine.specs.Items.{is_child};
 
     /// Whether its pointer stands in this page.
     pub(crate) fn is_child_of(&self, page: Key) -> bool
-        requires { self.now.key.level < 2 ^ 16 }
+        requires { 1 ≤ page.level }
         ensures { result ≡ is_child page self.now.key }
     {
-        self.key.level + 1 == page.level && self.key.index / FANOUT == page.index
+        self.key.level == page.level - 1 && self.key.index / FANOUT == page.index
     }
 }

@@ -1,5 +1,6 @@
 //! Lists of members that take no memory.
 ghost use Rattle.std.specs.Prelude.{◌≡◌, ◌<◌, ◌≤◌, ◌∷◌, ◌++◌, [], length, map, take};
+ghost use Rattle.txg_engine.specs.Boards.{dev_of};
 
 use crate::seat::MOST_LEAVES;
 use label_store::Member;
@@ -52,15 +53,16 @@ impl Members {
     {
         &self.list[..self.len]
     }
+}
 
-    /// The numbers of their devices, at the front.
-    pub(crate) fn devs(&self) -> [u32; MOST_LEAVES]
-        ensures { take (length self.now) result ≡ map (λ m. m.dev) self.now }
-    {
-        let mut devs = [0; MOST_LEAVES];
-        for i in 0..self.len {
-            devs[i] = self.list[i].dev;
-        }
-        devs
+/// The numbers of the devices of these members, at the front.
+pub(crate) fn devs_of(members: &[Member]) -> [u32; MOST_LEAVES]
+    requires { length members.now ≤ 32 }
+    ensures { take (length members.now) result ≡ map dev_of members.now }
+{
+    let mut devs = [0; MOST_LEAVES];
+    for i in 0..members.len() {
+        devs[i] = members[i].dev;
     }
+    devs
 }

@@ -43,6 +43,7 @@ pub(crate) fn prepare(
     tops: &mut [Top],
     pins: &mut Pins,
 ) -> Result<Prepared, FreezeFault>
+    requires tops { length tops.old ≤ 8 }
     requires few { length (leaves_of tops.old) ≤ 32 }
     requires writes { length group.now.writes ≤ 262144 }
     ensures prepared { IfOk result (IsPrepared group.now.writes map.now tops.old) }

@@ -1,11 +1,13 @@
 //! Places, bytes and sums of a group's keys, in the order of the keys.
-ghost use Rattle.std.specs.Prelude.{◌≡◌, ℕ, ◌+◌, ◌^◌, ◌<◌, ◌≤◌, ◌++◌, length, vec_len, All};
+ghost use Rattle.std.specs.Prelude.{◌≡◌, ℕ, ◌+◌, ◌^◌, ◌<◌, ◌≤◌, ◌++◌, length, All};
 ghost use Rattle.std.specs.Vec.{vec_capacity};
+ghost use Rattle.mp_base.specs.declared.place.Key.{Key};
+ghost use Rattle.mp_base.specs.declared.place.Pointer.{Pointer};
 ghost use Rattle.block_map.specs.Keys.{IsPage};
 ghost use Rattle.block_map.specs.Map.{Map, pointer_at, children};
 ghost use Rattle.block_map.specs.Pages.{page_bytes};
 ghost use Rattle.txg_engine.specs.Freezing.{AreSettled, SettlesNext, block_keys};
-ghost use Rattle.txg_engine.specs.Items.{keys_of, frozen_block, laid};
+ghost use Rattle.txg_engine.specs.Items.{keys_of, frozen_block, laid, put};
 ghost use Rattle.txg_engine.specs.Writes.{block_at};
 
 use crate::item::{FANOUT, Item};
@@ -23,8 +25,8 @@ pub(crate) fn settle_blocks(
     number: Group,
 )
     requires places { length writes.items ≤ map.old.count }
-    requires room { vec_len items.old + length writes.items ≤ vec_capacity items.old }
-    requires none { vec_len items.old ≡ 0 }
+    requires room { length items.old.items + length writes.items ≤ vec_capacity items.old }
+    requires none { length items.old.items ≡ 0 }
     ensures settled { AreSettled number.0 map.old map.new items.new.items }
     ensures keys { keys_of items.new.items ≡ block_keys writes.items }
     ensures blocks { (a : ℕ) → frozen_block items.new.items a ≡ block_at writes.items a }
@@ -53,7 +55,7 @@ pub(crate) fn settle_pages(
     ghost first: { Map }
     requires pages { All (IsPage first.blocks) pages.now }
     requires places { length pages.now ≤ map.old.count }
-    requires room { vec_len items.old + length pages.now ≤ vec_capacity items.old }
+    requires room { length items.old.items + length pages.now ≤ vec_capacity items.old }
     requires buffers { length buffers.items ≡ length pages.now }
     requires sizes { All (λ buffer. length buffer.items ≡ 4096) buffers.items }
     requires before { AreSettled number.0 first map.old items.old.items }
@@ -62,16 +64,16 @@ pub(crate) fn settle_pages(
     ensures blocks { (a : ℕ) → frozen_block items.new.items a ≡ frozen_block items.old.items a }
 {
     for page in pages {
-        let mut bytes = buffers.pop().unwrap();
-        fill_page(map, items, *page, &mut bytes);
-        settle(map, items, *page, Block::new(bytes), number);
+        let bytes = buffers.pop().unwrap();
+        let block = page_block(map, items, *page, bytes);
+        settle(map, items, *page, block, number);
     }
 }
 
 // Gives a key the least place that is free and not pinned. There is one, and room for the key.
 fn settle(map: &mut BlockMap, items: &mut Vec<Item>, key: Key, block: Block, number: Group)
     requires place { 1 ≤ map.old.count }
-    requires room { vec_len items.old < vec_capacity items.old }
+    requires room { length items.old.items < vec_capacity items.old }
     ensures next { SettlesNext number.0 map.old map.new items.old.items items.new.items key block }
     ensures room { vec_capacity items.old ≤ vec_capacity items.new }
 {
@@ -87,6 +89,16 @@ fn settle(map: &mut BlockMap, items: &mut Vec<Item>, key: Key, block: Block, num
     });
 }
 
+// A page's block, in this memory.
+fn page_block(map: &BlockMap, items: &[Item], page: Key, mut bytes: Vec<u8>) -> Block
+    requires page { IsPage map.now.blocks page }
+    requires room { length bytes.items ≡ 4096 }
+    ensures { result ≡ page_bytes (children (laid items.now (pointer_at map.now)) page) }
+{
+    fill_page(map, items, page, &mut bytes);
+    Block::new(bytes)
+}
+
 // Writes a page's bytes: the pointers of its keys, as they are once these keys are committed.
 fn fill_page(map: &BlockMap, items: &[Item], page: Key, bytes: &mut [u8])
     requires page { IsPage map.now.blocks page }
@@ -96,9 +108,19 @@ fn fill_page(map: &BlockMap, items: &[Item], page: Key, bytes: &mut [u8])
     let mut pointers = [Pointer::HOLE; 64];
     pointers.copy_from_slice(map.children(page));
     for item in items {
-        if item.is_child_of(page) {
-            pointers[(item.key.index % FANOUT) as usize] = item.pointer;
-        }
+        put_child(&mut pointers, item, page);
     }
     write_page(&pointers, bytes);
+}
+
+// Puts a key's pointer into a page's, where it stands there.
+fn put_child(pointers: &mut [Pointer], item: &Item, page: Key)
+    requires level { 1 ≤ page.level }
+    requires size { length pointers.old ≡ 64 }
+    ensures { (at : Key → Pointer) → pointers.old ≡ children at page → pointers.new ≡ children (put item.now at) page }
+{
+    if !item.is_child_of(page) {
+        return;
+    }
+    pointers[(item.key.index % FANOUT) as usize] = item.pointer;
 }

@@ -1,15 +1,16 @@
 //! A write turn: one key's bytes go to each leaf of its top that is on the board.
-ghost use Rattle.std.specs.Prelude.{◌≡◌, ℕ, ◌+◌, ◌<◌, ◌≤◌, Some, length, map, All, slice_get};
-ghost use Rattle.std.specs.List.{AllZip};
-ghost use Rattle.mirror_io.specs.Mirror.{WritesBlock, IsExcused};
+ghost use Rattle.std.specs.Prelude.{◌≡◌, ℕ, ◌+◌, ◌^◌, ◌<◌, ◌≤◌, Some, length, map, All, slice_get};
 ghost use Rattle.dtl_rules.specs.Widening.{leaves_of, marks_of, sectors_of};
 ghost use Rattle.txg_engine.specs.Logs.{IsReady};
+ghost use Rattle.txg_engine.specs.Turns.{WritesItem};
 
 use crate::fails::drop_failed;
 use crate::frozen::Frozen;
-use crate::members::Members;
+use crate::item::Item;
+use crate::members::devs_of;
 use crate::seat::{MOST_LEAVES, Suspended};
 use bank_core::Bank;
+use label_store::Member;
 use mirror_io::write_block;
 use vdev_tree::Top;
 
@@ -19,17 +20,13 @@ const DATA_START: u64 = 128;
 impl Frozen {
     ghost use Rattle.txg_engine.specs.declared.item.Item.{Item};
     ghost use Rattle.txg_engine.specs.Frozen.{FrozenGroup, AreSeated};
-    ghost use Rattle.txg_engine.specs.Turns.{Scene, IsWriteTurn, WritesNext, numbers_of};
+    ghost use Rattle.txg_engine.specs.Turns.{Scene, IsWriteTurn, numbers_of};
 
     /// Writes the first key that wasn't written yet, on each leaf of its top that is on the board, in tree order. A leaf whose
     /// write failed leaves the board, and the others go on.
     ///
     /// At `Err` a top had nobody on the board: before the turn, and then no call was made, or behind it. Then `burn` is due.
-    pub fn write_turn<B: Bank>(
-        &mut self,
-        bank: &mut B,
-        tops: &mut [Top],
-    ) -> Result<(), Suspended>
+    pub fn write_turn<B: Bank>(&mut self, bank: &mut B, tops: &mut [Top]) -> Result<(), Suspended>
         requires left { self.old.written < length self.old.items }
         requires seated { AreSeated (B.view bank.old).size (sectors_of tops.old) self.old }
         requires tops { length tops.old ≤ 8 }
@@ -47,7 +44,8 @@ impl Frozen {
             .members_under(self.items[self.written].pointer.place.top);
         let mut done = [true; MOST_LEAVES];
         let done = &mut done[..members.as_slice().len()];
-        self.write_next(bank, &members, done);
+        write_item(bank, &self.items[self.written], members.as_slice(), done);
+        self.written += 1;
         drop_failed(
             &mut self.board,
             tops,
@@ -57,22 +55,23 @@ impl Frozen {
         );
         self.check(tops)
     }
+}
 
-    // Writes the next key on the devices of these members.
-    fn write_next<B: Bank>(&mut self, bank: &mut B, members: &Members, done: &mut [bool])
-        requires left { self.old.written < length self.old.items }
-        requires paired { length done.old ≡ length members.now }
-        requires within { (item : Item) → slice_get self.old.items self.old.written ≡ Some item
-            → All (λ m. 128 + item.pointer.place.sector < (B.view bank.old).size m.dev) members.now }
-        ensures group { self.new ≡ record self.old { written = self.old.written + 1 } }
-        ensures writes { (item : Item) → slice_get self.old.items self.old.written ≡ Some item
-            → WritesNext item members.now done.new (B.view bank.old) (B.view bank.new) }
-    {
-        let item = &self.items[self.written];
-        let devs = members.devs();
-        let devs = &devs[..done.len()];
-        let at = DATA_START + item.pointer.place.sector;
-        write_block(bank, devs, at, item.block.as_bytes(), done);
-        self.written += 1;
-    }
+// Writes a key's bytes on the devices of these members, and says of each whether it took them.
+fn write_item<B: Bank>(bank: &mut B, item: &Item, members: &[Member], done: &mut [bool])
+    requires few { length members.now ≤ 32 }
+    requires paired { length done.old ≡ length members.now }
+    requires sector { item.now.pointer.place.sector < 2 ^ 32 }
+    requires within { All (λ m. 128 + item.now.pointer.place.sector < (B.view bank.old).size m.dev) members.now }
+    ensures { WritesItem item.now members.now done.new (B.view bank.old) (B.view bank.new) }
+{
+    let devs = devs_of(members);
+    let at = DATA_START + item.pointer.place.sector;
+    write_block(
+        bank,
+        &devs[..members.len()],
+        at,
+        item.block.as_bytes(),
+        done,
+    );
 }

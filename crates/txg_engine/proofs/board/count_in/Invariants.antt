@@ -1,0 +1,6 @@
+use Rattle.std.proofs.Common.{◌≡◌, ◌++◌, map, take, drop}
+use Rattle.txg_engine.specs.Boards.{failed}
+use Rattle.txg_engine.proofs.board.count_in.Given as goal
+
+abbrev pub invariant-loop-i : goal.invariant-loop-i
+invariant-loop-i l = l.seats.items ≡ map (failed l.member) (take l.i l.initial.seats.items) ++ drop l.i l.initial.seats.items

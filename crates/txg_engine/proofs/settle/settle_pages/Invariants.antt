@@ -1,0 +1,17 @@
+use Rattle.std.proofs.Common.{◌≡◌, ◌+◌, ◌-◌, ◌≤◌, ℕ, ◌++◌, length, take}
+use Rattle.std.specs.Prelude.{All}
+use Rattle.std.specs.Vec.{vec_capacity}
+use Rattle.txg_engine.specs.Freezing.{AreSettled}
+use Rattle.txg_engine.specs.Items.{keys_of, frozen_block}
+use Rattle.txg_engine.proofs.settle.settle_pages.Given as goal
+
+abbrev pub invariant-loop-page : goal.invariant-loop-page
+invariant-loop-page g l = record {
+  settled : AreSettled l.number.0 g.first l.map l.items.items;
+  keys : keys_of l.items.items ≡ keys_of l.initial.items.items ++ take l.page-index l.pages;
+  blocks : (a : ℕ) → frozen_block l.items.items a ≡ frozen_block l.initial.items.items a;
+  places : length l.pages ≤ l.page-index + l.map.count;
+  room : length l.items.items + length l.pages ≤ vec_capacity l.items + l.page-index;
+  buffers : l.page-index + length l.buffers.items ≡ length l.pages;
+  sizes : All (λ buffer. length buffer.items ≡ 4096) l.buffers.items;
+}
