@@ -7,6 +7,7 @@ use Rattle.mp_base.specs.declared.place.Key.{Key}
 use Rattle.bank_core.specs.declared.bank.Fault.{Fault}
 use Rattle.bank_core.specs.Calls.{device_of, fault_of}
 use Rattle.bank_core.specs.Disk.{Read, Noted, Sectors, Answers, AllAnswer, as_found, run}
+use Rattle.label_store.specs.Newest.{IsRead, AreReads}
 use Rattle.mirror_io.specs.declared.copies.CopyOf.{CopyOf}
 use Rattle.mirror_io.specs.Copies.{is_due, tries}
 use Rattle.mirror_io.specs.Mirror.{IsHealed}
@@ -113,6 +114,18 @@ tried_good at Good (copy ∷ more) (noted ∷ made) wrong bytes (inr (inr (found
     some_same : (a b : List ℕ) → Some a ≡ Some b → a ≡ b
     some_same a b e = cc
 
+-- and all calls are reads
+pub tried_reads : (at : ℕ) (Good : List ℕ → Type 0) (copies : List CopyOf) (made : List Noted) (wrong : List CopyOf) (outcome : Option (List ℕ))
+    → AreTried at Good copies made wrong outcome → AreReads made
+tried_reads at Good [] made wrong outcome tried = subst AreReads (sym tried.0) tt
+tried_reads at Good (copy ∷ more) [] wrong outcome tried = tt
+tried_reads at Good (copy ∷ more) (noted ∷ made) wrong outcome (inl (fails, rest)) =
+    (subst IsRead (sym fails.gives.is) tt, tried_reads at Good more made wrong outcome rest)
+tried_reads at Good (copy ∷ more) (noted ∷ made) wrong outcome (inr (inl (others, bytes, gave, wrong_is, rest))) =
+    (subst IsRead (sym gave.gives.is) tt, tried_reads at Good more made others outcome rest)
+tried_reads at Good (copy ∷ more) (noted ∷ made) wrong outcome (inr (inr (bytes, gave, made_is, wrong_is, outcome_is))) =
+    (subst IsRead (sym gave.gives.is) tt, subst AreReads (sym made_is) tt)
+
 -- A leaf that has a device is as the history has it there.
 pub record IsTrueLeaf (member : ℕ → Bool) (in_top : ℕ → ℕ) (owes : Logs) (leaf : LeafSeen) : Type 0 where
   pub is_member : (d : ℕ) → leaf.dev ≡ Some d → member d ≡ true
@@ -198,10 +211,10 @@ cell_of (Some c) sum is = (c, refl, same is)
     same e = cc
 
 -- One page: it may be read and its wrong copies rewritten, or its bytes clash.
-turn_may : (x : Reading) (r : Rec) (p : Pool) (turn : PageTurn) → IsOn x r p → IsPageTurn x turn → IsRightTurn x r turn.level turn.index
-    → AllAnswer p.sectors (turn.reads ++ turn.rewrites)
-    → Mays x.codec p (as_events (turn.reads ++ turn.rewrites)) ⊎ ClashesAt r.cells x.found
-turn_may x r p turn on is right answers = subst Goal cell.2 whole is.tried is.healed
+pub turn_may : (x : Reading) (r : Rec) (p : Pool) (turn : PageTurn) (found : Key → Option (List ℕ)) → IsOn x r p → (is : IsPageTurn x turn)
+    → found (page_of turn) ≡ Some is.bytes → IsRightTurn x r turn.level turn.index → AllAnswer p.sectors (turn.reads ++ turn.rewrites)
+    → Mays x.codec p (as_events (turn.reads ++ turn.rewrites)) ⊎ ClashesAt r.cells found
+turn_may x r p turn found on is here right answers = subst Goal cell.2 whole is.tried is.healed
   where
     cell : (c : Cell) × (r.cells (page_of turn) ≡ Some c) × (sum_of_cell c ≡ is.sum)
     cell = cell_of (r.cells (page_of turn)) is.sum (sym right.pointer ∙ is.sum_is)
@@ -210,7 +223,7 @@ turn_may x r p turn on is right answers = subst Goal cell.2 whole is.tried is.he
     Goal sum = AreTried (data_start + sum.sector) (IsPageHere x turn.level turn.index sum) (tries (copies_of sum x.leaves)) turn.reads turn.wrong
         (Some is.bytes)
         → IsHealed (data_start + sum.sector) (Some is.bytes) turn.wrong turn.rewrites
-        → Mays x.codec p (as_events (turn.reads ++ turn.rewrites)) ⊎ ClashesAt r.cells x.found
+        → Mays x.codec p (as_events (turn.reads ++ turn.rewrites)) ⊎ ClashesAt r.cells found
 
     at : p.reads.cells (page_of turn) ≡ Some cell.0
     at = on.reads_is (page_of turn) ∙ cell.1
@@ -228,7 +241,7 @@ turn_may x r p turn on is right answers = subst Goal cell.2 whole is.tried is.he
           cell = cell.0;
           cell_is = cell.1;
           bytes = is.bytes;
-          bytes_are = is.bytes_are;
+          bytes_are = here;
           clash = record {
             other = other;
             same_sum = (tried_good (data_start + cell.0.sector) (IsPageHere x turn.level turn.index (sum_of_cell cell.0))
@@ -256,7 +269,7 @@ turns_may x r p (turn ∷ turns) on each right answers = ⊎_elim
     (turns_may x r (with_calls (turn.reads ++ turn.rewrites) p) turns (on_behind x r p (turn.reads ++ turn.rewrites) on may) each.1 right.1
     (answers_behind (turn.reads ++ turn.rewrites) (calls_of_turns turns) p.sectors answers)))
     (λ clash. inr clash)
-    (turn_may x r p turn on each.0 right.0 (answers_front (turn.reads ++ turn.rewrites) (calls_of_turns turns) p.sectors answers))
+    (turn_may x r p turn x.found on each.0 each.0.bytes_are right.0 (answers_front (turn.reads ++ turn.rewrites) (calls_of_turns turns) p.sectors answers))
 
 -- A page none of whose copies is good.
 pub stop_may : (x : Reading) (r : Rec) (p : Pool) (level index : ℕ) (sum : Sum) (reads : List Noted) (wrong : List CopyOf)
