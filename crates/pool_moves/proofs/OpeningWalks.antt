@@ -325,14 +325,15 @@ module _ (c : Codec) (size : ℕ → ℕ) (handed : List ℕ → Option ℕ) (na
   turns_each : (turns : List PageTurn) (p1 : Pool) → AllByRecursion (IsPageTurn x) turns
       → AllByRecursion (λ turn. IsReadTo x (λ k. is_read_before k (page_of turn))) turns → IsOn x r p1
       → AllAnswer p1.sectors (calls_of_turns turns ++ o.row.last) → AreReads o.row.last → MayTurns c p1 r.cells x.found turns o.row.last
-  turns_each [] p1 each backs on answers reads = reads_may c p1 o.row.last reads
-  turns_each (turn ∷ turns) p1 each backs on answers reads = (
+  turns_each [] p1 each backs has answers reads = reads_may c p1 o.row.last reads
+  turns_each (turn ∷ turns) p1 each backs has answers reads = (
     reads_may c p1 turn.reads (tried_reads (data_start + each.0.sum.sector) (IsPageHere x turn.level turn.index each.0.sum)
         (tries (copies_of each.0.sum x.leaves)) turn.reads turn.wrong (Some each.0.bytes) each.0.tried),
-    λ none. let may = turn_when turn p1 each.0 backs.0 on (answers_front mine (calls_of_turns turns) p1.sectors (answers_front (mine ++ calls_of_turns turns) o.row.last p1.sectors answers)) none in (
+    λ none. let may = turn_when turn p1 each.0 backs.0 has (answers_front mine (calls_of_turns turns) p1.sectors
+        (answers_front (mine ++ calls_of_turns turns) o.row.last p1.sectors answers)) none in (
       mays_second c (as_events turn.reads) (as_events turn.rewrites) p1 (subst (Mays c p1) (events_more turn.reads turn.rewrites) may),
       subst (λ u. MayTurns c u r.cells x.found turns o.row.last) end_is
-          (turns_each turns (with_calls mine p1) each.1 backs.1 (on_behind x r p1 mine on may)
+          (turns_each turns (with_calls mine p1) each.1 backs.1 (on_behind x r p1 mine has may)
           (answers_behind mine (calls_of_turns turns ++ o.row.last) p1.sectors
           (subst (AllAnswer p1.sectors) (append_assoc mine (calls_of_turns turns) o.row.last) answers)) reads),
     ),

@@ -19,7 +19,7 @@ use Rattle.pool_moves.specs.Keeping.{Kept}
 use Rattle.pool_moves.specs.Leaves.{LeafSeen}
 use Rattle.pool_moves.specs.LineRows.{TurnReply, Idle, Write, Flush, Round, Committed, Suspended}
 use Rattle.pool_moves.specs.Moves.{Move, Freeze, Scan_from, state_step, steps, after_moves}
-use Rattle.pool_moves.specs.OpeningRow.{IsLiveOne, SeekReply, NoRecord, NumbersEnd, TakesRecord, taken_by, last_numbers, OpenReply, Opens_state, NoPage, lacking_of, Resumes, ResumesUnless, RowResume}
+use Rattle.pool_moves.specs.OpeningRow.{IsLiveOne, SeekReply, NoRecord, NumbersEnd, TakesRecord, taken_by, last_numbers, OpenReply, Opens_state, NoPage, page_calls, lacking_of, Resumes, ResumesUnless, RowResume}
 use Rattle.pool_moves.specs.FreezeRow.{up_devs}
 use Rattle.pool_moves.specs.Opened.{opened_leaves}
 use Rattle.pool_moves.specs.PageReads.{LeafShown, failed_on, answers_in}
@@ -28,13 +28,13 @@ use Rattle.pool_moves.specs.States.{PoolSeen, PoolState, Side}
 use Rattle.pool_moves.proofs.FreeWalks.{moves_more}
 use Rattle.pool_moves.proofs.Keeping.{walk_keeps}
 use Rattle.pool_moves.proofs.ResilverWalks.{resume_walks}
-use Rattle.pool_runs.specs.Acts.{Act, Opening, Looked, Enters, does, bare, read_by, pool_along, calls_along, Does, Reads_as}
+use Rattle.pool_runs.specs.Acts.{Act, Opening, Seeks_by, Marks, Looked, Enters, does, bare, read_by, pool_along, calls_along, Does, Reads_as}
 use Rattle.pool_runs.specs.Committing.{OpensLive, opening_in, LosesPage, FindsPool}
 use Rattle.pool_runs.specs.Devices.{size_in, handed}
 use Rattle.pool_runs.specs.Fairness.{AreFair}
 use Rattle.pool_runs.specs.HostRows.{AreMade}
 use Rattle.pool_runs.specs.Hosts.{Host, named, host_by, host_along, moved}
-use Rattle.pool_runs.specs.Importing.{read_in, all_shown, OpensBy, FollowsMap, OpensFound, ImportBy, host_behind, Imports, ImportFor, ImportUnless, RowImport}
+use Rattle.pool_runs.specs.Importing.{read_in, all_shown, map_acts, OpensBy, FollowsMap, OpensFound, ImportBy, host_behind, Imports, ImportFor, ImportUnless, RowImport}
 use Rattle.pool_runs.specs.Lines.{Reply, To_import, ImportReply, Opened, NameOpen, TooManyPools, NothingFound, LastNumber, PageLost}
 use Rattle.pool_runs.proofs.Acting.{same_number, calls_number}
 use Rattle.pool_runs.proofs.Committing.{numbers_up, IsAckedAs, ends_acked, ends_before, group_commits, frozen_writes, written_kind, writes_kind, KeepsWritten, KeepsWrites, written_along, writes_along, kept_blocks, does_pool}
@@ -45,7 +45,8 @@ use Rattle.pool_runs.proofs.Moments.{host_more, bare_host}
 use Rattle.std.proofs.lemmas.Slice.Eq.{bytes_eq-Decides}
 use Rattle.pool_runs.proofs.GroupMoves.{more, all_group, all_uncounts, all_reopen}
 use Rattle.pool_moves.proofs.CommitWalks.{uncounts_set}
-use Rattle.pool_runs.proofs.Importing.{bare_calls, looks_along, opening_of, OpeningFacts, opening_calls, opening_facts, look_facts, taken_live}
+use Rattle.pool_runs.proofs.Importing.{looks_along, opening_of, OpeningFacts, opening_calls, opening_facts, opening_fair, look_facts, taken_live}
+use Rattle.pool_runs.proofs.OpeningActs.{bare_calls, bare_more, bare_fair, shown_more, map_more, map_split}
 
 -- The commit of an opening.
 resilver_written : (s : PoolSeen) (vs : List Move) → Resilvers s vs → AllByRecursion KeepsWritten vs × AllByRecursion KeepsWrites vs
@@ -108,20 +109,6 @@ resumed_by : (top : Option ℕ) (c : Codec) (size : ℕ → ℕ) (s : PoolState)
 resumed_by (Some top) c size s t vs n kept row = absurd (let no = row.1 in cc)
 resumed_by None c size s t vs n kept row = resumed c size s t vs n kept row
 
--- Pools behind acts of an opening.
-bare_more : (made : List Noted) (more : List Act) (p : Pool) → pool_along (bare made ++ more) p ≡ pool_along more (pool_after (as_events made) p)
-bare_more [] more p = refl
-bare_more (noted ∷ made) more p = bare_more made more (after (Calls noted) p)
-
-shown_more : (g : ℕ) (known : Known) (devs : List (Option ℕ)) (more : List Act) (p : Pool) → pool_along (all_shown g known devs ++ more) p ≡ pool_along more p
-shown_more g known [] more p = refl
-shown_more g known (None ∷ devs) more p = shown_more g known devs more p
-shown_more g known (Some d ∷ devs) more p = shown_more g known devs more p
-
-bare_fair : (c : Codec) (made : List Noted) (more : List Act) (p : Pool) → AreFair c p (bare made ++ more) → AreFair c (pool_after (as_events made) p) more
-bare_fair c [] more p fair = fair
-bare_fair c (noted ∷ made) more p fair = bare_fair c made more (after (Calls noted) p) fair.1
-
 -- An opening of a record that was found.
 opened_number : (a b : ℕ) → To_import (Opened a) ≡ To_import (Opened b) → a ≡ b
 opened_number a b e = cc
@@ -137,13 +124,19 @@ opens_behind : (c : Codec) (h : Host) (p : Pool) (name : List ℕ) (found : Foun
     → pool_along acts p ≡ pool_along opens.rest (pool_after (as_events opens.made) (after (Opens (read_by (opening_of c h name found acts reply opens) p)) p))
 opens_behind c h p name found acts reply opens number = let g = found.pool.0 in let r = read_by (opening_of c h name found acts reply opens) p in
     ap (λ a. pool_along a p) opens.are
-    ∙ (ap (λ vs. pool_along (bare opens.row.ids ++ (all_shown g (read_in opens.row.ids) opens.row.devs ++ (bare opens.row.pages ++ opens.rest))) (pool_after vs p))
+    ∙ (ap (λ vs. pool_along (bare opens.row.ids ++ (all_shown g (read_in opens.row.ids) opens.row.devs ++ (mark ∷ turned))) (pool_after vs p))
     (ap (λ t. cond t (Opens r ∷ []) []) (same_number p.pool.0 found.pool.0 number))
-    ∙ (bare_more opens.row.ids (all_shown g (read_in opens.row.ids) opens.row.devs ++ (bare opens.row.pages ++ opens.rest)) (after (Opens r) p)
-    ∙ (shown_more g (read_in opens.row.ids) opens.row.devs (bare opens.row.pages ++ opens.rest) (pool_after (as_events opens.row.ids) (after (Opens r) p))
-    ∙ (bare_more opens.row.pages opens.rest (pool_after (as_events opens.row.ids) (after (Opens r) p))
-    ∙ ap (pool_along opens.rest) (sym (ap (λ vs. pool_after vs (after (Opens r) p)) (ap as_events opens.row.calls ∙ events_more opens.row.ids opens.row.pages)
-    ∙ pool_more (as_events opens.row.ids) (as_events opens.row.pages) (after (Opens r) p)))))))
+    ∙ (bare_more opens.row.ids (all_shown g (read_in opens.row.ids) opens.row.devs ++ (mark ∷ turned)) (after (Opens r) p)
+    ∙ (shown_more g (read_in opens.row.ids) opens.row.devs (mark ∷ turned) (pool_after (as_events opens.row.ids) (after (Opens r) p))
+    ∙ (map_more g opens.row.bytes opens.row.turns opens.row.last opens.rest (pool_after (as_events opens.row.ids) (after (Opens r) p))
+    ∙ ap (pool_along opens.rest) (sym (ap (λ vs. pool_after vs (after (Opens r) p)) (ap as_events opens.row.calls ∙ events_more opens.row.ids (page_calls opens.row))
+    ∙ pool_more (as_events opens.row.ids) (as_events (page_calls opens.row)) (after (Opens r) p)))))))
+  where
+    mark : Act
+    mark = Marks found.pool.0 (Seeks_by opens.row.ids opens.row.devs)
+
+    turned : List Act
+    turned = map_acts found.pool.0 opens.row.bytes opens.row.turns opens.row.last opens.rest
 
 -- the pool that enters and makes its moves is the open one of its name
 does_head : (g : ℕ) (vs : List Move) (s : PoolState) (pools : List PoolState) (h : Host) → h.pools ≡ s ∷ pools → s.core.pool.0 ≡ g
@@ -190,7 +183,8 @@ opens_live c h p before name found acts reply n knows live titled made fair open
     number = sym (ap (λ x. x.0) live.is.pool_is)
 
     facts : OpeningFacts c h p name found acts reply opens
-    facts = opening_facts c h p name found acts reply live.one opens knows live.is made ((subst (AreFair c p) opens.are fair).0 number)
+    facts = opening_facts c h p name found acts reply live.one opens knows live.is made
+        (opening_fair c h p name found acts reply live.one opens knows live.is number fair)
 
     q : Pool
     q = pool_after (as_events opens.made) (after (Opens r) p)
@@ -202,12 +196,18 @@ opens_live c h p before name found acts reply n knows live titled made fair open
     shown : List Act
     shown = all_shown g (read_in opens.row.ids) opens.row.devs
 
+    pages : List Act
+    pages = Marks g (Seeks_by opens.row.ids opens.row.devs) ∷ map_acts g opens.row.bytes opens.row.turns opens.row.last []
+
     early : List Act
-    early = Reads_as opening ∷ (bare opens.row.ids ++ (shown ++ bare opens.row.pages))
+    early = Reads_as opening ∷ (bare opens.row.ids ++ (shown ++ pages))
 
     acts_are : acts ≡ early ++ opens.rest
-    acts_are = opens.are ∙ ap (λ l. Reads_as opening ∷ l) (ap (λ l. bare opens.row.ids ++ l) (sym (append_assoc shown (bare opens.row.pages) opens.rest))
-        ∙ sym (append_assoc (bare opens.row.ids) (shown ++ bare opens.row.pages) opens.rest))
+    acts_are = opens.are ∙ ap (λ l. Reads_as opening ∷ l)
+        (ap (λ l. bare opens.row.ids ++ (shown ++ (Marks g (Seeks_by opens.row.ids opens.row.devs) ∷ l)))
+        (map_split g opens.row.bytes opens.row.turns opens.row.last opens.rest)
+        ∙ (ap (λ l. bare opens.row.ids ++ l) (sym (append_assoc shown pages opens.rest))
+        ∙ sym (append_assoc (bare opens.row.ids) (shown ++ pages) opens.rest)))
 
     q_written : q.written ≡ block_at r
     q_written = ap (λ x. x.written) (calls_after opens.made (after (Opens r) p))
@@ -315,7 +315,8 @@ opens_loses c h p before name found acts reply page shown knows live made fair o
     number = sym (ap (λ x. x.0) live.is.pool_is)
 
     facts : OpeningFacts c h p name found acts reply opens
-    facts = opening_facts c h p name found acts reply live.one opens knows live.is made ((subst (AreFair c p) opens.are fair).0 number)
+    facts = opening_facts c h p name found acts reply live.one opens knows live.is made
+        (opening_fair c h p name found acts reply live.one opens knows live.is number fair)
 
     q : Pool
     q = pool_after (as_events opens.made) (after (Opens r) p)
@@ -327,9 +328,9 @@ opens_loses c h p before name found acts reply page shown knows live made fair o
     leaves = opened_leaves (c.leaves found.blob.items) opens.row.devs
 
     -- each call of the pages is one of the line
-    among : (d : ℕ) → failed_on opens.row.pages d ≡ true → failed_on (calls_along acts) d ≡ true
+    among : (d : ℕ) → failed_on (page_calls opens.row) d ≡ true → failed_on (calls_along acts) d ≡ true
     among d is = subst (λ made. failed_on made d ≡ true) (sym (opening_calls c h name found acts reply opens))
-        (failed_first opens.made (calls_along opens.rest) d (subst (λ made. failed_on made d ≡ true) (sym opens.row.calls) (failed_more opens.row.ids opens.row.pages d is)))
+        (failed_first opens.made (calls_along opens.rest) d (subst (λ made. failed_on made d ≡ true) (sym opens.row.calls) (failed_more opens.row.ids (page_calls opens.row) d is)))
 
     lost : (k : Key) (ks : List LeafShown) → opens.outcome ≡ NoPage k ks → opens.rest ≡ [] → LosesPage c before (pool_along acts p) acts
     lost k ks out none = record {
@@ -338,8 +339,8 @@ opens_loses c h p before name found acts reply page shown knows live made fair o
       r = r;
       live = subst (IsIn r) live.same facts.is.is_live;
       is = facts.is.config_is;
-      none = λ good. facts.pages k ks out (more_good q r (answers_in leaves (calls_along acts)) (answers_in leaves opens.row.pages)
-          (λ d is. fewer_fail (failed_on (calls_along acts) d) (failed_on opens.row.pages d) (up_devs leaves d) (among d) is)
+      none = λ good. facts.pages k ks out (more_good q r (answers_in leaves (calls_along acts)) (answers_in leaves (page_calls opens.row))
+          (λ d is. fewer_fail (failed_on (calls_along acts) d) (failed_on (page_calls opens.row) d) (up_devs leaves d) (among d) is)
           (subst (λ x. HasGoodPages x r (λ k. answers_in leaves (calls_along acts))) (behind ∙ ap (λ a. pool_along a q) none) good));
     }
 

@@ -16,8 +16,10 @@ pub mod Losing
 pub mod Members
 pub mod Moments
 pub mod Numbers
-pub mod Pasting
-pub mod Running
+pub mod OpeningActs
+mod Pasting
+pub mod ReadsBehind
+mod Running
 pub mod Seating
 pub mod SmallRuns
 pub mod Sparing

@@ -43,7 +43,8 @@ use Rattle.pool_runs.proofs.Answering.{does_calls}
 use Rattle.pool_runs.proofs.Counting.{NoFault, fault_or, Answered, answered_first, answered_second, commits_fine, none_unwritable, OwnDev, AreOwnLeaves, turn_suspends, sync_suspends, resume_fine, stamp_fine, found_fine, line_answered}
 use Rattle.pool_runs.proofs.Stamps.{stamp_calls}
 use Rattle.pool_runs.proofs.Finding.{opening_bare}
-use Rattle.pool_runs.proofs.Importing.{bare_calls, opening_of, opening_calls}
+use Rattle.pool_runs.proofs.Importing.{opening_of, opening_calls}
+use Rattle.pool_runs.proofs.OpeningActs.{bare_calls}
 
 -- The leaves of an opening are on the devices where it found them.
 abbrev among : (devs : List (Option ℕ)) → ℕ → Bool
@@ -99,7 +100,7 @@ lacks_unwritable all (leaf ∷ leaves) up = ap (λ t. cond t (unwritable_of all 
 -- An opening that was suspended.
 opened_is : (c : Codec) (size : ℕ → ℕ) (handed : List ℕ → Option ℕ) (name : List ℕ) (found : Found) (made : List Noted) (outcome : OpenReply) (row : RowOpen c size handed name found made outcome)
     (s : PoolState) → outcome ≡ Opens_state s → s.core.leaves ≡ opened_leaves (c.leaves found.blob.items) row.devs
-opened_is c size handed name found made (Opens_state x) row s out = ap (λ y. y.core.leaves) (sym (one x s out) ∙ row.ends.1)
+opened_is c size handed name found made (Opens_state x) row s out = ap (λ y. y.core.leaves) (sym (one x s out) ∙ row.ends.2)
   where
     one : (a b : PoolState) → Opens_state a ≡ Opens_state b → a ≡ b
     one a b e = cc
