@@ -16,7 +16,7 @@ use Rattle.txg_history.specs.Events.{Opens, as_events}
 use Rattle.txg_history.specs.Moves.{Mays}
 use Rattle.txg_history.specs.Pages.{LeafKept, Codec, Sum, sum_of, IsOfVolume, kept_top, kept_log, ClashesAt}
 use Rattle.txg_history.specs.Pools.{Pool, after, pool_after}
-use Rattle.txg_history.specs.Premises.{HasNoTwin, HasGoodLeaf, HasGoodPages}
+use Rattle.txg_history.specs.Premises.{HasNoTwin, HasGoodLeaf}
 use Rattle.txg_history.specs.Records.{Rec, Cell, key, data_start, number_of}
 use Rattle.txg_history.specs.Survival.{Fits, Survives}
 use Rattle.txg_history.proofs.Folding.{with_calls, calls_after, events_more, mays_second, mays_calls, pool_more}
@@ -28,16 +28,16 @@ use Rattle.pool_moves.specs.FreezeRow.{is_dev, up_devs}
 use Rattle.pool_moves.specs.Keeping.{HasNumberBelow, Walks}
 use Rattle.pool_moves.specs.Leaves.{LeafSeen, Seat}
 use Rattle.pool_moves.specs.Opened.{opened_leaves, opened_state, opened_seats, claims_of}
-use Rattle.pool_moves.specs.OpeningRow.{IsLiveOne, OpenReply, Opens_state, NoPage, reading_of, RowOpen, page_calls, MayTurns}
+use Rattle.pool_moves.specs.OpeningRow.{IsLiveOne, OpenReply, Opens_state, NoPage, reading_of, RowOpen, page_calls, MayTurns, IsLostPage}
 use Rattle.pool_moves.specs.PageReads.{Reading, is_read_before, IsKnown, IsPageHere, PageTurn, page_of, calls_of_turns, up_to, IsPageTurn, IsReadTo, ReadsMap, LeafShown, StopsAt, failed_on, answers_in}
 use Rattle.pool_moves.specs.ReadRow.{copies_of}
 use Rattle.pool_moves.specs.Rosters.{IsRoster}
 use Rattle.pool_moves.specs.States.{Sums, sums, no_group_seen, no_scan_seen, PoolSeen, PoolState, Side, seen}
 use Rattle.pool_moves.proofs.OpenedSeats.{IsIn as IsKeptIn, kept_in_record, AreSeatsOf, seats_are, opened_seated, opened_away, opened_apart, opened_below, opened_numbered, opened_topped, seats_seen}
 use Rattle.pool_moves.proofs.PagesBack.{of_volume_or, volume_width, below_known, known_right, before_more, not_before_itself, read_to_fewer, read_to_page, clash_of_more, above_before, closed_before}
-use Rattle.pool_moves.proofs.PageTurns.{tried_reads, IsTrueLeaf, IsOn, on_behind, IsRightTurn, answers_behind, turn_may, turns_may, stop_may, stop_never}
+use Rattle.pool_moves.proofs.PageTurns.{tried_reads, IsTrueLeaf, IsOn, on_behind, IsRightTurn, answers_behind, cell_of, turn_may, turns_may, stop_may, stop_never}
 use Rattle.pool_moves.specs.Walking.{as_moves}
-use Rattle.pool_moves.proofs.ReadWalks.{answers_front, calls_walk}
+use Rattle.pool_moves.proofs.ReadWalks.{answers_front, calls_walk, sum_of_cell}
 use Rattle.pool_moves.proofs.Seeking.{reads_may, sought_reads, sought_paired}
 
 -- What the configuration says of the record.
@@ -426,12 +426,23 @@ module _ (c : Codec) (size : ℕ → ℕ) (handed : List ℕ → Option ℕ) (na
         failed_second (noted ∷ first) second d is = failed_second first second d
             (or_last ((device_of noted.call == d) && not (is_none (fault_of noted.call))) (failed_on (first ++ second) d) is)
 
-    stopped_never : HasGoodPages (pool_after (as_events made) q) r (λ k. answers_in x.leaves (page_calls o.row)) → ClashesAt r.cells x.found
-    stopped_never good = ⊎_elim (λ right. ⊎_elim (λ may. absurd (stop_never x r stopped level index st.sum o.row.last st.wrong
-        (answers_in x.leaves (page_calls o.row)) (on_behind x r behind turned on may) st.low st.sum_is (right_here right) reads_answer st.tried none_failed
-        (λ cell at. subst (λ u. HasGoodLeaf u r cell (answers_in x.leaves (page_calls o.row))) end_is
-        (good (suc level) index cell (omega arith) (let low = st.low in omega (arith, low)) at))))
-        (λ clash. clash) (first_may right)) (λ clash. clash) right_or
+    cell_here : AreRightTo level index st.back → (cell : Cell) × (r.cells (key (suc level) index) ≡ Some cell) × (sum_of_cell cell ≡ st.sum)
+    cell_here right = cell_of (r.cells (key (suc level) index)) st.sum (sym (right_here right).pointer ∙ st.sum_is)
+
+    stopped_lost : IsLostPage (pool_after (as_events made) q) r (key (suc level) index) (answers_in x.leaves (page_calls o.row)) ⊎ ClashesAt r.cells x.found
+    stopped_lost = ⊎_elim (λ right. ⊎_elim (λ may. let cell = cell_here right in inl (record {
+      cell = cell.0;
+      cell_is = cell.1;
+      none = λ good. stop_never x r stopped level index st.sum o.row.last st.wrong (answers_in x.leaves (page_calls o.row))
+          (on_behind x r behind turned on may) st.low st.sum_is (right_here right) reads_answer st.tried none_failed
+          (λ other at. subst (λ u. HasGoodLeaf u r other (answers_in x.leaves (page_calls o.row))) end_is
+          (subst (λ a. HasGoodLeaf (pool_after (as_events made) q) r a (answers_in x.leaves (page_calls o.row)))
+          (same_cell cell.0 other (sym cell.1 ∙ at)) good));
+    }))
+        (λ clash. inr clash) (first_may right)) (λ clash. inr clash) right_or
+      where
+        same_cell : (a b : Cell) → Some a ≡ Some b → a ≡ b
+        same_cell a b e = cc
 
 -- An opening that comes to a state.
 pub opening_opens : (c : Codec) (size : ℕ → ℕ) (handed : List ℕ → Option ℕ) (name : List ℕ) (p : Pool) (r : Rec) (roster : List ℕ) (found : Found)
@@ -487,12 +498,17 @@ opening_turns c size handed name p r found made (NoPage page shown) sv named is 
     o : Opening c size handed name p r found made (NoPage page shown)
     o = record { survives = sv; named = named; is = is; row = row; answers = answers; home = home }
 
--- Where each page has a good leaf, each is found.
-pub opening_finds : (c : Codec) (size : ℕ → ℕ) (handed : List ℕ → Option ℕ) (name : List ℕ) (p : Pool) (r : Rec) (found : Found) (made : List Noted) (page : Key) (shown : List LeafShown) → Survives c p → p.name ≡ name
-    → IsLiveOne p found r → (row : RowOpen c size handed name found made (NoPage page shown)) → AllAnswer p.sectors made → HasNoTwin p r (claims_of (c.leaves found.blob.items) row.devs)
-    → HasGoodPages (pool_after (as_events made) (after (Opens r) p)) r (λ k. answers_in (opened_leaves (c.leaves found.blob.items) row.devs) (page_calls row)) → ClashesAt r.cells row.bytes
-opening_finds c size handed name p r found made page shown sv named is row answers home good =
-    stopped_never c size handed name p r found made (NoPage page shown) o row.ends.0 page.index shown row.ends.2 good
+-- A page that no good leaf gave.
+pub opening_loses : (c : Codec) (size : ℕ → ℕ) (handed : List ℕ → Option ℕ) (name : List ℕ) (p : Pool) (r : Rec) (found : Found) (made : List Noted)
+    (page : Key) (shown : List LeafShown) → Survives c p → p.name ≡ name → IsLiveOne p found r
+    → (row : RowOpen c size handed name found made (NoPage page shown)) → AllAnswer p.sectors made
+    → HasNoTwin p r (claims_of (c.leaves found.blob.items) row.devs)
+    → IsLostPage (pool_after (as_events made) (after (Opens r) p)) r page (answers_in (opened_leaves (c.leaves found.blob.items) row.devs) (page_calls row))
+    ⊎ ClashesAt r.cells row.bytes
+opening_loses c size handed name p r found made page shown sv named is row answers home = subst
+    (λ k. IsLostPage (pool_after (as_events made) (after (Opens r) p)) r k (answers_in (opened_leaves (c.leaves found.blob.items) row.devs) (page_calls row))
+    ⊎ ClashesAt r.cells row.bytes) (sym row.ends.1)
+    (stopped_lost c size handed name p r found made (NoPage page shown) o row.ends.0 page.index shown row.ends.2)
   where
     o : Opening c size handed name p r found made (NoPage page shown)
     o = record { survives = sv; named = named; is = is; row = row; answers = answers; home = home }

@@ -203,7 +203,7 @@ pub answers_behind : (made more : List Noted) (sectors : Sectors) → AllAnswer 
 answers_behind [] more sectors all = all
 answers_behind (noted ∷ made) more sectors all = answers_behind made more (run (noted ∷ []) sectors) all.1
 
-cell_of : (cell : Option Cell) (sum : Sum) → sum_of cell ≡ Some sum → (c : Cell) × (cell ≡ Some c) × (sum_of_cell c ≡ sum)
+pub cell_of : (cell : Option Cell) (sum : Sum) → sum_of cell ≡ Some sum → (c : Cell) × (cell ≡ Some c) × (sum_of_cell c ≡ sum)
 cell_of None sum is = absurd (cc)
 cell_of (Some c) sum is = (c, refl, same is)
   where

@@ -1,6 +1,7 @@
 -- An import finds its pool, and opens a live record of it.
 use Rattle.std.proofs.Common.{◌≡◌, inl, inr, ℕ, ◌+◌, ◌≤◌, ◌<◌, ◌==◌, ◌&&◌, ◌||◌, nat_le, Bool, true, false, not, cond, List, [], ◌∷◌, ◌++◌, length, Option, Some, None, refl, sym, ap, ◌∙◌, subst, arith, append_assoc, map}
 use Rattle.std.specs.List.{AllByRecursion}
+use Rattle.std.proofs.lemmas.Bool.Decides.{nat_tests}
 use Rattle.std.specs.Option.{is_none}
 use Rattle.std.specs.Str.{bytes_eq}
 use Rattle.bank_core.specs.Calls.{device_of, fault_of}
@@ -11,7 +12,6 @@ use Rattle.txg_history.specs.Events.{Known, Calls, Opens, as_events}
 use Rattle.txg_history.specs.Looks.{known_by}
 use Rattle.txg_history.specs.Pages.{Codec}
 use Rattle.txg_history.specs.Pools.{Pool, after, pool_after}
-use Rattle.txg_history.specs.Premises.{HasGoodPages}
 use Rattle.txg_history.specs.Records.{Rec, IsIn, number_of, block_at}
 use Rattle.txg_history.proofs.Folding.{calls_after, events_more, pool_more}
 use Rattle.pool_moves.specs.CommitRows.{uncounts}
@@ -19,7 +19,7 @@ use Rattle.pool_moves.specs.Keeping.{Kept}
 use Rattle.pool_moves.specs.Leaves.{LeafSeen}
 use Rattle.pool_moves.specs.LineRows.{TurnReply, Idle, Write, Flush, Round, Committed, Suspended}
 use Rattle.pool_moves.specs.Moves.{Move, Freeze, Scan_from, state_step, steps, after_moves}
-use Rattle.pool_moves.specs.OpeningRow.{IsLiveOne, SeekReply, NoRecord, NumbersEnd, TakesRecord, taken_by, last_numbers, OpenReply, Opens_state, NoPage, page_calls, lacking_of, Resumes, ResumesUnless, RowResume}
+use Rattle.pool_moves.specs.OpeningRow.{IsLiveOne, SeekReply, NoRecord, NumbersEnd, TakesRecord, taken_by, last_numbers, SeeksLive, OpenReply, Opens_state, NoPage, page_calls, IsLostPage, lacking_of, Resumes, ResumesUnless, RowResume}
 use Rattle.pool_moves.specs.FreezeRow.{up_devs}
 use Rattle.pool_moves.specs.Opened.{opened_leaves}
 use Rattle.pool_moves.specs.PageReads.{LeafShown, failed_on, answers_in}
@@ -29,13 +29,13 @@ use Rattle.pool_moves.proofs.FreeWalks.{moves_more}
 use Rattle.pool_moves.proofs.Keeping.{walk_keeps}
 use Rattle.pool_moves.proofs.ResilverWalks.{resume_walks}
 use Rattle.pool_runs.specs.Acts.{Act, Opening, Seeks_by, Marks, Looked, Enters, does, bare, read_by, pool_along, calls_along, Does, Reads_as}
-use Rattle.pool_runs.specs.Committing.{OpensLive, opening_in, LosesPage, FindsPool}
+use Rattle.pool_runs.specs.Committing.{OpensLive, opening_in, LosesPage, EndsNumbers, FindsPool}
 use Rattle.pool_runs.specs.Devices.{size_in, handed}
 use Rattle.pool_runs.specs.Fairness.{AreFair}
 use Rattle.pool_runs.specs.HostRows.{AreMade}
 use Rattle.pool_runs.specs.Hosts.{Host, named, host_by, host_along, moved}
 use Rattle.pool_runs.specs.Importing.{read_in, all_shown, map_acts, OpensBy, FollowsMap, OpensFound, ImportBy, host_behind, Imports, ImportFor, ImportUnless, RowImport}
-use Rattle.pool_runs.specs.Lines.{Reply, To_import, ImportReply, Opened, NameOpen, TooManyPools, NothingFound, LastNumber, PageLost}
+use Rattle.pool_runs.specs.Lines.{Reply, To_import, ImportReply, Opened, NameOpen, TooManyPools, NothingFound, LastNumber, PageLost, Unopened}
 use Rattle.pool_runs.proofs.Acting.{same_number, calls_number}
 use Rattle.pool_runs.proofs.Committing.{numbers_up, IsAckedAs, ends_acked, ends_before, group_commits, frozen_writes, written_kind, writes_kind, KeepsWritten, KeepsWrites, written_along, writes_along, kept_blocks, does_pool}
 use Rattle.pool_runs.proofs.Known.{Knows}
@@ -287,14 +287,18 @@ fewer_fail false true true up is = absurd (let no : false ≡ true = up refl in 
 fewer_fail false false true up is = refl
 fewer_fail a b false up is = absurd (cc)
 
-more_good : (p : Pool) (r : Rec) (few many : ℕ → Bool) → ((d : ℕ) → few d ≡ true → many d ≡ true) → HasGoodPages p r (λ k. few) → HasGoodPages p r (λ k. many)
-more_good p r few many up good = λ level index cell low high is. let leaf = good level index cell low high is in record {
-  d = leaf.d;
-  is_member = leaf.is_member;
-  top_is = leaf.top_is;
-  has = leaf.has;
-  unhurt = leaf.unhurt;
-  answers = up leaf.d leaf.answers;
+lost_for_fewer : (p : Pool) (r : Rec) (page : Key) (few many : ℕ → Bool) → ((d : ℕ) → few d ≡ true → many d ≡ true) → IsLostPage p r page many → IsLostPage p r page few
+lost_for_fewer p r page few many up lost = record {
+  cell = lost.cell;
+  cell_is = lost.cell_is;
+  none = λ leaf. lost.none (record {
+    d = leaf.d;
+    is_member = leaf.is_member;
+    top_is = leaf.top_is;
+    has = leaf.has;
+    unhurt = leaf.unhurt;
+    answers = up leaf.d leaf.answers;
+  });
 }
 
 pub opening_bare : (made : List Noted) (more : List Act) → opening_in (bare made ++ more) ≡ opening_in more
@@ -302,7 +306,7 @@ opening_bare [] more = refl
 opening_bare (noted ∷ made) more = opening_bare made more
 
 opens_loses : (c : Codec) (h : Host) (p before : Pool) (name : List ℕ) (found : Found) (acts : List Act) (reply : Reply) (page : Key) (shown : List LeafShown) → Knows c h p → Looked_live p before found
-    → AreMade h (calls_along acts) → AreFair c p acts → OpensFound c h name found acts reply → reply ≡ To_import (PageLost page shown) → LosesPage c before (pool_along acts p) acts
+    → AreMade h (calls_along acts) → AreFair c p acts → OpensFound c h name found acts reply → reply ≡ To_import (PageLost page shown) → LosesPage c before (pool_along acts p) acts page
 opens_loses c h p before name found acts reply page shown knows live made fair opens says = follow opens.outcome refl opens.follows
   where
     opening : Opening
@@ -332,19 +336,20 @@ opens_loses c h p before name found acts reply page shown knows live made fair o
     among d is = subst (λ made. failed_on made d ≡ true) (sym (opening_calls c h name found acts reply opens))
         (failed_first opens.made (calls_along opens.rest) d (subst (λ made. failed_on made d ≡ true) (sym opens.row.calls) (failed_more opens.row.ids (page_calls opens.row) d is)))
 
-    lost : (k : Key) (ks : List LeafShown) → opens.outcome ≡ NoPage k ks → opens.rest ≡ [] → LosesPage c before (pool_along acts p) acts
-    lost k ks out none = record {
+    lost : (k : Key) (ks : List LeafShown) → opens.outcome ≡ NoPage k ks → k ≡ page → opens.rest ≡ [] → LosesPage c before (pool_along acts p) acts page
+    lost k ks out same none = record {
       opening = opening;
       reads = ap opening_in opens.are;
       r = r;
       live = subst (IsIn r) live.same facts.is.is_live;
       is = facts.is.config_is;
-      none = λ good. facts.pages k ks out (more_good q r (answers_in leaves (calls_along acts)) (answers_in leaves (page_calls opens.row))
+      lost = subst (λ x. IsLostPage x r page (answers_in leaves (calls_along acts))) (sym (behind ∙ ap (λ a. pool_along a q) none))
+          (lost_for_fewer q r page (answers_in leaves (calls_along acts)) (answers_in leaves (page_calls opens.row))
           (λ d is. fewer_fail (failed_on (calls_along acts) d) (failed_on (page_calls opens.row) d) (up_devs leaves d) (among d) is)
-          (subst (λ x. HasGoodPages x r (λ k. answers_in leaves (calls_along acts))) (behind ∙ ap (λ a. pool_along a q) none) good));
+          (facts.pages page ks (out ∙ ap (λ k. NoPage k ks) same)));
     }
 
-    by_turn : (turn : TurnReply) (s : PoolState) (vs : List Move) → OpensBy turn found.pool.0 s vs opens.rest reply → LosesPage c before (pool_along acts p) acts
+    by_turn : (turn : TurnReply) (s : PoolState) (vs : List Move) → OpensBy turn found.pool.0 s vs opens.rest reply → LosesPage c before (pool_along acts p) acts page
     by_turn (Committed m) s vs by = absurd (let no = sym by.1 ∙ says in cc)
     by_turn (Suspended group top faults) s vs by = absurd (let no = sym by.1 ∙ says in cc)
     by_turn Idle s vs by = absurd by
@@ -352,31 +357,52 @@ opens_loses c h p before name found acts reply page shown knows live made fair o
     by_turn Flush s vs by = absurd by
     by_turn (Round m) s vs by = absurd by
 
-    follow : (outcome : OpenReply) → opens.outcome ≡ outcome → FollowsMap outcome c (size_in h.table) found.pool.0 opens.rest reply → LosesPage c before (pool_along acts p) acts
+    follow : (outcome : OpenReply) → opens.outcome ≡ outcome → FollowsMap outcome c (size_in h.table) found.pool.0 opens.rest reply → LosesPage c before (pool_along acts p) acts page
     follow (Opens_state s) out row = by_turn row.1 s row.0 row.3
-    follow (NoPage k ks) out row = lost k ks out row.0
+    follow (NoPage k ks) out row = lost k ks out (one k page ks shown (sym row.1 ∙ says)) row.0
+      where
+        one : (a b : Key) (xs ys : List LeafShown) → To_import (PageLost a xs) ≡ To_import (PageLost b ys) → a ≡ b
+        one a b xs ys e = cc
 
 -- By what the looks found.
-not_opened : (c : Codec) (before behind : Pool) (after : Host) (acts : List Act) (reply : Reply) (other : ImportReply) → reply ≡ To_import other
+not_opened : (c : Codec) (start : Host) (before behind : Pool) (after : Host) (acts : List Act) (reply : Reply) (other : ImportReply) → reply ≡ To_import other
     → (other ≡ NothingFound → ⊥)
     → ((n : ℕ) → other ≡ Opened n → ⊥)
-    → ((page : Key) (shown : List LeafShown) → other ≡ PageLost page shown → ⊥) → FindsPool c before behind after acts reply
-not_opened c before behind after acts reply other is some none loses = record {
+    → ((page : Key) (shown : List LeafShown) → other ≡ PageLost page shown → ⊥)
+    → (other ≡ NameOpen → (s : PoolState) × (named before.name start.pools ≡ Some s))
+    → ((limit count : ℕ) → other ≡ TooManyPools limit count → (limit ≡ 16) × (16 ≤ length start.pools) × (count ≡ length start.pools + 1))
+    → ((limit count : ℕ) → other ≡ LastNumber limit count → EndsNumbers before limit count) → FindsPool c start before behind after acts reply
+not_opened c start before behind after acts reply other is some none loses open_now many ended = record {
   some = λ says. some (same other NothingFound (sym is ∙ says));
   opened = λ n says. absurd (none n (same other (Opened n) (sym is ∙ says)));
   is_open = λ n says. absurd (none n (same other (Opened n) (sym is ∙ says)));
   loses = λ page shown says. absurd (loses page shown (same other (PageLost page shown) (sym is ∙ says)));
+  name_open = λ says. open_now (same other NameOpen (sym is ∙ says));
+  too_many = λ limit count says. many limit count (same other (TooManyPools limit count) (sym is ∙ says));
+  ended = λ limit count says. ended limit count (same other (LastNumber limit count) (sym is ∙ says));
 }
   where
     same : (a b : ImportReply) → To_import a ≡ To_import b → a ≡ b
     same a b e = cc
 
-opens_some : (c : Codec) (h : Host) (name : List ℕ) (found : Found) (acts : List Act) (reply : Reply) → OpensFound c h name found acts reply → reply ≡ To_import NothingFound → ⊥
-opens_some c h name found acts reply opens says = follow opens.outcome opens.follows
+-- an opening that reads a record isn't refused
+abbrev IsUnread : ImportReply → Type 0
+IsUnread NothingFound = Unit {0}
+IsUnread NameOpen = Unit {0}
+IsUnread (TooManyPools limit count) = Unit {0}
+IsUnread (LastNumber limit count) = Unit {0}
+IsUnread other = ⊥
+
+opens_some : (c : Codec) (h : Host) (name : List ℕ) (found : Found) (acts : List Act) (reply : Reply) (other : ImportReply) → OpensFound c h name found acts reply
+    → reply ≡ To_import other → IsUnread other → ⊥
+opens_some c h name found acts reply other opens says is = follow opens.outcome opens.follows
   where
+    same : (a b : ImportReply) → To_import a ≡ To_import b → a ≡ b
+    same a b e = cc
+
     by_turn : (turn : TurnReply) (s : PoolState) (vs : List Move) → OpensBy turn found.pool.0 s vs opens.rest reply → ⊥
-    by_turn (Committed m) s vs by = let no = sym by.1 ∙ says in cc
-    by_turn (Suspended group top faults) s vs by = let no = sym by.1 ∙ says in cc
+    by_turn (Committed m) s vs by = subst IsUnread (same other (Opened m) (sym says ∙ by.1)) is
+    by_turn (Suspended group top faults) s vs by = subst IsUnread (same other (Unopened group top faults) (sym says ∙ by.1)) is
     by_turn Idle s vs by = by
     by_turn Write s vs by = by
     by_turn Flush s vs by = by
@@ -384,7 +410,35 @@ opens_some c h name found acts reply opens says = follow opens.outcome opens.fol
 
     follow : (outcome : OpenReply) → FollowsMap outcome c (size_in h.table) found.pool.0 opens.rest reply → ⊥
     follow (Opens_state s) row = by_turn row.1 s row.0 row.3
-    follow (NoPage page shown) row = let no = sym row.1 ∙ says in cc
+    follow (NoPage page shown) row = subst IsUnread (same other (PageLost page shown) (sym says ∙ row.1)) is
+
+-- the looks end the numbers by a live record
+ends_numbers : (c : Codec) (p : Pool) (made : List Noted) (known : Known) (seek : SeekReply) (limit count : ℕ) → SeeksLive c p made known seek → seek ≡ NumbersEnd limit count
+    → EndsNumbers p limit count
+ends_numbers c p made known seek limit count seeks is = by (nat_le last_numbers seeks.found.number.0) refl (sym is ∙ seeks.says)
+  where
+    first : (a b x y : ℕ) → NumbersEnd a b ≡ NumbersEnd x y → a ≡ x
+    first a b x y e = cc
+
+    second : (a b x y : ℕ) → NumbersEnd a b ≡ NumbersEnd x y → b ≡ y
+    second a b x y e = cc
+
+    least : (n : ℕ) → nat_le last_numbers n ≡ true → last_numbers ≤ n
+    least n is = grind (arith, nat_tests)
+
+    number : seeks.found.number.0 ≡ number_of seeks.r
+    number = ap (λ n. n.0) seeks.is.number_is
+
+    by : (ended : Bool) → nat_le last_numbers seeks.found.number.0 ≡ ended → NumbersEnd limit count ≡ taken_by ended seeks.found → EndsNumbers p limit count
+    by false off e = absurd (cc)
+    by true end e = record {
+      limit_is = first limit count last_numbers (seeks.found.number.0 + 1) e;
+      r = seeks.r;
+      live = subst (IsIn seeks.r) (ap (λ x. x.live) (calls_after made p)) seeks.is.is_live;
+      not_below = seeks.not_below;
+      last = subst (λ n. last_numbers ≤ n) number (least seeks.found.number.0 end);
+      count_is = second limit count last_numbers (seeks.found.number.0 + 1) e ∙ ap (λ n. n + 1) number;
+    }
 
 never_none : (ended : Bool) (found : Found) → NoRecord ≡ taken_by ended found → ⊥
 never_none true found e = cc
@@ -392,13 +446,25 @@ never_none false found e = cc
 
 found_finds : (seek : SeekReply) (c : Codec) (h : Host) (before p : Pool) (name : List ℕ) (acts : List Act) (reply : Reply) → Knows c h p
     → p.name ≡ name → before.name ≡ name → AreMade h (calls_along acts)
-    → AreFair c p acts → (seek ≡ NoRecord → ⊥) → ((found : Found) → seek ≡ TakesRecord found → Looked_live p before found) → ImportBy seek c h name acts reply
-    → FindsPool c before (pool_along acts p) (host_along acts h) acts reply
-found_finds NoRecord c h before p name acts reply knows titled called made fair some live row = absurd (some refl)
-found_finds (NumbersEnd limit count) c h before p name acts reply knows titled called made fair some live row =
-    not_opened c before (pool_along acts p) (host_along acts h) acts reply (LastNumber limit count) row.1 (λ e. cc) (λ n e. cc) (λ page shown e. cc)
-found_finds (TakesRecord found) c h before p name acts reply knows titled called made fair some live row = record {
-  some = opens_some c h name found acts reply row;
+    → AreFair c p acts → (seek ≡ NoRecord → ⊥) → ((found : Found) → seek ≡ TakesRecord found → Looked_live p before found)
+    → ((limit count : ℕ) → seek ≡ NumbersEnd limit count → EndsNumbers before limit count) → ImportBy seek c h name acts reply
+    → FindsPool c h before (pool_along acts p) (host_along acts h) acts reply
+found_finds NoRecord c h before p name acts reply knows titled called made fair some live ended row = absurd (some refl)
+found_finds (NumbersEnd limit count) c h before p name acts reply knows titled called made fair some live ended row =
+    not_opened c h before (pool_along acts p) (host_along acts h) acts reply (LastNumber limit count) row.1 (λ e. cc) (λ n e. cc) (λ page shown e. cc)
+    (λ e. absurd (cc)) (λ limit count e. absurd (cc))
+    (λ l k e. subst (λ n. EndsNumbers before n k) (limit_one limit count l k e) (subst (EndsNumbers before limit) (count_one limit count l k e) (ended limit count refl)))
+  where
+    limit_one : (a b x y : ℕ) → LastNumber a b ≡ LastNumber x y → a ≡ x
+    limit_one a b x y e = cc
+
+    count_one : (a b x y : ℕ) → LastNumber a b ≡ LastNumber x y → b ≡ y
+    count_one a b x y e = cc
+found_finds (TakesRecord found) c h before p name acts reply knows titled called made fair some live ended row = record {
+  some = λ says. opens_some c h name found acts reply NothingFound row says tt;
+  name_open = λ says. absurd (opens_some c h name found acts reply NameOpen row says tt);
+  too_many = λ limit count says. absurd (opens_some c h name found acts reply (TooManyPools limit count) row says tt);
+  ended = λ limit count says. absurd (opens_some c h name found acts reply (LastNumber limit count) row says tt);
   opened = λ n says. (opens_live c h p before name found acts reply n knows (live found refl) titled made fair row says).live;
   is_open = λ n says. let opens = opens_live c h p before name found acts reply n knows (live found refl) titled made fair row says in
       (opens.state, subst (λ name. IsOpenAs (pool_along acts p) (host_along acts h) name opens.state) (sym called) opens.at);
@@ -406,15 +472,15 @@ found_finds (TakesRecord found) c h before p name acts reply knows titled called
 }
 
 pub import_finds : (c : Codec) (h : Host) (p : Pool) (name : List ℕ) (acts : List Act) (reply : Reply) → Knows c h p → p.name ≡ name → AreMade h (calls_along acts) → AreFair c p acts → RowImport c h name acts reply
-    → FindsPool c p (pool_along acts p) (host_along acts h) acts reply
-import_finds c h p name acts reply knows titled made fair row = unless (named_in h.pools) row
+    → FindsPool c h p (pool_along acts p) (host_along acts h) acts reply
+import_finds c h p name acts reply knows titled made fair row = unless (named_in h.pools) refl row
   where
     named_in : List PoolState → Option PoolState
     named_in pools = named name pools
 
     -- what the rest of the line finds, the line does
     line_finds : (made : List Noted) (known : Known) (rest : List Act) (p1 : Pool) → acts ≡ bare made ++ (Looked name known ∷ rest) → pool_along acts p ≡ pool_along rest p1
-        → FindsPool c p (pool_along rest p1) (host_along rest (host_behind made h)) rest reply → FindsPool c p (pool_along acts p) (host_along acts h) acts reply
+        → FindsPool c (host_behind made h) p (pool_along rest p1) (host_along rest (host_behind made h)) rest reply → FindsPool c h p (pool_along acts p) (host_along acts h) acts reply
     line_finds made known rest p1 are same finds = record {
       some = finds.some;
       opened = λ n says. subst (λ x. OpensLive p x n) (sym same) (finds.opened n says);
@@ -429,15 +495,19 @@ import_finds c h p name acts reply knows titled made fair row = unless (named_in
         r = lost.r;
         live = lost.live;
         is = lost.is;
-        none = λ good. lost.none (more_good (pool_along rest p1) lost.r (answers_in (opened_leaves (c.leaves lost.opening.found.blob.items) lost.opening.devs) (calls_along acts))
-            (answers_in (opened_leaves (c.leaves lost.opening.found.blob.items) lost.opening.devs) (calls_along rest))
-            (λ d is. fewer_fail (failed_on (calls_along acts) d) (failed_on (calls_along rest) d) (up_devs (opened_leaves (c.leaves lost.opening.found.blob.items) lost.opening.devs) d)
+        lost = let leaves = opened_leaves (c.leaves lost.opening.found.blob.items) lost.opening.devs in
+            subst (λ x. IsLostPage x lost.r page (answers_in leaves (calls_along acts))) (sym same)
+            (lost_for_fewer (pool_along rest p1) lost.r page (answers_in leaves (calls_along acts)) (answers_in leaves (calls_along rest))
+            (λ d is. fewer_fail (failed_on (calls_along acts) d) (failed_on (calls_along rest) d) (up_devs leaves d)
             (λ failed. subst (λ calls. failed_on calls d ≡ true) (sym (ap calls_along are ∙ bare_calls made (Looked name known ∷ rest))) (failed_more made (calls_along rest) d failed)) is)
-            (subst (λ x. HasGoodPages x lost.r (λ k. answers_in (opened_leaves (c.leaves lost.opening.found.blob.items) lost.opening.devs) (calls_along acts))) same good));
+            lost.lost);
       };
+      name_open = finds.name_open;
+      too_many = finds.too_many;
+      ended = finds.ended;
     }
 
-    imports : Imports c h name acts reply → FindsPool c p (pool_along acts p) (host_along acts h) acts reply
+    imports : Imports c h name acts reply → FindsPool c h p (pool_along acts p) (host_along acts h) acts reply
     imports row =
         let known = known_by (size_in h.table) (handed h.table) row.row.looks in
         let p1 = pool_after (as_events row.made) p in
@@ -456,12 +526,25 @@ import_finds c h p name acts reply knows titled made fair row = unless (named_in
           is = taken.1;
           not_below = taken.2;
           same = ap (λ x. x.live) (calls_after row.made p);
-        }) row.follows)
+        }) (λ limit count is. ends_numbers c p row.made known row.seek limit count seeks is) row.follows)
 
-    full_by : (full : Bool) → ImportFor full c h name acts reply → FindsPool c p (pool_along acts p) (host_along acts h) acts reply
-    full_by true row = not_opened c p (pool_along acts p) (host_along acts h) acts reply (TooManyPools 16 (length h.pools + 1)) row.1 (λ e. cc) (λ n e. cc) (λ page shown e. cc)
-    full_by false row = imports row
+    full_by : (full : Bool) → nat_le 16 (length h.pools) ≡ full → ImportFor full c h name acts reply → FindsPool c h p (pool_along acts p) (host_along acts h) acts reply
+    full_by true full row = not_opened c h p (pool_along acts p) (host_along acts h) acts reply (TooManyPools 16 (length h.pools + 1)) row.1
+        (λ e. cc) (λ n e. cc) (λ page shown e. cc) (λ e. absurd (cc))
+        (λ limit count e. (sym (limit_one 16 (length h.pools + 1) limit count e), low_of (length h.pools) full, sym (count_one 16 (length h.pools + 1) limit count e)))
+        (λ limit count e. absurd (cc))
+      where
+        limit_one : (a b x y : ℕ) → TooManyPools a b ≡ TooManyPools x y → a ≡ x
+        limit_one a b x y e = cc
 
-    unless : (found : Option PoolState) → ImportUnless found c h name acts reply → FindsPool c p (pool_along acts p) (host_along acts h) acts reply
-    unless (Some s) row = not_opened c p (pool_along acts p) (host_along acts h) acts reply NameOpen row.1 (λ e. cc) (λ n e. cc) (λ page shown e. cc)
-    unless None row = full_by (nat_le 16 (length h.pools)) row
+        count_one : (a b x y : ℕ) → TooManyPools a b ≡ TooManyPools x y → b ≡ y
+        count_one a b x y e = cc
+
+        low_of : (n : ℕ) → nat_le 16 n ≡ true → 16 ≤ n
+        low_of n is = grind (arith, nat_tests)
+    full_by false full row = imports row
+
+    unless : (found : Option PoolState) → named_in h.pools ≡ found → ImportUnless found c h name acts reply → FindsPool c h p (pool_along acts p) (host_along acts h) acts reply
+    unless (Some s) is row = not_opened c h p (pool_along acts p) (host_along acts h) acts reply NameOpen row.1 (λ e. cc) (λ n e. cc) (λ page shown e. cc)
+        (λ e. (s, subst (λ n. named n h.pools ≡ Some s) (sym titled) is)) (λ limit count e. absurd (cc)) (λ limit count e. absurd (cc))
+    unless None is row = full_by (nat_le 16 (length h.pools)) refl row

@@ -41,7 +41,7 @@ use Rattle.pool_runs.specs.HostRows.{AreMade, ReadLine, TurnLine, SyncLine, Offl
 use Rattle.pool_runs.specs.Hosts.{Host, named, host_by, host_along, holder}
 use Rattle.pool_runs.proofs.Known.{Knows, MayActs}
 use Rattle.pool_runs.specs.Knowing.{HasSeats}
-use Rattle.pool_runs.specs.Lines.{Asks_read, Asks_turn, Asks_sync, Asks_offline, Asks_import, Asks_create, Reply, To_read, To_turn, To_sync, To_import, To_offline, To_create, ImportReply, Opened, NothingFound, PageLost, Unopened, No_memory, Entry, Asks_graft, Asks_detach, To_graft, To_detach}
+use Rattle.pool_runs.specs.Lines.{Asks_read, Asks_turn, Asks_sync, Asks_offline, Asks_import, Asks_create, Reply, To_read, To_turn, To_sync, To_import, To_offline, To_create, ImportReply, Opened, NameOpen, TooManyPools, LastNumber, NothingFound, PageLost, Unopened, No_memory, Entry, Asks_graft, Asks_detach, To_graft, To_detach}
 use Rattle.pool_runs.specs.Moments.{Moment, events_at, pool_at, past_at, host_at, LineOf, pool_before, host_before, IsOpenAs}
 use Rattle.pool_runs.specs.Pasts.{Past, pool_of, Left, BeginsRun, HasFrozen}
 use Rattle.pool_runs.proofs.Acting.{history_pool}
@@ -194,16 +194,19 @@ line_loses c h p e name a s shown met asked at is = of met.row
 
 -- An import finds the pool.
 line_opens : (c : Codec) (h : Host) (p : Pool) (e : Entry) → Meets c h p e → e.asked ≡ Asks_import p.name → AreFair c p e.acts
-    → FindsPool c p (pool_along e.acts p) (host_along e.acts h) e.acts e.reply
+    → FindsPool c h p (pool_along e.acts p) (host_along e.acts h) e.acts e.reply
 line_opens c h p e met asked fair = of met.row
   where
-    of : HostRow c h e → FindsPool c p (pool_along e.acts p) (host_along e.acts h) e.acts e.reply
+    of : HostRow c h e → FindsPool c h p (pool_along e.acts p) (host_along e.acts h) e.acts e.reply
     of (inl row) = import_finds c h p p.name e.acts e.reply met.knows refl row.1 fair (subst (λ x. RowOf c h x e.acts e.reply) asked row.0)
     of (inr out) = record {
       some = λ says. import_not_memory NothingFound (sym says ∙ out.says);
       opened = λ n says. import_not_memory (Opened n) (sym says ∙ out.says);
       is_open = λ n says. import_not_memory (Opened n) (sym says ∙ out.says);
       loses = λ page shown says. import_not_memory (PageLost page shown) (sym says ∙ out.says);
+      name_open = λ says. import_not_memory NameOpen (sym says ∙ out.says);
+      too_many = λ limit count says. import_not_memory (TooManyPools limit count) (sym says ∙ out.says);
+      ended = λ limit count says. import_not_memory (LastNumber limit count) (sym says ∙ out.says);
     }
 
 -- A sync acknowledges what was written.

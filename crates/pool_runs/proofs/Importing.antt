@@ -18,7 +18,7 @@ use Rattle.txg_history.specs.Looks.{known_by}
 use Rattle.txg_history.specs.Moves.{Mays}
 use Rattle.txg_history.specs.Pages.{Codec, ClashesAt}
 use Rattle.txg_history.specs.Pools.{Pool, after, pool_after}
-use Rattle.txg_history.specs.Premises.{Premises, HasNoTwin, HasGoodPages}
+use Rattle.txg_history.specs.Premises.{Premises, HasNoTwin}
 use Rattle.txg_history.specs.Records.{Rec, IsIn, number_of}
 use Rattle.txg_history.proofs.LookedParts.{answer_first, answer_second}
 use Rattle.txg_history.proofs.LooksFound.{known_of}
@@ -31,13 +31,13 @@ use Rattle.pool_moves.specs.Keeping.{Kept, Walks}
 use Rattle.pool_moves.specs.LineRows.{TurnReply, Idle, Write, Flush, Round, Committed, Suspended}
 use Rattle.pool_moves.specs.Moves.{Move, steps, after_moves}
 use Rattle.pool_moves.specs.Opened.{opened_leaves, opened_seats, claims_of}
-use Rattle.pool_moves.specs.OpeningRow.{IsLiveOne, SeeksLive, SeekReply, NoRecord, NumbersEnd, TakesRecord, taken_by, last_numbers, RowSeek, OpenReply, Opens_state, NoPage, RowOpen, page_calls, RowResume}
+use Rattle.pool_moves.specs.OpeningRow.{IsLiveOne, SeeksLive, SeekReply, NoRecord, NumbersEnd, TakesRecord, taken_by, last_numbers, RowSeek, OpenReply, Opens_state, NoPage, RowOpen, page_calls, IsLostPage, RowResume}
 use Rattle.pool_moves.specs.PageReads.{LeafShown, answers_in}
 use Rattle.pool_moves.specs.States.{PoolState, Side}
 use Rattle.pool_moves.specs.Walking.{as_moves}
 use Rattle.pool_moves.proofs.CommitWalks.{opened_kept}
 use Rattle.pool_moves.proofs.Keeping.{walk_keeps}
-use Rattle.pool_moves.proofs.OpeningWalks.{opening_opens, opening_turns, opening_finds}
+use Rattle.pool_moves.proofs.OpeningWalks.{opening_opens, opening_turns, opening_loses}
 use Rattle.pool_moves.proofs.ResilverWalks.{resume_walks}
 use Rattle.pool_moves.proofs.Seeking.{reads_may, sought_reads, seeks_live, row_no_twin}
 use Rattle.pool_runs.specs.Acts.{Act, Opening, Seeks_by, Marks, Looked, Reads_as, Closes, does, bare, calls_along, is_record_of, record_of, read_by, events_for, pool_by, pool_along}
@@ -229,10 +229,14 @@ opens_seats c h p name found r made (NoPage page shown) row knows same is answer
 opens_lost : (c : Codec) (h : Host) (p : Pool) (name : List ℕ) (found : Found) (r : Rec) (made : List Noted) (outcome : OpenReply) → (row : RowOpen c (size_in h.table) (free_in h) name found made outcome)
     → Knows c h p → p.name ≡ name → IsLiveOne p found r → AllAnswer p.sectors made → HasNoTwin p r (claims_of (c.leaves found.blob.items) row.devs)
     → (page : Key) (shown : List LeafShown) → outcome ≡ NoPage page shown
-    → HasGoodPages (pool_after (as_events made) (after (Opens r) p)) r (λ k. answers_in (opened_leaves (c.leaves found.blob.items) row.devs) (page_calls row)) → ClashesAt r.cells row.bytes
-opens_lost c h p name found r made (Opens_state x) row knows same is answers twin page shown out good = absurd (cc)
-opens_lost c h p name found r made (NoPage k ks) row knows same is answers twin page shown out good =
-    opening_finds c (size_in h.table) (free_in h) name p r found made k ks knows.survives same is row answers twin good
+    → IsLostPage (pool_after (as_events made) (after (Opens r) p)) r page (answers_in (opened_leaves (c.leaves found.blob.items) row.devs) (page_calls row)) ⊎ ClashesAt r.cells row.bytes
+opens_lost c h p name found r made (Opens_state x) row knows same is answers twin page shown out = absurd (cc)
+opens_lost c h p name found r made (NoPage k ks) row knows same is answers twin page shown out = subst
+    (λ page. IsLostPage (pool_after (as_events made) (after (Opens r) p)) r page (answers_in (opened_leaves (c.leaves found.blob.items) row.devs) (page_calls row)) ⊎ ClashesAt r.cells row.bytes)
+    (one k page ks shown out) (opening_loses c (size_in h.table) (free_in h) name p r found made k ks knows.survives same is row answers twin)
+  where
+    one : (a b : Key) (xs ys : List LeafShown) → NoPage a xs ≡ NoPage b ys → a ≡ b
+    one a b xs ys e = cc
 
 -- what an opening reads
 abbrev pub opening_of : (c : Codec) (h : Host) (name : List ℕ) (found : Found) (acts : List Act) (reply : Reply) → OpensFound c h name found acts reply → Opening
@@ -262,8 +266,8 @@ pub record OpeningFacts (c : Codec) (h : Host) (p : Pool) (name : List ℕ) (fou
   pub is : IsLiveOne p found (read_by (opening_of c h name found acts reply opens) p)
   pub seats : (s : PoolState) → opens.outcome ≡ Opens_state s → HasSeats c s (pool_after (as_events opens.made) (after (Opens (read_by (opening_of c h name found acts reply opens) p)) p))
   pub pages : (page : Key) (shown : List LeafShown) → opens.outcome ≡ NoPage page shown
-      → ¬ (HasGoodPages (pool_after (as_events opens.made) (after (Opens (read_by (opening_of c h name found acts reply opens) p)) p)) (read_by (opening_of c h name found acts reply opens) p)
-      (λ k. answers_in (opened_leaves (c.leaves found.blob.items) opens.row.devs) (page_calls opens.row)))
+      → IsLostPage (pool_after (as_events opens.made) (after (Opens (read_by (opening_of c h name found acts reply opens) p)) p)) (read_by (opening_of c h name found acts reply opens) p)
+      page (answers_in (opened_leaves (c.leaves found.blob.items) opens.row.devs) (page_calls opens.row))
 
 pub opening_calls : (c : Codec) (h : Host) (name : List ℕ) (found : Found) (acts : List Act) (reply : Reply) → (opens : OpensFound c h name found acts reply) → calls_along acts ≡ opens.made ++ calls_along opens.rest
 opening_calls c h name found acts reply opens =
@@ -283,7 +287,8 @@ pub opening_facts : (c : Codec) (h : Host) (p : Pool) (name : List ℕ) (found :
 opening_facts c h p name found acts reply one opens knows found_one made fair = record {
   is = is;
   seats = opens_seats c h p name found r opens.made opens.outcome opens.row knows fair.named is answers fair.twin fair.pages;
-  pages = λ page shown out good. fair.pages (opens_lost c h p name found r opens.made opens.outcome opens.row knows fair.named is answers fair.twin page shown out good);
+  pages = λ page shown out. ⊎_elim (λ lost. lost) (λ clash. absurd (fair.pages clash))
+      (opens_lost c h p name found r opens.made opens.outcome opens.row knows fair.named is answers fair.twin page shown out);
 }
   where
     r : Rec

@@ -60,9 +60,10 @@ pub record Headline (c : Codec) (past : Past) (h : Host) (acts : List Act) (entr
   pub sound : (m : Moment c past acts entries) → IsSound (pool_at m)
   -- and each record that an opening may find has the writes that were accepted before a freeze, the last before its round
   pub contents : (m : Moment c past acts entries) (r : Rec) → IsIn r (pool_at m).live → HasFrozen (past_at m) r
-  -- an import of its name finds a live record, not below the acknowledged one, and opens it above, or some page of it has no good leaf
+  -- an import of its name finds a live record, not below the acknowledged one, and opens it above, or tells a page of it that has no good leaf, or is
+  -- refused by its cause
   pub opens : (l : LineOf c past acts entries) → l.entry.asked ≡ Asks_import (pool_before l).name → AreFair c (pool_before l) l.entry.acts
-      → FindsPool c (pool_before l) (pool_behind l) (host_after h l) l.entry.acts l.entry.reply
+      → FindsPool c (host_before h l) (pool_before l) (pool_behind l) (host_after h l) l.entry.acts l.entry.reply
   -- a sync, a turn or a detach that answers a number acknowledged that record; a sync's and a detach's has each block as it was written last, and a turn's
   -- as it was before the group was frozen
   pub commits : (l : LineOf c past acts entries) → Acknowledges (host_before h l) (pool_before l) (pool_behind l) l.entry
