@@ -1,7 +1,7 @@
 -- The headline, from what a host knows of a pool and from the rows of a run.
 use Rattle.bank_core.specs.Disk.{run}
 use Rattle.txg_history.specs.Records.{Rec, IsIn, key}
-use Rattle.std.proofs.Common.{◌≡◌, ◌⊎◌, inl, inr, ℕ, ◌<◌, Bool, true, false, List, [], ◌∷◌, ◌++◌, take, map, Some, refl, sym, ap, ◌∙◌, subst, arith, Option, None}
+use Rattle.std.proofs.Common.{◌≡◌, ◌⊎◌, inl, inr, ℕ, ◌<◌, ◌≤◌, Bool, true, false, List, [], ◌∷◌, ◌++◌, take, map, Some, refl, sym, ap, ◌∙◌, subst, arith, Option, None}
 use Rattle.mp_base.specs.Outside.{Rose}
 use Rattle.mp_base.specs.declared.number.Guid.{Guid}
 use Rattle.bank_core.specs.Calls.{AllCaused}
@@ -19,7 +19,7 @@ use Rattle.pool_moves.specs.Leaves.{LeafSeen, Seat}
 use Rattle.pool_moves.specs.LineRows.{TurnReply, SyncReply, Ended, Committed, Suspended, RowTurn, RowSync, Idle, Write, Flush, Round}
 use Rattle.pool_moves.specs.Missing.{AllMissed}
 use Rattle.pool_moves.specs.Moves.{Move, steps, after_moves}
-use Rattle.pool_moves.specs.ReadRow.{ReadReply, Gives, Exhausted, RowRead, made_in}
+use Rattle.pool_moves.specs.ReadRow.{ReadReply, Gives, Exhausted, NoAddress, RowRead, made_in}
 use Rattle.pool_moves.specs.Showing.{LeafShown}
 use Rattle.pool_moves.specs.StampRow.{leaf_at, is_leaf_at, FaultOn}
 use Rattle.pool_moves.specs.States.{PoolState, Side}
@@ -39,6 +39,7 @@ use Rattle.pool_runs.specs.Fairness.{AreFair}
 use Rattle.pool_runs.specs.Headline.{TakesFor, IsRequiredFor, Headline}
 use Rattle.pool_runs.specs.HostRows.{AreMade, ReadLine, TurnLine, SyncLine, OfflineLine, OnPool, RowOf, HostRow, acts_in, IsRun, GraftUnless, GraftOnto, GraftIf, GraftLine, DetachLine}
 use Rattle.pool_runs.specs.Hosts.{Host, named, host_by, host_along, holder}
+use Rattle.pool_runs.specs.Writing.{IsLostRead}
 use Rattle.pool_runs.proofs.Known.{Knows, MayActs}
 use Rattle.pool_runs.specs.Knowing.{HasSeats}
 use Rattle.pool_runs.specs.Lines.{Asks_read, Asks_turn, Asks_sync, Asks_offline, Asks_import, Asks_create, Reply, To_read, To_turn, To_sync, To_import, To_offline, To_create, ImportReply, Opened, NameOpen, TooManyPools, LastNumber, NothingFound, PageLost, Unopened, No_memory, Entry, Asks_graft, Asks_detach, To_graft, To_detach}
@@ -49,6 +50,7 @@ use Rattle.pool_runs.proofs.Answering.{all_answer, does_calls, marked_calls}
 use Rattle.pool_runs.proofs.Committing.{sync_all, does_pool, turn_all, detach_all}
 use Rattle.pool_runs.proofs.Suspending.{turn_counts, sync_counts, import_counts, create_counts, detach_counts, graft_counts}
 use Rattle.pool_runs.proofs.Finding.{import_finds}
+use Rattle.pool_runs.proofs.LostReads.{exhausted_unwritten, outside_only}
 use Rattle.pool_runs.proofs.Knowing.{may_more, acts_keep}
 use Rattle.pool_runs.proofs.Losing.{turn_loses}
 use Rattle.pool_runs.proofs.Grafting.{graft_calls, entry_keeps}
@@ -178,19 +180,32 @@ line_reads c h p e name a s bytes met asked at is = of met.row
     of (inr out) = read_not_memory (Gives bytes) (sym is ∙ out.says)
 
 line_loses : (c : Codec) (h : Host) (p : Pool) (e : Entry) (name : List ℕ) (a : ℕ) (s : PoolState) (shown : List LeafShown) → Meets c h p e → e.asked ≡ Asks_read name a → IsOpenAs p h name s
-    → e.reply ≡ To_read (Exhausted shown) → AllMissed (s.core.committed (key 0 a)) (calls_along e.acts) (run (calls_along e.acts) p.sectors) s.core.leaves
+    → e.reply ≡ To_read (Exhausted shown) → IsLostRead p s a (calls_along e.acts)
 line_loses c h p e name a s shown met asked at is = of met.row
   where
-    of : HostRow c h e → AllMissed (s.core.committed (key 0 a)) (calls_along e.acts) (run (calls_along e.acts) p.sectors) s.core.leaves
+    of : HostRow c h e → IsLostRead p s a (calls_along e.acts)
     of (inl row) = let line = on_open h name s (ReadLine h a) e.acts e.reply at.named (subst (λ x. RowOf c h x e.acts e.reply) asked row.0) in
         let has = met.knows.stands s (named_open name s h.pools at.named) at.ours in
         let calls : calls_along e.acts ≡ made_in line.2.moves = ap calls_along line.2.are ∙ marked_calls (Marks s.core.pool.0 (Gives_for a line.0)) s.core.pool.0 line.2.moves refl in
         let made : AreMade h (made_in line.2.moves) = subst (AreMade h) calls row.1 in
-        subst (λ made. AllMissed (s.core.committed (key 0 a)) made (run made p.sectors) s.core.leaves) (sym calls)
-        (exhausted_missed c s (record { pool = p; seats = has.0 }) a line.2.moves shown has.1
-        (all_answer h.table (made_in line.2.moves) h.disk p.sectors made.here (λ d x one. sym (met.knows.disk d x one)) made.answer)
-        (subst (RowRead s a line.2.moves) (read_reply line.0 (Exhausted shown) (sym line.1 ∙ is)) line.2.row))
+        let told = subst (RowRead s a line.2.moves) (read_reply line.0 (Exhausted shown) (sym line.1 ∙ is)) line.2.row in
+        let none = exhausted_unwritten s a line.2.moves shown told in record {
+          unwritten = none.0;
+          unfrozen = none.1;
+          missed = subst (λ made. AllMissed (s.core.committed (key 0 a)) made (run made p.sectors) s.core.leaves) (sym calls)
+              (exhausted_missed c s (record { pool = p; seats = has.0 }) a line.2.moves shown has.1
+              (all_answer h.table (made_in line.2.moves) h.disk p.sectors made.here (λ d x one. sym (met.knows.disk d x one)) made.answer) told);
+        }
     of (inr out) = read_not_memory (Exhausted shown) (sym is ∙ out.says)
+
+line_outside : (c : Codec) (h : Host) (p : Pool) (e : Entry) (name : List ℕ) (a : ℕ) (s : PoolState) (limit : ℕ) → Meets c h p e → e.asked ≡ Asks_read name a → IsOpenAs p h name s
+    → e.reply ≡ To_read (NoAddress limit) → (limit ≡ s.own.blocks) × (s.own.blocks ≤ a)
+line_outside c h p e name a s limit met asked at is = of met.row
+  where
+    of : HostRow c h e → (limit ≡ s.own.blocks) × (s.own.blocks ≤ a)
+    of (inl row) = let line = on_open h name s (ReadLine h a) e.acts e.reply at.named (subst (λ x. RowOf c h x e.acts e.reply) asked row.0) in
+        outside_only s a line.2.moves limit (subst (RowRead s a line.2.moves) (read_reply line.0 (NoAddress limit) (sym line.1 ∙ is)) line.2.row)
+    of (inr out) = read_not_memory (NoAddress limit) (sym is ∙ out.says)
 
 -- An import finds the pool.
 line_opens : (c : Codec) (h : Host) (p : Pool) (e : Entry) → Meets c h p e → e.asked ≡ Asks_import p.name → AreFair c p e.acts
@@ -434,6 +449,7 @@ headline_from c past h acts entries f = record {
   reads = λ l name a s asked at. record {
     gives = λ bytes is. line_reads c (host_before h l) (pool_before l) l.entry name a s bytes (meets c past h acts entries f l) asked at is;
     loses = λ shown is. line_loses c (host_before h l) (pool_before l) l.entry name a s shown (meets c past h acts entries f l) asked at is;
+    outside = λ limit is. line_outside c (host_before h l) (pool_before l) l.entry name a s limit (meets c past h acts entries f l) asked at is;
   };
   required = λ l name device s leaf group at is. record {
     away = λ temporary asked plain up. line_required c (host_before h l) (pool_before l) l.entry name device temporary s leaf group (meets c past h acts entries f l) asked at is plain up;

@@ -13,6 +13,7 @@ pub mod Knowing
 pub mod Known
 pub mod LineMoves
 pub mod Losing
+pub mod LostReads
 pub mod Members
 pub mod Moments
 pub mod Numbers
