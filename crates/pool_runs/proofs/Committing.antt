@@ -10,7 +10,7 @@ use Rattle.pool_moves.specs.Boards.{board_of, board_under, emptied}
 use Rattle.pool_moves.specs.FreezeRow.{up_devs}
 use Rattle.pool_moves.specs.Keeping.{over, Kept, Walks}
 use Rattle.pool_moves.specs.Leaves.{LeafSeen, Seat}
-use Rattle.pool_moves.specs.LineRows.{TurnReply, Idle, Write, Flush, Round, Committed, Suspended, count_moves, EndsBy, EndsTurn, IsTurnOf, IsRoundPart, StartsBy, TurnBy, RowTurn, AreTurns, moves_in, EndsGroup, CommitsOpen, Ended, CommitsFor, SyncBehind, SyncBy, RowSync}
+use Rattle.pool_moves.specs.LineRows.{TurnReply, Idle, Write, Flush, Round, Committed, Suspended, count_moves, EndsBy, EndsTurn, IsTurnOf, IsRoundPart, StartsBy, TurnBy, RowTurn, AreTurns, moves_in, EndsGroup, CommitsOpen, SyncReply, Ended, EndsFirst, CommitsFor, SyncBehind, SyncBy, RowSync}
 use Rattle.pool_moves.specs.Moves.{Draft, Move, Makes, Lose, Puts, Freeze, Draw, Burn, Commits, Sets, events_of, step, state_step, steps, after_move, after_moves}
 use Rattle.pool_moves.specs.Refusing.{FreezeRefusal}
 use Rattle.pool_moves.specs.States.{PoolState, Side}
@@ -22,7 +22,7 @@ use Rattle.pool_moves.proofs.FreeWalks.{moves_more}
 use Rattle.pool_moves.proofs.Keeping.{walk_keeps}
 use Rattle.pool_moves.proofs.LineWalks.{IsSet, counts_set}
 use Rattle.pool_runs.specs.Acts.{does, pool_along}
-use Rattle.pool_runs.specs.Committing.{CommitsAll, CommitsGroup}
+use Rattle.pool_runs.specs.Committing.{FreezesNone, CommitsAll, CommitsGroup}
 use Rattle.pool_runs.proofs.Acting.{own_events, move_number}
 use Rattle.pool_runs.proofs.GroupMoves.{IsKind, more, all_group, all_sync, all_widens, all_turn, all_commits}
 
@@ -307,18 +307,55 @@ walk_second : (c : Codec) (vs ws : List Move) (t : Side) → Walks c t (vs ++ ws
 walk_second c [] ws t walks = walks
 walk_second c (v ∷ vs) ws t walks = walk_second c vs ws (after_move v t) walks.1
 
-pub turn_all : (c : Codec) (size : ℕ → ℕ) (s : PoolState) (t : Side) (vs : List Move) (n : ℕ) → Kept c s t → Walks c t vs
-    → RowTurn c size s vs (Committed n) → CommitsGroup t.pool (after_moves vs t).pool n
-turn_all c size s t vs n kept walks row =
-    let e = (turn_commits c size s vs n row).ends in
+ends_content : (c : Codec) (s : PoolState) (t : Side) (vs : List Move) (n : ℕ) → Kept c s t → Walks c t vs → EndsIn vs n → AllByRecursion KeepsContent vs
+    → CommitsGroup t.pool (after_moves vs t).pool n
+ends_content c s t vs n kept walks e keeps =
     let ending = Commits e.draft ∷ e.sets in
     let all : Walks c t (e.body ++ ending) = subst (Walks c t) e.moves walks in
     let now = walk_second c e.body ending t all in
-    let before = walk_keeps c e.body s t (walk_first c e.body ending t all) kept in
-    let keeps : AllByRecursion KeepsContent (e.body ++ ending) = subst (AllByRecursion KeepsContent) e.moves (all_turn KeepsContent content_kind c size s vs (Committed n) (λ bad. tt) row) in record {
+    let before = walk_keeps c e.body s t (walk_first c e.body ending t all) kept in record {
       acked = (ends_acked vs n t e).number;
-      blocks = λ a. ap (λ p. block_at p.acked a) (ends_pool vs n t e) ∙ (before.survives.come_to.contents now.0.0.0.frozen a ∙ ap (λ f. f a) (content_along e.body ending t keeps));
+      blocks = λ a. ap (λ p. block_at p.acked a) (ends_pool vs n t e) ∙ (before.survives.come_to.contents now.0.0.0.frozen a
+          ∙ ap (λ f. f a) (content_along e.body ending t (subst (AllByRecursion KeepsContent) e.moves keeps)));
     }
+
+-- So does a group that is ended by its turns.
+pub group_all : (c : Codec) (size : ℕ → ℕ) (s : PoolState) (t : Side) (vs : List Move) (n : ℕ) → Kept c s t → Walks c t vs
+    → EndsGroup c size s vs (Committed n) → CommitsGroup t.pool (after_moves vs t).pool n
+group_all c size s t vs n kept walks row = ends_content c s t vs n kept walks (group_commits c size s vs n row).ends
+    (all_group KeepsContent content_kind c size s vs (Committed n) (λ bad. tt) row)
+
+-- The frozen group that a sync ended before its own freeze was refused, or found no memory.
+pub first_all : (c : Codec) (size : ℕ → ℕ) (s : PoolState) (t : Side) (vs : List Move) (reply : SyncReply) → Kept c s t → Walks c t vs → FreezesNone reply
+    → EndsFirst c size s vs reply → (n : ℕ) × CommitsGroup t.pool (after_moves vs t).pool n
+first_all c size s t vs reply kept walks none row = by row.turn row.ends row.behind
+  where
+    refused : (refusal : Option FreezeRefusal) (rest : List Move) → CommitsFor refusal c size (steps row.first s) rest reply → rest ≡ []
+    refused (Some refusal) rest of = of.0
+    refused None rest of = absurd (subst FreezesNone of.2 none)
+
+    idle : (n : ℕ) (rest : List Move) → SyncBehind (Committed n) c size (steps row.first s) rest reply → rest ≡ []
+    idle n rest (inl of) = of.0
+    idle n rest (inr of) = refused of.0 rest of.2
+
+    only : (rest : List Move) → rest ≡ [] → vs ≡ row.first ++ rest → vs ≡ row.first
+    only rest is all = all ∙ (ap (λ l. row.first ++ l) is ∙ append-nil row.first)
+
+    by : (turn : TurnReply) → EndsGroup c size s row.first turn → SyncBehind turn c size (steps row.first s) row.rest reply
+        → (n : ℕ) × CommitsGroup t.pool (after_moves vs t).pool n
+    by (Committed n) ends behind = let same = only row.rest (idle n row.rest behind) row.moves in
+        (n, subst (λ l. CommitsGroup t.pool (after_moves l t).pool n) (sym same)
+        (group_all c size s t row.first n kept (subst (Walks c t) same walks) ends))
+    by Idle ends behind = absurd (subst FreezesNone behind.1 none)
+    by Write ends behind = absurd (subst FreezesNone behind.1 none)
+    by Flush ends behind = absurd (subst FreezesNone behind.1 none)
+    by (Round number) ends behind = absurd (subst FreezesNone behind.1 none)
+    by (Suspended group top faults) ends behind = absurd (subst FreezesNone behind.1 none)
+
+pub turn_all : (c : Codec) (size : ℕ → ℕ) (s : PoolState) (t : Side) (vs : List Move) (n : ℕ) → Kept c s t → Walks c t vs
+    → RowTurn c size s vs (Committed n) → CommitsGroup t.pool (after_moves vs t).pool n
+turn_all c size s t vs n kept walks row = ends_content c s t vs n kept walks (turn_commits c size s vs n row).ends
+    (all_turn KeepsContent content_kind c size s vs (Committed n) (λ bad. tt) row)
 
 -- the pool behind its own moves
 pub does_pool : (g : ℕ) (vs : List Move) (t : Side) → t.pool.pool.0 ≡ g → pool_along (does g vs) t.pool ≡ (after_moves vs t).pool

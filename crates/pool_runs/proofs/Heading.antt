@@ -16,7 +16,7 @@ use Rattle.txg_history.proofs.Surviving.{survives_sound}
 use Rattle.pool_moves.specs.AwayRows.{OfflineReply, Gone, Required, LeastOut, is_offline, is_spare, leaf_named, siblings, OfflineLeaf, OfflineHere, OfflineBy}
 use Rattle.pool_moves.specs.Keeping.{Kept}
 use Rattle.pool_moves.specs.Leaves.{LeafSeen, Seat}
-use Rattle.pool_moves.specs.LineRows.{TurnReply, SyncReply, Ended, Committed, Suspended, RowTurn, RowSync, Idle, Write, Flush, Round}
+use Rattle.pool_moves.specs.LineRows.{TurnReply, SyncReply, Ended, Committed, Suspended, RowTurn, SyncBy, RowSync, Idle, Write, Flush, Round}
 use Rattle.pool_moves.specs.Missing.{AllMissed}
 use Rattle.pool_moves.specs.Moves.{Move, steps, after_moves}
 use Rattle.pool_moves.specs.ReadRow.{ReadReply, Gives, Exhausted, NoAddress, RowRead, made_in}
@@ -31,7 +31,7 @@ use Rattle.pool_moves.proofs.LineWalks.{turn_walks, sync_walks}
 use Rattle.pool_moves.proofs.Missing.{exhausted_missed}
 use Rattle.pool_moves.proofs.ReadWalks.{read_right}
 use Rattle.pool_runs.specs.Acts.{Act, Gives_for, Marks, Hears, calls_along, pool_along}
-use Rattle.pool_runs.specs.Committing.{CommitsAll, FindsPool, CommitsGroup}
+use Rattle.pool_runs.specs.Committing.{FreezesNone, CommitsAll, FindsPool, CommitsGroup}
 use Rattle.pool_runs.specs.Counting.{has_leaf_at, RoseAt, HasLostBoard, Suspends, FailsOpening, IsCounted, LosesTop}
 use Rattle.pool_runs.specs.Creating.{leaves_of}
 use Rattle.pool_runs.specs.Devices.{number_in, size_in}
@@ -47,7 +47,7 @@ use Rattle.pool_runs.specs.Moments.{Moment, events_at, pool_at, past_at, host_at
 use Rattle.pool_runs.specs.Pasts.{Past, pool_of, Left, BeginsRun, HasFrozen}
 use Rattle.pool_runs.proofs.Acting.{history_pool}
 use Rattle.pool_runs.proofs.Answering.{all_answer, does_calls, marked_calls}
-use Rattle.pool_runs.proofs.Committing.{sync_all, does_pool, turn_all, detach_all}
+use Rattle.pool_runs.proofs.Committing.{sync_all, first_all, does_pool, turn_all, detach_all}
 use Rattle.pool_runs.proofs.Suspending.{turn_counts, sync_counts, import_counts, create_counts, detach_counts, graft_counts}
 use Rattle.pool_runs.proofs.Finding.{import_finds}
 use Rattle.pool_runs.proofs.LostReads.{exhausted_unwritten, outside_only}
@@ -239,6 +239,21 @@ line_syncs c h p e name s n met asked at is = of met.row
         subst (λ q. CommitsAll p q n) (sym (ap (λ a. pool_along a p) line.2.are ∙ does_pool s.core.pool.0 vs t (sym at.ours)))
         (sync_all c (size_in h.table) s t vs n kept done)
     of (inr out) = sync_not_memory (Ended (Committed n)) (sym is ∙ out.says)
+
+line_first : (c : Codec) (h : Host) (p : Pool) (e : Entry) (name : List ℕ) (s : PoolState) (reply : SyncReply) → Meets c h p e → e.asked ≡ Asks_sync name → IsOpenAs p h name s
+    → s.core.group.frozen ≡ true → FreezesNone reply → e.reply ≡ To_sync reply → (n : ℕ) × CommitsGroup p (pool_along e.acts p) n
+line_first c h p e name s reply met asked at frozen none is = of met.row
+  where
+    of : HostRow c h e → (n : ℕ) × CommitsGroup p (pool_along e.acts p) n
+    of (inl row) = let line = on_open h name s (SyncLine c h) e.acts e.reply at.named (subst (λ x. RowOf c h x e.acts e.reply) asked row.0) in
+        let has = met.knows.stands s (named_open name s h.pools at.named) at.ours in
+        let t : Side = record { pool = p; seats = has.0 } in
+        let vs = line.2.moves in
+        let done : RowSync c (size_in h.table) s vs reply = subst (RowSync c (size_in h.table) s vs) (sync_reply line.0 reply (sym line.1 ∙ is)) line.2.row in
+        let all = first_all c (size_in h.table) s t vs reply has.1 (sync_walks c (size_in h.table) s t vs reply has.1 met.knows.sizes done) none
+        (subst (λ f. SyncBy f c (size_in h.table) s vs reply) frozen done) in
+        (all.0, subst (λ q. CommitsGroup p q all.0) (sym (ap (λ a. pool_along a p) line.2.are ∙ does_pool s.core.pool.0 vs t (sym at.ours))) all.1)
+    of (inr out) = sync_not_memory reply (sym is ∙ out.says)
 
 -- A turn acknowledges its group.
 line_turns : (c : Codec) (h : Host) (p : Pool) (e : Entry) (name : List ℕ) (s : PoolState) (n : ℕ) → Meets c h p e → e.asked ≡ Asks_turn name
@@ -442,6 +457,7 @@ headline_from c past h acts entries f = record {
   opens = λ l asked fair. line_opens c (host_before h l) (pool_before l) l.entry (meets c past h acts entries f l) asked fair;
   commits = λ l. record {
     syncs = λ name s n asked at is. line_syncs c (host_before h l) (pool_before l) l.entry name s n (meets c past h acts entries f l) asked at is;
+    first = λ name s reply asked at frozen none is. line_first c (host_before h l) (pool_before l) l.entry name s reply (meets c past h acts entries f l) asked at frozen none is;
     turns = λ name s n asked at is. line_turns c (host_before h l) (pool_before l) l.entry name s n (meets c past h acts entries f l) asked at is;
     detaches = λ name leaf s n asked at is. line_detaches c (host_before h l) (pool_before l) l.entry name leaf s n (meets c past h acts entries f l) asked at is;
   };
