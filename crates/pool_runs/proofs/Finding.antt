@@ -139,13 +139,13 @@ opens_behind c h p name found acts reply opens number = let g = found.pool.0 in 
     turned = map_acts found.pool.0 opens.row.bytes opens.row.turns opens.row.last opens.rest
 
 -- the pool that enters and makes its moves is the open one of its name
-does_head : (g : ℕ) (vs : List Move) (s : PoolState) (pools : List PoolState) (h : Host) → h.pools ≡ s ∷ pools → s.core.pool.0 ≡ g
+pub does_head : (g : ℕ) (vs : List Move) (s : PoolState) (pools : List PoolState) (h : Host) → h.pools ≡ s ∷ pools → s.core.pool.0 ≡ g
     → (others : List PoolState) × ((host_along (does g vs) h).pools ≡ steps vs s ∷ others)
 does_head g [] s pools h is number = (pools, is)
 does_head g (v ∷ vs) s pools h is number = does_head g vs (state_step v s) (map (moved g v) pools) (host_by (Does g v) h)
     (ap (map (moved g v)) is ∙ ap (λ x. x ∷ map (moved g v) pools) (moved_own g v s number)) (ap (λ n. n.0) (step_number v s) ∙ number)
 
-steps_name : (vs : List Move) (s : PoolState) → (steps vs s).core.name ≡ s.core.name
+pub steps_name : (vs : List Move) (s : PoolState) → (steps vs s).core.name ≡ s.core.name
 steps_name [] s = refl
 steps_name (v ∷ vs) s = steps_name vs (state_step v s) ∙ step_name v s
 

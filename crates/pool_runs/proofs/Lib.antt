@@ -5,6 +5,7 @@ pub mod Committing
 pub mod Counting
 pub mod Creating
 pub mod Finding
+pub mod Founding
 pub mod Grafting
 pub mod GroupMoves
 pub mod Heading

@@ -1,6 +1,7 @@
 -- What an acknowledged sync or turn, and an opening, come to.
 use Rattle.std.specs.Prelude.{◌≡◌, ℕ, ◌+◌, ◌<◌, ◌≤◌, true, List, [], ◌∷◌, length, Option, Some, None}
 use Rattle.label_store.specs.Rounds.{config_of}
+use Rattle.mp_base.specs.Block.{zero_block}
 use Rattle.mp_base.specs.declared.place.Key.{Key}
 use Rattle.txg_history.specs.Pages.{Codec}
 use Rattle.txg_history.specs.Pools.{Pool}
@@ -25,6 +26,13 @@ pub record CommitsAll (before behind : Pool) (n : ℕ) : Type 0 where
 pub record CommitsGroup (before behind : Pool) (n : ℕ) : Type 0 where
   pub acked : number_of behind.acked ≡ n
   pub blocks : (a : ℕ) → block_at behind.acked a ≡ before.group.content a
+
+-- A create that answers that the pool is made acknowledged record 1, in which each block is zeros, and the pool is open under its name.
+pub record FoundsPool (behind : Pool) (after : Host) (name : List ℕ) : Type 0 where
+  pub acked : number_of behind.acked ≡ 1
+  pub blocks : (a : ℕ) → block_at behind.acked a ≡ zero_block
+  pub state : PoolState
+  pub is_open : IsOpenAs behind after name state
 
 -- a sync's own freeze was refused, or found no memory
 abbrev pub FreezesNone : SyncReply → Type 0
