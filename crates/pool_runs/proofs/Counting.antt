@@ -478,7 +478,7 @@ module _ (own : ℕ → Bool) where
   frozen_leaf board number first hi leaf = leaf_step (Freeze (λ k. None) board) number first hi leaf
 
   -- a writable leaf is on the board
-  abbrev IsUp : (board : ℕ → Bool) → LeafSeen → Type 0
+  abbrev pub IsUp : (board : ℕ → Bool) → LeafSeen → Type 0
   IsUp board leaf = is_writable leaf ≡ true → on_dev board leaf.dev ≡ true
 
   or_left : (a b : Bool) → a ≡ true → (a || b) ≡ true
@@ -496,7 +496,7 @@ module _ (own : ℕ → Bool) where
       none false = refl
   up_one board up (Some d) on is = on d (both_true up (d == d) (and_parts up true is).0 (let same : (d == d) ≡ true = grind (arith, nat_tests) in same))
 
-  all_up : (board : ℕ → Bool) (leaves : List LeafSeen) → ((d : ℕ) → up_devs leaves d ≡ true → board d ≡ true) → AllByRecursion (IsUp board) leaves
+  pub all_up : (board : ℕ → Bool) (leaves : List LeafSeen) → ((d : ℕ) → up_devs leaves d ≡ true → board d ≡ true) → AllByRecursion (IsUp board) leaves
   all_up board [] on = tt
   all_up board (leaf ∷ leaves) on = (
     up_one board (is_up leaf.own.mode) leaf.dev (λ d is. on d (or_left (is_up leaf.own.mode && is_dev d leaf.dev) (up_devs leaves d) is)),

@@ -32,7 +32,7 @@ use Rattle.pool_moves.proofs.Missing.{exhausted_missed}
 use Rattle.pool_moves.proofs.ReadWalks.{read_right}
 use Rattle.pool_runs.specs.Acts.{Act, Gives_for, Marks, Hears, calls_along, pool_along}
 use Rattle.pool_runs.specs.Committing.{CommitsAll, FindsPool, CommitsGroup}
-use Rattle.pool_runs.specs.Counting.{has_leaf_at, RoseAt, HasLostBoard, Suspends, FailsOpening, IsCounted, LosesTop}
+use Rattle.pool_runs.specs.Counting.{has_leaf_at, RoseAt, HasLostBoard, Suspends, FailsOpening, IsCounted, LosesBoard, LosesFreeze}
 use Rattle.pool_runs.specs.Creating.{leaves_of}
 use Rattle.pool_runs.specs.Devices.{number_in, size_in}
 use Rattle.pool_runs.specs.Fairness.{AreFair}
@@ -50,7 +50,9 @@ use Rattle.pool_runs.proofs.Committing.{sync_all, does_pool, turn_all, detach_al
 use Rattle.pool_runs.proofs.Suspending.{turn_counts, sync_counts, import_counts, create_counts, detach_counts, graft_counts}
 use Rattle.pool_runs.proofs.Finding.{import_finds}
 use Rattle.pool_runs.proofs.Knowing.{may_more, acts_keep}
+use Rattle.pool_runs.proofs.Failing.{caught_rose}
 use Rattle.pool_runs.proofs.Losing.{turn_loses}
+use Rattle.pool_runs.proofs.SyncsLoseATop.{sync_loses}
 use Rattle.pool_runs.proofs.Grafting.{graft_calls, entry_keeps}
 use Rattle.pool_runs.proofs.Moments.{has_moments, acts_mays, keeps_all, may_take, acts_table, host_more, run_at, run_front}
 use Rattle.pool_runs.proofs.Pasting.{begins_known, then_pool, then_called, then_allowed, live_frozen}
@@ -339,10 +341,11 @@ line_required_out c h p e name device s leaf group met asked at is idle = of met
     of (inr out) = record { only = λ is. detach_not_memory (DetachRequired group) (sym is ∙ out.says); always = λ least. inr out.says }
 
 -- Counts.
-line_counts : (c : Codec) (h : Host) (p : Pool) (e : Entry) (from to : ℕ → ℕ) → Meets c h p e → AllCaused (calls_along e.acts) from to → IsCounted c h e from to
+line_counts : (c : Codec) (h : Host) (p : Pool) (e : Entry) (from to : ℕ → ℕ) → Meets c h p e → AllCaused (calls_along e.acts) from to → IsCounted c p h e from to
 line_counts c h p e from to met caused = record {
   turns = λ name s asked found bad. turns name s asked found bad met.row asked;
   tops = λ name s group top faults asked found says. tops name s group top faults asked found says met.row;
+  syncs = λ name s group top faults asked at says. syncs name s group top faults asked at says met.row;
   detaches = λ name leaf s group top faults asked found says. detaches name leaf s group top faults asked found says met.row;
   grafts = λ graft name leaf new asked says. grafts graft name leaf new asked says met.row;
   imports = λ name group top faults asked says. imports name group top faults asked says met.row;
@@ -359,13 +362,27 @@ line_counts c h p e from to met caused = record {
         (subst (λ calls. AllCaused calls from to) (ap calls_along line.2.are ∙ does_calls s.core.pool.0 line.2.moves) caused) (subst Suspends line.1 bad)
     turns name s asks found bad (inr out) asked = absurd (subst Suspends out.says bad)
 
+    Rises : ℕ → Type 0
+    Rises d = Rose (from d) (to d)
+
     tops : (name : List ℕ) (s : PoolState) (group : ℕ) (top : Guid) (faults : ℕ) → e.asked ≡ Asks_turn name → named name h.pools ≡ Some s
-        → e.reply ≡ To_turn (Suspended group top faults) → HostRow c h e → LosesTop s (λ d. Rose (from d) (to d)) top
+        → e.reply ≡ To_turn (Suspended group top faults) → HostRow c h e → LosesBoard s (λ d. Rose (from d) (to d)) group top
     tops name s group top faults asked found says (inl row) =
         let line = on_open h name s (TurnLine c h) e.acts e.reply found (subst (λ x. RowOf c h x e.acts e.reply) asked row.0) in
-        turn_loses c (size_in h.table) s line.2.moves (calls_along e.acts) group top faults from to (ap calls_along line.2.are ∙ does_calls s.core.pool.0 line.2.moves) caused
+        turn_loses Rises c (size_in h.table) s line.2.moves group top faults
+        (caught_rose line.2.moves (calls_along e.acts) from to (ap calls_along line.2.are ∙ does_calls s.core.pool.0 line.2.moves) caused)
         (subst (RowTurn c (size_in h.table) s line.2.moves) (turn_reply line.0 (Suspended group top faults) (sym line.1 ∙ says)) line.2.row)
     tops name s group top faults asked found says (inr out) = turn_not_memory (Suspended group top faults) (sym says ∙ out.says)
+
+    syncs : (name : List ℕ) (s : PoolState) (group : ℕ) (top : Guid) (faults : ℕ) → e.asked ≡ Asks_sync name → IsOpenAs p h name s
+        → e.reply ≡ To_sync (Ended (Suspended group top faults)) → HostRow c h e
+        → LosesBoard s (λ d. Rose (from d) (to d)) group top ⊎ LosesFreeze s s.core.leaves (λ d. Rose (from d) (to d)) group top
+    syncs name s group top faults asked at says (inl row) =
+        let line = on_open h name s (SyncLine c h) e.acts e.reply at.named (subst (λ x. RowOf c h x e.acts e.reply) asked row.0) in
+        sync_loses Rises c (size_in h.table) s p line.2.moves group top faults (met.knows.stands s (named_open name s h.pools at.named) at.ours)
+        (caught_rose line.2.moves (calls_along e.acts) from to (ap calls_along line.2.are ∙ does_calls s.core.pool.0 line.2.moves) caused)
+        (subst (RowSync c (size_in h.table) s line.2.moves) (sync_reply line.0 (Ended (Suspended group top faults)) (sym line.1 ∙ says)) line.2.row)
+    syncs name s group top faults asked at says (inr out) = sync_not_memory (Ended (Suspended group top faults)) (sym says ∙ out.says)
 
     detaches : (name leaf : List ℕ) (s : PoolState) (group : ℕ) (top : Guid) (faults : ℕ) → e.asked ≡ Asks_detach name leaf → named name h.pools ≡ Some s
         → e.reply ≡ To_detach (Undone group top faults) → HostRow c h e → RoseAt (λ d. has_leaf_at d s) from to

@@ -4,6 +4,7 @@ pub mod Bearing
 pub mod Committing
 pub mod Counting
 pub mod Creating
+pub mod Failing
 pub mod Finding
 pub mod Grafting
 pub mod GroupMoves
@@ -14,13 +15,16 @@ pub mod Known
 pub mod LineMoves
 pub mod Losing
 pub mod Members
+pub mod ModesStand
 pub mod Moments
 pub mod Numbers
 pub mod Pasting
+pub mod OnlyFailedLeave
 pub mod Running
 pub mod Seating
 pub mod SmallRuns
 pub mod Sparing
 pub mod Stamps
 pub mod Suspending
+pub mod SyncsLoseATop
 pub mod Writing

@@ -1,23 +1,26 @@
 -- How lines end by the counts of failed calls.
-use Rattle.std.specs.Prelude.{◌≡◌, ◌⊎◌, ℕ, Bool, true, List, Some}
+use Rattle.std.specs.Prelude.{◌≡◌, ◌⊎◌, ℕ, ◌<◌, ◌==◌, Bool, true, List, Some}
 use Rattle.std.specs.List.{list_any, AllByRecursion}
 use Rattle.mp_base.specs.declared.number.Guid.{Guid}
 use Rattle.mp_base.specs.Outside.{Rose}
-use Rattle.pool_moves.specs.Boards.{emptied}
+use Rattle.pool_moves.specs.Boards.{is_on, emptied}
 use Rattle.pool_moves.specs.Leaves.{LeafSeen}
 use Rattle.pool_moves.specs.LineRows.{TurnReply, Suspended, SyncReply, Ended}
 use Rattle.pool_moves.specs.FreezeRow.{is_dev}
 use Rattle.pool_moves.specs.Opened.{opened_leaves}
 use Rattle.pool_moves.specs.OpeningRow.{lacking_of}
+use Rattle.pool_moves.specs.Refusing.{is_writable, is_writable_under}
 use Rattle.pool_moves.specs.StampRow.{leaf_at, is_leaf_at, FaultOn}
 use Rattle.pool_moves.specs.States.{PoolState}
 use Rattle.txg_history.specs.Pages.{Codec}
+use Rattle.txg_history.specs.Pools.{Pool}
 use Rattle.pool_runs.specs.Acts.{Act, Opening}
 use Rattle.pool_runs.specs.Committing.{opening_in}
 use Rattle.pool_runs.specs.Creating.{leaves_of}
 use Rattle.pool_runs.specs.Devices.{number_in}
 use Rattle.pool_moves.specs.TreeRows.{Graft, DeviceFault, Undone}
 use Rattle.pool_runs.specs.Hosts.{Host, named}
+use Rattle.pool_runs.specs.Moments.{IsOpenAs}
 use Rattle.pool_runs.specs.Lines.{Asks_turn, Asks_sync, Asks_graft, Asks_detach, Asks_import, Asks_create, Reply, To_turn, To_sync, To_graft, To_detach, To_import, To_create, Unopened, Entry}
 
 -- the pool has a leaf on this device
@@ -34,15 +37,33 @@ pub record HasLostBoard (s : PoolState) : Type 0 where
   pub top : ℕ
   pub none : emptied s.core.leaves ≡ Some top
 
--- where the leaf is one of this top and on the board, this comes to its device
-abbrev pub IsLostBy : (Fails : ℕ → Type 0) → (top : ℕ) → LeafSeen → Type 0
-IsLostBy Fails top leaf = leaf.top ≡ top → leaf.on ≡ true → (d : ℕ) × (leaf.dev ≡ Some d) × Fails d
+-- the leaf is one of this top
+abbrev pub is_under : (top : ℕ) → LeafSeen → Bool
+is_under top leaf = leaf.top == top
 
--- The top of this member number is lost: it comes to each device of its leaves that were on the board.
-pub record LosesTop (s : PoolState) (Fails : ℕ → Type 0) (top : Guid) : Type 0 where
+-- where it is one of this top and so, this comes to its device
+abbrev pub IsLostBy : (which : LeafSeen → Bool) → (Fails : ℕ → Type 0) → (top : ℕ) → LeafSeen → Type 0
+IsLostBy which Fails top leaf = leaf.top ≡ top → which leaf ≡ true → (d : ℕ) × (leaf.dev ≡ Some d) × Fails d
+
+-- The top of this member number is lost: some of these leaves are its own, and this comes to the device of each of them that is so.
+pub record LosesTop (which : LeafSeen → Bool) (leaves : List LeafSeen) (number : ℕ → Guid) (Fails : ℕ → Type 0) (top : Guid) : Type 0 where
   pub at : ℕ
-  pub number : s.own.top_number at ≡ top
-  pub lost : AllByRecursion (IsLostBy Fails at) s.core.leaves
+  pub number_is : number at ≡ top
+  pub some : list_any (is_under at) leaves ≡ true
+  pub lost : AllByRecursion (IsLostBy which Fails at) leaves
+
+-- The frozen group of this number is suspended for this top: each of its leaves that were on the board is lost.
+pub record LosesBoard (s : PoolState) (Fails : ℕ → Type 0) (group : ℕ) (top : Guid) : Type 0 where
+  pub frozen : s.core.group.frozen ≡ true
+  pub first_is : s.core.group.first ≡ group
+  pub lost : LosesTop is_on s.core.leaves s.own.top_number Fails top
+
+-- A group that was frozen since, over these leaves, is suspended for this top: each of its leaves that could be written is lost, and there was one.
+-- Just these are on the board behind a freeze.
+pub record LosesFreeze (s : PoolState) (leaves : List LeafSeen) (Fails : ℕ → Type 0) (group : ℕ) (top : Guid) : Type 0 where
+  pub later : s.core.number < group
+  pub lost : LosesTop is_writable leaves s.own.top_number Fails top
+  pub one : list_any (is_writable_under lost.at) leaves ≡ true
 
 -- a group was suspended
 abbrev pub IsSuspended : TurnReply → Type 0
@@ -70,15 +91,20 @@ pub record FailsOpening (c : Codec) (acts : List Act) (from to : ℕ → ℕ) : 
   pub why : RoseAt (λ d. list_any (is_dev d) opening.devs) from to ⊎ LacksTop c opening
 
 -- What a line's counts tell of its refusals, where they went from these to those. A turn or a sync is suspended only where the count of a device of the
--- pool's leaves rose in this line, or some top had nobody left on its board before; and a turn only where the count of each device on which the lost top
--- had a leaf on its board rose in it. A detach is undone only where the count of a device of the pool's leaves rose. An import is suspended only where the
+-- pool's leaves rose in this line, or some top had nobody left on its board before. A turn tells a top only where the count of each device on which this
+-- top had a leaf on its board rose in it. So does a sync of this pool, where it tells the number of the group that was frozen before it; and a higher number
+-- only where the count of each device rose on which the top has a leaf that could be written, a leaf that failed in the frozen group among them. A detach is
+-- undone only where the count of a device of the pool's leaves rose. An import is suspended only where the
 -- count of a device of its leaves rose, or where a top lacks all of its leaves. And a create tells a device that failed only where the count of a device
 -- that it names rose, and an attach or a replace only where that of the new one did.
-pub record IsCounted (c : Codec) (h : Host) (e : Entry) (from to : ℕ → ℕ) : Type 0 where
+pub record IsCounted (c : Codec) (p : Pool) (h : Host) (e : Entry) (from to : ℕ → ℕ) : Type 0 where
   pub turns : (name : List ℕ) (s : PoolState) → (e.asked ≡ Asks_turn name) ⊎ (e.asked ≡ Asks_sync name) → named name h.pools ≡ Some s → Suspends e.reply
       → RoseAt (λ d. has_leaf_at d s) from to ⊎ HasLostBoard s
   pub tops : (name : List ℕ) (s : PoolState) (group : ℕ) (top : Guid) (faults : ℕ) → e.asked ≡ Asks_turn name → named name h.pools ≡ Some s
-      → e.reply ≡ To_turn (Suspended group top faults) → LosesTop s (λ d. Rose (from d) (to d)) top
+      → e.reply ≡ To_turn (Suspended group top faults) → LosesBoard s (λ d. Rose (from d) (to d)) group top
+  pub syncs : (name : List ℕ) (s : PoolState) (group : ℕ) (top : Guid) (faults : ℕ) → e.asked ≡ Asks_sync name → IsOpenAs p h name s
+      → e.reply ≡ To_sync (Ended (Suspended group top faults))
+      → LosesBoard s (λ d. Rose (from d) (to d)) group top ⊎ LosesFreeze s s.core.leaves (λ d. Rose (from d) (to d)) group top
   pub detaches : (name leaf : List ℕ) (s : PoolState) (group : ℕ) (top : Guid) (faults : ℕ) → e.asked ≡ Asks_detach name leaf → named name h.pools ≡ Some s
       → e.reply ≡ To_detach (Undone group top faults) → RoseAt (λ d. has_leaf_at d s) from to
   pub grafts : (graft : Graft) (name leaf new : List ℕ) → e.asked ≡ Asks_graft graft name leaf new → e.reply ≡ To_graft DeviceFault
