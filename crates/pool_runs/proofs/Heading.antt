@@ -32,7 +32,7 @@ use Rattle.pool_moves.proofs.Missing.{exhausted_missed}
 use Rattle.pool_moves.proofs.ReadWalks.{read_right}
 use Rattle.pool_runs.specs.Acts.{Act, Gives_for, Marks, Hears, calls_along, pool_along}
 use Rattle.pool_runs.specs.Committing.{CommitsAll, FindsPool, CommitsGroup}
-use Rattle.pool_runs.specs.Counting.{has_leaf_at, RoseAt, HasLostBoard, Suspends, FailsOpening, IsCounted, LosesBoard, LosesFreeze}
+use Rattle.pool_runs.specs.Counting.{has_leaf_at, RoseAt, HasLostBoard, Suspends, FailsOpening, IsCounted, LosesBoard, LosesLast}
 use Rattle.pool_runs.specs.Creating.{leaves_of}
 use Rattle.pool_runs.specs.Devices.{number_in, size_in}
 use Rattle.pool_runs.specs.Fairness.{AreFair}
@@ -362,25 +362,20 @@ line_counts c h p e from to met caused = record {
         (subst (λ calls. AllCaused calls from to) (ap calls_along line.2.are ∙ does_calls s.core.pool.0 line.2.moves) caused) (subst Suspends line.1 bad)
     turns name s asks found bad (inr out) asked = absurd (subst Suspends out.says bad)
 
-    Rises : ℕ → Type 0
-    Rises d = Rose (from d) (to d)
-
     tops : (name : List ℕ) (s : PoolState) (group : ℕ) (top : Guid) (faults : ℕ) → e.asked ≡ Asks_turn name → named name h.pools ≡ Some s
         → e.reply ≡ To_turn (Suspended group top faults) → HostRow c h e → LosesBoard s (λ d. Rose (from d) (to d)) group top
     tops name s group top faults asked found says (inl row) =
         let line = on_open h name s (TurnLine c h) e.acts e.reply found (subst (λ x. RowOf c h x e.acts e.reply) asked row.0) in
-        turn_loses Rises c (size_in h.table) s line.2.moves group top faults
+        turn_loses (λ d. Rose (from d) (to d)) c (size_in h.table) s line.2.moves group top faults
         (caught_rose line.2.moves (calls_along e.acts) from to (ap calls_along line.2.are ∙ does_calls s.core.pool.0 line.2.moves) caused)
         (subst (RowTurn c (size_in h.table) s line.2.moves) (turn_reply line.0 (Suspended group top faults) (sym line.1 ∙ says)) line.2.row)
     tops name s group top faults asked found says (inr out) = turn_not_memory (Suspended group top faults) (sym says ∙ out.says)
 
     syncs : (name : List ℕ) (s : PoolState) (group : ℕ) (top : Guid) (faults : ℕ) → e.asked ≡ Asks_sync name → IsOpenAs p h name s
-        → e.reply ≡ To_sync (Ended (Suspended group top faults)) → HostRow c h e
-        → LosesBoard s (λ d. Rose (from d) (to d)) group top ⊎ LosesFreeze s s.core.leaves (λ d. Rose (from d) (to d)) group top
+        → e.reply ≡ To_sync (Ended (Suspended group top faults)) → HostRow c h e → LosesLast p s e from to group top
     syncs name s group top faults asked at says (inl row) =
         let line = on_open h name s (SyncLine c h) e.acts e.reply at.named (subst (λ x. RowOf c h x e.acts e.reply) asked row.0) in
-        sync_loses Rises c (size_in h.table) s p line.2.moves group top faults (met.knows.stands s (named_open name s h.pools at.named) at.ours)
-        (caught_rose line.2.moves (calls_along e.acts) from to (ap calls_along line.2.are ∙ does_calls s.core.pool.0 line.2.moves) caused)
+        sync_loses c (size_in h.table) s p e line.2.moves group top faults from to (met.knows.stands s (named_open name s h.pools at.named) at.ours) at.ours line.2.are caused
         (subst (RowSync c (size_in h.table) s line.2.moves) (sync_reply line.0 (Ended (Suspended group top faults)) (sym line.1 ∙ says)) line.2.row)
     syncs name s group top faults asked at says (inr out) = sync_not_memory (Ended (Suspended group top faults)) (sym says ∙ out.says)
 

@@ -109,7 +109,7 @@ none_second : (own : ℕ → Bool) (a b : List Noted) → AllByRecursion (NoFaul
 none_second own [] b all = all
 none_second own (noted ∷ a) b all = none_second own a b all.1
 
-calls_more : (first second : List Act) → calls_along (first ++ second) ≡ calls_along first ++ calls_along second
+pub calls_more : (first second : List Act) → calls_along (first ++ second) ≡ calls_along first ++ calls_along second
 calls_more [] second = refl
 calls_more (act ∷ first) second = ap (λ l. calls_of_act act ++ l) (calls_more first second) ∙ sym (append_assoc (calls_of_act act) (calls_along first) (calls_along second))
 

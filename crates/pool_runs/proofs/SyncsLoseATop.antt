@@ -1,26 +1,34 @@
 -- A sync is suspended only where each leaf of the lost top failed, of those on the board of its last group.
 use Rattle.std.proofs.Common.{◌≡◌, ◌⊎◌, inl, inr, ℕ, ◌<◌, ◌≤◌, ◌==◌, ◌&&◌, ◌||◌, nat_le, Bool, true, false, List, [], ◌∷◌, ◌++◌, map, Option, Some, None, refl, sym, ap, ◌∙◌, subst, arith}
 use Rattle.std.specs.List.{AllByRecursion, list_any}
+use Rattle.mp_base.specs.Outside.{Rose}
 use Rattle.mp_base.specs.declared.number.Guid.{Guid}
+use Rattle.bank_core.specs.Calls.{AllCaused}
+use Rattle.bank_core.specs.Disk.{Noted}
 use Rattle.txg_history.specs.Pages.{Codec}
 use Rattle.txg_history.specs.Pools.{Pool}
+use Rattle.txg_history.proofs.Logging.{by_bool}
+use Rattle.pool_moves.specs.Keeping.{Kept}
 use Rattle.pool_moves.specs.Leaves.{LeafSeen}
-use Rattle.pool_moves.specs.LineRows.{TurnReply, Idle, Write, Flush, Round, Committed, Suspended, CommitsOpen, SyncReply, Ended, CommitsFor, SyncOpen, SyncBehind, EndsFirst, SyncBy, EndsGroup, RowSync}
-use Rattle.pool_moves.specs.Moves.{Move, steps}
+use Rattle.pool_moves.specs.LineRows.{TurnReply, Idle, Write, Flush, Round, Committed, Suspended, CommitsOpen, Ended, CommitsFor, SyncOpen, SyncBehind, EndsFirst, SyncBy, EndsGroup, RowSync}
+use Rattle.pool_moves.specs.Moves.{Move, steps, after_moves}
+use Rattle.pool_moves.specs.ReadRow.{made_in}
 use Rattle.pool_moves.specs.Refusing.{FreezeRefusal, is_writable, is_writable_under, unwritable, last_number, IsRefused}
-use Rattle.pool_moves.specs.States.{PoolState}
-use Rattle.pool_runs.specs.Counting.{is_under, IsLostBy, LosesTop, LosesBoard, LosesFreeze}
+use Rattle.pool_moves.specs.States.{PoolState, Side, group_seen}
+use Rattle.pool_runs.specs.Acts.{Does, does, calls_along}
+use Rattle.pool_runs.specs.Counting.{IsLostBy, LosesTop, LosesBoard, LosesFreeze, IsMidway, LosesLast}
 use Rattle.pool_runs.specs.Knowing.{HasSeats}
+use Rattle.pool_runs.specs.Lines.{Entry}
+use Rattle.pool_runs.proofs.Answering.{does_calls}
+use Rattle.pool_runs.proofs.Committing.{does_pool, group_commits, ends_pool}
 use Rattle.pool_runs.proofs.Counting.{none_unwritable}
-use Rattle.pool_runs.proofs.Failing.{IsCaught, caught_first, caught_second}
+use Rattle.pool_runs.proofs.Failing.{FailedOn, IsCaught, caught_first, caught_rose}
 use Rattle.pool_runs.proofs.Losing.{map_back, group_loses, commits_lose}
-use Rattle.pool_runs.proofs.ModesStand.{map_forth, Written, written_as, IsLeftWritable, group_leaves}
+use Rattle.pool_runs.proofs.ModesStand.{each, map_forth, Written, written_as, IsLeftWritable, group_leaves}
+use Rattle.pool_runs.proofs.Suspending.{calls_more}
 
 ended_same : (turn : TurnReply) (group : ℕ) (top : Guid) (faults : ℕ) → Ended (Suspended group top faults) ≡ Ended turn → Suspended group top faults ≡ turn
 ended_same turn group top faults e = cc
-
-suspended_same : (a b : ℕ) (top other : Guid) (m n : ℕ) → Suspended a top m ≡ Suspended b other n → (a ≡ b) × (top ≡ other)
-suspended_same a b top other m n e = (cc, cc)
 
 up_below : (a b d : ℕ) → a ≤ b → b < d → a < d
 up_below a b d up below = omega (arith, up, below)
@@ -51,43 +59,134 @@ freeze_before Fails s behind group top left x = record {
   one = any_same (λ one. one.0 && (one.2 == x.lost.at)) behind.core.leaves s.core.leaves left.leaves x.one;
 }
 
-module _ (Fails : ℕ → Type 0) where
-  for_loses : (refusal : Option FreezeRefusal) (c : Codec) (size : ℕ → ℕ) (s : PoolState) (vs : List Move) (group : ℕ) (top : Guid) (faults : ℕ) → IsCaught Fails vs
-      → IsRefused s refusal → CommitsFor refusal c size s vs (Ended (Suspended group top faults)) → LosesFreeze s s.core.leaves Fails group top
-  for_loses (Some refusal) c size s vs group top faults caught is row = absurd (let no = row.1 in cc)
-  for_loses None c size s vs group top faults caught is row =
-      commits_lose Fails c size s vs group top faults (none_unwritable (λ d. true) (nat_le last_number s.core.number) (unwritable s.core.leaves) s is) caught
-      (subst (CommitsOpen c size s vs) (sym (ended_same row.0 group top faults row.2)) row.1)
+freeze_more : (F G : ℕ → Type 0) (s : PoolState) (leaves : List LeafSeen) (group : ℕ) (top : Guid) → ((d : ℕ) → F d → G d) → LosesFreeze s leaves F group top
+    → LosesFreeze s leaves G group top
+freeze_more F G s leaves group top more x = record {
+  later = x.later;
+  lost = record {
+    at = x.lost.at;
+    number_is = x.lost.number_is;
+    some = x.lost.some;
+    lost = each (λ leaf lost under writable. let one = lost under writable in (one.0, one.1, more one.0 one.2)) leaves x.lost.lost;
+  };
+  one = x.one;
+}
 
-  open_loses : (c : Codec) (size : ℕ → ℕ) (s : PoolState) (vs : List Move) (group : ℕ) (top : Guid) (faults : ℕ) → IsCaught Fails vs
-      → SyncOpen c size s vs (Ended (Suspended group top faults)) → LosesFreeze s s.core.leaves Fails group top
-  open_loses c size s vs group top faults caught row = for_loses row.0 c size s vs group top faults caught row.1 row.2
+-- Where a sync freezes a group.
+for_loses : (refusal : Option FreezeRefusal) (c : Codec) (size : ℕ → ℕ) (s : PoolState) (vs : List Move) (group : ℕ) (top : Guid) (faults : ℕ)
+    → IsRefused s refusal → CommitsFor refusal c size s vs (Ended (Suspended group top faults)) → LosesFreeze s s.core.leaves (λ d. FailedOn d (made_in vs)) group top
+for_loses (Some refusal) c size s vs group top faults is row = absurd (let no = row.1 in cc)
+for_loses None c size s vs group top faults is row =
+    commits_lose (λ d. FailedOn d (made_in vs)) c size s vs group top faults
+    (none_unwritable (λ d. true) (nat_le last_number s.core.number) (unwritable s.core.leaves) s is) (λ d failed. failed)
+    (subst (CommitsOpen c size s vs) (sym (ended_same row.0 group top faults row.2)) row.1)
 
-  first_loses : (c : Codec) (size : ℕ → ℕ) (s : PoolState) (p : Pool) (vs : List Move) (group : ℕ) (top : Guid) (faults : ℕ) → HasSeats c s p → s.core.group.frozen ≡ true
-      → IsCaught Fails vs → EndsFirst c size s vs (Ended (Suspended group top faults)) → LosesBoard s Fails group top ⊎ LosesFreeze s s.core.leaves Fails group top
-  first_loses c size s p vs group top faults seats frozen caught e = by e.turn e.ends e.behind
-    where
-      parts : IsCaught Fails (e.first ++ e.rest)
-      parts = subst (IsCaught Fails) e.moves caught
+open_loses : (c : Codec) (size : ℕ → ℕ) (s : PoolState) (vs : List Move) (group : ℕ) (top : Guid) (faults : ℕ)
+    → SyncOpen c size s vs (Ended (Suspended group top faults)) → LosesFreeze s s.core.leaves (λ d. FailedOn d (made_in vs)) group top
+open_loses c size s vs group top faults row = for_loses row.0 c size s vs group top faults row.1 row.2
 
-      by : (turn : TurnReply) → EndsGroup c size s e.first turn → SyncBehind turn c size (steps e.first s) e.rest (Ended (Suspended group top faults))
-          → LosesBoard s Fails group top ⊎ LosesFreeze s s.core.leaves Fails group top
-      by (Committed number) ends (inl row) = absurd (let no = row.1 in cc)
-      by (Committed number) ends (inr row) = inr (freeze_before Fails s (steps e.first s) group top (group_leaves c size s p e.first number seats ends)
-          (open_loses c size (steps e.first s) e.rest group top faults (caught_second Fails e.first e.rest parts) row))
-      by (Suspended g t k) ends row = inl (group_loses Fails c size s e.first group top faults frozen (caught_first Fails e.first e.rest parts)
-          (subst (EndsGroup c size s e.first) (sym (ended_same (Suspended g t k) group top faults row.1)) ends))
-      by Idle ends row = absurd (let no = row.1 in cc)
-      by Write ends row = absurd (let no = row.1 in cc)
-      by Flush ends row = absurd (let no = row.1 in cc)
-      by (Round number) ends row = absurd (let no = row.1 in cc)
+-- A sync's moves before its last group leave the pool without a frozen one, and its calls behind them failed.
+record LosesBehind (s : PoolState) (t : Side) (vs : List Move) (group : ℕ) (top : Guid) : Type 0 where
+  first : List Move
+  rest : List Move
+  moves : vs ≡ first ++ rest
+  idle : (after_moves first t).pool.group.frozen ≡ false
+  lost : LosesFreeze s s.core.leaves (λ d. FailedOn d (made_in rest)) group top
 
-  sync_by_loses : (frozen : Bool) (c : Codec) (size : ℕ → ℕ) (s : PoolState) (p : Pool) (vs : List Move) (group : ℕ) (top : Guid) (faults : ℕ) → HasSeats c s p
-      → s.core.group.frozen ≡ frozen → IsCaught Fails vs → SyncBy frozen c size s vs (Ended (Suspended group top faults))
-      → LosesBoard s Fails group top ⊎ LosesFreeze s s.core.leaves Fails group top
-  sync_by_loses false c size s p vs group top faults seats is caught row = inr (open_loses c size s vs group top faults caught row)
-  sync_by_loses true c size s p vs group top faults seats is caught row = first_loses c size s p vs group top faults seats is caught row
+abbrev Loses : PoolState → Side → List Move → (group : ℕ) → (top : Guid) → Type 0
+Loses s t vs group top = LosesBoard s (λ d. FailedOn d (made_in vs)) group top ⊎ LosesBehind s t vs group top
 
-  pub sync_loses : (c : Codec) (size : ℕ → ℕ) (s : PoolState) (p : Pool) (vs : List Move) (group : ℕ) (top : Guid) (faults : ℕ) → HasSeats c s p → IsCaught Fails vs
-      → RowSync c size s vs (Ended (Suspended group top faults)) → LosesBoard s Fails group top ⊎ LosesFreeze s s.core.leaves Fails group top
-  sync_loses c size s p vs group top faults seats caught row = sync_by_loses s.core.group.frozen c size s p vs group top faults seats refl caught row
+first_loses : (c : Codec) (size : ℕ → ℕ) (s : PoolState) (t : Side) (vs : List Move) (group : ℕ) (top : Guid) (faults : ℕ) → Kept c s t → s.core.group.frozen ≡ true
+    → EndsFirst c size s vs (Ended (Suspended group top faults)) → Loses s t vs group top
+first_loses c size s t vs group top faults kept frozen e = by e.turn e.ends e.behind
+  where
+    fails : IsCaught (λ d. FailedOn d (made_in vs)) e.first
+    fails = caught_first (λ d. FailedOn d (made_in vs)) e.first e.rest (subst (IsCaught (λ d. FailedOn d (made_in vs))) e.moves (λ d failed. failed))
+
+    by : (turn : TurnReply) → EndsGroup c size s e.first turn → SyncBehind turn c size (steps e.first s) e.rest (Ended (Suspended group top faults)) → Loses s t vs group top
+    by (Committed number) ends (inl row) = absurd (let no = row.1 in cc)
+    by (Committed number) ends (inr row) = let done = group_commits c size s e.first number ends in inr (record {
+      first = e.first;
+      rest = e.rest;
+      moves = e.moves;
+      idle = ap (λ q. q.group.frozen) (ends_pool e.first number t done.ends);
+      lost = freeze_before (λ d. FailedOn d (made_in e.rest)) s (steps e.first s) group top (group_leaves c size s t.pool e.first number (t.seats, kept) ends)
+          (open_loses c size (steps e.first s) e.rest group top faults row);
+    })
+    by (Suspended g m k) ends row = inl (group_loses (λ d. FailedOn d (made_in vs)) c size s e.first group top faults frozen fails
+        (subst (EndsGroup c size s e.first) (sym (ended_same (Suspended g m k) group top faults row.1)) ends))
+    by Idle ends row = absurd (let no = row.1 in cc)
+    by Write ends row = absurd (let no = row.1 in cc)
+    by Flush ends row = absurd (let no = row.1 in cc)
+    by (Round number) ends row = absurd (let no = row.1 in cc)
+
+still_idle : (c : Codec) (s : PoolState) (t : Side) → Kept c s t → s.core.group.frozen ≡ false → t.pool.group.frozen ≡ false
+still_idle c s t kept idle = by_bool t.pool.group.frozen
+    (λ on. absurd (let no : true ≡ false = sym (ap (λ core. core.group.frozen) kept.core ∙ ap (λ f. (group_seen f t.pool.group).frozen) on) ∙ idle in cc)) (λ off. off)
+
+sync_by_loses : (frozen : Bool) (c : Codec) (size : ℕ → ℕ) (s : PoolState) (t : Side) (vs : List Move) (group : ℕ) (top : Guid) (faults : ℕ) → Kept c s t
+    → s.core.group.frozen ≡ frozen → SyncBy frozen c size s vs (Ended (Suspended group top faults)) → Loses s t vs group top
+sync_by_loses false c size s t vs group top faults kept is row = inr (record {
+  first = [];
+  rest = vs;
+  moves = refl;
+  idle = still_idle c s t kept is;
+  lost = open_loses c size s vs group top faults row;
+})
+sync_by_loses true c size s t vs group top faults kept is row = first_loses c size s t vs group top faults kept is row
+
+-- The line, by its counts.
+caused_split : (a b : List Noted) (from to : ℕ → ℕ) → AllCaused (a ++ b) from to → (mid : ℕ → ℕ) × AllCaused a from mid × AllCaused b mid to
+caused_split [] b from to caused = (from, (λ d. refl), caused)
+caused_split (noted ∷ a) b from to caused = let more = caused_split a b caused.0 to caused.2 in (more.0, (caused.0, caused.1, more.1), more.2)
+
+does_more : (g : ℕ) (vs ws : List Move) → does g (vs ++ ws) ≡ does g vs ++ does g ws
+does_more g [] ws = refl
+does_more g (v ∷ vs) ws = ap (λ more. Does g v ∷ more) (does_more g vs ws)
+
+board_more : (F G : ℕ → Type 0) (s : PoolState) (group : ℕ) (top : Guid) → ((d : ℕ) → F d → G d) → LosesBoard s F group top → LosesBoard s G group top
+board_more F G s group top more x = record {
+  frozen = x.frozen;
+  first_is = x.first_is;
+  lost = record {
+    at = x.lost.at;
+    number_is = x.lost.number_is;
+    some = x.lost.some;
+    lost = each (λ leaf lost under on. let one = lost under on in (one.0, one.1, more one.0 one.2)) s.core.leaves x.lost.lost;
+  };
+}
+
+pub sync_loses : (c : Codec) (size : ℕ → ℕ) (s : PoolState) (p : Pool) (e : Entry) (vs : List Move) (group : ℕ) (top : Guid) (faults : ℕ) (from to : ℕ → ℕ) → HasSeats c s p
+    → s.core.pool.0 ≡ p.pool.0 → e.acts ≡ does s.core.pool.0 vs → AllCaused (calls_along e.acts) from to → RowSync c size s vs (Ended (Suspended group top faults))
+    → LosesLast p s e from to group top
+sync_loses c size s p e vs group top faults from to seats ours are caused row =
+    of (sync_by_loses s.core.group.frozen c size s t vs group top faults seats.1 refl row)
+  where
+    g : ℕ
+    g = s.core.pool.0
+
+    t : Side
+    t = record { pool = p; seats = seats.0 }
+
+    of : Loses s t vs group top → LosesLast p s e from to group top
+    of (inl board) = inl (board_more (λ d. FailedOn d (made_in vs)) (λ d. Rose (from d) (to d)) s group top
+        (caught_rose vs (calls_along e.acts) from to (ap calls_along are ∙ does_calls g vs) caused) board)
+    of (inr x) = inr (parts.0, midway, freeze_more (λ d. FailedOn d (made_in x.rest)) (λ d. Rose (parts.0 d) (to d)) s s.core.leaves group top
+        (caught_rose x.rest (calls_along (does g x.rest)) parts.0 to (does_calls g x.rest) parts.2) x.lost)
+      where
+        all : e.acts ≡ does g x.first ++ does g x.rest
+        all = are ∙ (ap (does g) x.moves ∙ does_more g x.first x.rest)
+
+        parts : (mid : ℕ → ℕ) × AllCaused (calls_along (does g x.first)) from mid × AllCaused (calls_along (does g x.rest)) mid to
+        parts = caused_split (calls_along (does g x.first)) (calls_along (does g x.rest)) from to
+            (subst (λ calls. AllCaused calls from to) (ap calls_along all ∙ calls_more (does g x.first) (does g x.rest)) caused)
+
+        midway : IsMidway p e.acts from parts.0 to
+        midway = record {
+          before = does g x.first;
+          behind = does g x.rest;
+          all = all;
+          idle = ap (λ q. q.group.frozen) (does_pool g x.first t (sym ours)) ∙ x.idle;
+          came = parts.1;
+          comes = parts.2;
+        }

@@ -1,8 +1,9 @@
 -- How lines end by the counts of failed calls.
-use Rattle.std.specs.Prelude.{◌≡◌, ◌⊎◌, ℕ, ◌<◌, ◌==◌, Bool, true, List, Some}
+use Rattle.std.specs.Prelude.{◌≡◌, ◌⊎◌, ℕ, ◌<◌, ◌==◌, Bool, true, false, List, ◌++◌, Some}
 use Rattle.std.specs.List.{list_any, AllByRecursion}
 use Rattle.mp_base.specs.declared.number.Guid.{Guid}
 use Rattle.mp_base.specs.Outside.{Rose}
+use Rattle.bank_core.specs.Calls.{AllCaused}
 use Rattle.pool_moves.specs.Boards.{is_on, emptied}
 use Rattle.pool_moves.specs.Leaves.{LeafSeen}
 use Rattle.pool_moves.specs.LineRows.{TurnReply, Suspended, SyncReply, Ended}
@@ -14,7 +15,7 @@ use Rattle.pool_moves.specs.StampRow.{leaf_at, is_leaf_at, FaultOn}
 use Rattle.pool_moves.specs.States.{PoolState}
 use Rattle.txg_history.specs.Pages.{Codec}
 use Rattle.txg_history.specs.Pools.{Pool}
-use Rattle.pool_runs.specs.Acts.{Act, Opening}
+use Rattle.pool_runs.specs.Acts.{Act, Opening, calls_along, pool_along}
 use Rattle.pool_runs.specs.Committing.{opening_in}
 use Rattle.pool_runs.specs.Creating.{leaves_of}
 use Rattle.pool_runs.specs.Devices.{number_in}
@@ -65,6 +66,21 @@ pub record LosesFreeze (s : PoolState) (leaves : List LeafSeen) (Fails : ℕ →
   pub lost : LosesTop is_writable leaves s.own.top_number Fails top
   pub one : list_any (is_writable_under lost.at) leaves ≡ true
 
+-- Counts at a moment within a line, at which the pool has no group frozen: the acts before it took them there, and those behind it to the line's end.
+pub record IsMidway (p : Pool) (acts : List Act) (from mid to : ℕ → ℕ) : Type 0 where
+  pub before : List Act
+  pub behind : List Act
+  pub all : acts ≡ before ++ behind
+  pub idle : (pool_along before p).group.frozen ≡ false
+  pub came : AllCaused (calls_along before) from mid
+  pub comes : AllCaused (calls_along behind) mid to
+
+-- A sync's last group was suspended for this top: the one that was frozen before the line, or one that the line froze, and then each count rose
+-- behind the end of the group before it.
+abbrev pub LosesLast : Pool → PoolState → Entry → (from to : ℕ → ℕ) → (group : ℕ) → (top : Guid) → Type 0
+LosesLast p s e from to group top = LosesBoard s (λ d. Rose (from d) (to d)) group top
+    ⊎ ((mid : ℕ → ℕ) × IsMidway p e.acts from mid to × LosesFreeze s s.core.leaves (λ d. Rose (mid d) (to d)) group top)
+
 -- a group was suspended
 abbrev pub IsSuspended : TurnReply → Type 0
 IsSuspended (Suspended group top faults) = Unit {0}
@@ -92,11 +108,11 @@ pub record FailsOpening (c : Codec) (acts : List Act) (from to : ℕ → ℕ) : 
 
 -- What a line's counts tell of its refusals, where they went from these to those. A turn or a sync is suspended only where the count of a device of the
 -- pool's leaves rose in this line, or some top had nobody left on its board before. A turn tells a top only where the count of each device on which this
--- top had a leaf on its board rose in it. So does a sync of this pool, where it tells the number of the group that was frozen before it; and a higher number
--- only where the count of each device rose on which the top has a leaf that could be written, a leaf that failed in the frozen group among them. A detach is
--- undone only where the count of a device of the pool's leaves rose. An import is suspended only where the
--- count of a device of its leaves rose, or where a top lacks all of its leaves. And a create tells a device that failed only where the count of a device
--- that it names rose, and an attach or a replace only where that of the new one did.
+-- top had a leaf on its board rose in it. So does a sync of this pool that tells the group which was frozen before it; one that tells a later group does
+-- so only where the count of each device rose on which the top has a leaf that could be written, and that behind the frozen group's end: a leaf that
+-- failed in the frozen group failed again. A detach is undone only where the count of a device of the pool's leaves rose. An import is suspended only
+-- where the count of a device of its leaves rose, or where a top lacks all of its leaves. And a create tells a device that failed only where the count
+-- of a device that it names rose, and an attach or a replace only where that of the new one did.
 pub record IsCounted (c : Codec) (p : Pool) (h : Host) (e : Entry) (from to : ℕ → ℕ) : Type 0 where
   pub turns : (name : List ℕ) (s : PoolState) → (e.asked ≡ Asks_turn name) ⊎ (e.asked ≡ Asks_sync name) → named name h.pools ≡ Some s → Suspends e.reply
       → RoseAt (λ d. has_leaf_at d s) from to ⊎ HasLostBoard s
@@ -104,7 +120,7 @@ pub record IsCounted (c : Codec) (p : Pool) (h : Host) (e : Entry) (from to : �
       → e.reply ≡ To_turn (Suspended group top faults) → LosesBoard s (λ d. Rose (from d) (to d)) group top
   pub syncs : (name : List ℕ) (s : PoolState) (group : ℕ) (top : Guid) (faults : ℕ) → e.asked ≡ Asks_sync name → IsOpenAs p h name s
       → e.reply ≡ To_sync (Ended (Suspended group top faults))
-      → LosesBoard s (λ d. Rose (from d) (to d)) group top ⊎ LosesFreeze s s.core.leaves (λ d. Rose (from d) (to d)) group top
+      → LosesLast p s e from to group top
   pub detaches : (name leaf : List ℕ) (s : PoolState) (group : ℕ) (top : Guid) (faults : ℕ) → e.asked ≡ Asks_detach name leaf → named name h.pools ≡ Some s
       → e.reply ≡ To_detach (Undone group top faults) → RoseAt (λ d. has_leaf_at d s) from to
   pub grafts : (graft : Graft) (name leaf new : List ℕ) → e.asked ≡ Asks_graft graft name leaf new → e.reply ≡ To_graft DeviceFault
