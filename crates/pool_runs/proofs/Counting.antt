@@ -600,7 +600,7 @@ module _ (own : ℕ → Bool) where
       let w : Resumes c size s vs reply = subst (λ top. ResumesUnless top c size s vs reply) full row in
       reopen_fine c size s w.first reply none mine (answered_first w.first w.rest (subst (AllByRecursion Answered) w.moves all)) w.row bad
 
-  -- A first commit, and a stamp.
+  -- A stamp.
   stamp_asks : (dev size : ℕ) (pool member : Guid) → own dev ≡ true → AllByRecursion IsAskOn (stamp_plan dev size pool member)
   stamp_asks dev size pool member mine = asks_more (label_writes dev (labels_of size) ring_offset zero_ring) (ring_plan dev size (blank_uberblock pool member))
       (label_asks dev (labels_of size) ring_offset zero_ring mine)
@@ -610,26 +610,6 @@ module _ (own : ℕ → Bool) where
   pub stamp_fine : (dev size : ℕ) (pool member : Guid) (made : List Noted) (outcome : Option Fault) → own dev ≡ true → IsPart (stamp_plan dev size pool member) made outcome
       → AllByRecursion NoFault made → outcome ≡ None
   stamp_fine dev size pool member made outcome mine part none = part_none (stamp_plan dev size pool member) made outcome part (stamp_asks dev size pool member mine) none
-
-  pub found_fine : (c : Codec) (size : ℕ → ℕ) (s : PoolState) (vs : List Move) (whole : Bool) → AreOwnLeaves s.core.leaves → AllByRecursion Answered vs
-      → (row : RowFound c size s vs whole) → all_true row.ends.results ≡ true
-  found_fine c size s vs whole mine all row =
-      let first = row.first ++ (Flushed_all ∷ []) in
-      let keeps : AllByRecursion KeepsDevs first = more KeepsDevs row.first (Flushed_all ∷ []) (all_empty KeepsDevs devs_kind (λ cells board. tt) s row.first row.freeze) (tt, tt) in
-      let leaves = (steps first s).core.leaves in
-      let ms = board_of leaves in
-      let at : AreOwn ms = own_where is_on leaves (own_steps first s keeps mine) in
-      let w = row.ends in
-      let round : AllByRecursion Answered row.round = answered_second first row.round (subst (AllByRecursion Answered) row.moves all) in
-      let part : AllByRecursion Answered (as_moves w.first ++ (as_moves w.second ++ w.thirds)) =
-      (answered_first (round_moves w.draft w.first w.second w.thirds) w.ending (subst (AllByRecursion Answered) w.moves round)).1 in
-      let rest = answered_second (as_moves w.first) (as_moves w.second ++ w.thirds) part in
-      let one : all_true w.in_first ≡ true = phase_true (first_plan size w.draft.commit) (first_asks size w.draft.commit) ms (map (λ m. true) ms) w.in_first w.first w.configs at (start_true ms)
-      (answered_calls w.first (answered_first (as_moves w.first) (as_moves w.second ++ w.thirds) part)) in
-      let two : all_true w.in_second ≡ true = phase_true (second_plan size w.draft.commit) (second_asks size w.draft.commit) ms w.in_first w.in_second w.second w.uberblocks at one
-      (answered_calls w.second (answered_first (as_moves w.second) w.thirds rest)) in
-      third_true (third_plan size w.draft.commit) (third_asks size w.draft.commit) w.draft ms w.in_second w.results w.thirds w.copies at two
-      (answered_second (as_moves w.second) w.thirds rest)
 
   -- the moves of a line's calls
   pub line_answered : (vs : List Move) (calls : List Noted) → calls ≡ made_in vs → AllByRecursion NoFault calls → AllByRecursion Answered vs

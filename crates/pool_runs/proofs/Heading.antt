@@ -32,7 +32,7 @@ use Rattle.pool_moves.proofs.Missing.{exhausted_missed}
 use Rattle.pool_moves.proofs.ReadWalks.{read_right}
 use Rattle.pool_runs.specs.Acts.{Act, Gives_for, Marks, Hears, calls_along, pool_along}
 use Rattle.pool_runs.specs.Committing.{CommitsAll, FindsPool, CommitsGroup}
-use Rattle.pool_runs.specs.Counting.{has_leaf_at, RoseAt, HasLostBoard, Suspends, FailsOpening, IsCounted, LosesBoard, LosesLast}
+use Rattle.pool_runs.specs.Counting.{has_leaf_at, RoseAt, HasLostBoard, Suspends, FailsOpening, IsCounted, LosesBoard, LosesLast, FailsNamed}
 use Rattle.pool_runs.specs.Creating.{leaves_of}
 use Rattle.pool_runs.specs.Devices.{number_in, size_in}
 use Rattle.pool_runs.specs.Fairness.{AreFair}
@@ -47,10 +47,11 @@ use Rattle.pool_runs.specs.Pasts.{Past, pool_of, Left, BeginsRun, HasFrozen}
 use Rattle.pool_runs.proofs.Acting.{history_pool}
 use Rattle.pool_runs.proofs.Answering.{all_answer, does_calls, marked_calls}
 use Rattle.pool_runs.proofs.Committing.{sync_all, does_pool, turn_all, detach_all}
-use Rattle.pool_runs.proofs.Suspending.{turn_counts, sync_counts, import_counts, create_counts, detach_counts, graft_counts}
+use Rattle.pool_runs.proofs.Suspending.{turn_counts, sync_counts, import_counts, detach_counts, graft_counts}
 use Rattle.pool_runs.proofs.Finding.{import_finds}
 use Rattle.pool_runs.proofs.Knowing.{may_more, acts_keep}
 use Rattle.pool_runs.proofs.Failing.{caught_rose}
+use Rattle.pool_runs.proofs.CreatesNameTheFailed.{create_names}
 use Rattle.pool_runs.proofs.Losing.{turn_loses}
 use Rattle.pool_runs.proofs.SyncsLoseATop.{sync_loses}
 use Rattle.pool_runs.proofs.Grafting.{graft_calls, entry_keeps}
@@ -423,8 +424,8 @@ line_counts c h p e from to met caused = record {
     imports name group top faults asked says (inr out) = import_not_memory (Unopened group top faults) (sym says ∙ out.says)
 
     creates : (name : List ℕ) (blocks : ℕ) (tops : List (List (List ℕ))) (device : List ℕ) → e.asked ≡ Asks_create name blocks tops → e.reply ≡ To_create (FaultOn device) → HostRow c h e
-        → RoseAt (λ d. is_leaf_at (leaf_at d (leaves_of h.table tops))) from to
-    creates name blocks tops device asked says (inl row) = create_counts c h name blocks tops e.acts e.reply device from to (subst (λ x. RowOf c h x e.acts e.reply) asked row.0) caused says
+        → FailsNamed h tops device from to
+    creates name blocks tops device asked says (inl row) = create_names c h name blocks tops e.acts e.reply device from to (subst (λ x. RowOf c h x e.acts e.reply) asked row.0) caused says
     creates name blocks tops device asked says (inr out) = absurd (let no = sym says ∙ out.says in cc)
 
 pub headline_from : (c : Codec) (past : Past) (h : Host) (acts : List Act) (entries : List Entry) → Follows c past h acts entries → Headline c past h acts entries

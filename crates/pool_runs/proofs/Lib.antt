@@ -3,6 +3,7 @@ pub mod Answering
 pub mod Bearing
 pub mod Committing
 pub mod Counting
+pub mod CreatesNameTheFailed
 pub mod Creating
 pub mod Failing
 pub mod Finding

@@ -17,7 +17,7 @@ use Rattle.pool_moves.specs.Refusing.{is_writable, is_writable_under}
 use Rattle.pool_moves.specs.States.{PoolState, Side}
 use Rattle.pool_runs.specs.Knowing.{HasSeats}
 use Rattle.pool_runs.proofs.Failing.{FailedOn}
-use Rattle.pool_runs.proofs.OnlyFailedLeave.{MaySet, IsAcked, IsJust, AreJust, IsLostBehind, Comes, KeepsMay, group_comes, step_leaves, leaf_stays, steps_tops}
+use Rattle.pool_runs.proofs.OnlyFailedLeave.{MaySet, IsAcked, IsJust, AreJust, IsLostBehind, Comes, KeepsMay, group_comes, step_leaves, steps_tops, steps_places}
 
 -- All by all.
 pub each : {X : Type 0} {P Q : X → Type 0} → ((x : X) → P x → Q x) → (xs : List X) → AllByRecursion P xs → AllByRecursion Q xs
@@ -28,7 +28,7 @@ of_all : {X : Type 0} {P : X → Type 0} → ((x : X) → P x) → (xs : List X)
 of_all is [] = tt
 of_all is (x ∷ xs) = (is x, of_all is xs)
 
-of_both : {X : Type 0} {P Q R : X → Type 0} → ((x : X) → P x → Q x → R x) → (xs : List X) → AllByRecursion P xs → AllByRecursion Q xs → AllByRecursion R xs
+pub of_both : {X : Type 0} {P Q R : X → Type 0} → ((x : X) → P x → Q x → R x) → (xs : List X) → AllByRecursion P xs → AllByRecursion Q xs → AllByRecursion R xs
 of_both more [] a b = tt
 of_both more (x ∷ xs) a b = (more x a.0 b.0, of_both more xs a.1 b.1)
 
@@ -130,8 +130,11 @@ module _ (leaves : List LeafSeen) where
   abbrev has_device : (n : ℕ) → LeafSeen → Bool
   has_device n leaf = is_some leaf.dev && (leaf.guid.0 == n)
 
+  abbrev HasDevice : Guid → Option ℕ → Type 0
+  HasDevice m dev = is_some dev ≡ true → list_any (has_device m.0) leaves ≡ true
+
   abbrev IsCarried : LeafSeen → Type 0
-  IsCarried leaf = is_some leaf.dev ≡ true → list_any (has_device leaf.guid.0) leaves ≡ true
+  IsCarried leaf = HasDevice leaf.guid leaf.dev
 
   one_mode : (n : ℕ) (a b : OwnLeaf) (xs : List LeafSeen) → list_any (has_device n) xs ≡ true
       → AllByRecursion (λ leaf. is_some leaf.dev ≡ true → (leaf.guid.0 == n) ≡ true → a.mode ≡ leaf.own.mode) xs
@@ -178,19 +181,6 @@ module _ (leaves : List LeafSeen) where
   all_written f same (leaf ∷ xs) mild carried =
       ap (λ one. one ∷ map written_as (map f xs)) (same leaf mild.0 carried.0) ∙ ap (λ more. written_as leaf ∷ more) (all_written f same xs mild.1 carried.1)
 
-  all_carried : (f : LeafSeen → LeafSeen) → ((leaf : LeafSeen) → ((f leaf).guid ≡ leaf.guid) × ((f leaf).dev ≡ leaf.dev)) → (xs : List LeafSeen)
-      → AllByRecursion IsCarried xs → AllByRecursion IsCarried (map f xs)
-  all_carried f same [] all = tt
-  all_carried f same (leaf ∷ xs) all = (
-    (λ some. subst (λ m. list_any (has_device m.0) leaves ≡ true) (sym (same leaf).0) (all.0 (sym (ap is_some (same leaf).1) ∙ some))),
-    all_carried f same xs all.1,
-  )
-
-  step_carried : (v : Move) (s : PoolState) → IsJust Fine Mild (Unit {0}) v → AllByRecursion IsCarried s.core.leaves → AllByRecursion IsCarried (state_step v s).core.leaves
-  step_carried v s just all = step_leaves Fine Mild (Unit {0}) (AllByRecursion IsCarried) v s just all
-      (all_carried (leaf_step v s.core.number s.core.group.first s.core.scan.hi)
-      (λ leaf. let same = leaf_stays Fine Mild (Unit {0}) v s.core.number s.core.group.first s.core.scan.hi leaf just in (same.0, same.1)) s.core.leaves all)
-
   step_written : (v : Move) (s : PoolState) → IsJust Fine Mild (Unit {0}) v → MaySet Mild s.core.leaves → AllByRecursion IsCarried s.core.leaves
       → map written_as (state_step v s).core.leaves ≡ map written_as s.core.leaves
   step_written v s just mild carried = step_leaves Fine Mild (Unit {0}) (λ l. map written_as l ≡ map written_as s.core.leaves) v s just refl
@@ -200,7 +190,7 @@ module _ (leaves : List LeafSeen) where
   steps_written : (vs : List Move) (s : PoolState) → AreJust Fine Mild (Unit {0}) vs → MaySet Mild s.core.leaves → AllByRecursion IsCarried s.core.leaves
       → map written_as (steps vs s).core.leaves ≡ map written_as s.core.leaves
   steps_written [] s just mild carried = refl
-  steps_written (v ∷ vs) s just mild carried = steps_written vs (state_step v s) just.1 (step_mild v s just.0 mild) (step_carried v s just.0 carried)
+  steps_written (v ∷ vs) s just mild carried = steps_written vs (state_step v s) just.1 (step_mild v s just.0 mild) (steps_places Fine Mild (Unit {0}) HasDevice (v ∷ []) s (just.0, tt) carried)
       ∙ step_written v s just.0 mild carried
 
 -- each leaf of a list is carried by it

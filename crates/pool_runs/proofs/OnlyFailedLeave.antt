@@ -360,3 +360,18 @@ module _ (Fails : ℕ → Type 0) (May : Guid → OwnLeaf → Type 0) (Ack : Typ
   steps_tops [] s just = (refl, same_up s.core.number)
   steps_tops (v ∷ vs) s just = let one = step_tops v s just.0 in let more = steps_tops vs (state_step v s) just.1 in
       (more.0 ∙ one.0, up_more s.core.number (state_step v s).core.number (steps vs (state_step v s)).core.number one.1 more.1)
+
+  -- what is so of each leaf by its number and its device stays so
+  all_places : (Q : Guid → Option ℕ → Type 0) (f : LeafSeen → LeafSeen) → ((leaf : LeafSeen) → ((f leaf).guid ≡ leaf.guid) × ((f leaf).dev ≡ leaf.dev)) → (leaves : List LeafSeen)
+      → AllByRecursion (λ leaf. Q leaf.guid leaf.dev) leaves → AllByRecursion (λ leaf. Q leaf.guid leaf.dev) (map f leaves)
+  all_places Q f same [] all = tt
+  all_places Q f same (leaf ∷ leaves) all =
+      (subst (λ dev. Q (f leaf).guid dev) (sym (same leaf).1) (subst (λ m. Q m leaf.dev) (sym (same leaf).0) all.0), all_places Q f same leaves all.1)
+
+  pub steps_places : (Q : Guid → Option ℕ → Type 0) (vs : List Move) (s : PoolState) → AreJust vs → AllByRecursion (λ leaf. Q leaf.guid leaf.dev) s.core.leaves
+      → AllByRecursion (λ leaf. Q leaf.guid leaf.dev) (steps vs s).core.leaves
+  steps_places Q [] s just all = all
+  steps_places Q (v ∷ vs) s just all = steps_places Q vs (state_step v s) just.1
+      (step_leaves (AllByRecursion (λ leaf. Q leaf.guid leaf.dev)) v s just.0 all
+      (all_places Q (leaf_step v s.core.number s.core.group.first s.core.scan.hi)
+      (λ leaf. let same = leaf_stays v s.core.number s.core.group.first s.core.scan.hi leaf just.0 in (same.0, same.1)) s.core.leaves all))

@@ -40,7 +40,7 @@ use Rattle.pool_runs.specs.Hosts.{Host, free_in, named}
 use Rattle.pool_runs.specs.Importing.{OpensBy, FollowsMap, OpensFound, ImportBy, host_behind, Imports, ImportFor, ImportUnless, RowImport}
 use Rattle.pool_runs.specs.Lines.{Reply, To_import, To_create, Unopened}
 use Rattle.pool_runs.proofs.Answering.{does_calls}
-use Rattle.pool_runs.proofs.Counting.{NoFault, fault_or, Answered, answered_first, answered_second, commits_fine, none_unwritable, OwnDev, AreOwnLeaves, turn_suspends, sync_suspends, resume_fine, stamp_fine, found_fine, line_answered}
+use Rattle.pool_runs.proofs.Counting.{NoFault, fault_or, Answered, answered_first, answered_second, commits_fine, none_unwritable, OwnDev, AreOwnLeaves, turn_suspends, sync_suspends, resume_fine, stamp_fine, line_answered}
 use Rattle.pool_runs.proofs.Stamps.{stamp_calls}
 use Rattle.pool_runs.proofs.Finding.{opening_bare}
 use Rattle.pool_runs.proofs.Importing.{bare_calls, opening_of, opening_calls}
@@ -113,7 +113,7 @@ pub calls_more : (first second : List Act) → calls_along (first ++ second) ≡
 calls_more [] second = refl
 calls_more (act ∷ first) second = ap (λ l. calls_of_act act ++ l) (calls_more first second) ∙ sym (append_assoc (calls_of_act act) (calls_along first) (calls_along second))
 
-closed_calls : (g : ℕ) (vs : List Move) → calls_along (does g vs ++ (Closes g ∷ [])) ≡ made_in vs
+pub closed_calls : (g : ℕ) (vs : List Move) → calls_along (does g vs ++ (Closes g ∷ [])) ≡ made_in vs
 closed_calls g vs = calls_more (does g vs) (Closes g ∷ []) ∙ (append-nil (calls_along (does g vs)) ∙ does_calls g vs)
 
 opens_suspended : (c : Codec) (h : Host) (name : List ℕ) (found : Found) (acts : List Act) (reply : Reply) (before : List Noted) (from to : ℕ → ℕ) (group : ℕ) (top : Guid) (faults : ℕ)
@@ -221,95 +221,6 @@ pub sync_counts : (c : Codec) (h : Host) (s : PoolState) (vs : List Move) (reply
 sync_counts c h s vs reply from to row caused bad = ⊎_elim
     (λ none. inr (sync_suspends (at_leaves s.core.leaves) c (size_in h.table) s vs reply (own_all s.core.leaves) (line_answered (at_leaves s.core.leaves) vs (made_in vs) refl none) row bad))
     (λ rose. inl rose) (fault_or (at_leaves s.core.leaves) (made_in vs) from to caused)
-
--- Creates.
-abbrev at_new : (leaves : List NewLeaf) → ℕ → Bool
-at_new leaves d = is_leaf_at (leaf_at d leaves)
-
-found_here : (leaf : NewLeaf) (leaves : List NewLeaf) → at_new (leaf ∷ leaves) leaf.dev ≡ true
-found_here leaf leaves = ap (λ t. is_leaf_at (cond t (Some leaf) (leaf_at leaf.dev leaves))) (same_dev leaf.dev)
-
-found_later : (first : NewLeaf) (leaves : List NewLeaf) (d : ℕ) → at_new leaves d ≡ true → at_new (first ∷ leaves) d ≡ true
-found_later first leaves d is = by (first.dev == d)
-  where
-    by : (t : Bool) → is_leaf_at (cond t (Some first) (leaf_at d leaves)) ≡ true
-    by true = refl
-    by false = is
-
--- every one of these leaves is found among all
-abbrev AreFound : (all leaves : List NewLeaf) → Type 0
-AreFound all leaves = AllByRecursion (λ leaf. at_new all leaf.dev ≡ true) leaves
-
-found_up : (first : NewLeaf) (all leaves : List NewLeaf) → AreFound all leaves → AreFound (first ∷ all) leaves
-found_up first all [] each = tt
-found_up first all (leaf ∷ leaves) each = (found_later first all leaf.dev each.0, found_up first all leaves each.1)
-
-found_all : (leaves : List NewLeaf) → AreFound leaves leaves
-found_all [] = tt
-found_all (leaf ∷ leaves) = (found_here leaf leaves, found_up leaf leaves leaves (found_all leaves))
-
-new_own_leaves : (all leaves : List NewLeaf) → AreFound all leaves → AreOwnLeaves (at_new all) (map new_leaf_seen leaves)
-new_own_leaves all [] each = tt
-new_own_leaves all (leaf ∷ leaves) each = (each.0, new_own_leaves all leaves each.1)
-
-none_first : (own : ℕ → Bool) (a b : List Noted) → AllByRecursion (NoFault own) (a ++ b) → AllByRecursion (NoFault own) a
-none_first own [] b all = tt
-none_first own (noted ∷ a) b all = (all.0, none_first own a b all.1)
-
--- where no call on them failed all stamps are whole
-stamps_fine : (all : List NewLeaf) (pool : Guid) (size : ℕ → ℕ) (leaves : List NewLeaf) (stamps : List Stamp) (failed : Option NewLeaf) → AreFound all leaves → AreStamps size pool leaves stamps failed
-    → AllByRecursion (NoFault (at_new all)) (calls_of_stamps stamps) → failed ≡ None
-stamps_fine all pool size [] [] failed each are none = are
-stamps_fine all pool size [] (stamp ∷ stamps) failed each are none = absurd are
-stamps_fine all pool size (leaf ∷ leaves) [] failed each are none = absurd are
-stamps_fine all pool size (leaf ∷ leaves) (stamp ∷ stamps) failed each (dev, inl whole) none =
-    stamps_fine all pool size leaves stamps failed each.1 whole.1 (none_second (at_new all) stamp.made (calls_of_stamps stamps) none)
-stamps_fine all pool size (leaf ∷ leaves) (stamp ∷ stamps) failed each (dev, inr stop) none =
-    absurd (let no : Some stop.0 ≡ None = stamp_fine (at_new all) leaf.dev (size leaf.dev) pool leaf.guid stamp.made (Some stop.0) each.0 stop.1 (none_first (at_new all) stamp.made (calls_of_stamps stamps) none) in cc)
-
-all_fine : (ms : List Member) (results : List Bool) → all_true results ≡ true → first_failed ms results ≡ None
-all_fine [] results on = refl
-all_fine (m ∷ ms) [] on = refl
-all_fine (m ∷ ms) (true ∷ results) on = all_fine ms results on
-all_fine (m ∷ ms) (false ∷ results) on = absurd (cc)
-
-fault_answer : (a b : CreateReply) → To_create a ≡ To_create b → a ≡ b
-fault_answer a b e = cc
-
-pub create_counts : (c : Codec) (h : Host) (name : List ℕ) (blocks : ℕ) (tops : List (List (List ℕ))) (acts : List Act) (reply : Reply) (device : List ℕ) (from to : ℕ → ℕ)
-    → RowCreate c h name blocks tops acts reply → AllCaused (calls_along acts) from to → reply ≡ To_create (FaultOn device) → RoseAt (λ d. is_leaf_at (leaf_at d (leaves_of h.table tops))) from to
-create_counts c h name blocks tops acts reply device from to (inl row) caused says = absurd (let no = sym row.3 ∙ says in cc)
-create_counts c h name blocks tops acts reply device from to (inr (inl row)) caused says = ⊎_elim
-    (λ none. absurd (let no : Some row.leaf ≡ None = stamps_fine leaves row.pool (size_in h.table) leaves row.stamps (Some row.leaf) (found_all leaves) row.are
-    (subst (AllByRecursion (NoFault (at_new leaves))) (ap calls_along row.all ∙ stamp_calls row.pool.0 row.stamps) none) in cc))
-    (λ rose. rose) (fault_or (at_new leaves) (calls_along acts) from to caused)
-  where
-    leaves : List NewLeaf
-    leaves = leaves_of h.table tops
-create_counts c h name blocks tops acts reply device from to (inr (inr row)) caused says = ⊎_elim (λ none. absurd (whole (fine none))) (λ rose. rose) (fault_or (at_new leaves) (calls_along acts) from to caused)
-  where
-    leaves : List NewLeaf
-    leaves = leaves_of h.table tops
-
-    s : PoolState
-    s = new_state (size_in h.table) name row.pool blocks (tops_of h.table tops)
-
-    answer_is : row.answer ≡ FaultOn device
-    answer_is = fault_answer row.answer (FaultOn device) (sym row.says ∙ says)
-
-    calls : calls_along acts ≡ calls_of_stamps row.stamps ++ made_in row.moves
-    calls = ap calls_along row.all ∙ (calls_more (stamp_acts row.pool.0 row.stamps) (Bears (new_birth name row.pool blocks h.table tops) ∷ commit_acts row.answer row.pool.0 row.moves)
-        ∙ (ap (λ made. made ++ calls_along (commit_acts row.answer row.pool.0 row.moves)) (stamp_calls row.pool.0 row.stamps)
-        ∙ ap (λ made. calls_of_stamps row.stamps ++ made) (ap (λ a. calls_along (commit_acts a row.pool.0 row.moves)) answer_is ∙ closed_calls row.pool.0 row.moves)))
-
-    fine : AllByRecursion (NoFault (at_new leaves)) (calls_along acts) → all_true row.row.row.ends.results ≡ true
-    fine none = found_fine (at_new leaves) c (size_in h.table) s row.moves row.row.whole (new_own_leaves leaves leaves (found_all leaves))
-        (line_answered (at_new leaves) row.moves (made_in row.moves) refl
-        (none_second (at_new leaves) (calls_of_stamps row.stamps) (made_in row.moves) (subst (AllByRecursion (NoFault (at_new leaves))) calls none))) row.row.row
-
-    whole : all_true row.row.row.ends.results ≡ true → ⊥
-    whole on = let no : Created ≡ FaultOn device = sym (row.row.says ∙ ap (λ m. found_reply m s.core.leaves)
-        (all_fine (board_of (steps (row.row.row.first ++ (Flushed_all ∷ [])) s).core.leaves) row.row.row.ends.results on)) ∙ answer_is in cc
 
 -- A detach that was undone, and a graft whose stamp failed.
 without_counts : (c : Codec) (size : ℕ → ℕ) (s : PoolState) (name : List ℕ) (at : LeafSeen) (seat : Seat) (vs : List Move) (reply : DetachReply) (own : ℕ → Bool) (group : ℕ) (top : Guid) (faults : ℕ)

@@ -11,13 +11,14 @@ use Rattle.pool_moves.specs.FreezeRow.{is_dev}
 use Rattle.pool_moves.specs.Opened.{opened_leaves}
 use Rattle.pool_moves.specs.OpeningRow.{lacking_of}
 use Rattle.pool_moves.specs.Refusing.{is_writable, is_writable_under}
-use Rattle.pool_moves.specs.StampRow.{leaf_at, is_leaf_at, FaultOn}
+use Rattle.pool_moves.specs.StampRow.{FaultOn}
 use Rattle.pool_moves.specs.States.{PoolState}
 use Rattle.txg_history.specs.Pages.{Codec}
+use Rattle.txg_history.specs.Survival.{IsAmong}
 use Rattle.txg_history.specs.Pools.{Pool}
 use Rattle.pool_runs.specs.Acts.{Act, Opening, calls_along, pool_along}
 use Rattle.pool_runs.specs.Committing.{opening_in}
-use Rattle.pool_runs.specs.Creating.{leaves_of}
+use Rattle.pool_runs.specs.Creating.{all_names}
 use Rattle.pool_runs.specs.Devices.{number_in}
 use Rattle.pool_moves.specs.TreeRows.{Graft, DeviceFault, Undone}
 use Rattle.pool_runs.specs.Hosts.{Host, named}
@@ -106,13 +107,20 @@ pub record FailsOpening (c : Codec) (acts : List Act) (from to : ℕ → ℕ) : 
   pub reads : opening_in acts ≡ Some opening
   pub why : RoseAt (λ d. list_any (is_dev d) opening.devs) from to ⊎ LacksTop c opening
 
+-- A device that a create names under this name failed: its count rose.
+pub record FailsNamed (h : Host) (tops : List (List (List ℕ))) (name : List ℕ) (from to : ℕ → ℕ) : Type 0 where
+  pub d : ℕ
+  pub is_named : IsAmong name (all_names tops)
+  pub number : number_in name h.table ≡ Some d
+  pub rose : Rose (from d) (to d)
+
 -- What a line's counts tell of its refusals, where they went from these to those. A turn or a sync is suspended only where the count of a device of the
 -- pool's leaves rose in this line, or some top had nobody left on its board before. A turn tells a top only where the count of each device on which this
 -- top had a leaf on its board rose in it. So does a sync of this pool that tells the group which was frozen before it; one that tells a later group does
 -- so only where the count of each device rose on which the top has a leaf that could be written, and that behind the frozen group's end: a leaf that
 -- failed in the frozen group failed again. A detach is undone only where the count of a device of the pool's leaves rose. An import is suspended only
--- where the count of a device of its leaves rose, or where a top lacks all of its leaves. And a create tells a device that failed only where the count
--- of a device that it names rose, and an attach or a replace only where that of the new one did.
+-- where the count of a device of its leaves rose, or where a top lacks all of its leaves. And a create tells a device that failed, which is one of
+-- those that it names, only where this very one's count rose, and an attach or a replace only where that of the new one did.
 pub record IsCounted (c : Codec) (p : Pool) (h : Host) (e : Entry) (from to : ℕ → ℕ) : Type 0 where
   pub turns : (name : List ℕ) (s : PoolState) → (e.asked ≡ Asks_turn name) ⊎ (e.asked ≡ Asks_sync name) → named name h.pools ≡ Some s → Suspends e.reply
       → RoseAt (λ d. has_leaf_at d s) from to ⊎ HasLostBoard s
@@ -128,5 +136,4 @@ pub record IsCounted (c : Codec) (p : Pool) (h : Host) (e : Entry) (from to : �
   pub imports : (name : List ℕ) (group : ℕ) (top : Guid) (faults : ℕ) → e.asked ≡ Asks_import name → e.reply ≡ To_import (Unopened group top faults)
       → FailsOpening c e.acts from to
   pub creates : (name : List ℕ) (blocks : ℕ) (tops : List (List (List ℕ))) (device : List ℕ) → e.asked ≡ Asks_create name blocks tops
-      → e.reply ≡ To_create (FaultOn device)
-      → RoseAt (λ d. is_leaf_at (leaf_at d (leaves_of h.table tops))) from to
+      → e.reply ≡ To_create (FaultOn device) → FailsNamed h tops device from to
