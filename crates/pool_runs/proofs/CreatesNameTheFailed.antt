@@ -31,7 +31,8 @@ use Rattle.pool_runs.proofs.Members.{HasName, all_have}
 use Rattle.pool_runs.proofs.ModesStand.{each, of_both, map_forth}
 use Rattle.pool_runs.proofs.OnlyFailedLeave.{just_more, just_widens, AreJust, round_failing, steps_places}
 use Rattle.pool_runs.proofs.Stamps.{stamp_calls}
-use Rattle.pool_runs.proofs.Suspending.{calls_more, closed_calls}
+use Rattle.pool_runs.proofs.Suspending.{closed_calls}
+use Rattle.pool_runs.proofs.Midway.{calls_more}
 
 fault_same : (a b : List ℕ) → FaultOn a ≡ FaultOn b → a ≡ b
 fault_same a b e = cc

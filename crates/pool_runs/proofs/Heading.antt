@@ -32,7 +32,7 @@ use Rattle.pool_moves.proofs.Missing.{exhausted_missed}
 use Rattle.pool_moves.proofs.ReadWalks.{read_right}
 use Rattle.pool_runs.specs.Acts.{Act, Gives_for, Marks, Hears, calls_along, pool_along}
 use Rattle.pool_runs.specs.Committing.{CommitsAll, FindsPool, CommitsGroup}
-use Rattle.pool_runs.specs.Counting.{has_leaf_at, RoseAt, HasLostBoard, Suspends, FailsOpening, IsCounted, LosesBoard, LosesLast, FailsNamed}
+use Rattle.pool_runs.specs.Counting.{has_leaf_at, RoseAt, HasLostBoard, Suspends, FailsOpening, IsCounted, LosesBoard, LosesSince, FailsNamed}
 use Rattle.pool_runs.specs.Creating.{leaves_of}
 use Rattle.pool_runs.specs.Devices.{number_in, size_in}
 use Rattle.pool_runs.specs.Fairness.{AreFair}
@@ -47,11 +47,12 @@ use Rattle.pool_runs.specs.Pasts.{Past, pool_of, Left, BeginsRun, HasFrozen}
 use Rattle.pool_runs.proofs.Acting.{history_pool}
 use Rattle.pool_runs.proofs.Answering.{all_answer, does_calls, marked_calls}
 use Rattle.pool_runs.proofs.Committing.{sync_all, does_pool, turn_all, detach_all}
-use Rattle.pool_runs.proofs.Suspending.{turn_counts, sync_counts, import_counts, detach_counts, graft_counts}
+use Rattle.pool_runs.proofs.Suspending.{turn_counts, sync_counts, detach_counts, graft_counts}
 use Rattle.pool_runs.proofs.Finding.{import_finds}
 use Rattle.pool_runs.proofs.Knowing.{may_more, acts_keep}
 use Rattle.pool_runs.proofs.Failing.{caught_rose}
 use Rattle.pool_runs.proofs.CreatesNameTheFailed.{create_names}
+use Rattle.pool_runs.proofs.ImportsLoseATop.{import_loses}
 use Rattle.pool_runs.proofs.Losing.{turn_loses}
 use Rattle.pool_runs.proofs.SyncsLoseATop.{sync_loses}
 use Rattle.pool_runs.proofs.Grafting.{graft_calls, entry_keeps}
@@ -373,7 +374,8 @@ line_counts c h p e from to met caused = record {
     tops name s group top faults asked found says (inr out) = turn_not_memory (Suspended group top faults) (sym says ∙ out.says)
 
     syncs : (name : List ℕ) (s : PoolState) (group : ℕ) (top : Guid) (faults : ℕ) → e.asked ≡ Asks_sync name → IsOpenAs p h name s
-        → e.reply ≡ To_sync (Ended (Suspended group top faults)) → HostRow c h e → LosesLast p s e from to group top
+        → e.reply ≡ To_sync (Ended (Suspended group top faults)) → HostRow c h e
+        → LosesBoard s (λ d. Rose (from d) (to d)) group top ⊎ LosesSince p s e from to group top
     syncs name s group top faults asked at says (inl row) =
         let line = on_open h name s (SyncLine c h) e.acts e.reply at.named (subst (λ x. RowOf c h x e.acts e.reply) asked row.0) in
         sync_loses c (size_in h.table) s p e line.2.moves group top faults from to (met.knows.stands s (named_open name s h.pools at.named) at.ours) at.ours line.2.are caused
@@ -419,8 +421,8 @@ line_counts c h p e from to met caused = record {
         on None row = absurd (let no = sym row.1 ∙ says in cc)
         on (Some s) row = refused s (graft_refusal graft s leaf (leaf_named leaf s.core.leaves)) row
 
-    imports : (name : List ℕ) (group : ℕ) (top : Guid) (faults : ℕ) → e.asked ≡ Asks_import name → e.reply ≡ To_import (Unopened group top faults) → HostRow c h e → FailsOpening c e.acts from to
-    imports name group top faults asked says (inl row) = import_counts c h name e.acts e.reply from to group top faults (subst (λ x. RowOf c h x e.acts e.reply) asked row.0) caused says
+    imports : (name : List ℕ) (group : ℕ) (top : Guid) (faults : ℕ) → e.asked ≡ Asks_import name → e.reply ≡ To_import (Unopened group top faults) → HostRow c h e → FailsOpening c e.acts from to top
+    imports name group top faults asked says (inl row) = import_loses c h name e.acts e.reply group top faults from to (subst (λ x. RowOf c h x e.acts e.reply) asked row.0) caused says
     imports name group top faults asked says (inr out) = import_not_memory (Unopened group top faults) (sym says ∙ out.says)
 
     creates : (name : List ℕ) (blocks : ℕ) (tops : List (List (List ℕ))) (device : List ℕ) → e.asked ≡ Asks_create name blocks tops → e.reply ≡ To_create (FaultOn device) → HostRow c h e

@@ -11,11 +11,13 @@ pub mod Grafting
 pub mod GroupMoves
 pub mod Heading
 pub mod Importing
+pub mod ImportsLoseATop
 pub mod Knowing
 pub mod Known
 pub mod LineMoves
 pub mod Losing
 pub mod Members
+pub mod Midway
 pub mod ModesStand
 pub mod Moments
 pub mod Numbers

@@ -138,7 +138,7 @@ module _ (Fails : ℕ → Type 0) where
   suspended_same : (a b : ℕ) (top other : Guid) (m n : ℕ) → Suspended a top m ≡ Suspended b other n → (a ≡ b) × (top ≡ other)
   suspended_same a b top other m n e = (cc, cc)
 
-  abbrev IsLostFor : PoolState → (group : ℕ) → (top : Guid) → (faults : ℕ) → Type 0
+  abbrev pub IsLostFor : PoolState → (group : ℕ) → (top : Guid) → (faults : ℕ) → Type 0
   IsLostFor s group top faults = IsLostBehind Fails Anything ⊥ s (Suspended group top faults)
 
   top_loses : (s : PoolState) (group : ℕ) (top : Guid) (faults : ℕ) → IsLostFor s group top faults
@@ -173,7 +173,7 @@ module _ (Fails : ℕ → Type 0) where
   keeps_any : KeepsMay Fails Anything ⊥
   keeps_any vs s just may = any_may (steps vs s).core.leaves
 
-  group_lost : (c : Codec) (size : ℕ → ℕ) (s : PoolState) (vs : List Move) (group : ℕ) (top : Guid) (faults : ℕ) → IsCaught Fails vs
+  pub group_lost : (c : Codec) (size : ℕ → ℕ) (s : PoolState) (vs : List Move) (group : ℕ) (top : Guid) (faults : ℕ) → IsCaught Fails vs
       → EndsGroup c size s vs (Suspended group top faults) → IsLostFor s group top faults
   group_lost c size s vs group top faults caught ends =
       of (group_comes Fails Anything ⊥ keeps_any c size s vs (Suspended group top faults) (λ is. is) (any_may s.core.leaves) caught ends)

@@ -33,7 +33,7 @@ use Rattle.pool_moves.specs.AwayRows.{leaf_named}
 use Rattle.pool_moves.specs.TreeRows.{Graft, TreeRefusal, graft_refusal, new_number, place_named, goes_out, GraftReply, DeviceFault, GraftEnds, GraftOn, GraftAt, GraftFor, RowGraft, DetachReply, Undone, DetachBehind, CommitsWithout, DetachFor, DetachLeaf, DetachBy, RowDetach}
 use Rattle.pool_moves.specs.Walking.{as_moves}
 use Rattle.pool_runs.specs.Committing.{opening_in}
-use Rattle.pool_runs.specs.Counting.{has_leaf_at, RoseAt, HasLostBoard, IsSuspended, SuspendsSync, LacksTop, FailsOpening}
+use Rattle.pool_runs.specs.Counting.{has_leaf_at, RoseAt, HasLostBoard, IsSuspended, SuspendsSync}
 use Rattle.pool_runs.specs.Creating.{tops_of, leaves_of, new_birth, stamp_acts, commit_acts, RowCreate}
 use Rattle.pool_runs.specs.Devices.{size_in}
 use Rattle.pool_runs.specs.Hosts.{Host, free_in, named}
@@ -43,11 +43,7 @@ use Rattle.pool_runs.proofs.Answering.{does_calls}
 use Rattle.pool_runs.proofs.Counting.{NoFault, fault_or, Answered, answered_first, answered_second, commits_fine, none_unwritable, OwnDev, AreOwnLeaves, turn_suspends, sync_suspends, resume_fine, stamp_fine, line_answered}
 use Rattle.pool_runs.proofs.Stamps.{stamp_calls}
 use Rattle.pool_runs.proofs.Finding.{opening_bare}
-use Rattle.pool_runs.proofs.Importing.{bare_calls, opening_of, opening_calls}
-
--- The leaves of an opening are on the devices where it found them.
-abbrev among : (devs : List (Option ℕ)) → ℕ → Bool
-among devs d = list_any (is_dev d) devs
+use Rattle.pool_runs.proofs.Midway.{calls_more}
 
 same_dev : (d : ℕ) → (d == d) ≡ true
 same_dev d = grind (arith, nat_tests)
@@ -56,139 +52,8 @@ or_right : (a b : Bool) → b ≡ true → (a || b) ≡ true
 or_right true b is = refl
 or_right false b is = is
 
-own_more : (first : Option ℕ) (devs : List (Option ℕ)) (dev : Option ℕ) → OwnDev (among devs) dev → OwnDev (among (first ∷ devs)) dev
-own_more first devs None mine = tt
-own_more first devs (Some d) mine = or_right (is_dev d first) (among devs d) mine
-
-own_first : (dev : Option ℕ) (devs : List (Option ℕ)) → OwnDev (among (dev ∷ devs)) dev
-own_first None devs = tt
-own_first (Some d) devs = ap (λ t. t || among devs d) (same_dev d)
-
-up_all : (first : Option ℕ) (devs : List (Option ℕ)) (leaves : List LeafSeen) → AreOwnLeaves (among devs) leaves → AreOwnLeaves (among (first ∷ devs)) leaves
-up_all first devs [] all = tt
-up_all first devs (leaf ∷ leaves) all = (own_more first devs leaf.dev all.0, up_all first devs leaves all.1)
-
-opened_own_leaves : (leaves : List LeafKept) (devs : List (Option ℕ)) → AreOwnLeaves (among devs) (opened_leaves leaves devs)
-opened_own_leaves [] devs = tt
-opened_own_leaves (leaf ∷ leaves) [] = tt
-opened_own_leaves (leaf ∷ leaves) (dev ∷ devs) = (own_first dev devs, up_all dev devs (opened_leaves leaves devs) (opened_own_leaves leaves devs))
-
--- where such a leaf is readable it has a device
-abbrev IsFoundUp : LeafSeen → Type 0
-IsFoundUp leaf = (is_up leaf.own.mode && is_some leaf.dev) ≡ is_up leaf.own.mode
-
-and_true : (a : Bool) → (a && true) ≡ a
-and_true true = refl
-and_true false = refl
-
-opened_up : (leaves : List LeafKept) (devs : List (Option ℕ)) → AllByRecursion IsFoundUp (opened_leaves leaves devs)
-opened_up [] devs = tt
-opened_up (leaf ∷ leaves) [] = tt
-opened_up (leaf ∷ leaves) (None ∷ devs) = (refl, opened_up leaves devs)
-opened_up (leaf ∷ leaves) (Some d ∷ devs) = (and_true (is_up leaf.mode), opened_up leaves devs)
-
-any_up : (top : ℕ) (leaves : List LeafSeen) → AllByRecursion IsFoundUp leaves → list_any (is_writable_under top) leaves ≡ list_any (is_up_under top) leaves
-any_up top [] all = refl
-any_up top (leaf ∷ leaves) all = ap (λ t. (t && (leaf.top == top)) || list_any (is_writable_under top) leaves) all.0 ∙ ap (λ rest. is_up_under top leaf || rest) (any_up top leaves all.1)
-
-lacks_unwritable : (all leaves : List LeafSeen) → AllByRecursion IsFoundUp all → unwritable_of all leaves ≡ lacking_of all leaves
-lacks_unwritable all [] up = refl
-lacks_unwritable all (leaf ∷ leaves) up = ap (λ t. cond t (unwritable_of all leaves) (Some leaf.top)) (any_up leaf.top all up)
-    ∙ ap (λ rest. cond (list_any (is_up_under leaf.top) all) rest (Some leaf.top)) (lacks_unwritable all leaves up)
-
--- An opening that was suspended.
-opened_is : (c : Codec) (size : ℕ → ℕ) (handed : List ℕ → Option ℕ) (name : List ℕ) (found : Found) (made : List Noted) (outcome : OpenReply) (row : RowOpen c size handed name found made outcome)
-    (s : PoolState) → outcome ≡ Opens_state s → s.core.leaves ≡ opened_leaves (c.leaves found.blob.items) row.devs
-opened_is c size handed name found made (Opens_state x) row s out = ap (λ y. y.core.leaves) (sym (one x s out) ∙ row.ends.1)
-  where
-    one : (a b : PoolState) → Opens_state a ≡ Opens_state b → a ≡ b
-    one a b e = cc
-opened_is c size handed name found made (NoPage page shown) row s out = absurd (cc)
-
-none_second : (own : ℕ → Bool) (a b : List Noted) → AllByRecursion (NoFault own) (a ++ b) → AllByRecursion (NoFault own) b
-none_second own [] b all = all
-none_second own (noted ∷ a) b all = none_second own a b all.1
-
-pub calls_more : (first second : List Act) → calls_along (first ++ second) ≡ calls_along first ++ calls_along second
-calls_more [] second = refl
-calls_more (act ∷ first) second = ap (λ l. calls_of_act act ++ l) (calls_more first second) ∙ sym (append_assoc (calls_of_act act) (calls_along first) (calls_along second))
-
 pub closed_calls : (g : ℕ) (vs : List Move) → calls_along (does g vs ++ (Closes g ∷ [])) ≡ made_in vs
 closed_calls g vs = calls_more (does g vs) (Closes g ∷ []) ∙ (append-nil (calls_along (does g vs)) ∙ does_calls g vs)
-
-opens_suspended : (c : Codec) (h : Host) (name : List ℕ) (found : Found) (acts : List Act) (reply : Reply) (before : List Noted) (from to : ℕ → ℕ) (group : ℕ) (top : Guid) (faults : ℕ)
-    → (opens : OpensFound c h name found acts reply) → AllCaused (before ++ calls_along acts) from to → reply ≡ To_import (Unopened group top faults)
-    → RoseAt (among opens.row.devs) from to ⊎ LacksTop c (opening_of c h name found acts reply opens)
-opens_suspended c h name found acts reply before from to group top faults opens caused says = follow opens.outcome refl opens.follows
-  where
-    leaves : List LeafSeen
-    leaves = opened_leaves (c.leaves found.blob.items) opens.row.devs
-
-    own : ℕ → Bool
-    own = among opens.row.devs
-
-    suspended : (s : PoolState) (vs : List Move) (g n : ℕ) (t : Guid) (k : ℕ) → opens.outcome ≡ Opens_state s → RowResume c (size_in h.table) s vs (Suspended n t k)
-        → opens.rest ≡ Enters s ∷ (does g vs ++ (Closes g ∷ [])) → RoseAt own from to ⊎ LacksTop c (opening_of c h name found acts reply opens)
-    suspended s vs g n t k out row rest = ⊎_elim (λ none. by (lacking_of leaves leaves) refl (behind none)) (λ rose. inl rose) (fault_or own (before ++ calls_along acts) from to caused)
-      where
-        are : s.core.leaves ≡ leaves
-        are = opened_is c (size_in h.table) (free_in h) name found opens.made opens.outcome opens.row s out
-
-        behind : AllByRecursion (NoFault own) (before ++ calls_along acts) → AllByRecursion (NoFault own) (made_in vs)
-        behind none = subst (AllByRecursion (NoFault own)) (ap calls_along rest ∙ closed_calls g vs)
-            (none_second own opens.made (calls_along opens.rest)
-            (subst (AllByRecursion (NoFault own)) (opening_calls c h name found acts reply opens) (none_second own before (calls_along acts) none)))
-
-        by : (lack : Option ℕ) → lacking_of leaves leaves ≡ lack → AllByRecursion (NoFault own) (made_in vs) → RoseAt own from to ⊎ LacksTop c (opening_of c h name found acts reply opens)
-        by (Some x) is none = inr (x, is)
-        by None is none = absurd (resume_fine own c (size_in h.table) s vs (Suspended n t k)
-            (subst (λ l. unwritable l ≡ None) (sym are) (lacks_unwritable leaves leaves (opened_up (c.leaves found.blob.items) opens.row.devs) ∙ is))
-            (subst (AreOwnLeaves own) (sym are) (opened_own_leaves (c.leaves found.blob.items) opens.row.devs))
-            (line_answered own vs (made_in vs) refl none) row tt (subst (λ l. lacking_of l l ≡ None) (sym are) is))
-
-    by_turn : (turn : TurnReply) (s : PoolState) (vs : List Move) → opens.outcome ≡ Opens_state s → RowResume c (size_in h.table) s vs turn → OpensBy turn found.pool.0 s vs opens.rest reply
-        → RoseAt own from to ⊎ LacksTop c (opening_of c h name found acts reply opens)
-    by_turn (Committed m) s vs out row by = absurd (let no = sym by.1 ∙ says in cc)
-    by_turn (Suspended n t k) s vs out row by = suspended s vs found.pool.0 n t k out row by.0
-    by_turn Idle s vs out row by = absurd by
-    by_turn Write s vs out row by = absurd by
-    by_turn Flush s vs out row by = absurd by
-    by_turn (Round m) s vs out row by = absurd by
-
-    follow : (outcome : OpenReply) → opens.outcome ≡ outcome → FollowsMap outcome c (size_in h.table) found.pool.0 opens.rest reply
-        → RoseAt own from to ⊎ LacksTop c (opening_of c h name found acts reply opens)
-    follow (Opens_state s) out row = by_turn row.1 s row.0 out row.2 row.3
-    follow (NoPage page shown) out row = absurd (let no = sym row.1 ∙ says in cc)
-
-import_by : (seek : SeekReply) (c : Codec) (h : Host) (name : List ℕ) (acts : List Act) (reply : Reply) (before : List Noted) (from to : ℕ → ℕ) (group : ℕ) (top : Guid) (faults : ℕ)
-    → ImportBy seek c h name acts reply → AllCaused (before ++ calls_along acts) from to → reply ≡ To_import (Unopened group top faults) → FailsOpening c acts from to
-import_by NoRecord c h name acts reply before from to group top faults row caused says = absurd (let no = sym row.1 ∙ says in cc)
-import_by (NumbersEnd limit count) c h name acts reply before from to group top faults row caused says = absurd (let no = sym row.1 ∙ says in cc)
-import_by (TakesRecord found) c h name acts reply before from to group top faults row caused says = record {
-  opening = opening_of c h name found acts reply row;
-  reads = ap opening_in row.are;
-  why = opens_suspended c h name found acts reply before from to group top faults row caused says;
-}
-
-pub import_counts : (c : Codec) (h : Host) (name : List ℕ) (acts : List Act) (reply : Reply) (from to : ℕ → ℕ) (group : ℕ) (top : Guid) (faults : ℕ) → RowImport c h name acts reply
-    → AllCaused (calls_along acts) from to → reply ≡ To_import (Unopened group top faults) → FailsOpening c acts from to
-import_counts c h name acts reply from to group top faults row caused says = unless (named name h.pools) row
-  where
-    imports : Imports c h name acts reply → FailsOpening c acts from to
-    imports row = let fails = import_by row.seek c (host_behind row.made h) name row.rest reply row.made from to group top faults row.follows
-        (subst (λ calls. AllCaused calls from to) (ap calls_along row.are ∙ bare_calls row.made (Looked name _ ∷ row.rest)) caused) says in record {
-          opening = fails.opening;
-          reads = ap opening_in row.are ∙ (opening_bare row.made (Looked name _ ∷ row.rest) ∙ fails.reads);
-          why = fails.why;
-        }
-
-    full_by : (full : Bool) → ImportFor full c h name acts reply → FailsOpening c acts from to
-    full_by true row = absurd (let no = sym row.1 ∙ says in cc)
-    full_by false row = imports row
-
-    unless : (found : Option PoolState) → ImportUnless found c h name acts reply → FailsOpening c acts from to
-    unless (Some s) row = absurd (let no = sym row.1 ∙ says in cc)
-    unless None row = full_by (nat_le 16 (length h.pools)) row
 
 -- Turns and syncs: the leaves of a state are on devices where it has a leaf.
 abbrev at_leaves : (leaves : List LeafSeen) → ℕ → Bool

@@ -15,8 +15,8 @@ use Rattle.pool_moves.specs.Moves.{Move, steps, after_moves}
 use Rattle.pool_moves.specs.ReadRow.{made_in}
 use Rattle.pool_moves.specs.Refusing.{FreezeRefusal, is_writable, is_writable_under, unwritable, last_number, IsRefused}
 use Rattle.pool_moves.specs.States.{PoolState, Side, group_seen}
-use Rattle.pool_runs.specs.Acts.{Does, does, calls_along}
-use Rattle.pool_runs.specs.Counting.{IsLostBy, LosesTop, LosesBoard, LosesFreeze, IsMidway, LosesLast}
+use Rattle.pool_runs.specs.Acts.{Does, does, calls_along, pool_along}
+use Rattle.pool_runs.specs.Counting.{IsLostBy, LosesTop, LosesBoard, LosesFreeze, IsMidway, LosesSince}
 use Rattle.pool_runs.specs.Knowing.{HasSeats}
 use Rattle.pool_runs.specs.Lines.{Entry}
 use Rattle.pool_runs.proofs.Answering.{does_calls}
@@ -25,7 +25,7 @@ use Rattle.pool_runs.proofs.Counting.{none_unwritable}
 use Rattle.pool_runs.proofs.Failing.{FailedOn, IsCaught, caught_first, caught_rose}
 use Rattle.pool_runs.proofs.Losing.{map_back, group_loses, commits_lose}
 use Rattle.pool_runs.proofs.ModesStand.{each, map_forth, Written, written_as, IsLeftWritable, group_leaves}
-use Rattle.pool_runs.proofs.Suspending.{calls_more}
+use Rattle.pool_runs.proofs.Midway.{midway_at}
 
 ended_same : (turn : TurnReply) (group : ℕ) (top : Guid) (faults : ℕ) → Ended (Suspended group top faults) ≡ Ended turn → Suspended group top faults ≡ turn
 ended_same turn group top faults e = cc
@@ -136,10 +136,6 @@ sync_by_loses false c size s t vs group top faults kept is row = inr (record {
 sync_by_loses true c size s t vs group top faults kept is row = first_loses c size s t vs group top faults kept is row
 
 -- The line, by its counts.
-caused_split : (a b : List Noted) (from to : ℕ → ℕ) → AllCaused (a ++ b) from to → (mid : ℕ → ℕ) × AllCaused a from mid × AllCaused b mid to
-caused_split [] b from to caused = (from, (λ d. refl), caused)
-caused_split (noted ∷ a) b from to caused = let more = caused_split a b caused.0 to caused.2 in (more.0, (caused.0, caused.1, more.1), more.2)
-
 does_more : (g : ℕ) (vs ws : List Move) → does g (vs ++ ws) ≡ does g vs ++ does g ws
 does_more g [] ws = refl
 does_more g (v ∷ vs) ws = ap (λ more. Does g v ∷ more) (does_more g vs ws)
@@ -158,7 +154,7 @@ board_more F G s group top more x = record {
 
 pub sync_loses : (c : Codec) (size : ℕ → ℕ) (s : PoolState) (p : Pool) (e : Entry) (vs : List Move) (group : ℕ) (top : Guid) (faults : ℕ) (from to : ℕ → ℕ) → HasSeats c s p
     → s.core.pool.0 ≡ p.pool.0 → e.acts ≡ does s.core.pool.0 vs → AllCaused (calls_along e.acts) from to → RowSync c size s vs (Ended (Suspended group top faults))
-    → LosesLast p s e from to group top
+    → LosesBoard s (λ d. Rose (from d) (to d)) group top ⊎ LosesSince p s e from to group top
 sync_loses c size s p e vs group top faults from to seats ours are caused row =
     of (sync_by_loses s.core.group.frozen c size s t vs group top faults seats.1 refl row)
   where
@@ -168,25 +164,16 @@ sync_loses c size s p e vs group top faults from to seats ours are caused row =
     t : Side
     t = record { pool = p; seats = seats.0 }
 
-    of : Loses s t vs group top → LosesLast p s e from to group top
+    of : Loses s t vs group top → LosesBoard s (λ d. Rose (from d) (to d)) group top ⊎ LosesSince p s e from to group top
     of (inl board) = inl (board_more (λ d. FailedOn d (made_in vs)) (λ d. Rose (from d) (to d)) s group top
         (caught_rose vs (calls_along e.acts) from to (ap calls_along are ∙ does_calls g vs) caused) board)
-    of (inr x) = inr (parts.0, midway, freeze_more (λ d. FailedOn d (made_in x.rest)) (λ d. Rose (parts.0 d) (to d)) s s.core.leaves group top
-        (caught_rose x.rest (calls_along (does g x.rest)) parts.0 to (does_calls g x.rest) parts.2) x.lost)
+    of (inr x) = inr (record {
+      mid = mid.0;
+      at = mid.1;
+      idle = ap (λ q. q.group.frozen) (ap (λ acts. pool_along acts p) mid.2 ∙ does_pool g x.first t (sym ours)) ∙ x.idle;
+      lost = freeze_more (λ d. FailedOn d (made_in x.rest)) (λ d. Rose (mid.0 d) (to d)) s s.core.leaves group top
+          (caught_rose x.rest (calls_along mid.1.behind) mid.0 to (ap calls_along mid.3 ∙ does_calls g x.rest) mid.1.comes) x.lost;
+    })
       where
-        all : e.acts ≡ does g x.first ++ does g x.rest
-        all = are ∙ (ap (does g) x.moves ∙ does_more g x.first x.rest)
-
-        parts : (mid : ℕ → ℕ) × AllCaused (calls_along (does g x.first)) from mid × AllCaused (calls_along (does g x.rest)) mid to
-        parts = caused_split (calls_along (does g x.first)) (calls_along (does g x.rest)) from to
-            (subst (λ calls. AllCaused calls from to) (ap calls_along all ∙ calls_more (does g x.first) (does g x.rest)) caused)
-
-        midway : IsMidway p e.acts from parts.0 to
-        midway = record {
-          before = does g x.first;
-          behind = does g x.rest;
-          all = all;
-          idle = ap (λ q. q.group.frozen) (does_pool g x.first t (sym ours)) ∙ x.idle;
-          came = parts.1;
-          comes = parts.2;
-        }
+        mid : (mid : ℕ → ℕ) × (at : IsMidway e.acts from mid to) × (at.before ≡ does g x.first) × (at.behind ≡ does g x.rest)
+        mid = midway_at e.acts (does g x.first) (does g x.rest) from to (are ∙ (ap (does g) x.moves ∙ does_more g x.first x.rest)) caused

@@ -1,5 +1,5 @@
 -- How lines end by the counts of failed calls.
-use Rattle.std.specs.Prelude.{◌≡◌, ◌⊎◌, ℕ, ◌<◌, ◌==◌, Bool, true, false, List, ◌++◌, Some}
+use Rattle.std.specs.Prelude.{◌≡◌, ◌⊎◌, ℕ, ◌<◌, ◌==◌, Bool, true, false, List, ◌∷◌, ◌++◌, Some}
 use Rattle.std.specs.List.{list_any, AllByRecursion}
 use Rattle.mp_base.specs.declared.number.Guid.{Guid}
 use Rattle.mp_base.specs.Outside.{Rose}
@@ -9,14 +9,13 @@ use Rattle.pool_moves.specs.Leaves.{LeafSeen}
 use Rattle.pool_moves.specs.LineRows.{TurnReply, Suspended, SyncReply, Ended}
 use Rattle.pool_moves.specs.FreezeRow.{is_dev}
 use Rattle.pool_moves.specs.Opened.{opened_leaves}
-use Rattle.pool_moves.specs.OpeningRow.{lacking_of}
 use Rattle.pool_moves.specs.Refusing.{is_writable, is_writable_under}
 use Rattle.pool_moves.specs.StampRow.{FaultOn}
 use Rattle.pool_moves.specs.States.{PoolState}
 use Rattle.txg_history.specs.Pages.{Codec}
 use Rattle.txg_history.specs.Survival.{IsAmong}
 use Rattle.txg_history.specs.Pools.{Pool}
-use Rattle.pool_runs.specs.Acts.{Act, Opening, calls_along, pool_along}
+use Rattle.pool_runs.specs.Acts.{Act, Opening, Enters, calls_along, pool_along}
 use Rattle.pool_runs.specs.Committing.{opening_in}
 use Rattle.pool_runs.specs.Creating.{all_names}
 use Rattle.pool_runs.specs.Devices.{number_in}
@@ -67,20 +66,20 @@ pub record LosesFreeze (s : PoolState) (leaves : List LeafSeen) (Fails : ℕ →
   pub lost : LosesTop is_writable leaves s.own.top_number Fails top
   pub one : list_any (is_writable_under lost.at) leaves ≡ true
 
--- Counts at a moment within a line, at which the pool has no group frozen: the acts before it took them there, and those behind it to the line's end.
-pub record IsMidway (p : Pool) (acts : List Act) (from mid to : ℕ → ℕ) : Type 0 where
+-- Counts at a moment within a line: the acts before it took them there, and those behind it to the line's end.
+pub record IsMidway (acts : List Act) (from mid to : ℕ → ℕ) : Type 0 where
   pub before : List Act
   pub behind : List Act
   pub all : acts ≡ before ++ behind
-  pub idle : (pool_along before p).group.frozen ≡ false
   pub came : AllCaused (calls_along before) from mid
   pub comes : AllCaused (calls_along behind) mid to
 
--- A sync's last group was suspended for this top: the one that was frozen before the line, or one that the line froze, and then each count rose
--- behind the end of the group before it.
-abbrev pub LosesLast : Pool → PoolState → Entry → (from to : ℕ → ℕ) → (group : ℕ) → (top : Guid) → Type 0
-LosesLast p s e from to group top = LosesBoard s (λ d. Rose (from d) (to d)) group top
-    ⊎ ((mid : ℕ → ℕ) × IsMidway p e.acts from mid to × LosesFreeze s s.core.leaves (λ d. Rose (mid d) (to d)) group top)
+-- A group that the line froze is suspended, behind a moment at which the pool had none frozen: each count rose since then.
+pub record LosesSince (p : Pool) (s : PoolState) (e : Entry) (from to : ℕ → ℕ) (group : ℕ) (top : Guid) : Type 0 where
+  pub mid : ℕ → ℕ
+  pub at : IsMidway e.acts from mid to
+  pub idle : (pool_along at.before p).group.frozen ≡ false
+  pub lost : LosesFreeze s s.core.leaves (λ d. Rose (mid d) (to d)) group top
 
 -- a group was suspended
 abbrev pub IsSuspended : TurnReply → Type 0
@@ -96,16 +95,16 @@ Suspends (To_turn turn) = IsSuspended turn
 Suspends (To_sync reply) = SuspendsSync reply
 Suspends reply = ⊥
 
--- a top of the record that is opened has no leaf that was found and is readable
-abbrev pub LacksTop : Codec → Opening → Type 0
-LacksTop c opening = (top : ℕ)
-    × (lacking_of (opened_leaves (c.leaves opening.found.blob.items) opening.devs) (opened_leaves (c.leaves opening.found.blob.items) opening.devs) ≡ Some top)
-
--- An opening was suspended: the count of a device on which it found a leaf rose, or a top has no leaf that was found and is readable.
-pub record FailsOpening (c : Codec) (acts : List Act) (from to : ℕ → ℕ) : Type 0 where
+-- An opening was suspended for this top, once its record was read and the pool was there: each leaf of the top that was found and is readable is lost, and
+-- its count rose since then. Where the top has no such leaf, this says just that.
+pub record FailsOpening (c : Codec) (acts : List Act) (from to : ℕ → ℕ) (top : Guid) : Type 0 where
   pub opening : Opening
   pub reads : opening_in acts ≡ Some opening
-  pub why : RoseAt (λ d. list_any (is_dev d) opening.devs) from to ⊎ LacksTop c opening
+  pub mid : ℕ → ℕ
+  pub at : IsMidway acts from mid to
+  pub entered : (s : PoolState) × (rest : List Act) × (at.behind ≡ Enters s ∷ rest)
+  pub lost : LosesTop is_writable (opened_leaves (c.leaves opening.found.blob.items) opening.devs) (c.top_number opening.found.blob.items)
+      (λ d. Rose (mid d) (to d)) top
 
 -- A device that a create names under this name failed: its count rose.
 pub record FailsNamed (h : Host) (tops : List (List (List ℕ))) (name : List ℕ) (from to : ℕ → ℕ) : Type 0 where
@@ -119,7 +118,7 @@ pub record FailsNamed (h : Host) (tops : List (List (List ℕ))) (name : List �
 -- top had a leaf on its board rose in it. So does a sync of this pool that tells the group which was frozen before it; one that tells a later group does
 -- so only where the count of each device rose on which the top has a leaf that could be written, and that behind the frozen group's end: a leaf that
 -- failed in the frozen group failed again. A detach is undone only where the count of a device of the pool's leaves rose. An import is suspended only
--- where the count of a device of its leaves rose, or where a top lacks all of its leaves. And a create tells a device that failed, which is one of
+-- where the count of each device rose on which the top that it tells has a readable leaf, and that behind its reading, if there is any. And a create tells a device that failed, which is one of
 -- those that it names, only where this very one's count rose, and an attach or a replace only where that of the new one did.
 pub record IsCounted (c : Codec) (p : Pool) (h : Host) (e : Entry) (from to : ℕ → ℕ) : Type 0 where
   pub turns : (name : List ℕ) (s : PoolState) → (e.asked ≡ Asks_turn name) ⊎ (e.asked ≡ Asks_sync name) → named name h.pools ≡ Some s → Suspends e.reply
@@ -128,12 +127,12 @@ pub record IsCounted (c : Codec) (p : Pool) (h : Host) (e : Entry) (from to : �
       → e.reply ≡ To_turn (Suspended group top faults) → LosesBoard s (λ d. Rose (from d) (to d)) group top
   pub syncs : (name : List ℕ) (s : PoolState) (group : ℕ) (top : Guid) (faults : ℕ) → e.asked ≡ Asks_sync name → IsOpenAs p h name s
       → e.reply ≡ To_sync (Ended (Suspended group top faults))
-      → LosesLast p s e from to group top
+      → LosesBoard s (λ d. Rose (from d) (to d)) group top ⊎ LosesSince p s e from to group top
   pub detaches : (name leaf : List ℕ) (s : PoolState) (group : ℕ) (top : Guid) (faults : ℕ) → e.asked ≡ Asks_detach name leaf → named name h.pools ≡ Some s
       → e.reply ≡ To_detach (Undone group top faults) → RoseAt (λ d. has_leaf_at d s) from to
   pub grafts : (graft : Graft) (name leaf new : List ℕ) → e.asked ≡ Asks_graft graft name leaf new → e.reply ≡ To_graft DeviceFault
       → (d : ℕ) × (number_in new h.table ≡ Some d) × Rose (from d) (to d)
   pub imports : (name : List ℕ) (group : ℕ) (top : Guid) (faults : ℕ) → e.asked ≡ Asks_import name → e.reply ≡ To_import (Unopened group top faults)
-      → FailsOpening c e.acts from to
+      → FailsOpening c e.acts from to top
   pub creates : (name : List ℕ) (blocks : ℕ) (tops : List (List (List ℕ))) (device : List ℕ) → e.asked ≡ Asks_create name blocks tops
       → e.reply ≡ To_create (FaultOn device) → FailsNamed h tops device from to
