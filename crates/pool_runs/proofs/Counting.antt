@@ -29,14 +29,14 @@ use Rattle.pool_moves.specs.LineRows.{TurnReply, Idle, Write, Flush, Round, Comm
 use Rattle.pool_moves.specs.Moves.{Draft, Move, Makes, Freeze, Wrote_key, Flushed_all, Widen, Starts, Copies, Copied, Sets, Finds, Comes, Goes, Returns, Clear, Puts, Scrubs, Shapes, on_dev, leaf_cleared, leaf_step, step, state_step, steps}
 use Rattle.pool_moves.specs.ReadRow.{made_in}
 use Rattle.pool_moves.specs.Refusing.{FreezeRefusal, is_writable, is_writable_under, unwritable_of, unwritable, last_number, RefusedBy, IsRefused}
-use Rattle.pool_moves.specs.CommitRows.{uncounts, RowReopen, RowFound}
+use Rattle.pool_moves.specs.CommitRows.{uncounts, RowReopen}
 use Rattle.pool_moves.specs.OpeningRow.{lacking_of, Resumes, ResumesUnless, RowResume}
 use Rattle.pool_moves.specs.States.{PoolSeen, PoolState}
 use Rattle.pool_moves.specs.TurnRows.{turn_moves, ended, round_moves, IsThirdMoves}
 use Rattle.pool_moves.specs.Walking.{as_moves}
 use Rattle.pool_moves.specs.Widening.{AreWidens, IsWidened, AreLeaves}
 use Rattle.pool_runs.specs.Counting.{RoseAt, HasLostBoard, IsSuspended, SuspendsSync}
-use Rattle.pool_runs.proofs.GroupMoves.{IsKind, more, all_group, all_empty}
+use Rattle.pool_runs.proofs.GroupMoves.{IsKind, more, all_group}
 
 -- Counts.
 same_test : (m n : ℕ) → m ≡ n → (m == n) ≡ true

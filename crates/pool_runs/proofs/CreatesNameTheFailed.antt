@@ -1,8 +1,7 @@
 -- A create that tells a device which failed tells the first one of whose calls one failed, as its count tells.
-use Rattle.std.proofs.Common.{◌≡◌, ◌⊎◌, inl, inr, ℕ, ◌<◌, ◌==◌, Bool, true, false, cond, List, [], ◌∷◌, ◌++◌, map, Option, Some, None, refl, sym, ap, ◌∙◌, subst, arith}
+use Rattle.std.proofs.Common.{◌≡◌, inl, inr, ℕ, ◌<◌, ◌==◌, Bool, true, false, cond, List, [], ◌∷◌, ◌++◌, map, Option, Some, None, refl, sym, ap, ◌∙◌, subst, arith}
 use Rattle.std.specs.List.{AllByRecursion}
 use Rattle.std.proofs.lemmas.Bool.Decides.{nat_tests}
-use Rattle.mp_base.specs.Outside.{Rose}
 use Rattle.mp_base.specs.declared.number.Guid.{Guid}
 use Rattle.bank_core.specs.Calls.{AllCaused}
 use Rattle.label_store.specs.declared.member.Member.{Member}
@@ -12,7 +11,7 @@ use Rattle.txg_history.specs.Survival.{IsAmong}
 use Rattle.pool_moves.specs.Boards.{member_before, members_where, is_on, board_of}
 use Rattle.pool_moves.specs.CommitRows.{RowFound}
 use Rattle.pool_moves.specs.FreezeRow.{up_devs}
-use Rattle.pool_moves.specs.Leaves.{OwnLeaf, LeafSeen}
+use Rattle.pool_moves.specs.Leaves.{LeafSeen}
 use Rattle.pool_moves.specs.Moves.{Move, Freeze, Flushed_all, leaf_step, step, state_step, steps}
 use Rattle.pool_moves.specs.ReadRow.{made_in}
 use Rattle.pool_moves.specs.StampRow.{NewLeaf, Stamp, calls_of_stamps, AreStamps, new_leaf_seen, new_state, CreateReply, Created, FaultOn, first_failed, name_in, found_reply}
@@ -21,15 +20,15 @@ use Rattle.pool_moves.specs.TurnRows.{round_moves}
 use Rattle.pool_moves.proofs.StampWalks.{AreRising, from_rising}
 use Rattle.pool_runs.specs.Acts.{Act, Bears, calls_along}
 use Rattle.pool_runs.specs.Counting.{FailsNamed}
-use Rattle.pool_runs.specs.Creating.{all_names, tops_of, leaves_of, new_birth, stamp_acts, commit_acts, Creates, FailsStamp, RowCreate}
+use Rattle.pool_runs.specs.Creating.{all_names, tops_of, leaves_of, new_birth, stamp_acts, commit_acts, Creates, RowCreate}
 use Rattle.pool_runs.specs.Devices.{Device, number_in, size_in}
 use Rattle.pool_runs.specs.Hosts.{Host}
 use Rattle.pool_runs.specs.Lines.{Reply, To_create}
 use Rattle.pool_runs.proofs.Failing.{FailedOn, failed_rose, failed_left, failed_right, IsAskOn, part_failed, Failing, IsCaught, caught_second, moves_left}
 use Rattle.pool_runs.proofs.Losing.{Anything}
 use Rattle.pool_runs.proofs.Members.{HasName, all_have}
-use Rattle.pool_runs.proofs.ModesStand.{each, of_both, map_forth}
-use Rattle.pool_runs.proofs.OnlyFailedLeave.{just_more, just_widens, AreJust, round_failing, steps_places}
+use Rattle.pool_runs.proofs.ModesStand.{of_both, map_forth}
+use Rattle.pool_runs.proofs.OnlyFailedLeave.{just_more, just_widens, round_failing, steps_places}
 use Rattle.pool_runs.proofs.Stamps.{stamp_calls}
 use Rattle.pool_runs.proofs.Suspending.{closed_calls}
 use Rattle.pool_runs.proofs.Midway.{calls_more}

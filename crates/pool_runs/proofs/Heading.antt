@@ -1,7 +1,7 @@
 -- The headline, from what a host knows of a pool and from the rows of a run.
 use Rattle.bank_core.specs.Disk.{run}
 use Rattle.txg_history.specs.Records.{Rec, IsIn, key}
-use Rattle.std.proofs.Common.{◌≡◌, ◌⊎◌, inl, inr, ℕ, ◌<◌, Bool, true, false, List, [], ◌∷◌, ◌++◌, take, map, Some, refl, sym, ap, ◌∙◌, subst, arith, Option, None}
+use Rattle.std.proofs.Common.{◌≡◌, ◌⊎◌, inl, inr, ℕ, ◌<◌, Bool, true, false, List, [], ◌∷◌, ◌++◌, take, map, remove, Some, refl, sym, ap, ◌∙◌, subst, arith, Option, None}
 use Rattle.mp_base.specs.Outside.{Rose}
 use Rattle.mp_base.specs.declared.number.Guid.{Guid}
 use Rattle.bank_core.specs.Calls.{AllCaused}
@@ -21,10 +21,10 @@ use Rattle.pool_moves.specs.Missing.{AllMissed}
 use Rattle.pool_moves.specs.Moves.{Move, steps, after_moves}
 use Rattle.pool_moves.specs.ReadRow.{ReadReply, Gives, Exhausted, RowRead, made_in}
 use Rattle.pool_moves.specs.Showing.{LeafShown}
-use Rattle.pool_moves.specs.StampRow.{leaf_at, is_leaf_at, FaultOn}
+use Rattle.pool_moves.specs.StampRow.{FaultOn}
 use Rattle.pool_moves.specs.States.{PoolState, Side}
 use Rattle.pool_moves.specs.Refusing.{FreezeRefusal}
-use Rattle.pool_moves.specs.TreeRows.{Graft, TreeRefusal, graft_refusal, GraftReply, DeviceFault, DetachReply, Detached, Undone, Required as DetachRequired, DetachBehind, DetachFor, DetachLeaf, DetachBy, RowDetach}
+use Rattle.pool_moves.specs.TreeRows.{Graft, place_named, TreeRefusal, graft_refusal, GraftReply, DeviceFault, DetachReply, Detached, Undone, Required as DetachRequired, DetachBehind, DetachFor, DetachLeaf, DetachBy, RowDetach}
 use Rattle.pool_moves.proofs.DetachWalks.{detach_walks}
 use Rattle.pool_moves.proofs.Keeping.{walk_keeps}
 use Rattle.pool_moves.proofs.LineWalks.{turn_walks, sync_walks}
@@ -32,8 +32,7 @@ use Rattle.pool_moves.proofs.Missing.{exhausted_missed}
 use Rattle.pool_moves.proofs.ReadWalks.{read_right}
 use Rattle.pool_runs.specs.Acts.{Act, Gives_for, Marks, Hears, calls_along, pool_along}
 use Rattle.pool_runs.specs.Committing.{CommitsAll, FindsPool, CommitsGroup}
-use Rattle.pool_runs.specs.Counting.{has_leaf_at, RoseAt, HasLostBoard, Suspends, FailsOpening, IsCounted, LosesBoard, LosesSince, FailsNamed}
-use Rattle.pool_runs.specs.Creating.{leaves_of}
+use Rattle.pool_runs.specs.Counting.{has_leaf_at, RoseAt, HasLostBoard, Suspends, FailsOpening, IsCounted, LosesBoard, LosesFreeze, LosesSince, FailsNamed}
 use Rattle.pool_runs.specs.Devices.{number_in, size_in}
 use Rattle.pool_runs.specs.Fairness.{AreFair}
 use Rattle.pool_runs.specs.Headline.{TakesFor, IsRequiredFor, Headline}
@@ -47,9 +46,10 @@ use Rattle.pool_runs.specs.Pasts.{Past, pool_of, Left, BeginsRun, HasFrozen}
 use Rattle.pool_runs.proofs.Acting.{history_pool}
 use Rattle.pool_runs.proofs.Answering.{all_answer, does_calls, marked_calls}
 use Rattle.pool_runs.proofs.Committing.{sync_all, does_pool, turn_all, detach_all}
-use Rattle.pool_runs.proofs.Suspending.{turn_counts, sync_counts, detach_counts, graft_counts}
+use Rattle.pool_runs.proofs.Suspending.{turn_counts, sync_counts, graft_counts}
 use Rattle.pool_runs.proofs.Finding.{import_finds}
 use Rattle.pool_runs.proofs.Knowing.{may_more, acts_keep}
+use Rattle.pool_runs.proofs.DetachesLoseATop.{detach_loses}
 use Rattle.pool_runs.proofs.Failing.{caught_rose}
 use Rattle.pool_runs.proofs.CreatesNameTheFailed.{create_names}
 use Rattle.pool_runs.proofs.ImportsLoseATop.{import_loses}
@@ -383,10 +383,13 @@ line_counts c h p e from to met caused = record {
     syncs name s group top faults asked at says (inr out) = sync_not_memory (Ended (Suspended group top faults)) (sym says ∙ out.says)
 
     detaches : (name leaf : List ℕ) (s : PoolState) (group : ℕ) (top : Guid) (faults : ℕ) → e.asked ≡ Asks_detach name leaf → named name h.pools ≡ Some s
-        → e.reply ≡ To_detach (Undone group top faults) → HostRow c h e → RoseAt (λ d. has_leaf_at d s) from to
-    detaches name leaf s group top faults asked found says (inl row) = let line = on_open h name s (DetachLine c h leaf) e.acts e.reply found (subst (λ x. RowOf c h x e.acts e.reply) asked row.0) in
-        detach_counts c h s leaf line.2.seat line.2.moves line.0 from to group top faults line.2.row
-        (subst (λ calls. AllCaused calls from to) (ap calls_along line.2.are ∙ does_calls s.core.pool.0 line.2.moves) caused) (detach_reply line.0 (Undone group top faults) (sym line.1 ∙ says))
+        → e.reply ≡ To_detach (Undone group top faults) → HostRow c h e
+        → LosesFreeze s (remove s.core.leaves (place_named leaf s.core.leaves)) (λ d. Rose (from d) (to d)) group top
+    detaches name leaf s group top faults asked found says (inl row) =
+        let line = on_open h name s (DetachLine c h leaf) e.acts e.reply found (subst (λ x. RowOf c h x e.acts e.reply) asked row.0) in
+        detach_loses (λ d. Rose (from d) (to d)) c (size_in h.table) s leaf line.2.seat group top faults line.2.moves
+        (caught_rose line.2.moves (calls_along e.acts) from to (ap calls_along line.2.are ∙ does_calls s.core.pool.0 line.2.moves) caused)
+        (subst (RowDetach c (size_in h.table) s leaf line.2.seat line.2.moves) (detach_reply line.0 (Undone group top faults) (sym line.1 ∙ says)) line.2.row)
     detaches name leaf s group top faults asked found says (inr out) = detach_not_memory (Undone group top faults) (sym says ∙ out.says)
 
     grafts : (graft : Graft) (name leaf new : List ℕ) → e.asked ≡ Asks_graft graft name leaf new → e.reply ≡ To_graft DeviceFault → HostRow c h e

@@ -1,5 +1,5 @@
 -- An import is suspended only where each leaf of the lost top that was found and is readable failed, behind its reading.
-use Rattle.std.proofs.Common.{◌≡◌, ◌⊎◌, inl, inr, ℕ, ◌==◌, ◌&&◌, ◌||◌, nat_le, Bool, true, false, cond, List, [], ◌∷◌, ◌++◌, length, Option, Some, None, refl, sym, ap, ◌∙◌, subst, arith, append_assoc}
+use Rattle.std.proofs.Common.{◌≡◌, ℕ, ◌==◌, ◌&&◌, ◌||◌, nat_le, Bool, true, false, cond, List, [], ◌∷◌, ◌++◌, length, Option, Some, None, refl, sym, ap, ◌∙◌, subst, arith, append_assoc}
 use Rattle.std.specs.List.{AllByRecursion, list_any}
 use Rattle.std.specs.Option.{is_some}
 use Rattle.std.proofs.lemmas.Bool.{and_parts}
@@ -11,29 +11,26 @@ use Rattle.bank_core.specs.Disk.{Noted}
 use Rattle.label_store.specs.declared.found.Found.{Found}
 use Rattle.vdev_tree.specs.Leaf.{is_up}
 use Rattle.txg_history.specs.Pages.{Codec}
-use Rattle.txg_history.proofs.Logging.{by_bool, same_device, true_not_false}
+use Rattle.txg_history.proofs.Logging.{by_bool, true_not_false}
 use Rattle.pool_moves.specs.Leaves.{LeafSeen}
 use Rattle.pool_moves.specs.LineRows.{TurnReply, Idle, Write, Flush, Round, Committed, Suspended}
 use Rattle.pool_moves.specs.Moves.{Move, steps}
 use Rattle.pool_moves.specs.Opened.{opened_leaves}
-use Rattle.pool_moves.specs.OpeningRow.{SeekReply, NoRecord, NumbersEnd, TakesRecord, OpenReply, Opens_state, NoPage, RowOpen, is_up_under, lacking_of, Resumes, ResumesUnless, RowResume}
-use Rattle.pool_moves.specs.ReadRow.{made_in}
+use Rattle.pool_moves.specs.OpeningRow.{SeekReply, NoRecord, NumbersEnd, TakesRecord, OpenReply, Opens_state, NoPage, RowOpen, is_up_under, lacking_of, ResumesUnless, RowResume}
 use Rattle.pool_moves.specs.Refusing.{is_writable}
 use Rattle.pool_moves.specs.States.{PoolState}
-use Rattle.pool_runs.specs.Acts.{Act, Opening, Looked, Shows, Reads_as, Enters, Closes, does, bare, calls_along}
+use Rattle.pool_runs.specs.Acts.{Act, Opening, Looked, Reads_as, Enters, Closes, does, bare, calls_along}
 use Rattle.pool_runs.specs.Committing.{opening_in}
-use Rattle.pool_runs.specs.Counting.{is_under, IsLostBy, LosesTop, IsMidway, FailsOpening}
+use Rattle.pool_runs.specs.Counting.{is_under, IsLostBy, LosesTop, FailsOpening}
 use Rattle.pool_runs.specs.Devices.{size_in}
 use Rattle.pool_runs.specs.Hosts.{Host, free_in, named}
 use Rattle.pool_runs.specs.Importing.{read_in, all_shown, OpensBy, FollowsMap, OpensFound, ImportBy, host_behind, Imports, ImportFor, ImportUnless, RowImport}
 use Rattle.pool_runs.specs.Lines.{Reply, To_import, Unopened}
-use Rattle.pool_runs.proofs.Answering.{does_calls}
-use Rattle.pool_runs.proofs.Failing.{FailedOn, IsCaught, caught_first, caught_second, caught_rose}
+use Rattle.pool_runs.proofs.Failing.{IsCaught, caught_first, caught_second, caught_rose}
 use Rattle.pool_runs.proofs.Finding.{opening_bare}
 use Rattle.pool_runs.proofs.Importing.{opening_of}
 use Rattle.pool_runs.proofs.Losing.{top_frozen, group_lost}
-use Rattle.pool_runs.proofs.Midway.{calls_more, midway_at}
-use Rattle.pool_runs.proofs.ModesStand.{each}
+use Rattle.pool_runs.proofs.Midway.{midway_at}
 use Rattle.pool_runs.proofs.Suspending.{closed_calls}
 
 or_left : (a b : Bool) → a ≡ true → (a || b) ≡ true

@@ -5,6 +5,7 @@ pub mod Committing
 pub mod Counting
 pub mod CreatesNameTheFailed
 pub mod Creating
+pub mod DetachesLoseATop
 pub mod Failing
 pub mod Finding
 pub mod Grafting

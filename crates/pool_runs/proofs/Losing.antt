@@ -1,16 +1,16 @@
 -- A group is suspended only where each leaf of the lost top that was on its board failed, as its device's count tells.
-use Rattle.std.proofs.Common.{◌≡◌, ◌⊎◌, inl, inr, ⊎_elim, ℕ, ◌+◌, ◌<◌, ◌≤◌, ◌==◌, ◌&&◌, ◌||◌, nat_le, Bool, true, false, cond, List, [], ◌∷◌, ◌++◌, map, Option, Some, None, refl, sym, ap, ◌∙◌, subst, arith}
+use Rattle.std.proofs.Common.{◌≡◌, inl, inr, ℕ, ◌+◌, ◌<◌, ◌==◌, ◌&&◌, ◌||◌, Bool, true, false, cond, List, [], ◌∷◌, map, Option, Some, None, refl, sym, ap, ◌∙◌, subst, arith}
 use Rattle.std.specs.List.{AllByRecursion, list_any}
 use Rattle.std.proofs.lemmas.Bool.Decides.{nat_tests}
 use Rattle.mp_base.specs.declared.number.Guid.{Guid}
 use Rattle.txg_history.specs.Pages.{Codec}
 use Rattle.txg_history.specs.Records.{Cells}
 use Rattle.txg_history.proofs.Logging.{by_bool, same_device, true_not_false}
-use Rattle.pool_moves.specs.Boards.{is_on, is_on_under, has_on, emptied_of, emptied}
+use Rattle.pool_moves.specs.Boards.{is_on, is_on_under, has_on, emptied_of}
 use Rattle.pool_moves.specs.FreezeRow.{up_devs}
 use Rattle.pool_moves.specs.Leaves.{OwnLeaf, LeafSeen}
-use Rattle.pool_moves.specs.LineRows.{TurnReply, Suspended, RowTurn, TurnBy, EndsGroup, CommitsOpen}
-use Rattle.pool_moves.specs.Moves.{Move, Makes, Freeze, Wrote_key, Flushed_all, Draw, Leave, Widen, Starts, Copies, Copied, Commits, Sets, on_dev, leaf_step, step, state_step, steps}
+use Rattle.pool_moves.specs.LineRows.{Suspended, RowTurn, TurnBy, EndsGroup, CommitsOpen}
+use Rattle.pool_moves.specs.Moves.{Move, Makes, Freeze, Wrote_key, Flushed_all, Draw, Leave, Widen, Starts, Copies, Copied, Sets, on_dev, leaf_step, step, state_step, steps}
 use Rattle.pool_moves.specs.Refusing.{is_writable, is_writable_under, unwritable_of, unwritable}
 use Rattle.pool_moves.specs.States.{PoolState}
 use Rattle.pool_moves.specs.Widening.{IsWidened}

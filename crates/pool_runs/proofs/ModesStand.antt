@@ -1,5 +1,5 @@
 -- Through the turns of a group each leaf may be written as before.
-use Rattle.std.proofs.Common.{◌≡◌, ◌⊎◌, inl, inr, ℕ, ◌≤◌, ◌==◌, ◌&&◌, ◌||◌, Bool, true, false, cond, List, [], ◌∷◌, ◌++◌, map, Option, Some, None, refl, sym, ap, ◌∙◌, subst, arith}
+use Rattle.std.proofs.Common.{◌≡◌, inl, inr, ℕ, ◌≤◌, ◌==◌, ◌&&◌, ◌||◌, Bool, true, false, cond, List, [], ◌∷◌, map, Option, refl, sym, ap, ◌∙◌, subst, arith}
 use Rattle.std.specs.List.{AllByRecursion, list_any}
 use Rattle.std.specs.Option.{is_some}
 use Rattle.std.proofs.lemmas.Bool.{and_parts}
@@ -9,15 +9,14 @@ use Rattle.vdev_tree.specs.Leaf.{is_up}
 use Rattle.txg_history.specs.Pages.{Codec}
 use Rattle.txg_history.specs.Pools.{Pool}
 use Rattle.txg_history.proofs.Logging.{by_bool, same_device, true_not_false}
-use Rattle.pool_moves.specs.Keeping.{IsElsewhere, AreSeatsApart, IsAway, IsSeated, IsOwnNumber, Kept}
+use Rattle.pool_moves.specs.Keeping.{IsElsewhere, AreSeatsApart, IsAway, IsSeated, IsOwnNumber}
 use Rattle.pool_moves.specs.Leaves.{OwnLeaf, LeafSeen, Seat, At, Adrift, told, leaf_seen}
-use Rattle.pool_moves.specs.LineRows.{TurnReply, Committed, EndsGroup, write_failed}
+use Rattle.pool_moves.specs.LineRows.{Committed, EndsGroup, write_failed}
 use Rattle.pool_moves.specs.Moves.{Move, Makes, Wrote_key, Flushed_all, Draw, Leave, Widen, Starts, Copies, Copied, Commits, Sets, leaf_step, state_step, steps}
-use Rattle.pool_moves.specs.Refusing.{is_writable, is_writable_under}
-use Rattle.pool_moves.specs.States.{PoolState, Side}
+use Rattle.pool_moves.specs.Refusing.{is_writable}
+use Rattle.pool_moves.specs.States.{PoolState}
 use Rattle.pool_runs.specs.Knowing.{HasSeats}
-use Rattle.pool_runs.proofs.Failing.{FailedOn}
-use Rattle.pool_runs.proofs.OnlyFailedLeave.{MaySet, IsAcked, IsJust, AreJust, IsLostBehind, Comes, KeepsMay, group_comes, step_leaves, steps_tops, steps_places}
+use Rattle.pool_runs.proofs.OnlyFailedLeave.{MaySet, IsJust, AreJust, Comes, KeepsMay, group_comes, step_leaves, steps_tops, steps_places}
 
 -- All by all.
 pub each : {X : Type 0} {P Q : X → Type 0} → ((x : X) → P x → Q x) → (xs : List X) → AllByRecursion P xs → AllByRecursion Q xs

@@ -11,7 +11,7 @@ use Rattle.txg_history.specs.Pages.{Codec}
 use Rattle.txg_history.specs.Turns.{write_plan, flush_plan}
 use Rattle.pool_moves.specs.Boards.{board_of, board_under, emptied}
 use Rattle.pool_moves.specs.Leaves.{OwnLeaf, LeafSeen}
-use Rattle.pool_moves.specs.LineRows.{TurnReply, Idle, Write, Flush, Round, Committed, Suspended, write_failed, has_number, sets_failed, count_moves, suspended_by, Draws, EndsBy, EndsTurn, IsWritePart, IsFlushPart, IsRoundPart, StartsBy, TurnBy, RowTurn, Ends, AreTurns, moves_in, EndsGroup}
+use Rattle.pool_moves.specs.LineRows.{TurnReply, Write, Flush, Round, Committed, write_failed, has_number, sets_failed, count_moves, suspended_by, Draws, EndsBy, EndsTurn, IsWritePart, IsFlushPart, IsRoundPart, StartsBy, TurnBy, RowTurn, Ends, AreTurns, moves_in, EndsGroup}
 use Rattle.pool_moves.specs.Moves.{Draft, Move, Makes, Wrote_key, Flushed_all, Draw, Leave, Widen, Starts, Copies, Copied, Commits, Sets, leaf_step, step, state_step, steps}
 use Rattle.pool_moves.specs.States.{PoolSeen, PoolState}
 use Rattle.pool_moves.specs.TurnRows.{turn_moves, ended, round_moves, IsThirdMoves, EndsRound, RowRound}

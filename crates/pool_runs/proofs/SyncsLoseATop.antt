@@ -4,7 +4,6 @@ use Rattle.std.specs.List.{AllByRecursion, list_any}
 use Rattle.mp_base.specs.Outside.{Rose}
 use Rattle.mp_base.specs.declared.number.Guid.{Guid}
 use Rattle.bank_core.specs.Calls.{AllCaused}
-use Rattle.bank_core.specs.Disk.{Noted}
 use Rattle.txg_history.specs.Pages.{Codec}
 use Rattle.txg_history.specs.Pools.{Pool}
 use Rattle.txg_history.proofs.Logging.{by_bool}
@@ -13,10 +12,10 @@ use Rattle.pool_moves.specs.Leaves.{LeafSeen}
 use Rattle.pool_moves.specs.LineRows.{TurnReply, Idle, Write, Flush, Round, Committed, Suspended, CommitsOpen, Ended, CommitsFor, SyncOpen, SyncBehind, EndsFirst, SyncBy, EndsGroup, RowSync}
 use Rattle.pool_moves.specs.Moves.{Move, steps, after_moves}
 use Rattle.pool_moves.specs.ReadRow.{made_in}
-use Rattle.pool_moves.specs.Refusing.{FreezeRefusal, is_writable, is_writable_under, unwritable, last_number, IsRefused}
+use Rattle.pool_moves.specs.Refusing.{FreezeRefusal, is_writable, unwritable, last_number, IsRefused}
 use Rattle.pool_moves.specs.States.{PoolState, Side, group_seen}
 use Rattle.pool_runs.specs.Acts.{Does, does, calls_along, pool_along}
-use Rattle.pool_runs.specs.Counting.{IsLostBy, LosesTop, LosesBoard, LosesFreeze, IsMidway, LosesSince}
+use Rattle.pool_runs.specs.Counting.{IsLostBy, LosesBoard, LosesFreeze, IsMidway, LosesSince}
 use Rattle.pool_runs.specs.Knowing.{HasSeats}
 use Rattle.pool_runs.specs.Lines.{Entry}
 use Rattle.pool_runs.proofs.Answering.{does_calls}

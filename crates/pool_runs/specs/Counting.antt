@@ -1,6 +1,6 @@
 -- How lines end by the counts of failed calls.
 use Rattle.std.specs.Prelude.{◌≡◌, ◌⊎◌, ℕ, ◌<◌, ◌==◌, Bool, true, false, List, ◌∷◌, ◌++◌, Some}
-use Rattle.std.specs.List.{list_any, AllByRecursion}
+use Rattle.std.specs.List.{list_any, AllByRecursion, remove}
 use Rattle.mp_base.specs.declared.number.Guid.{Guid}
 use Rattle.mp_base.specs.Outside.{Rose}
 use Rattle.bank_core.specs.Calls.{AllCaused}
@@ -19,7 +19,7 @@ use Rattle.pool_runs.specs.Acts.{Act, Opening, Enters, calls_along, pool_along}
 use Rattle.pool_runs.specs.Committing.{opening_in}
 use Rattle.pool_runs.specs.Creating.{all_names}
 use Rattle.pool_runs.specs.Devices.{number_in}
-use Rattle.pool_moves.specs.TreeRows.{Graft, DeviceFault, Undone}
+use Rattle.pool_moves.specs.TreeRows.{Graft, place_named, DeviceFault, Undone}
 use Rattle.pool_runs.specs.Hosts.{Host, named}
 use Rattle.pool_runs.specs.Moments.{IsOpenAs}
 use Rattle.pool_runs.specs.Lines.{Asks_turn, Asks_sync, Asks_graft, Asks_detach, Asks_import, Asks_create, Reply, To_turn, To_sync, To_graft, To_detach, To_import, To_create, Unopened, Entry}
@@ -117,7 +117,8 @@ pub record FailsNamed (h : Host) (tops : List (List (List ℕ))) (name : List �
 -- pool's leaves rose in this line, or some top had nobody left on its board before. A turn tells a top only where the count of each device on which this
 -- top had a leaf on its board rose in it. So does a sync of this pool that tells the group which was frozen before it; one that tells a later group does
 -- so only where the count of each device rose on which the top has a leaf that could be written, and that behind the frozen group's end: a leaf that
--- failed in the frozen group failed again. A detach is undone only where the count of a device of the pool's leaves rose. An import is suspended only
+-- failed in the frozen group failed again. A detach is undone only where the count of each device rose on which the top that it tells has a leaf that could
+-- be written, but for the leaf that was to go. An import is suspended only
 -- where the count of each device rose on which the top that it tells has a readable leaf, and that behind its reading, if there is any. And a create tells a device that failed, which is one of
 -- those that it names, only where this very one's count rose, and an attach or a replace only where that of the new one did.
 pub record IsCounted (c : Codec) (p : Pool) (h : Host) (e : Entry) (from to : ℕ → ℕ) : Type 0 where
@@ -129,7 +130,8 @@ pub record IsCounted (c : Codec) (p : Pool) (h : Host) (e : Entry) (from to : �
       → e.reply ≡ To_sync (Ended (Suspended group top faults))
       → LosesBoard s (λ d. Rose (from d) (to d)) group top ⊎ LosesSince p s e from to group top
   pub detaches : (name leaf : List ℕ) (s : PoolState) (group : ℕ) (top : Guid) (faults : ℕ) → e.asked ≡ Asks_detach name leaf → named name h.pools ≡ Some s
-      → e.reply ≡ To_detach (Undone group top faults) → RoseAt (λ d. has_leaf_at d s) from to
+      → e.reply ≡ To_detach (Undone group top faults)
+      → LosesFreeze s (remove s.core.leaves (place_named leaf s.core.leaves)) (λ d. Rose (from d) (to d)) group top
   pub grafts : (graft : Graft) (name leaf new : List ℕ) → e.asked ≡ Asks_graft graft name leaf new → e.reply ≡ To_graft DeviceFault
       → (d : ℕ) × (number_in new h.table ≡ Some d) × Rose (from d) (to d)
   pub imports : (name : List ℕ) (group : ℕ) (top : Guid) (faults : ℕ) → e.asked ≡ Asks_import name → e.reply ≡ To_import (Unopened group top faults)
