@@ -30,8 +30,7 @@ use Rattle.pool_runs.proofs.Members.{HasName, all_have}
 use Rattle.pool_runs.proofs.ModesStand.{of_both, map_forth}
 use Rattle.pool_runs.proofs.OnlyFailedLeave.{just_more, just_widens, round_failing, steps_places}
 use Rattle.pool_runs.proofs.Stamps.{stamp_calls}
-use Rattle.pool_runs.proofs.Suspending.{closed_calls}
-use Rattle.pool_runs.proofs.Midway.{calls_more}
+use Rattle.pool_runs.proofs.Midway.{calls_more, closed_calls}
 
 fault_same : (a b : List ℕ) → FaultOn a ≡ FaultOn b → a ≡ b
 fault_same a b e = cc
@@ -43,7 +42,7 @@ leaf_same : (a b : NewLeaf) → Some a ≡ Some b → a ≡ b
 leaf_same a b e = cc
 
 -- A stamp that failed is told by its leaf.
-stamp_on : (d size : ℕ) (pool member : Guid) → AllByRecursion (IsAskOn d) (stamp_plan d size pool member)
+pub stamp_on : (d size : ℕ) (pool member : Guid) → AllByRecursion (IsAskOn d) (stamp_plan d size pool member)
 stamp_on d size pool member = (refl, (refl, (refl, (refl, (refl, (refl, (refl, (refl, (refl, tt)))))))))
 
 stamp_failed : (P : NewLeaf → Type 0) (size : ℕ → ℕ) (pool : Guid) (leaves : List NewLeaf) (stamps : List Stamp) (leaf : NewLeaf) → AllByRecursion P leaves

@@ -11,9 +11,8 @@ use Rattle.pool_moves.specs.Refusing.{FreezeRefusal, last_number, unwritable, Is
 use Rattle.pool_moves.specs.States.{PoolState}
 use Rattle.pool_moves.specs.TreeRows.{place_named, goes_out, Undone, DetachBehind, CommitsWithout, DetachFor, DetachLeaf, DetachBy, RowDetach}
 use Rattle.pool_runs.specs.Counting.{LosesFreeze}
-use Rattle.pool_runs.proofs.Counting.{none_unwritable}
 use Rattle.pool_runs.proofs.Failing.{IsCaught, caught_first, caught_second}
-use Rattle.pool_runs.proofs.Losing.{commits_lose}
+use Rattle.pool_runs.proofs.Losing.{commits_lose, none_unwritable}
 
 undone_same : (a b : ℕ) (top other : Guid) (m n : ℕ) → Undone a top m ≡ Undone b other n → Suspended a top m ≡ Suspended b other n
 undone_same a b top other m n e = cc
@@ -34,7 +33,7 @@ module _ (Fails : ℕ → Type 0) (c : Codec) (size : ℕ → ℕ) (s : PoolStat
 
       loses : CommitsOpen c size behind row.part (Suspended group top faults) → Loses
       loses commit = let x = commits_lose Fails c size behind row.part group top faults
-          (none_unwritable (λ d. true) (nat_le last_number behind.core.number) (unwritable behind.core.leaves) behind is) part commit in record {
+          (none_unwritable (nat_le last_number behind.core.number) (unwritable behind.core.leaves) behind is) part commit in record {
             later = x.later;
             lost = x.lost;
             one = x.one;

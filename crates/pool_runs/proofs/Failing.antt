@@ -12,7 +12,14 @@ use Rattle.pool_moves.specs.Moves.{Draft, Move, Makes}
 use Rattle.pool_moves.specs.ReadRow.{made_in}
 use Rattle.pool_moves.specs.TurnRows.{ended, IsThirdMoves}
 use Rattle.pool_moves.specs.Walking.{as_moves}
-use Rattle.pool_runs.proofs.Counting.{caused_up, rose_more}
+
+-- Counts never fall, and stay risen.
+rose_more : (a b d : ℕ) → Rose a b → b ≤ d → Rose a d
+rose_more a b d rose up = omega (arith, rose, up)
+
+caused_up : (made : List Noted) (from to : ℕ → ℕ) → AllCaused made from to → (d : ℕ) → from d ≤ to d
+caused_up [] from to caused d = omega (arith, caused d)
+caused_up (noted ∷ made) from to caused d = let one = caused.1.counts d in let rest = caused_up made caused.0 to caused.2 d in omega (arith, one, rest)
 
 -- A call on a device failed.
 abbrev pub FailedOn : (d : ℕ) → List Noted → Type 0

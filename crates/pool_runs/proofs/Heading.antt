@@ -46,7 +46,8 @@ use Rattle.pool_runs.specs.Pasts.{Past, pool_of, Left, BeginsRun, HasFrozen}
 use Rattle.pool_runs.proofs.Acting.{history_pool}
 use Rattle.pool_runs.proofs.Answering.{all_answer, does_calls, marked_calls}
 use Rattle.pool_runs.proofs.Committing.{sync_all, does_pool, turn_all, detach_all}
-use Rattle.pool_runs.proofs.Suspending.{turn_counts, sync_counts, graft_counts}
+use Rattle.pool_runs.proofs.Suspending.{turn_counts, sync_counts}
+use Rattle.pool_runs.proofs.GraftsNameTheFailed.{graft_counts}
 use Rattle.pool_runs.proofs.Finding.{import_finds}
 use Rattle.pool_runs.proofs.Knowing.{may_more, acts_keep}
 use Rattle.pool_runs.proofs.DetachesLoseATop.{detach_loses}
@@ -357,10 +358,10 @@ line_counts c h p e from to met caused = record {
     turns : (name : List ℕ) (s : PoolState) → (e.asked ≡ Asks_turn name) ⊎ (e.asked ≡ Asks_sync name) → named name h.pools ≡ Some s → Suspends e.reply → HostRow c h e
         → (e.asked ≡ Asks_turn name) ⊎ (e.asked ≡ Asks_sync name) → RoseAt (λ d. has_leaf_at d s) from to ⊎ HasLostBoard s
     turns name s asks found bad (inl row) (inl asked) = let line = on_open h name s (TurnLine c h) e.acts e.reply found (subst (λ x. RowOf c h x e.acts e.reply) asked row.0) in
-        turn_counts c h s line.2.moves line.0 from to line.2.row
+        turn_counts c (size_in h.table) s line.2.moves line.0 from to line.2.row
         (subst (λ calls. AllCaused calls from to) (ap calls_along line.2.are ∙ does_calls s.core.pool.0 line.2.moves) caused) (subst Suspends line.1 bad)
     turns name s asks found bad (inl row) (inr asked) = let line = on_open h name s (SyncLine c h) e.acts e.reply found (subst (λ x. RowOf c h x e.acts e.reply) asked row.0) in
-        sync_counts c h s line.2.moves line.0 from to line.2.row
+        sync_counts c (size_in h.table) s line.2.moves line.0 from to line.2.row
         (subst (λ calls. AllCaused calls from to) (ap calls_along line.2.are ∙ does_calls s.core.pool.0 line.2.moves) caused) (subst Suspends line.1 bad)
     turns name s asks found bad (inr out) asked = absurd (subst Suspends out.says bad)
 

@@ -30,8 +30,7 @@ use Rattle.pool_runs.proofs.Failing.{IsCaught, caught_first, caught_second, caug
 use Rattle.pool_runs.proofs.Finding.{opening_bare}
 use Rattle.pool_runs.proofs.Importing.{opening_of}
 use Rattle.pool_runs.proofs.Losing.{top_frozen, group_lost}
-use Rattle.pool_runs.proofs.Midway.{midway_at}
-use Rattle.pool_runs.proofs.Suspending.{closed_calls}
+use Rattle.pool_runs.proofs.Midway.{closed_calls, midway_at}
 
 or_left : (a b : Bool) → a ≡ true → (a || b) ≡ true
 or_left true b is = refl

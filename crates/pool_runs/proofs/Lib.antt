@@ -2,13 +2,13 @@ pub mod Acting
 pub mod Answering
 pub mod Bearing
 pub mod Committing
-pub mod Counting
 pub mod CreatesNameTheFailed
 pub mod Creating
 pub mod DetachesLoseATop
 pub mod Failing
 pub mod Finding
 pub mod Grafting
+pub mod GraftsNameTheFailed
 pub mod GroupMoves
 pub mod Heading
 pub mod Importing

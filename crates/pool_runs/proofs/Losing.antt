@@ -3,21 +3,23 @@ use Rattle.std.proofs.Common.{◌≡◌, inl, inr, ℕ, ◌+◌, ◌<◌, ◌==�
 use Rattle.std.specs.List.{AllByRecursion, list_any}
 use Rattle.std.proofs.lemmas.Bool.Decides.{nat_tests}
 use Rattle.mp_base.specs.declared.number.Guid.{Guid}
+use Rattle.vdev_tree.specs.Leaf.{is_up}
+use Rattle.std.specs.Option.{is_some}
+use Rattle.std.proofs.lemmas.Bool.{and_parts}
 use Rattle.txg_history.specs.Pages.{Codec}
 use Rattle.txg_history.specs.Records.{Cells}
 use Rattle.txg_history.proofs.Logging.{by_bool, same_device, true_not_false}
 use Rattle.pool_moves.specs.Boards.{is_on, is_on_under, has_on, emptied_of}
-use Rattle.pool_moves.specs.FreezeRow.{up_devs}
+use Rattle.pool_moves.specs.FreezeRow.{is_dev, up_devs}
 use Rattle.pool_moves.specs.Leaves.{OwnLeaf, LeafSeen}
 use Rattle.pool_moves.specs.LineRows.{Suspended, RowTurn, TurnBy, EndsGroup, CommitsOpen}
 use Rattle.pool_moves.specs.Moves.{Move, Makes, Freeze, Wrote_key, Flushed_all, Draw, Leave, Widen, Starts, Copies, Copied, Sets, on_dev, leaf_step, step, state_step, steps}
-use Rattle.pool_moves.specs.Refusing.{is_writable, is_writable_under, unwritable_of, unwritable}
+use Rattle.pool_moves.specs.Refusing.{RefusedBy, FreezeRefusal, is_writable, is_writable_under, unwritable_of, unwritable}
 use Rattle.pool_moves.specs.States.{PoolState}
 use Rattle.pool_moves.specs.Widening.{IsWidened}
 use Rattle.pool_runs.specs.Counting.{is_under, IsLostBy, LosesTop, LosesBoard, LosesFreeze}
-use Rattle.pool_runs.proofs.Counting.{IsUp, all_up}
 use Rattle.pool_runs.proofs.Failing.{IsCaught, caught_second}
-use Rattle.pool_runs.proofs.OnlyFailedLeave.{MaySet, IsJust, AreJust, just_widens, IsLostBehind, lost_more, Comes, turn_comes, KeepsMay, group_comes, step_leaves, any_map, steps_under, steps_tops}
+use Rattle.pool_runs.proofs.OnlyFailedLeave.{MaySet, IsJust, AreJust, just_widens, IsLostBehind, lost_more, Comes, turn_comes, KeepsMay, group_comes, step_leaves, any_map, steps_any, steps_tops}
 
 -- What is set of leaves makes no odds here.
 abbrev pub Anything : Guid → OwnLeaf → Type 0
@@ -69,6 +71,34 @@ writable_one top all (leaf ∷ leaves) none some = by_bool (list_any (is_writabl
     (λ away. writable_one top all leaves (sym (ap (λ t. cond t (unwritable_of all leaves) (Some leaf.top)) has) ∙ none)
     (sym (ap (λ t. t || list_any (is_under top) leaves) away) ∙ some)))
     (λ off. absurd (let no : Some leaf.top ≡ None = sym (ap (λ t. cond t (unwritable_of all leaves) (Some leaf.top)) off) ∙ none in cc))
+
+-- where nothing refuses a freeze each top has a writable leaf
+pub none_unwritable : (ended : Bool) (top : Option ℕ) (s : PoolState) → RefusedBy ended top s None → top ≡ None
+none_unwritable true top s is = absurd (cc)
+none_unwritable false (Some top) s is = absurd (cc)
+none_unwritable false None s is = refl
+
+both_true : (a b : Bool) → a ≡ true → b ≡ true → (a && b) ≡ true
+both_true a b x y = ap (λ t. t && b) x ∙ y
+
+-- a writable leaf is on the board
+abbrev pub IsUp : (board : ℕ → Bool) → LeafSeen → Type 0
+IsUp board leaf = is_writable leaf ≡ true → on_dev board leaf.dev ≡ true
+
+up_one : (board : ℕ → Bool) (up : Bool) (dev : Option ℕ) → ((d : ℕ) → (up && is_dev d dev) ≡ true → board d ≡ true) → (up && is_some dev) ≡ true → on_dev board dev ≡ true
+up_one board up None on is = absurd (let no : false ≡ true = sym (none up) ∙ is in cc)
+  where
+    none : (t : Bool) → (t && false) ≡ false
+    none true = refl
+    none false = refl
+up_one board up (Some d) on is = on d (both_true up (d == d) (and_parts up true is).0 (let same : (d == d) ≡ true = grind (arith, nat_tests) in same))
+
+pub all_up : (board : ℕ → Bool) (leaves : List LeafSeen) → ((d : ℕ) → up_devs leaves d ≡ true → board d ≡ true) → AllByRecursion (IsUp board) leaves
+all_up board [] on = tt
+all_up board (leaf ∷ leaves) on = (
+  up_one board (is_up leaf.own.mode) leaf.dev (λ d is. on d (or_left (is_up leaf.own.mode && is_dev d leaf.dev) (up_devs leaves d) is)),
+  all_up board leaves (λ d is. on d (or_right (is_up leaf.own.mode && is_dev d leaf.dev) (up_devs leaves d) is)),
+)
 
 on_off : (top : ℕ) (leaf : LeafSeen) → is_on_under top leaf ≡ false → leaf.top ≡ top → leaf.on ≡ true → true ≡ false
 on_off top leaf off under on = sym (ap (λ t. t && (leaf.top == top)) on ∙ same_test leaf.top top under) ∙ off
@@ -148,7 +178,7 @@ module _ (Fails : ℕ → Type 0) where
     record {
       at = lost.at;
       number_is = sym (ap (λ f. f lost.at) (steps_tops Fails Anything ⊥ lost.moves s lost.just).0) ∙ sym tells.1;
-      some = sym (steps_under Fails Anything ⊥ lost.at lost.moves s lost.just) ∙ emptied_under lost.at behind.core.leaves behind.core.leaves lost.empty;
+      some = sym (steps_any Fails Anything ⊥ (λ m dev top. top == lost.at) lost.moves s lost.just) ∙ emptied_under lost.at behind.core.leaves behind.core.leaves lost.empty;
       lost = steps_back lost.at lost.moves s lost.just (none_on lost.at behind.core.leaves (emptied_none lost.at behind.core.leaves behind.core.leaves lost.empty));
     },
   )
@@ -187,7 +217,7 @@ module _ (Fails : ℕ → Type 0) where
   group_loses c size s vs group top faults frozen caught ends = board_loses s group top faults frozen (group_lost c size s vs group top faults caught ends)
 
   -- A freeze puts each leaf that could be written on the board.
-  up_back : (top : ℕ) (cells : Cells) (board : ℕ → Bool) (number first hi : ℕ) (leaves : List LeafSeen) → AllByRecursion (IsUp (λ d. true) board) leaves
+  up_back : (top : ℕ) (cells : Cells) (board : ℕ → Bool) (number first hi : ℕ) (leaves : List LeafSeen) → AllByRecursion (IsUp board) leaves
       → AllByRecursion (IsLostBy is_on Fails top) (map (leaf_step (Freeze cells board) number first hi) leaves) → AllByRecursion (IsLostBy is_writable Fails top) leaves
   up_back top cells board number first hi [] up lost = tt
   up_back top cells board number first hi (leaf ∷ leaves) up lost =
@@ -205,7 +235,7 @@ module _ (Fails : ℕ → Type 0) where
       number_is = one.1.number_is;
       some = sym (any_map (is_under one.1.at) (leaf_step v s.core.number s.core.group.first s.core.scan.hi) (λ leaf. refl) s.core.leaves) ∙ one.1.some;
       lost = up_back one.1.at cells (up_devs s.core.leaves) s.core.number s.core.group.first s.core.scan.hi s.core.leaves
-          (all_up (λ d. true) (up_devs s.core.leaves) s.core.leaves (λ d is. is)) one.1.lost;
+          (all_up (up_devs s.core.leaves) s.core.leaves (λ d is. is)) one.1.lost;
     },
   )
     where

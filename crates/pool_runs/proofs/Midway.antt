@@ -1,13 +1,19 @@
 -- Counts at a moment within a line.
-use Rattle.std.proofs.Common.{◌≡◌, ℕ, List, [], ◌∷◌, ◌++◌, refl, sym, ap, ◌∙◌, subst, append_assoc}
+use Rattle.std.proofs.Common.{◌≡◌, ℕ, List, [], ◌∷◌, ◌++◌, refl, sym, ap, ◌∙◌, subst, append-nil, append_assoc}
 use Rattle.bank_core.specs.Calls.{AllCaused}
 use Rattle.bank_core.specs.Disk.{Noted}
-use Rattle.pool_runs.specs.Acts.{Act, calls_of_act, calls_along}
+use Rattle.pool_moves.specs.Moves.{Move}
+use Rattle.pool_moves.specs.ReadRow.{made_in}
+use Rattle.pool_runs.specs.Acts.{Act, Closes, does, calls_of_act, calls_along}
 use Rattle.pool_runs.specs.Counting.{IsMidway}
+use Rattle.pool_runs.proofs.Answering.{does_calls}
 
 pub calls_more : (first second : List Act) → calls_along (first ++ second) ≡ calls_along first ++ calls_along second
 calls_more [] second = refl
 calls_more (act ∷ first) second = ap (λ l. calls_of_act act ++ l) (calls_more first second) ∙ sym (append_assoc (calls_of_act act) (calls_along first) (calls_along second))
+
+pub closed_calls : (g : ℕ) (vs : List Move) → calls_along (does g vs ++ (Closes g ∷ [])) ≡ made_in vs
+closed_calls g vs = calls_more (does g vs) (Closes g ∷ []) ∙ (append-nil (calls_along (does g vs)) ∙ does_calls g vs)
 
 caused_split : (a b : List Noted) (from to : ℕ → ℕ) → AllCaused (a ++ b) from to → (mid : ℕ → ℕ) × AllCaused a from mid × AllCaused b mid to
 caused_split [] b from to caused = (from, (λ d. refl), caused)

@@ -332,16 +332,24 @@ module _ (Fails : ℕ → Type 0) (May : Guid → OwnLeaf → Type 0) (Ack : Typ
   leaf_stays (Commits draft) number first hi leaf just = (refl, refl, refl)
   leaf_stays v number first hi leaf just = absurd just
 
-  -- So tops keep their leaves and their numbers, and the number that was drawn never falls.
-  step_under : (at : ℕ) (v : Move) (s : PoolState) → IsJust v → list_any (is_under at) (state_step v s).core.leaves ≡ list_any (is_under at) s.core.leaves
-  step_under at v s just = step_leaves (λ l. list_any (is_under at) l ≡ list_any (is_under at) s.core.leaves) v s just refl
-      (any_map (is_under at) (leaf_step v s.core.number s.core.group.first s.core.scan.hi)
-      (λ leaf. ap (λ n. n == at) (leaf_stays v s.core.number s.core.group.first s.core.scan.hi leaf just).2) s.core.leaves)
+  -- So what is so of some leaf by its number, its device and its top stays so.
+  step_any : (test : Guid → Option ℕ → ℕ → Bool) (v : Move) (s : PoolState) → IsJust v
+      → list_any (λ leaf. test leaf.guid leaf.dev leaf.top) (state_step v s).core.leaves ≡ list_any (λ leaf. test leaf.guid leaf.dev leaf.top) s.core.leaves
+  step_any test v s just = step_leaves (λ l. list_any (λ leaf. test leaf.guid leaf.dev leaf.top) l ≡ list_any (λ leaf. test leaf.guid leaf.dev leaf.top) s.core.leaves) v s just refl
+      (any_map (λ leaf. test leaf.guid leaf.dev leaf.top) (leaf_step v s.core.number s.core.group.first s.core.scan.hi) same s.core.leaves)
+    where
+      same : (leaf : LeafSeen) → test (leaf_step v s.core.number s.core.group.first s.core.scan.hi leaf).guid (leaf_step v s.core.number s.core.group.first s.core.scan.hi leaf).dev
+          (leaf_step v s.core.number s.core.group.first s.core.scan.hi leaf).top ≡ test leaf.guid leaf.dev leaf.top
+      same leaf = let stays = leaf_stays v s.core.number s.core.group.first s.core.scan.hi leaf just in
+          ap (λ m. test m (leaf_step v s.core.number s.core.group.first s.core.scan.hi leaf).dev (leaf_step v s.core.number s.core.group.first s.core.scan.hi leaf).top) stays.0
+          ∙ (ap (λ dev. test leaf.guid dev (leaf_step v s.core.number s.core.group.first s.core.scan.hi leaf).top) stays.1 ∙ ap (λ top. test leaf.guid leaf.dev top) stays.2)
 
-  pub steps_under : (at : ℕ) (vs : List Move) (s : PoolState) → AreJust vs → list_any (is_under at) (steps vs s).core.leaves ≡ list_any (is_under at) s.core.leaves
-  steps_under at [] s just = refl
-  steps_under at (v ∷ vs) s just = steps_under at vs (state_step v s) just.1 ∙ step_under at v s just.0
+  pub steps_any : (test : Guid → Option ℕ → ℕ → Bool) (vs : List Move) (s : PoolState) → AreJust vs
+      → list_any (λ leaf. test leaf.guid leaf.dev leaf.top) (steps vs s).core.leaves ≡ list_any (λ leaf. test leaf.guid leaf.dev leaf.top) s.core.leaves
+  steps_any test [] s just = refl
+  steps_any test (v ∷ vs) s just = steps_any test vs (state_step v s) just.1 ∙ step_any test v s just.0
 
+  -- Tops keep their numbers, and the number that was drawn never falls.
   step_tops : (v : Move) (s : PoolState) → IsJust v → ((state_step v s).own.top_number ≡ s.own.top_number) × (s.core.number ≤ (state_step v s).core.number)
   step_tops (Makes noted) s just = (refl, same_up s.core.number)
   step_tops (Wrote_key k) s just = (refl, same_up s.core.number)

@@ -1,101 +1,141 @@
--- What counts tell of lines that are suspended, or told a device that failed.
-use Rattle.mp_base.specs.Outside.{Rose}
-use Rattle.std.proofs.Common.{◌≡◌, ◌⊎◌, inl, inr, ⊎_elim, ℕ, ◌==◌, ◌||◌, Bool, true, false, List, [], ◌∷◌, ◌++◌, Option, Some, None, refl, sym, ap, ◌∙◌, subst, append-nil, arith, ◌+◌, nat_lt}
+-- A turn or a sync is suspended only where the count of some leaf's device rose, or where a top had nobody left on its board before.
+use Rattle.std.proofs.Common.{◌≡◌, ◌⊎◌, inl, inr, ℕ, ◌==◌, ◌&&◌, ◌||◌, nat_le, Bool, true, false, cond, List, [], ◌∷◌, ◌++◌, map, Option, Some, None, refl, sym, ap, ◌∙◌, subst, arith}
 use Rattle.std.specs.List.{AllByRecursion, list_any}
+use Rattle.std.proofs.lemmas.Bool.{and_parts}
 use Rattle.std.proofs.lemmas.Bool.Decides.{nat_tests}
-use Rattle.bank_core.specs.declared.bank.Fault.{Fault}
-use Rattle.bank_core.specs.Asks.{IsPart}
+use Rattle.mp_base.specs.Outside.{Rose}
+use Rattle.mp_base.specs.declared.number.Guid.{Guid}
 use Rattle.bank_core.specs.Calls.{AllCaused}
-use Rattle.bank_core.specs.Disk.{Noted}
-use Rattle.label_store.specs.Plans.{stamp_plan}
 use Rattle.txg_history.specs.Pages.{Codec}
-use Rattle.txg_history.proofs.Logging.{same_device}
+use Rattle.txg_history.proofs.Logging.{by_bool, same_device, true_not_false}
+use Rattle.pool_moves.specs.Boards.{is_on, is_on_under, has_on, emptied_of, emptied}
 use Rattle.pool_moves.specs.FreezeRow.{is_dev}
-use Rattle.pool_moves.specs.Leaves.{LeafSeen}
-use Rattle.pool_moves.specs.LineRows.{TurnReply, SyncReply, RowTurn, RowSync}
-use Rattle.pool_moves.specs.Moves.{Move, Lose}
+use Rattle.pool_moves.specs.Leaves.{OwnLeaf, LeafSeen}
+use Rattle.pool_moves.specs.LineRows.{TurnReply, Idle, Write, Flush, Round, Committed, Suspended, RowTurn, SyncReply, Ended, Refused, NoMemory, EndsGroup, SyncOpen, SyncBehind, EndsFirst, SyncBy, RowSync}
+use Rattle.pool_moves.specs.Moves.{Move, steps}
 use Rattle.pool_moves.specs.ReadRow.{made_in}
+use Rattle.pool_moves.specs.Refusing.{is_writable, is_writable_under}
 use Rattle.pool_moves.specs.States.{PoolState}
-use Rattle.pool_runs.specs.Acts.{Closes, does, calls_along}
-use Rattle.pool_moves.specs.AwayRows.{leaf_named}
-use Rattle.pool_moves.specs.TreeRows.{Graft, TreeRefusal, graft_refusal, new_number, GraftReply, DeviceFault, GraftEnds, GraftOn, GraftAt, GraftFor, RowGraft}
-use Rattle.pool_moves.specs.Walking.{as_moves}
-use Rattle.pool_runs.specs.Counting.{has_leaf_at, RoseAt, HasLostBoard, IsSuspended, SuspendsSync}
-use Rattle.pool_runs.specs.Devices.{size_in}
-use Rattle.pool_runs.specs.Hosts.{Host}
-use Rattle.pool_runs.proofs.Answering.{does_calls}
-use Rattle.pool_runs.proofs.Counting.{NoFault, fault_or, OwnDev, AreOwnLeaves, turn_suspends, sync_suspends, stamp_fine, line_answered}
-use Rattle.pool_runs.proofs.Midway.{calls_more}
+use Rattle.pool_runs.specs.Counting.{has_leaf_at, RoseAt, HasLostBoard, IsSuspended, SuspendsSync, is_under, IsLostBy, LosesTop, LosesBoard, LosesFreeze}
+use Rattle.pool_runs.proofs.Failing.{FailedOn, failed_rose, IsCaught, caught_first, caught_second}
+use Rattle.pool_runs.proofs.Losing.{Anything, any_may, turn_loses, group_loses}
+use Rattle.pool_runs.proofs.OnlyFailedLeave.{Comes, group_comes, steps_any}
+use Rattle.pool_runs.proofs.SyncsLoseATop.{ended_same, open_loses}
 
-same_dev : (d : ℕ) → (d == d) ≡ true
-same_dev d = grind (arith, nat_tests)
+dev_here : (d : ℕ) → (d == d) ≡ true
+dev_here d = grind (arith, nat_tests)
+
+or_left : (a b : Bool) → a ≡ true → (a || b) ≡ true
+or_left true b is = refl
+or_left false b is = absurd (cc)
 
 or_right : (a b : Bool) → b ≡ true → (a || b) ≡ true
 or_right true b is = refl
 or_right false b is = is
 
-pub closed_calls : (g : ℕ) (vs : List Move) → calls_along (does g vs ++ (Closes g ∷ [])) ≡ made_in vs
-closed_calls g vs = calls_more (does g vs) (Closes g ∷ []) ∙ (append-nil (calls_along (does g vs)) ∙ does_calls g vs)
-
--- Turns and syncs: the leaves of a state are on devices where it has a leaf.
+-- Where one of a lost top's leaves is so, its device failed.
 abbrev at_leaves : (leaves : List LeafSeen) → ℕ → Bool
 at_leaves leaves d = list_any (λ leaf. is_dev d leaf.dev) leaves
 
-own_leaf : (first : LeafSeen) (leaves : List LeafSeen) (dev : Option ℕ) → OwnDev (at_leaves leaves) dev → OwnDev (at_leaves (first ∷ leaves)) dev
-own_leaf first leaves None mine = tt
-own_leaf first leaves (Some d) mine = or_right (is_dev d first.dev) (at_leaves leaves d) mine
+abbrev FailsAt : (Fails : ℕ → Type 0) → (leaves : List LeafSeen) → Type 0
+FailsAt Fails leaves = (d : ℕ) × (at_leaves leaves d ≡ true) × Fails d
 
-own_here : (leaf : LeafSeen) (leaves : List LeafSeen) (dev : Option ℕ) → leaf.dev ≡ dev → OwnDev (at_leaves (leaf ∷ leaves)) dev
-own_here leaf leaves None is = tt
-own_here leaf leaves (Some d) is = ap (λ x. is_dev d x || at_leaves leaves d) is ∙ ap (λ t. t || at_leaves leaves d) (same_dev d)
+dev_of : (dev : Option ℕ) (d : ℕ) → dev ≡ Some d → is_dev d dev ≡ true
+dev_of dev d is = ap (is_dev d) is ∙ dev_here d
 
-own_up : (first : LeafSeen) (leaves rest : List LeafSeen) → AreOwnLeaves (at_leaves leaves) rest → AreOwnLeaves (at_leaves (first ∷ leaves)) rest
-own_up first leaves [] all = tt
-own_up first leaves (leaf ∷ rest) all = (own_leaf first leaves leaf.dev all.0, own_up first leaves rest all.1)
+some_fails : (which : LeafSeen → Bool) (Fails : ℕ → Type 0) (top : ℕ) (leaves : List LeafSeen) → list_any (λ leaf. which leaf && (leaf.top == top)) leaves ≡ true
+    → AllByRecursion (IsLostBy which Fails top) leaves → FailsAt Fails leaves
+some_fails which Fails top [] some lost = absurd (cc)
+some_fails which Fails top (leaf ∷ leaves) some lost = by_bool (which leaf && (leaf.top == top))
+    (λ here. let parts = and_parts (which leaf) (leaf.top == top) here in let one = lost.0 (same_device leaf.top top parts.1) parts.0 in
+    (one.0, or_left (is_dev one.0 leaf.dev) (at_leaves leaves one.0) (dev_of leaf.dev one.0 one.1), one.2))
+    (λ away. let more = some_fails which Fails top leaves (sym (ap (λ t. t || list_any (λ leaf. which leaf && (leaf.top == top)) leaves) away) ∙ some) lost.1 in
+    (more.0, or_right (is_dev more.0 leaf.dev) (at_leaves leaves more.0) more.1, more.2))
 
-own_all : (leaves : List LeafSeen) → AreOwnLeaves (at_leaves leaves) leaves
-own_all [] = tt
-own_all (leaf ∷ leaves) = (own_here leaf leaves leaf.dev refl, own_up leaf leaves leaves (own_all leaves))
+-- A top that has leaves and nobody on the board.
+some_empty : (top : ℕ) (all leaves : List LeafSeen) → list_any (is_under top) leaves ≡ true → has_on top all ≡ false → (at : ℕ) × (emptied_of all leaves ≡ Some at)
+some_empty top all [] some none = absurd (cc)
+some_empty top all (leaf ∷ leaves) some none = by_bool (has_on leaf.top all)
+    (λ on. by_bool (is_under top leaf)
+    (λ here. true_not_false (has_on leaf.top all) on (subst (λ n. has_on n all ≡ false) (sym (same_device leaf.top top here)) none))
+    (λ away. let more = some_empty top all leaves (sym (ap (λ t. t || list_any (is_under top) leaves) away) ∙ some) none in
+    (more.0, ap (λ t. cond t (emptied_of all leaves) (Some leaf.top)) on ∙ more.1)))
+    (λ off. (leaf.top, ap (λ t. cond t (emptied_of all leaves) (Some leaf.top)) off))
 
-pub turn_counts : (c : Codec) (h : Host) (s : PoolState) (vs : List Move) (reply : TurnReply) (from to : ℕ → ℕ) → RowTurn c (size_in h.table) s vs reply → AllCaused (made_in vs) from to → IsSuspended reply
-    → RoseAt (λ d. has_leaf_at d s) from to ⊎ HasLostBoard s
-turn_counts c h s vs reply from to row caused bad = ⊎_elim
-    (λ none. inr (turn_suspends (at_leaves s.core.leaves) c (size_in h.table) s vs reply (own_all s.core.leaves) (line_answered (at_leaves s.core.leaves) vs (made_in vs) refl none) row bad))
-    (λ rose. inl rose) (fault_or (at_leaves s.core.leaves) (made_in vs) from to caused)
+board_fails : (Fails : ℕ → Type 0) (s : PoolState) (group : ℕ) (top : Guid) → LosesBoard s Fails group top → FailsAt Fails s.core.leaves ⊎ HasLostBoard s
+board_fails Fails s group top x = by_bool (has_on x.lost.at s.core.leaves)
+    (λ some. inl (some_fails is_on Fails x.lost.at s.core.leaves some x.lost.lost))
+    (λ none. let empty = some_empty x.lost.at s.core.leaves s.core.leaves x.lost.some none in inr (record { frozen = x.frozen; top = empty.0; none = empty.1 }))
 
-pub sync_counts : (c : Codec) (h : Host) (s : PoolState) (vs : List Move) (reply : SyncReply) (from to : ℕ → ℕ) → RowSync c (size_in h.table) s vs reply → AllCaused (made_in vs) from to → SuspendsSync reply
-    → RoseAt (λ d. has_leaf_at d s) from to ⊎ HasLostBoard s
-sync_counts c h s vs reply from to row caused bad = ⊎_elim
-    (λ none. inr (sync_suspends (at_leaves s.core.leaves) c (size_in h.table) s vs reply (own_all s.core.leaves) (line_answered (at_leaves s.core.leaves) vs (made_in vs) refl none) row bad))
-    (λ rose. inl rose) (fault_or (at_leaves s.core.leaves) (made_in vs) from to caused)
+freeze_fails : (Fails : ℕ → Type 0) (s : PoolState) (leaves : List LeafSeen) (group : ℕ) (top : Guid) → LosesFreeze s leaves Fails group top → FailsAt Fails leaves
+freeze_fails Fails s leaves group top x = some_fails is_writable Fails x.lost.at leaves x.one x.lost.lost
 
--- A graft whose stamp failed.
-pub graft_counts : (size : ℕ → ℕ) (graft : Graft) (s : PoolState) (name new : List ℕ) (d : ℕ) (vs : List Move) (reply : GraftReply) (from to : ℕ → ℕ)
-    → RowGraft size graft s name new d vs reply → AllCaused (made_in vs) from to → reply ≡ DeviceFault → Rose (from d) (to d)
-graft_counts size graft s name new d vs reply from to row caused says = ⊎_elim (λ none. absurd (for (graft_refusal graft s name (leaf_named name s.core.leaves)) none row))
-    (λ rose. subst (λ e. Rose (from e) (to e)) (same_device rose.0 d rose.1) rose.2) (fault_or own (made_in vs) from to caused)
-  where
-    own : ℕ → Bool
-    own e = e == d
+-- Lines.
+module _ (c : Codec) (size : ℕ → ℕ) (s : PoolState) where
+  abbrev FailsIn : List Move → Type 0
+  FailsIn vs = FailsAt (λ d. FailedOn d (made_in vs)) s.core.leaves ⊎ HasLostBoard s
 
-    made_more : (made : List Noted) → made_in (Lose d ∷ as_moves made) ≡ made
-    made_more [] = refl
-    made_more (noted ∷ made) = ap (λ more. noted ∷ more) (made_more made)
+  turn_fails : (vs : List Move) (reply : TurnReply) → RowTurn c size s vs reply → IsSuspended reply → FailsIn vs
+  turn_fails vs (Suspended group top faults) row bad = board_fails (λ d. FailedOn d (made_in vs)) s group top
+      (turn_loses (λ d. FailedOn d (made_in vs)) c size s vs group top faults (λ d failed. failed) row)
+  turn_fails vs Idle row bad = absurd bad
+  turn_fails vs Write row bad = absurd bad
+  turn_fails vs Flush row bad = absurd bad
+  turn_fails vs (Round number) row bad = absurd bad
+  turn_fails vs (Committed number) row bad = absurd bad
 
-    ends : (outcome : Option Fault) (leaf : LeafSeen) (made : List Noted) → IsPart (stamp_plan d (size d) s.core.pool (new_number graft s)) made outcome
-        → AllByRecursion (NoFault own) (made_in vs) → GraftEnds outcome graft s name leaf new d made vs reply → ⊥
-    ends (Some fault) leaf made part none row = let no : Some fault ≡ None = stamp_fine own d (size d) s.core.pool (new_number graft s) made (Some fault) (same_dev d) part
-        (subst (AllByRecursion (NoFault own)) (ap made_in row.0 ∙ made_more made) none) in cc
-    ends None leaf made part none row = let no = sym row.1 ∙ says in cc
+  -- behind a group each device is still a leaf's
+  still_at : (vs : List Move) (number d : ℕ) → EndsGroup c size s vs (Committed number) → at_leaves (steps vs s).core.leaves d ≡ true → at_leaves s.core.leaves d ≡ true
+  still_at vs number d ends is = of (group_comes (λ d. Unit {0}) Anything (Unit {0}) (λ vs s just may. any_may (steps vs s).core.leaves) c size s vs (Committed number)
+      (λ is. tt) (any_may s.core.leaves) (λ d failed. tt) ends)
+    where
+      of : Comes (λ d. Unit {0}) Anything (Unit {0}) s vs (Committed number) → at_leaves s.core.leaves d ≡ true
+      of (inl lost) = absurd (let no = lost.tells in cc)
+      of (inr just) = sym (steps_any (λ d. Unit {0}) Anything (Unit {0}) (λ m dev top. is_dev d dev) vs s just.0) ∙ is
 
-    on : (small : Bool) (leaf : LeafSeen) → AllByRecursion (NoFault own) (made_in vs) → GraftOn small size graft s name leaf new d vs reply → ⊥
-    on true leaf none row = let no = sym row.1 ∙ says in cc
-    on false leaf none row = ends row.outcome leaf row.made row.calls none row.ends
+  first_fails : (vs : List Move) (group : ℕ) (top : Guid) (faults : ℕ) → s.core.group.frozen ≡ true → EndsFirst c size s vs (Ended (Suspended group top faults)) → FailsIn vs
+  first_fails vs group top faults frozen e = by e.turn e.ends e.behind
+    where
+      parts : IsCaught (λ d. FailedOn d (made_in vs)) (e.first ++ e.rest)
+      parts = subst (IsCaught (λ d. FailedOn d (made_in vs))) e.moves (λ d failed. failed)
 
-    at : (found : Option LeafSeen) → AllByRecursion (NoFault own) (made_in vs) → GraftAt found size graft s name new d vs reply → ⊥
-    at None none row = row
-    at (Some leaf) none row = on (nat_lt (size d) (s.core.room leaf.top + 256)) leaf none row
+      by : (turn : TurnReply) → EndsGroup c size s e.first turn → SyncBehind turn c size (steps e.first s) e.rest (Ended (Suspended group top faults)) → FailsIn vs
+      by (Committed number) ends (inl row) = absurd (let no = row.1 in cc)
+      by (Committed number) ends (inr row) = let behind = steps e.first s in
+          let one = freeze_fails (λ d. FailedOn d (made_in e.rest)) behind behind.core.leaves group top (open_loses c size behind e.rest group top faults row) in
+          inl (one.0, still_at e.first number one.0 ends one.1, caught_second (λ d. FailedOn d (made_in vs)) e.first e.rest parts one.0 one.2)
+      by (Suspended g t k) ends row = board_fails (λ d. FailedOn d (made_in vs)) s group top
+          (group_loses (λ d. FailedOn d (made_in vs)) c size s e.first group top faults frozen (caught_first (λ d. FailedOn d (made_in vs)) e.first e.rest parts)
+          (subst (EndsGroup c size s e.first) (sym (ended_same (Suspended g t k) group top faults row.1)) ends))
+      by Idle ends row = absurd (let no = row.1 in cc)
+      by Write ends row = absurd (let no = row.1 in cc)
+      by Flush ends row = absurd (let no = row.1 in cc)
+      by (Round number) ends row = absurd (let no = row.1 in cc)
 
-    for : (refusal : Option TreeRefusal) → AllByRecursion (NoFault own) (made_in vs) → GraftFor refusal size graft s name new d vs reply → ⊥
-    for (Some refusal) none row = let no = sym row.1 ∙ says in cc
-    for None none row = at (leaf_named name s.core.leaves) none row
+  sync_by_fails : (frozen : Bool) (vs : List Move) (group : ℕ) (top : Guid) (faults : ℕ) → s.core.group.frozen ≡ frozen → SyncBy frozen c size s vs (Ended (Suspended group top faults))
+      → FailsIn vs
+  sync_by_fails false vs group top faults is row =
+      inl (freeze_fails (λ d. FailedOn d (made_in vs)) s s.core.leaves group top (open_loses c size s vs group top faults row))
+  sync_by_fails true vs group top faults is row = first_fails vs group top faults is row
+
+  sync_fails : (vs : List Move) (reply : SyncReply) → RowSync c size s vs reply → SuspendsSync reply → FailsIn vs
+  sync_fails vs (Ended (Suspended group top faults)) row bad = sync_by_fails s.core.group.frozen vs group top faults refl row
+  sync_fails vs (Ended Idle) row bad = absurd bad
+  sync_fails vs (Ended Write) row bad = absurd bad
+  sync_fails vs (Ended Flush) row bad = absurd bad
+  sync_fails vs (Ended (Round number)) row bad = absurd bad
+  sync_fails vs (Ended (Committed number)) row bad = absurd bad
+  sync_fails vs (Refused refusal) row bad = absurd bad
+  sync_fails vs NoMemory row bad = absurd bad
+
+  rose_in : (vs : List Move) (from to : ℕ → ℕ) → AllCaused (made_in vs) from to → FailsIn vs → RoseAt (λ d. has_leaf_at d s) from to ⊎ HasLostBoard s
+  rose_in vs from to caused (inl one) = inl (one.0, one.1, failed_rose one.0 (made_in vs) from to caused one.2)
+  rose_in vs from to caused (inr lost) = inr lost
+
+  pub turn_counts : (vs : List Move) (reply : TurnReply) (from to : ℕ → ℕ) → RowTurn c size s vs reply → AllCaused (made_in vs) from to → IsSuspended reply
+      → RoseAt (λ d. has_leaf_at d s) from to ⊎ HasLostBoard s
+  turn_counts vs reply from to row caused bad = rose_in vs from to caused (turn_fails vs reply row bad)
+
+  pub sync_counts : (vs : List Move) (reply : SyncReply) (from to : ℕ → ℕ) → RowSync c size s vs reply → AllCaused (made_in vs) from to → SuspendsSync reply
+      → RoseAt (λ d. has_leaf_at d s) from to ⊎ HasLostBoard s
+  sync_counts vs reply from to row caused bad = rose_in vs from to caused (sync_fails vs reply row bad)

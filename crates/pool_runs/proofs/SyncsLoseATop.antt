@@ -20,13 +20,12 @@ use Rattle.pool_runs.specs.Knowing.{HasSeats}
 use Rattle.pool_runs.specs.Lines.{Entry}
 use Rattle.pool_runs.proofs.Answering.{does_calls}
 use Rattle.pool_runs.proofs.Committing.{does_pool, group_commits, ends_pool}
-use Rattle.pool_runs.proofs.Counting.{none_unwritable}
 use Rattle.pool_runs.proofs.Failing.{FailedOn, IsCaught, caught_first, caught_rose}
-use Rattle.pool_runs.proofs.Losing.{map_back, group_loses, commits_lose}
+use Rattle.pool_runs.proofs.Losing.{map_back, group_loses, commits_lose, none_unwritable}
 use Rattle.pool_runs.proofs.ModesStand.{each, map_forth, Written, written_as, IsLeftWritable, group_leaves}
 use Rattle.pool_runs.proofs.Midway.{midway_at}
 
-ended_same : (turn : TurnReply) (group : ℕ) (top : Guid) (faults : ℕ) → Ended (Suspended group top faults) ≡ Ended turn → Suspended group top faults ≡ turn
+pub ended_same : (turn : TurnReply) (group : ℕ) (top : Guid) (faults : ℕ) → Ended (Suspended group top faults) ≡ Ended turn → Suspended group top faults ≡ turn
 ended_same turn group top faults e = cc
 
 up_below : (a b d : ℕ) → a ≤ b → b < d → a < d
@@ -77,10 +76,10 @@ for_loses : (refusal : Option FreezeRefusal) (c : Codec) (size : ℕ → ℕ) (s
 for_loses (Some refusal) c size s vs group top faults is row = absurd (let no = row.1 in cc)
 for_loses None c size s vs group top faults is row =
     commits_lose (λ d. FailedOn d (made_in vs)) c size s vs group top faults
-    (none_unwritable (λ d. true) (nat_le last_number s.core.number) (unwritable s.core.leaves) s is) (λ d failed. failed)
+    (none_unwritable (nat_le last_number s.core.number) (unwritable s.core.leaves) s is) (λ d failed. failed)
     (subst (CommitsOpen c size s vs) (sym (ended_same row.0 group top faults row.2)) row.1)
 
-open_loses : (c : Codec) (size : ℕ → ℕ) (s : PoolState) (vs : List Move) (group : ℕ) (top : Guid) (faults : ℕ)
+pub open_loses : (c : Codec) (size : ℕ → ℕ) (s : PoolState) (vs : List Move) (group : ℕ) (top : Guid) (faults : ℕ)
     → SyncOpen c size s vs (Ended (Suspended group top faults)) → LosesFreeze s s.core.leaves (λ d. FailedOn d (made_in vs)) group top
 open_loses c size s vs group top faults row = for_loses row.0 c size s vs group top faults row.1 row.2
 
