@@ -24,10 +24,10 @@ use Rattle.pool_runs.specs.Creating.{all_names, tops_of, leaves_of, new_birth, s
 use Rattle.pool_runs.specs.Devices.{Device, number_in, size_in}
 use Rattle.pool_runs.specs.Hosts.{Host}
 use Rattle.pool_runs.specs.Lines.{Reply, To_create}
+use Rattle.pool_runs.proofs.Lists.{same_test, each, of_both, map_forth}
 use Rattle.pool_runs.proofs.Failing.{FailedOn, failed_rose, failed_left, failed_right, IsAskOn, part_failed, Failing, IsCaught, caught_second, moves_left}
 use Rattle.pool_runs.proofs.Losing.{Anything}
 use Rattle.pool_runs.proofs.Members.{HasName, all_have}
-use Rattle.pool_runs.proofs.ModesStand.{of_both, map_forth}
 use Rattle.pool_runs.proofs.OnlyFailedLeave.{just_more, just_widens, round_failing, steps_places}
 use Rattle.pool_runs.proofs.Stamps.{stamp_calls}
 use Rattle.pool_runs.proofs.Midway.{calls_more, closed_calls}
@@ -79,16 +79,13 @@ members_all P which [] all = tt
 members_all P which (leaf ∷ leaves) all = before_all P (which leaf) leaf.dev leaf.guid (members_where which leaves) all.0 (members_all P which leaves all.1)
 
 -- Each new leaf is found by its number.
-number_here : (n : ℕ) → (n == n) ≡ true
-number_here n = grind (arith, nat_tests)
-
 number_below : (a b : ℕ) → a < b → (a == b) ≡ false
 number_below a b below = grind (arith, nat_tests)
 
 names_own : (leaves : List NewLeaf) → AreRising leaves → AllByRecursion (λ leaf. name_in (map new_leaf_seen leaves) leaf.guid ≡ leaf.name) leaves
 names_own [] rising = tt
 names_own (leaf ∷ leaves) rising = (
-  ap (λ t. cond t leaf.name (name_in (map new_leaf_seen leaves) leaf.guid)) (number_here leaf.guid.0),
+  ap (λ t. cond t leaf.name (name_in (map new_leaf_seen leaves) leaf.guid)) (same_test leaf.guid.0 leaf.guid.0 refl),
   of_both {P = λ other. leaf.guid.0 < other.guid.0} {Q = λ other. name_in (map new_leaf_seen leaves) other.guid ≡ other.name}
       (λ other below own. ap (λ t. cond t leaf.name (name_in (map new_leaf_seen leaves) other.guid)) (number_below leaf.guid.0 other.guid.0 below) ∙ own)
       leaves rising.0 (names_own leaves rising.1),

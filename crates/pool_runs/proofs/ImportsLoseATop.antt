@@ -26,25 +26,12 @@ use Rattle.pool_runs.specs.Devices.{size_in}
 use Rattle.pool_runs.specs.Hosts.{Host, free_in, named}
 use Rattle.pool_runs.specs.Importing.{read_in, all_shown, OpensBy, FollowsMap, OpensFound, ImportBy, host_behind, Imports, ImportFor, ImportUnless, RowImport}
 use Rattle.pool_runs.specs.Lines.{Reply, To_import, Unopened}
+use Rattle.pool_runs.proofs.Lists.{same_test, some_same, or_left, or_right, each}
 use Rattle.pool_runs.proofs.Failing.{IsCaught, caught_first, caught_second, caught_rose}
 use Rattle.pool_runs.proofs.Finding.{opening_bare}
 use Rattle.pool_runs.proofs.Importing.{opening_of}
 use Rattle.pool_runs.proofs.Losing.{top_frozen, group_lost}
 use Rattle.pool_runs.proofs.Midway.{closed_calls, midway_at}
-
-or_left : (a b : Bool) → a ≡ true → (a || b) ≡ true
-or_left true b is = refl
-or_left false b is = absurd (cc)
-
-or_right : (a b : Bool) → b ≡ true → (a || b) ≡ true
-or_right true b is = refl
-or_right false b is = is
-
-same_test : (a b : ℕ) → a ≡ b → (a == b) ≡ true
-same_test a b is = grind (arith, nat_tests)
-
-some_same : (a b : ℕ) → Some a ≡ Some b → a ≡ b
-some_same a b e = cc
 
 suspended_top : (a b : ℕ) (top other : Guid) (m n : ℕ) → Suspended a top m ≡ Suspended b other n → top ≡ other
 suspended_top a b top other m n e = cc

@@ -16,6 +16,7 @@ pub mod ImportsLoseATop
 pub mod Knowing
 pub mod Known
 pub mod LineMoves
+pub mod Lists
 pub mod Losing
 pub mod Members
 pub mod Midway

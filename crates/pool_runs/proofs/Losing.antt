@@ -18,8 +18,9 @@ use Rattle.pool_moves.specs.Refusing.{RefusedBy, FreezeRefusal, is_writable, is_
 use Rattle.pool_moves.specs.States.{PoolState}
 use Rattle.pool_moves.specs.Widening.{IsWidened}
 use Rattle.pool_runs.specs.Counting.{is_under, IsLostBy, LosesTop, LosesBoard, LosesFreeze}
+use Rattle.pool_runs.proofs.Lists.{same_test, some_same, or_left, or_right, each, map_back, any_map}
 use Rattle.pool_runs.proofs.Failing.{IsCaught, caught_second}
-use Rattle.pool_runs.proofs.OnlyFailedLeave.{MaySet, IsJust, AreJust, just_widens, IsLostBehind, lost_more, Comes, turn_comes, KeepsMay, group_comes, step_leaves, any_map, steps_any, steps_tops}
+use Rattle.pool_runs.proofs.OnlyFailedLeave.{MaySet, IsJust, AreJust, just_widens, IsLostBehind, lost_more, Comes, turn_comes, KeepsMay, group_comes, step_leaves, steps_any, steps_tops}
 
 -- What is set of leaves makes no odds here.
 abbrev pub Anything : Guid → OwnLeaf → Type 0
@@ -28,25 +29,6 @@ Anything m own = Unit {0}
 pub any_may : (leaves : List LeafSeen) → MaySet Anything leaves
 any_may [] = tt
 any_may (leaf ∷ leaves) = (tt, any_may leaves)
-
-same_test : (a b : ℕ) → a ≡ b → (a == b) ≡ true
-same_test a b is = grind (arith, nat_tests)
-
-or_left : (a b : Bool) → a ≡ true → (a || b) ≡ true
-or_left true b is = refl
-or_left false b is = absurd (cc)
-
-or_right : (a b : Bool) → b ≡ true → (a || b) ≡ true
-or_right true b is = refl
-or_right false b is = is
-
-some_same : (a b : ℕ) → Some a ≡ Some b → a ≡ b
-some_same a b e = cc
-
-pub map_back : {X : Type 0} (P : X → Type 0) (Q : LeafSeen → Type 0) (f : LeafSeen → X) → ((leaf : LeafSeen) → P (f leaf) → Q leaf) → (leaves : List LeafSeen)
-    → AllByRecursion P (map f leaves) → AllByRecursion Q leaves
-map_back P Q f back [] all = tt
-map_back P Q f back (leaf ∷ leaves) all = (back leaf all.0, map_back P Q f back leaves all.1)
 
 -- A top with nobody left on the board is some leaf's, and where each top of these has a leaf that could be written it has one.
 emptied_none : (top : ℕ) (all leaves : List LeafSeen) → emptied_of all leaves ≡ Some top → has_on top all ≡ false

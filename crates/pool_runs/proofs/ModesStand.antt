@@ -16,31 +16,8 @@ use Rattle.pool_moves.specs.Moves.{Move, Makes, Wrote_key, Flushed_all, Draw, Le
 use Rattle.pool_moves.specs.Refusing.{is_writable}
 use Rattle.pool_moves.specs.States.{PoolState}
 use Rattle.pool_runs.specs.Knowing.{HasSeats}
+use Rattle.pool_runs.proofs.Lists.{same_test, or_right, each, of_all, of_both, swap, map_forth}
 use Rattle.pool_runs.proofs.OnlyFailedLeave.{MaySet, IsJust, AreJust, Comes, KeepsMay, group_comes, step_leaves, steps_tops, steps_places}
-
--- All by all.
-pub each : {X : Type 0} {P Q : X → Type 0} → ((x : X) → P x → Q x) → (xs : List X) → AllByRecursion P xs → AllByRecursion Q xs
-each more [] all = tt
-each more (x ∷ xs) all = (more x all.0, each more xs all.1)
-
-of_all : {X : Type 0} {P : X → Type 0} → ((x : X) → P x) → (xs : List X) → AllByRecursion P xs
-of_all is [] = tt
-of_all is (x ∷ xs) = (is x, of_all is xs)
-
-pub of_both : {X : Type 0} {P Q R : X → Type 0} → ((x : X) → P x → Q x → R x) → (xs : List X) → AllByRecursion P xs → AllByRecursion Q xs → AllByRecursion R xs
-of_both more [] a b = tt
-of_both more (x ∷ xs) a b = (more x a.0 b.0, of_both more xs a.1 b.1)
-
-swap : {X Y : Type 0} (R : X → Y → Type 0) (xs : List X) (ys : List Y) → AllByRecursion (λ x. AllByRecursion (R x) ys) xs → AllByRecursion (λ y. AllByRecursion (λ x. R x y) xs) ys
-swap R xs [] all = tt
-swap R xs (y ∷ ys) all = (each (λ x is. is.0) xs all, swap R xs ys (each (λ x is. is.1) xs all))
-
-pub map_forth : {X Y : Type 0} (P : Y → Type 0) (f : X → Y) (xs : List X) → AllByRecursion (λ x. P (f x)) xs → AllByRecursion P (map f xs)
-map_forth P f [] all = tt
-map_forth P f (x ∷ xs) all = (all.0, map_forth P f xs all.1)
-
-same_test : (a b : ℕ) → a ≡ b → (a == b) ≡ true
-same_test a b is = grind (arith, nat_tests)
 
 -- Seats at one device are one seat.
 abbrev IsSameAt : (d : ℕ) → OwnLeaf → Seat → Type 0
@@ -195,10 +172,6 @@ module _ (leaves : List LeafSeen) where
 -- each leaf of a list is carried by it
 carried_up : (first : LeafSeen) (all leaves : List LeafSeen) → AllByRecursion (IsCarried all) leaves → AllByRecursion (IsCarried (first ∷ all)) leaves
 carried_up first all leaves each_one = each (λ leaf carried some. or_right (has_device all leaf.guid.0 first) (list_any (has_device all leaf.guid.0) all) (carried some)) leaves each_one
-  where
-    or_right : (a b : Bool) → b ≡ true → (a || b) ≡ true
-    or_right true b is = refl
-    or_right false b is = is
 
 carried_here : (leaf : LeafSeen) (leaves : List LeafSeen) → IsCarried (leaf ∷ leaves) leaf
 carried_here leaf leaves some = ap (λ t. (t && (leaf.guid.0 == leaf.guid.0)) || list_any (has_device leaves leaf.guid.0) leaves) some

@@ -19,6 +19,7 @@ use Rattle.pool_moves.specs.Walking.{as_moves}
 use Rattle.pool_moves.specs.Widening.{AreWidens, AreLeaves, seen_along}
 use Rattle.pool_runs.specs.Counting.{is_under, IsSuspended}
 use Rattle.pool_moves.specs.ReadRow.{made_in}
+use Rattle.pool_runs.proofs.Lists.{each, any_map}
 use Rattle.pool_runs.proofs.Failing.{FailedOn, Failing, start_failing, IsPlanOn, phase_failing, third_failing, moves_left, moves_right, as_calls, IsCaught, caught_first, caught_second}
 
 -- what may be set of a leaf by a failed call, of each of these leaves
@@ -33,10 +34,6 @@ IsAcked reply = ⊥
 pub steps_more : (vs ws : List Move) (s : PoolState) → steps (vs ++ ws) s ≡ steps ws (steps vs s)
 steps_more [] ws s = refl
 steps_more (v ∷ vs) ws s = steps_more vs ws (state_step v s)
-
-pub any_map : {X : Type 0} (test : X → Bool) (f : X → X) → ((x : X) → test (f x) ≡ test x) → (xs : List X) → list_any test (map f xs) ≡ list_any test xs
-any_map test f same [] = refl
-any_map test f same (x ∷ xs) = ap (λ t. t || list_any test (map f xs)) (same x) ∙ ap (λ rest. test x || rest) (any_map test f same xs)
 
 same_up : (n : ℕ) → n ≤ n
 same_up n = omega (arith)

@@ -17,21 +17,11 @@ use Rattle.pool_moves.specs.ReadRow.{made_in}
 use Rattle.pool_moves.specs.Refusing.{is_writable, is_writable_under}
 use Rattle.pool_moves.specs.States.{PoolState}
 use Rattle.pool_runs.specs.Counting.{has_leaf_at, RoseAt, HasLostBoard, IsSuspended, SuspendsSync, is_under, IsLostBy, LosesTop, LosesBoard, LosesFreeze}
+use Rattle.pool_runs.proofs.Lists.{same_test, or_left, or_right, each}
 use Rattle.pool_runs.proofs.Failing.{FailedOn, failed_rose, IsCaught, caught_first, caught_second}
 use Rattle.pool_runs.proofs.Losing.{Anything, any_may, turn_loses, group_loses}
 use Rattle.pool_runs.proofs.OnlyFailedLeave.{Comes, group_comes, steps_any}
 use Rattle.pool_runs.proofs.SyncsLoseATop.{ended_same, open_loses}
-
-dev_here : (d : ℕ) → (d == d) ≡ true
-dev_here d = grind (arith, nat_tests)
-
-or_left : (a b : Bool) → a ≡ true → (a || b) ≡ true
-or_left true b is = refl
-or_left false b is = absurd (cc)
-
-or_right : (a b : Bool) → b ≡ true → (a || b) ≡ true
-or_right true b is = refl
-or_right false b is = is
 
 -- Where one of a lost top's leaves is so, its device failed.
 abbrev at_leaves : (leaves : List LeafSeen) → ℕ → Bool
@@ -41,7 +31,7 @@ abbrev FailsAt : (Fails : ℕ → Type 0) → (leaves : List LeafSeen) → Type 
 FailsAt Fails leaves = (d : ℕ) × (at_leaves leaves d ≡ true) × Fails d
 
 dev_of : (dev : Option ℕ) (d : ℕ) → dev ≡ Some d → is_dev d dev ≡ true
-dev_of dev d is = ap (is_dev d) is ∙ dev_here d
+dev_of dev d is = ap (is_dev d) is ∙ same_test d d refl
 
 some_fails : (which : LeafSeen → Bool) (Fails : ℕ → Type 0) (top : ℕ) (leaves : List LeafSeen) → list_any (λ leaf. which leaf && (leaf.top == top)) leaves ≡ true
     → AllByRecursion (IsLostBy which Fails top) leaves → FailsAt Fails leaves

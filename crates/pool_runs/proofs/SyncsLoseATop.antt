@@ -18,11 +18,12 @@ use Rattle.pool_runs.specs.Acts.{Does, does, calls_along, pool_along}
 use Rattle.pool_runs.specs.Counting.{IsLostBy, LosesBoard, LosesFreeze, IsMidway, LosesSince}
 use Rattle.pool_runs.specs.Knowing.{HasSeats}
 use Rattle.pool_runs.specs.Lines.{Entry}
+use Rattle.pool_runs.proofs.Lists.{each, map_forth, map_back}
 use Rattle.pool_runs.proofs.Answering.{does_calls}
 use Rattle.pool_runs.proofs.Committing.{does_pool, group_commits, ends_pool}
 use Rattle.pool_runs.proofs.Failing.{FailedOn, IsCaught, caught_first, caught_rose}
-use Rattle.pool_runs.proofs.Losing.{map_back, group_loses, commits_lose, none_unwritable}
-use Rattle.pool_runs.proofs.ModesStand.{each, map_forth, Written, written_as, IsLeftWritable, group_leaves}
+use Rattle.pool_runs.proofs.Losing.{group_loses, commits_lose, none_unwritable}
+use Rattle.pool_runs.proofs.ModesStand.{Written, written_as, IsLeftWritable, group_leaves}
 use Rattle.pool_runs.proofs.Midway.{midway_at}
 
 pub ended_same : (turn : TurnReply) (group : ℕ) (top : Guid) (faults : ℕ) → Ended (Suspended group top faults) ≡ Ended turn → Suspended group top faults ≡ turn
