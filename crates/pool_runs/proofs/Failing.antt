@@ -12,6 +12,7 @@ use Rattle.pool_moves.specs.Moves.{Draft, Move, Makes}
 use Rattle.pool_moves.specs.ReadRow.{made_in}
 use Rattle.pool_moves.specs.TurnRows.{ended, IsThirdMoves}
 use Rattle.pool_moves.specs.Walking.{as_moves}
+use Rattle.pool_runs.specs.Counting.{HasRisen}
 
 -- Counts never fall, and stay risen.
 rose_more : (a b d : ℕ) → Rose a b → b ≤ d → Rose a d
@@ -19,22 +20,27 @@ rose_more a b d rose up = omega (arith, rose, up)
 
 caused_up : (made : List Noted) (from to : ℕ → ℕ) → AllCaused made from to → (d : ℕ) → from d ≤ to d
 caused_up [] from to caused d = omega (arith, caused d)
-caused_up (noted ∷ made) from to caused d = let one = caused.1.counts d in let rest = caused_up made caused.0 to caused.2 d in omega (arith, one, rest)
+caused_up (noted ∷ made) from to caused d = let one = caused.1.counts d in let rest =
+    caused_up made caused.0 to caused.2 d in omega (arith, one, rest)
 
 -- A call on a device failed.
 abbrev pub FailedOn : (d : ℕ) → List Noted → Type 0
 FailedOn d [] = ⊥
-FailedOn d (noted ∷ made) = ((device_of noted.call ≡ d) × (fault : Fault) × (fault_of noted.call ≡ Some fault)) ⊎ FailedOn d made
+FailedOn d (noted ∷ made) = ((device_of noted.call ≡ d) × (fault : Fault) × (fault_of noted.call ≡ Some fault))
+    ⊎ FailedOn d made
 
 rose_since : (a b d : ℕ) → a ≤ b → Rose b d → Rose a d
 rose_since a b d up rose = omega (arith, up, rose)
 
-pub failed_rose : (d : ℕ) (made : List Noted) (from to : ℕ → ℕ) → AllCaused made from to → FailedOn d made → Rose (from d) (to d)
+pub failed_rose : (d : ℕ) (made : List Noted) (from to : ℕ → ℕ) → AllCaused made from to → FailedOn d made
+    → Rose (from d) (to d)
 failed_rose d [] from to caused failed = absurd failed
 failed_rose d (noted ∷ made) from to caused (inl failed) = subst (λ e. Rose (from e) (to e)) failed.0
-    (rose_more (from (device_of noted.call)) (caused.0 (device_of noted.call)) (to (device_of noted.call)) (caused.1.cause failed.1 failed.2)
+    (rose_more (from (device_of noted.call)) (caused.0 (device_of noted.call)) (to (device_of noted.call))
+    (caused.1.cause failed.1 failed.2)
     (caused_up made caused.0 to caused.2 (device_of noted.call)))
-failed_rose d (noted ∷ made) from to caused (inr more) = rose_since (from d) (caused.0 d) (to d) (caused.1.counts d) (failed_rose d made caused.0 to caused.2 more)
+failed_rose d (noted ∷ made) from to caused (inr more) =
+    rose_since (from d) (caused.0 d) (to d) (caused.1.counts d) (failed_rose d made caused.0 to caused.2 more)
 
 pub failed_left : (d : ℕ) (xs ys : List Noted) → FailedOn d xs → FailedOn d (xs ++ ys)
 failed_left d [] ys failed = absurd failed
@@ -60,15 +66,18 @@ asked_on (FlushCall dev fault) d is = is
 asked_on (Admit dev holds) d is = is
 asked_on (Eject dev) d is = is
 
-pub part_failed : (d : ℕ) (asks : List Ask) (made : List Noted) (fault : Fault) → AllByRecursion (IsAskOn d) asks → IsPart asks made (Some fault)
+pub part_failed : (d : ℕ) (asks : List Ask) (made : List Noted) (fault : Fault) → AllByRecursion (IsAskOn d) asks
+    → IsPart asks made (Some fault)
     → FailedOn d made
 part_failed d [] [] fault on part = absurd (let no : Some fault ≡ None = part in cc)
 part_failed d [] (noted ∷ made) fault on part = absurd part
 part_failed d (ask ∷ asks) [] fault on part = absurd part
-part_failed d (ask ∷ asks) (noted ∷ made) fault on part = ⊎_elim (λ going. inr (part_failed d asks made fault on.1 going.1))
+part_failed d (ask ∷ asks) (noted ∷ made) fault on part =
+    ⊎_elim (λ going. inr (part_failed d asks made fault on.1 going.1))
     (λ stop. inl (asked_on noted.call d (subst (IsAskOn d) (sym part.0) on.0), stop.0, stop.1)) part.1
 
-turn_failed : (d : ℕ) (asks : List Ask) (made : List Noted) → AllByRecursion (IsAskOn d) asks → IsTurn asks true false made → FailedOn d made
+turn_failed : (d : ℕ) (asks : List Ask) (made : List Noted) → AllByRecursion (IsAskOn d) asks
+    → IsTurn asks true false made → FailedOn d made
 turn_failed d asks made on (None, part, is) = absurd (let no : false ≡ true = is in cc)
 turn_failed d asks made on (Some fault, part, is) = part_failed d asks made fault on part
 
@@ -86,22 +95,28 @@ start_failing Fails (m ∷ ms) = start_failing Fails ms
 abbrev pub IsPlanOn : (Member → List Ask) → Type 0
 IsPlanOn plan = (m : Member) → AllByRecursion (IsAskOn m.dev) (plan m)
 
-pub phase_failing : (Fails : ℕ → Type 0) (plan : Member → List Ask) → IsPlanOn plan → (ms : List Member) (was is : List Bool) (made : List Noted)
+pub phase_failing : (Fails : ℕ → Type 0) (plan : Member → List Ask) → IsPlanOn plan
+    → (ms : List Member) (was is : List Bool) (made : List Noted)
     → ((d : ℕ) → FailedOn d made → Fails d) → IsPhase plan ms was is made
     → Failing Fails ms was → Failing Fails ms is
 phase_failing Fails plan on [] was is made fails phase before = tt
 phase_failing Fails plan on (m ∷ ms) [] is made fails phase before = absurd phase
 phase_failing Fails plan on (m ∷ ms) (b ∷ was) [] made fails phase before = tt
 phase_failing Fails plan on (m ∷ ms) (true ∷ was) (true ∷ is) made fails (mine, rest, whole, turn, more) before =
-    phase_failing Fails plan on ms was is rest (λ d failed. fails d (subst (FailedOn d) (sym whole) (failed_right d mine rest failed))) more before
+    phase_failing Fails plan on ms was is rest
+    (λ d failed. fails d (subst (FailedOn d) (sym whole) (failed_right d mine rest failed))) more before
 phase_failing Fails plan on (m ∷ ms) (true ∷ was) (false ∷ is) made fails (mine, rest, whole, turn, more) before = (
-  fails m.dev (subst (FailedOn m.dev) (sym whole) (failed_left m.dev mine rest (turn_failed m.dev (plan m) mine (on m) turn))),
-  phase_failing Fails plan on ms was is rest (λ d failed. fails d (subst (FailedOn d) (sym whole) (failed_right d mine rest failed))) more before,
+  fails m.dev (subst (FailedOn m.dev) (sym whole)
+      (failed_left m.dev mine rest (turn_failed m.dev (plan m) mine (on m) turn))),
+  phase_failing Fails plan on ms was is rest
+      (λ d failed. fails d (subst (FailedOn d) (sym whole) (failed_right d mine rest failed))) more before,
 )
-phase_failing Fails plan on (m ∷ ms) (false ∷ was) (true ∷ is) made fails (mine, rest, whole, turn, more) before = absurd (let no : true ≡ false = turn.1 in cc)
+phase_failing Fails plan on (m ∷ ms) (false ∷ was) (true ∷ is) made fails (mine, rest, whole, turn, more) before =
+    absurd (let no : true ≡ false = turn.1 in cc)
 phase_failing Fails plan on (m ∷ ms) (false ∷ was) (false ∷ is) made fails (mine, rest, whole, turn, more) before = (
   before.0,
-  phase_failing Fails plan on ms was is rest (λ d failed. fails d (subst (FailedOn d) (sym whole) (failed_right d mine rest failed))) more before.1,
+  phase_failing Fails plan on ms was is rest
+      (λ d failed. fails d (subst (FailedOn d) (sym whole) (failed_right d mine rest failed))) more before.1,
 )
 
 -- calls among moves
@@ -136,17 +151,28 @@ pub third_failing : (Fails : ℕ → Type 0) (plan : Member → List Ask) (draft
 third_failing Fails plan draft on [] was is vs fails third before = tt
 third_failing Fails plan draft on (m ∷ ms) [] is vs fails third before = absurd third
 third_failing Fails plan draft on (m ∷ ms) (b ∷ was) [] vs fails third before = tt
-third_failing Fails plan draft on (m ∷ ms) (true ∷ was) (c ∷ is) vs fails (mine, rest, whole, turn, more) before = by c turn
-    (third_failing Fails plan draft on ms was is rest (λ d failed. fails d (subst (FailedOn d) (sym calls) (failed_right d mine (made_in rest) failed))) more before)
+third_failing Fails plan draft on (m ∷ ms) (true ∷ was) (c ∷ is) vs fails (mine, rest, whole, turn, more) before =
+    by c turn
+    (third_failing Fails plan draft on ms was is rest
+    (λ d failed. fails d (subst (FailedOn d) (sym calls) (failed_right d mine (made_in rest) failed))) more
+    before)
   where
     calls : made_in vs ≡ mine ++ made_in rest
-    calls = ap made_in whole ∙ (as_more mine (ended c draft m.dev ++ rest) ∙ ap (λ l. mine ++ l) (ended_more c draft m.dev rest))
+    calls = ap made_in whole
+        ∙ (as_more mine (ended c draft m.dev ++ rest) ∙ ap (λ l. mine ++ l) (ended_more c draft m.dev rest))
 
     by : (c : Bool) → IsTurn (plan m) true c mine → Failing Fails ms is → Failing Fails (m ∷ ms) (c ∷ is)
     by true turn more = more
-    by false turn more = (fails m.dev (subst (FailedOn m.dev) (sym calls) (failed_left m.dev mine (made_in rest) (turn_failed m.dev (plan m) mine (on m) turn))), more)
-third_failing Fails plan draft on (m ∷ ms) (false ∷ was) (true ∷ is) vs fails third before = absurd (let no : true ≡ false = third.0 in cc)
-third_failing Fails plan draft on (m ∷ ms) (false ∷ was) (false ∷ is) vs fails third before = (before.0, third_failing Fails plan draft on ms was is vs fails third.1 before.1)
+    by false turn more = (
+      fails m.dev
+          (subst (FailedOn m.dev) (sym calls)
+          (failed_left m.dev mine (made_in rest) (turn_failed m.dev (plan m) mine (on m) turn))),
+      more,
+    )
+third_failing Fails plan draft on (m ∷ ms) (false ∷ was) (true ∷ is) vs fails third before =
+    absurd (let no : true ≡ false = third.0 in cc)
+third_failing Fails plan draft on (m ∷ ms) (false ∷ was) (false ∷ is) vs fails third before =
+    (before.0, third_failing Fails plan draft on ms was is vs fails third.1 before.1)
 
 -- what is so of each device with a failed call among these moves
 abbrev pub IsCaught : (Fails : ℕ → Type 0) → List Move → Type 0
@@ -158,5 +184,7 @@ caught_first Fails vs ws caught d failed = caught d (moves_left d vs ws failed)
 pub caught_second : (Fails : ℕ → Type 0) (vs ws : List Move) → IsCaught Fails (vs ++ ws) → IsCaught Fails ws
 caught_second Fails vs ws caught d failed = caught d (moves_right d vs ws failed)
 
-pub caught_rose : (vs : List Move) (calls : List Noted) (from to : ℕ → ℕ) → calls ≡ made_in vs → AllCaused calls from to → IsCaught (λ d. Rose (from d) (to d)) vs
-caught_rose vs calls from to is caused d failed = failed_rose d (made_in vs) from to (subst (λ made. AllCaused made from to) is caused) failed
+pub caught_rose : (vs : List Move) (calls : List Noted) (from to : ℕ → ℕ) → calls ≡ made_in vs
+    → AllCaused calls from to → IsCaught (HasRisen from to) vs
+caught_rose vs calls from to is caused d failed =
+    failed_rose d (made_in vs) from to (subst (λ made. AllCaused made from to) is caused) failed

@@ -20,18 +20,23 @@ made_more : (d : ℕ) (made : List Noted) → made_in (Lose d ∷ as_moves made)
 made_more d [] = refl
 made_more d (noted ∷ made) = ap (λ more. noted ∷ more) (made_more d made)
 
-pub graft_counts : (size : ℕ → ℕ) (graft : Graft) (s : PoolState) (name new : List ℕ) (d : ℕ) (vs : List Move) (reply : GraftReply) (from to : ℕ → ℕ)
-    → RowGraft size graft s name new d vs reply → AllCaused (made_in vs) from to → reply ≡ DeviceFault → Rose (from d) (to d)
+pub graft_counts : (size : ℕ → ℕ) (graft : Graft) (s : PoolState) (name new : List ℕ) (d : ℕ) (vs : List Move)
+    (reply : GraftReply) (from to : ℕ → ℕ)
+    → RowGraft size graft s name new d vs reply → AllCaused (made_in vs) from to → reply ≡ DeviceFault
+    → Rose (from d) (to d)
 graft_counts size graft s name new d vs reply from to row caused says =
     failed_rose d (made_in vs) from to caused (for (graft_refusal graft s name (leaf_named name s.core.leaves)) row)
   where
-    ends : (outcome : Option Fault) (leaf : LeafSeen) (made : List Noted) → IsPart (stamp_plan d (size d) s.core.pool (new_number graft s)) made outcome
+    ends : (outcome : Option Fault) (leaf : LeafSeen) (made : List Noted)
+        → IsPart (stamp_plan d (size d) s.core.pool (new_number graft s)) made outcome
         → GraftEnds outcome graft s name leaf new d made vs reply → FailedOn d (made_in vs)
     ends (Some fault) leaf made part row = subst (FailedOn d) (sym (ap made_in row.0 ∙ made_more d made))
-        (part_failed d (stamp_plan d (size d) s.core.pool (new_number graft s)) made fault (stamp_on d (size d) s.core.pool (new_number graft s)) part)
+        (part_failed d (stamp_plan d (size d) s.core.pool (new_number graft s)) made fault
+        (stamp_on d (size d) s.core.pool (new_number graft s)) part)
     ends None leaf made part row = absurd (let no = sym row.1 ∙ says in cc)
 
-    on : (small : Bool) (leaf : LeafSeen) → GraftOn small size graft s name leaf new d vs reply → FailedOn d (made_in vs)
+    on : (small : Bool) (leaf : LeafSeen) → GraftOn small size graft s name leaf new d vs reply
+        → FailedOn d (made_in vs)
     on true leaf row = absurd (let no = sym row.1 ∙ says in cc)
     on false leaf row = ends row.outcome leaf row.made row.calls row.ends
 

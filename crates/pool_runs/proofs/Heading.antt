@@ -32,7 +32,7 @@ use Rattle.pool_moves.proofs.Missing.{exhausted_missed}
 use Rattle.pool_moves.proofs.ReadWalks.{read_right}
 use Rattle.pool_runs.specs.Acts.{Act, Gives_for, Marks, Hears, calls_along, pool_along}
 use Rattle.pool_runs.specs.Committing.{CommitsAll, FindsPool, CommitsGroup}
-use Rattle.pool_runs.specs.Counting.{has_leaf_at, RoseAt, HasLostBoard, Suspends, FailsOpening, IsCounted, LosesBoard, LosesFreeze, LosesSince, FailsNamed}
+use Rattle.pool_runs.specs.Counting.{has_leaf_at, HasRisen, RoseAt, HasLostBoard, Suspends, FailsOpening, IsCounted, LosesBoard, LosesFreeze, LosesSince, FailsNamed}
 use Rattle.pool_runs.specs.Devices.{number_in, size_in}
 use Rattle.pool_runs.specs.Fairness.{AreFair}
 use Rattle.pool_runs.specs.Headline.{TakesFor, IsRequiredFor, Headline}
@@ -344,7 +344,8 @@ line_required_out c h p e name device s leaf group met asked at is idle = of met
     of (inr out) = record { only = λ is. detach_not_memory (DetachRequired group) (sym is ∙ out.says); always = λ least. inr out.says }
 
 -- Counts.
-line_counts : (c : Codec) (h : Host) (p : Pool) (e : Entry) (from to : ℕ → ℕ) → Meets c h p e → AllCaused (calls_along e.acts) from to → IsCounted c p h e from to
+line_counts : (c : Codec) (h : Host) (p : Pool) (e : Entry) (from to : ℕ → ℕ) → Meets c h p e
+    → AllCaused (calls_along e.acts) from to → IsCounted c p h e from to
 line_counts c h p e from to met caused = record {
   turns = λ name s asked found bad. turns name s asked found bad met.row asked;
   tops = λ name s group top faults asked found says. tops name s group top faults asked found says met.row;
@@ -366,31 +367,41 @@ line_counts c h p e from to met caused = record {
     turns name s asks found bad (inr out) asked = absurd (subst Suspends out.says bad)
 
     tops : (name : List ℕ) (s : PoolState) (group : ℕ) (top : Guid) (faults : ℕ) → e.asked ≡ Asks_turn name → named name h.pools ≡ Some s
-        → e.reply ≡ To_turn (Suspended group top faults) → HostRow c h e → LosesBoard s (λ d. Rose (from d) (to d)) group top
+        → e.reply ≡ To_turn (Suspended group top faults) → HostRow c h e
+        → LosesBoard s (HasRisen from to) group top
     tops name s group top faults asked found says (inl row) =
         let line = on_open h name s (TurnLine c h) e.acts e.reply found (subst (λ x. RowOf c h x e.acts e.reply) asked row.0) in
-        turn_loses (λ d. Rose (from d) (to d)) c (size_in h.table) s line.2.moves group top faults
-        (caught_rose line.2.moves (calls_along e.acts) from to (ap calls_along line.2.are ∙ does_calls s.core.pool.0 line.2.moves) caused)
+        turn_loses (HasRisen from to) c (size_in h.table) s line.2.moves group top faults
+        (caught_rose line.2.moves (calls_along e.acts) from to
+        (ap calls_along line.2.are ∙ does_calls s.core.pool.0 line.2.moves) caused)
         (subst (RowTurn c (size_in h.table) s line.2.moves) (turn_reply line.0 (Suspended group top faults) (sym line.1 ∙ says)) line.2.row)
     tops name s group top faults asked found says (inr out) = turn_not_memory (Suspended group top faults) (sym says ∙ out.says)
 
-    syncs : (name : List ℕ) (s : PoolState) (group : ℕ) (top : Guid) (faults : ℕ) → e.asked ≡ Asks_sync name → IsOpenAs p h name s
+    syncs : (name : List ℕ) (s : PoolState) (group : ℕ) (top : Guid) (faults : ℕ) → e.asked ≡ Asks_sync name
+        → IsOpenAs p h name s
         → e.reply ≡ To_sync (Ended (Suspended group top faults)) → HostRow c h e
-        → LosesBoard s (λ d. Rose (from d) (to d)) group top ⊎ LosesSince p s e from to group top
+        → LosesBoard s (HasRisen from to) group top ⊎ LosesSince p s e from to group top
     syncs name s group top faults asked at says (inl row) =
-        let line = on_open h name s (SyncLine c h) e.acts e.reply at.named (subst (λ x. RowOf c h x e.acts e.reply) asked row.0) in
-        sync_loses c (size_in h.table) s p e line.2.moves group top faults from to (met.knows.stands s (named_open name s h.pools at.named) at.ours) at.ours line.2.are caused
-        (subst (RowSync c (size_in h.table) s line.2.moves) (sync_reply line.0 (Ended (Suspended group top faults)) (sym line.1 ∙ says)) line.2.row)
-    syncs name s group top faults asked at says (inr out) = sync_not_memory (Ended (Suspended group top faults)) (sym says ∙ out.says)
+        let line = on_open h name s (SyncLine c h) e.acts e.reply at.named
+        (subst (λ x. RowOf c h x e.acts e.reply) asked row.0) in
+        sync_loses c (size_in h.table) s p e line.2.moves group top faults from to
+        (met.knows.stands s (named_open name s h.pools at.named) at.ours) at.ours line.2.are caused
+        (subst (RowSync c (size_in h.table) s line.2.moves)
+        (sync_reply line.0 (Ended (Suspended group top faults)) (sym line.1 ∙ says)) line.2.row)
+    syncs name s group top faults asked at says (inr out) =
+        sync_not_memory (Ended (Suspended group top faults)) (sym says ∙ out.says)
 
     detaches : (name leaf : List ℕ) (s : PoolState) (group : ℕ) (top : Guid) (faults : ℕ) → e.asked ≡ Asks_detach name leaf → named name h.pools ≡ Some s
         → e.reply ≡ To_detach (Undone group top faults) → HostRow c h e
-        → LosesFreeze s (remove s.core.leaves (place_named leaf s.core.leaves)) (λ d. Rose (from d) (to d)) group top
+        → LosesFreeze s (remove s.core.leaves (place_named leaf s.core.leaves)) (HasRisen from to) group top
     detaches name leaf s group top faults asked found says (inl row) =
-        let line = on_open h name s (DetachLine c h leaf) e.acts e.reply found (subst (λ x. RowOf c h x e.acts e.reply) asked row.0) in
-        detach_loses (λ d. Rose (from d) (to d)) c (size_in h.table) s leaf line.2.seat group top faults line.2.moves
-        (caught_rose line.2.moves (calls_along e.acts) from to (ap calls_along line.2.are ∙ does_calls s.core.pool.0 line.2.moves) caused)
-        (subst (RowDetach c (size_in h.table) s leaf line.2.seat line.2.moves) (detach_reply line.0 (Undone group top faults) (sym line.1 ∙ says)) line.2.row)
+        let line = on_open h name s (DetachLine c h leaf) e.acts e.reply found
+        (subst (λ x. RowOf c h x e.acts e.reply) asked row.0) in
+        detach_loses (HasRisen from to) c (size_in h.table) s leaf line.2.seat group top faults line.2.moves
+        (caught_rose line.2.moves (calls_along e.acts) from to
+        (ap calls_along line.2.are ∙ does_calls s.core.pool.0 line.2.moves) caused)
+        (subst (RowDetach c (size_in h.table) s leaf line.2.seat line.2.moves)
+        (detach_reply line.0 (Undone group top faults) (sym line.1 ∙ says)) line.2.row)
     detaches name leaf s group top faults asked found says (inr out) = detach_not_memory (Undone group top faults) (sym says ∙ out.says)
 
     grafts : (graft : Graft) (name leaf new : List ℕ) → e.asked ≡ Asks_graft graft name leaf new → e.reply ≡ To_graft DeviceFault → HostRow c h e
@@ -425,13 +436,18 @@ line_counts c h p e from to met caused = record {
         on None row = absurd (let no = sym row.1 ∙ says in cc)
         on (Some s) row = refused s (graft_refusal graft s leaf (leaf_named leaf s.core.leaves)) row
 
-    imports : (name : List ℕ) (group : ℕ) (top : Guid) (faults : ℕ) → e.asked ≡ Asks_import name → e.reply ≡ To_import (Unopened group top faults) → HostRow c h e → FailsOpening c e.acts from to top
-    imports name group top faults asked says (inl row) = import_loses c h name e.acts e.reply group top faults from to (subst (λ x. RowOf c h x e.acts e.reply) asked row.0) caused says
+    imports : (name : List ℕ) (group : ℕ) (top : Guid) (faults : ℕ) → e.asked ≡ Asks_import name
+        → e.reply ≡ To_import (Unopened group top faults) → HostRow c h e → FailsOpening c e.acts from to top
+    imports name group top faults asked says (inl row) =
+        import_loses c h name e.acts e.reply group top faults from to
+        (subst (λ x. RowOf c h x e.acts e.reply) asked row.0) caused says
     imports name group top faults asked says (inr out) = import_not_memory (Unopened group top faults) (sym says ∙ out.says)
 
     creates : (name : List ℕ) (blocks : ℕ) (tops : List (List (List ℕ))) (device : List ℕ) → e.asked ≡ Asks_create name blocks tops → e.reply ≡ To_create (FaultOn device) → HostRow c h e
         → FailsNamed h tops device from to
-    creates name blocks tops device asked says (inl row) = create_names c h name blocks tops e.acts e.reply device from to (subst (λ x. RowOf c h x e.acts e.reply) asked row.0) caused says
+    creates name blocks tops device asked says (inl row) =
+        create_names c h name blocks tops e.acts e.reply device from to
+        (subst (λ x. RowOf c h x e.acts e.reply) asked row.0) caused says
     creates name blocks tops device asked says (inr out) = absurd (let no = sym says ∙ out.says in cc)
 
 pub headline_from : (c : Codec) (past : Past) (h : Host) (acts : List Act) (entries : List Entry) → Follows c past h acts entries → Headline c past h acts entries
