@@ -146,7 +146,7 @@ pub record IsAckedAs (p : Pool) (n : ℕ) : Type 0 where
   pub number : number_of p.acked ≡ n
   pub idle : p.group.frozen ≡ false
 
-ends_pool : (vs : List Move) (n : ℕ) (t : Side) → (e : EndsIn vs n) → (after_moves vs t).pool ≡ (after_move (Commits e.draft) (after_moves e.body t)).pool
+pub ends_pool : (vs : List Move) (n : ℕ) (t : Side) → (e : EndsIn vs n) → (after_moves vs t).pool ≡ (after_move (Commits e.draft) (after_moves e.body t)).pool
 ends_pool vs n t e = ap (λ l. (after_moves l t).pool) e.moves
     ∙ (ap (λ x. x.pool) (moves_more e.body (Commits e.draft ∷ e.sets) t) ∙ sets_pool e.sets (after_move (Commits e.draft) (after_moves e.body t)) e.all_set)
 

@@ -45,8 +45,8 @@ use Rattle.pool_runs.proofs.Moments.{host_more, bare_host}
 use Rattle.std.proofs.lemmas.Slice.Eq.{bytes_eq-Decides}
 use Rattle.pool_runs.proofs.GroupMoves.{more, all_group, all_uncounts, all_reopen}
 use Rattle.pool_moves.proofs.CommitWalks.{uncounts_set}
-use Rattle.pool_runs.proofs.Importing.{looks_along, opening_of, OpeningFacts, opening_calls, opening_facts, opening_fair, look_facts, taken_live}
-use Rattle.pool_runs.proofs.OpeningActs.{bare_calls, bare_more, bare_fair, shown_more, map_more, map_split}
+use Rattle.pool_runs.proofs.Importing.{looks_along, opening_of, opening_front, OpeningFacts, opening_calls, opening_facts, opening_fair, look_facts, taken_live}
+use Rattle.pool_runs.proofs.OpeningActs.{bare_calls, bare_more, bare_fair, shown_more, map_more}
 
 -- The commit of an opening.
 resilver_written : (s : PoolSeen) (vs : List Move) → Resilvers s vs → AllByRecursion KeepsWritten vs × AllByRecursion KeepsWrites vs
@@ -193,21 +193,8 @@ opens_live c h p before name found acts reply n knows live titled made fair open
     behind = opens_behind c h p name found acts reply opens number
 
     -- the acts before it enters
-    shown : List Act
-    shown = all_shown g (read_in opens.row.ids) opens.row.devs
-
-    pages : List Act
-    pages = Marks g (Seeks_by opens.row.ids opens.row.devs) ∷ map_acts g opens.row.bytes opens.row.turns opens.row.last []
-
-    early : List Act
-    early = Reads_as opening ∷ (bare opens.row.ids ++ (shown ++ pages))
-
-    acts_are : acts ≡ early ++ opens.rest
-    acts_are = opens.are ∙ ap (λ l. Reads_as opening ∷ l)
-        (ap (λ l. bare opens.row.ids ++ (shown ++ (Marks g (Seeks_by opens.row.ids opens.row.devs) ∷ l)))
-        (map_split g opens.row.bytes opens.row.turns opens.row.last opens.rest)
-        ∙ (ap (λ l. bare opens.row.ids ++ l) (sym (append_assoc shown pages opens.rest))
-        ∙ sym (append_assoc (bare opens.row.ids) (shown ++ pages) opens.rest)))
+    early : (front : List Act) × (acts ≡ front ++ opens.rest)
+    early = opening_front c h name found acts reply opens
 
     q_written : q.written ≡ block_at r
     q_written = ap (λ x. x.written) (calls_after opens.made (after (Opens r) p))
@@ -244,7 +231,7 @@ opens_live c h p before name found acts reply n knows live titled made fair open
           };
           state = steps vs s;
           at = record {
-            named = enters_named name g early acts s vs h (acts_are ∙ ap (λ l. early ++ l) rest) mine called;
+            named = enters_named name g early.0 acts s vs h (early.1 ∙ ap (λ l. early.0 ++ l) rest) mine called;
             ours = ap (λ core. core.pool.0) kept.core ∙ sym (ap (λ x. x.pool.0) pool_is);
           };
         }

@@ -1,7 +1,7 @@
 -- The headline, from what a host knows of a pool and from the rows of a run.
 use Rattle.bank_core.specs.Disk.{run}
 use Rattle.txg_history.specs.Records.{Rec, IsIn, key}
-use Rattle.std.proofs.Common.{◌≡◌, ◌⊎◌, inl, inr, ℕ, ◌<◌, ◌≤◌, Bool, true, false, List, [], ◌∷◌, ◌++◌, take, map, Some, refl, sym, ap, ◌∙◌, subst, arith, Option, None}
+use Rattle.std.proofs.Common.{◌≡◌, ◌⊎◌, inl, inr, ℕ, ◌<◌, ◌≤◌, Bool, true, false, List, [], ◌∷◌, ◌++◌, take, map, remove, Some, refl, sym, ap, ◌∙◌, subst, arith, Option, None}
 use Rattle.mp_base.specs.Outside.{Rose}
 use Rattle.mp_base.specs.declared.number.Guid.{Guid}
 use Rattle.bank_core.specs.Calls.{AllCaused}
@@ -21,10 +21,10 @@ use Rattle.pool_moves.specs.Missing.{AllMissed}
 use Rattle.pool_moves.specs.Moves.{Move, steps, after_moves}
 use Rattle.pool_moves.specs.ReadRow.{ReadReply, Gives, Exhausted, NoAddress, RowRead, made_in}
 use Rattle.pool_moves.specs.Showing.{LeafShown}
-use Rattle.pool_moves.specs.StampRow.{leaf_at, is_leaf_at, FaultOn}
+use Rattle.pool_moves.specs.StampRow.{FaultOn}
 use Rattle.pool_moves.specs.States.{PoolState, Side}
 use Rattle.pool_moves.specs.Refusing.{FreezeRefusal}
-use Rattle.pool_moves.specs.TreeRows.{Graft, TreeRefusal, graft_refusal, GraftReply, DeviceFault, DetachReply, Detached, Undone, Required as DetachRequired, DetachBehind, DetachFor, DetachLeaf, DetachBy, RowDetach}
+use Rattle.pool_moves.specs.TreeRows.{Graft, place_named, TreeRefusal, graft_refusal, GraftReply, DeviceFault, DetachReply, Detached, Undone, Required as DetachRequired, DetachBehind, DetachFor, DetachLeaf, DetachBy, RowDetach}
 use Rattle.pool_moves.proofs.DetachWalks.{detach_walks}
 use Rattle.pool_moves.proofs.Keeping.{walk_keeps}
 use Rattle.pool_moves.proofs.LineWalks.{turn_walks, sync_walks}
@@ -32,8 +32,7 @@ use Rattle.pool_moves.proofs.Missing.{exhausted_missed}
 use Rattle.pool_moves.proofs.ReadWalks.{read_right}
 use Rattle.pool_runs.specs.Acts.{Act, Gives_for, Marks, Hears, calls_along, pool_along}
 use Rattle.pool_runs.specs.Committing.{FreezesNone, CommitsAll, FindsPool, CommitsGroup}
-use Rattle.pool_runs.specs.Counting.{has_leaf_at, RoseAt, HasLostBoard, Suspends, FailsOpening, IsCounted, LosesTop}
-use Rattle.pool_runs.specs.Creating.{leaves_of}
+use Rattle.pool_runs.specs.Counting.{has_leaf_at, HasRisen, RoseAt, HasLostBoard, Suspends, FailsOpening, IsCounted, LosesBoard, LosesFreeze, LosesSince, FailsNamed}
 use Rattle.pool_runs.specs.Devices.{number_in, size_in}
 use Rattle.pool_runs.specs.Fairness.{AreFair}
 use Rattle.pool_runs.specs.Headline.{TakesFor, IsRequiredFor, Headline}
@@ -48,11 +47,17 @@ use Rattle.pool_runs.specs.Pasts.{Past, pool_of, Left, BeginsRun, HasFrozen}
 use Rattle.pool_runs.proofs.Acting.{history_pool}
 use Rattle.pool_runs.proofs.Answering.{all_answer, does_calls, marked_calls}
 use Rattle.pool_runs.proofs.Committing.{sync_all, first_all, does_pool, turn_all, detach_all}
-use Rattle.pool_runs.proofs.Suspending.{turn_counts, sync_counts, import_counts, create_counts, detach_counts, graft_counts}
+use Rattle.pool_runs.proofs.Suspending.{turn_counts, sync_counts}
+use Rattle.pool_runs.proofs.GraftsNameTheFailed.{graft_counts}
 use Rattle.pool_runs.proofs.Finding.{import_finds}
 use Rattle.pool_runs.proofs.LostReads.{exhausted_unwritten, outside_only}
 use Rattle.pool_runs.proofs.Knowing.{may_more, acts_keep}
+use Rattle.pool_runs.proofs.DetachesLoseATop.{detach_loses}
+use Rattle.pool_runs.proofs.Failing.{caught_rose}
+use Rattle.pool_runs.proofs.CreatesNameTheFailed.{create_names}
+use Rattle.pool_runs.proofs.ImportsLoseATop.{import_loses}
 use Rattle.pool_runs.proofs.Losing.{turn_loses}
+use Rattle.pool_runs.proofs.SyncsLoseATop.{sync_loses}
 use Rattle.pool_runs.proofs.Grafting.{graft_calls, entry_keeps}
 use Rattle.pool_runs.proofs.Moments.{has_moments, acts_mays, keeps_all, may_take, acts_table, host_more, run_at, run_front}
 use Rattle.pool_runs.proofs.Pasting.{begins_known, then_pool, then_called, then_allowed, live_frozen}
@@ -372,10 +377,12 @@ line_required_out c h p e name device s leaf group met asked at is idle = of met
     of (inr out) = record { only = λ is. detach_not_memory (DetachRequired group) (sym is ∙ out.says); always = λ least. inr out.says }
 
 -- Counts.
-line_counts : (c : Codec) (h : Host) (p : Pool) (e : Entry) (from to : ℕ → ℕ) → Meets c h p e → AllCaused (calls_along e.acts) from to → IsCounted c h e from to
+line_counts : (c : Codec) (h : Host) (p : Pool) (e : Entry) (from to : ℕ → ℕ) → Meets c h p e
+    → AllCaused (calls_along e.acts) from to → IsCounted c p h e from to
 line_counts c h p e from to met caused = record {
   turns = λ name s asked found bad. turns name s asked found bad met.row asked;
   tops = λ name s group top faults asked found says. tops name s group top faults asked found says met.row;
+  syncs = λ name s group top faults asked at says. syncs name s group top faults asked at says met.row;
   detaches = λ name leaf s group top faults asked found says. detaches name leaf s group top faults asked found says met.row;
   grafts = λ graft name leaf new asked says. grafts graft name leaf new asked says met.row;
   imports = λ name group top faults asked says. imports name group top faults asked says met.row;
@@ -385,26 +392,49 @@ line_counts c h p e from to met caused = record {
     turns : (name : List ℕ) (s : PoolState) → (e.asked ≡ Asks_turn name) ⊎ (e.asked ≡ Asks_sync name) → named name h.pools ≡ Some s → Suspends e.reply → HostRow c h e
         → (e.asked ≡ Asks_turn name) ⊎ (e.asked ≡ Asks_sync name) → RoseAt (λ d. has_leaf_at d s) from to ⊎ HasLostBoard s
     turns name s asks found bad (inl row) (inl asked) = let line = on_open h name s (TurnLine c h) e.acts e.reply found (subst (λ x. RowOf c h x e.acts e.reply) asked row.0) in
-        turn_counts c h s line.2.moves line.0 from to line.2.row
+        turn_counts c (size_in h.table) s line.2.moves line.0 from to line.2.row
         (subst (λ calls. AllCaused calls from to) (ap calls_along line.2.are ∙ does_calls s.core.pool.0 line.2.moves) caused) (subst Suspends line.1 bad)
     turns name s asks found bad (inl row) (inr asked) = let line = on_open h name s (SyncLine c h) e.acts e.reply found (subst (λ x. RowOf c h x e.acts e.reply) asked row.0) in
-        sync_counts c h s line.2.moves line.0 from to line.2.row
+        sync_counts c (size_in h.table) s line.2.moves line.0 from to line.2.row
         (subst (λ calls. AllCaused calls from to) (ap calls_along line.2.are ∙ does_calls s.core.pool.0 line.2.moves) caused) (subst Suspends line.1 bad)
     turns name s asks found bad (inr out) asked = absurd (subst Suspends out.says bad)
 
     tops : (name : List ℕ) (s : PoolState) (group : ℕ) (top : Guid) (faults : ℕ) → e.asked ≡ Asks_turn name → named name h.pools ≡ Some s
-        → e.reply ≡ To_turn (Suspended group top faults) → HostRow c h e → LosesTop s (λ d. Rose (from d) (to d)) top
+        → e.reply ≡ To_turn (Suspended group top faults) → HostRow c h e
+        → LosesBoard s (HasRisen from to) group top
     tops name s group top faults asked found says (inl row) =
         let line = on_open h name s (TurnLine c h) e.acts e.reply found (subst (λ x. RowOf c h x e.acts e.reply) asked row.0) in
-        turn_loses c (size_in h.table) s line.2.moves (calls_along e.acts) group top faults from to (ap calls_along line.2.are ∙ does_calls s.core.pool.0 line.2.moves) caused
+        turn_loses (HasRisen from to) c (size_in h.table) s line.2.moves group top faults
+        (caught_rose line.2.moves (calls_along e.acts) from to
+        (ap calls_along line.2.are ∙ does_calls s.core.pool.0 line.2.moves) caused)
         (subst (RowTurn c (size_in h.table) s line.2.moves) (turn_reply line.0 (Suspended group top faults) (sym line.1 ∙ says)) line.2.row)
     tops name s group top faults asked found says (inr out) = turn_not_memory (Suspended group top faults) (sym says ∙ out.says)
 
+    syncs : (name : List ℕ) (s : PoolState) (group : ℕ) (top : Guid) (faults : ℕ) → e.asked ≡ Asks_sync name
+        → IsOpenAs p h name s
+        → e.reply ≡ To_sync (Ended (Suspended group top faults)) → HostRow c h e
+        → LosesBoard s (HasRisen from to) group top ⊎ LosesSince p s e from to group top
+    syncs name s group top faults asked at says (inl row) =
+        let line = on_open h name s (SyncLine c h) e.acts e.reply at.named
+        (subst (λ x. RowOf c h x e.acts e.reply) asked row.0) in
+        sync_loses c (size_in h.table) s p e line.2.moves group top faults from to
+        (met.knows.stands s (named_open name s h.pools at.named) at.ours) at.ours line.2.are caused
+        (subst (RowSync c (size_in h.table) s line.2.moves)
+        (sync_reply line.0 (Ended (Suspended group top faults)) (sym line.1 ∙ says)) line.2.row)
+    syncs name s group top faults asked at says (inr out) =
+        sync_not_memory (Ended (Suspended group top faults)) (sym says ∙ out.says)
+
     detaches : (name leaf : List ℕ) (s : PoolState) (group : ℕ) (top : Guid) (faults : ℕ) → e.asked ≡ Asks_detach name leaf → named name h.pools ≡ Some s
-        → e.reply ≡ To_detach (Undone group top faults) → HostRow c h e → RoseAt (λ d. has_leaf_at d s) from to
-    detaches name leaf s group top faults asked found says (inl row) = let line = on_open h name s (DetachLine c h leaf) e.acts e.reply found (subst (λ x. RowOf c h x e.acts e.reply) asked row.0) in
-        detach_counts c h s leaf line.2.seat line.2.moves line.0 from to group top faults line.2.row
-        (subst (λ calls. AllCaused calls from to) (ap calls_along line.2.are ∙ does_calls s.core.pool.0 line.2.moves) caused) (detach_reply line.0 (Undone group top faults) (sym line.1 ∙ says))
+        → e.reply ≡ To_detach (Undone group top faults) → HostRow c h e
+        → LosesFreeze s (remove s.core.leaves (place_named leaf s.core.leaves)) (HasRisen from to) group top
+    detaches name leaf s group top faults asked found says (inl row) =
+        let line = on_open h name s (DetachLine c h leaf) e.acts e.reply found
+        (subst (λ x. RowOf c h x e.acts e.reply) asked row.0) in
+        detach_loses (HasRisen from to) c (size_in h.table) s leaf line.2.seat group top faults line.2.moves
+        (caught_rose line.2.moves (calls_along e.acts) from to
+        (ap calls_along line.2.are ∙ does_calls s.core.pool.0 line.2.moves) caused)
+        (subst (RowDetach c (size_in h.table) s leaf line.2.seat line.2.moves)
+        (detach_reply line.0 (Undone group top faults) (sym line.1 ∙ says)) line.2.row)
     detaches name leaf s group top faults asked found says (inr out) = detach_not_memory (Undone group top faults) (sym says ∙ out.says)
 
     grafts : (graft : Graft) (name leaf new : List ℕ) → e.asked ≡ Asks_graft graft name leaf new → e.reply ≡ To_graft DeviceFault → HostRow c h e
@@ -439,13 +469,18 @@ line_counts c h p e from to met caused = record {
         on None row = absurd (let no = sym row.1 ∙ says in cc)
         on (Some s) row = refused s (graft_refusal graft s leaf (leaf_named leaf s.core.leaves)) row
 
-    imports : (name : List ℕ) (group : ℕ) (top : Guid) (faults : ℕ) → e.asked ≡ Asks_import name → e.reply ≡ To_import (Unopened group top faults) → HostRow c h e → FailsOpening c e.acts from to
-    imports name group top faults asked says (inl row) = import_counts c h name e.acts e.reply from to group top faults (subst (λ x. RowOf c h x e.acts e.reply) asked row.0) caused says
+    imports : (name : List ℕ) (group : ℕ) (top : Guid) (faults : ℕ) → e.asked ≡ Asks_import name
+        → e.reply ≡ To_import (Unopened group top faults) → HostRow c h e → FailsOpening c e.acts from to top
+    imports name group top faults asked says (inl row) =
+        import_loses c h name e.acts e.reply group top faults from to
+        (subst (λ x. RowOf c h x e.acts e.reply) asked row.0) caused says
     imports name group top faults asked says (inr out) = import_not_memory (Unopened group top faults) (sym says ∙ out.says)
 
     creates : (name : List ℕ) (blocks : ℕ) (tops : List (List (List ℕ))) (device : List ℕ) → e.asked ≡ Asks_create name blocks tops → e.reply ≡ To_create (FaultOn device) → HostRow c h e
-        → RoseAt (λ d. is_leaf_at (leaf_at d (leaves_of h.table tops))) from to
-    creates name blocks tops device asked says (inl row) = create_counts c h name blocks tops e.acts e.reply device from to (subst (λ x. RowOf c h x e.acts e.reply) asked row.0) caused says
+        → FailsNamed h tops device from to
+    creates name blocks tops device asked says (inl row) =
+        create_names c h name blocks tops e.acts e.reply device from to
+        (subst (λ x. RowOf c h x e.acts e.reply) asked row.0) caused says
     creates name blocks tops device asked says (inr out) = absurd (let no = sym says ∙ out.says in cc)
 
 pub headline_from : (c : Codec) (past : Past) (h : Host) (acts : List Act) (entries : List Entry) → Follows c past h acts entries → Headline c past h acts entries

@@ -52,7 +52,7 @@ use Rattle.pool_runs.specs.Lines.{Reply}
 use Rattle.pool_runs.proofs.Acting.{same_number, number_of_test, calls_number}
 use Rattle.pool_runs.proofs.Answering.{all_answer}
 use Rattle.pool_runs.proofs.Knowing.{may_more, looked_acted, call_known, pools_known, open_kept, roster_by_events, other_may, walk_may}
-use Rattle.pool_runs.proofs.OpeningActs.{own_second, own_first, bare_then, bare_own, bare_calls, bare_fair, shown_calls, shown_then, shown_pools, shown_table, shown_fair, turned_pools, turned_table, host_turned, map_calls_along, map_fair, map_own, map_then}
+use Rattle.pool_runs.proofs.OpeningActs.{own_second, own_first, bare_then, bare_own, bare_calls, bare_fair, shown_calls, shown_then, shown_pools, shown_table, shown_fair, turned_pools, turned_table, host_turned, map_calls_along, map_fair, map_own, map_split, map_then}
 use Rattle.pool_runs.proofs.ReadsBehind.{whole_before, claimed_member}
 
 -- Lists.
@@ -268,6 +268,28 @@ pub record OpeningFacts (c : Codec) (h : Host) (p : Pool) (name : List ℕ) (fou
   pub pages : (page : Key) (shown : List LeafShown) → opens.outcome ≡ NoPage page shown
       → IsLostPage (pool_after (as_events opens.made) (after (Opens (read_by (opening_of c h name found acts reply opens) p)) p)) (read_by (opening_of c h name found acts reply opens) p)
       page (answers_in (opened_leaves (c.leaves found.blob.items) opens.row.devs) (page_calls opens.row))
+
+-- what an opening does before its commit
+pub opening_front : (c : Codec) (h : Host) (name : List ℕ) (found : Found) (acts : List Act) (reply : Reply) → (opens : OpensFound c h name found acts reply)
+    → (front : List Act) × (acts ≡ front ++ opens.rest)
+opening_front c h name found acts reply opens = (
+  Reads_as opening ∷ (bare opens.row.ids ++ (shown ++ pages)),
+  opens.are ∙ ap (λ l. Reads_as opening ∷ l)
+      (ap (λ l. bare opens.row.ids ++ (shown ++ (mark ∷ l))) (map_split found.pool.0 opens.row.bytes opens.row.turns opens.row.last opens.rest)
+      ∙ (ap (λ l. bare opens.row.ids ++ l) (sym (append_assoc shown pages opens.rest)) ∙ sym (append_assoc (bare opens.row.ids) (shown ++ pages) opens.rest))),
+)
+  where
+    opening : Opening
+    opening = opening_of c h name found acts reply opens
+
+    shown : List Act
+    shown = all_shown found.pool.0 (read_in opens.row.ids) opens.row.devs
+
+    mark : Act
+    mark = Marks found.pool.0 (Seeks_by opens.row.ids opens.row.devs)
+
+    pages : List Act
+    pages = mark ∷ map_acts found.pool.0 opens.row.bytes opens.row.turns opens.row.last []
 
 pub opening_calls : (c : Codec) (h : Host) (name : List ℕ) (found : Found) (acts : List Act) (reply : Reply) → (opens : OpensFound c h name found acts reply) → calls_along acts ≡ opens.made ++ calls_along opens.rest
 opening_calls c h name found acts reply opens =

@@ -272,7 +272,7 @@ keep_commit Created d g vs all = keep_does d g vs all
 keep_commit (FaultOn device) d g vs all = keep_acts d (does g vs) (Closes g ∷ []) (keep_does d g vs all) (tt, tt)
 
 -- A leaf's device has one of the names.
-abbrev HasName : List Device → (names : List (List ℕ)) → NewLeaf → Type 0
+abbrev pub HasName : List Device → (names : List (List ℕ)) → NewLeaf → Type 0
 HasName table names leaf = IsAmong leaf.name names × (number_in leaf.name table ≡ Some leaf.dev)
 
 among_left : (name : List ℕ) (xs ys : List (List ℕ)) → IsAmong name xs → IsAmong name (xs ++ ys)
@@ -341,7 +341,7 @@ taken_by h e d name blocks tops answer asked on reply = record {
   wrote = on.wrote;
 }
 
-all_have : (h : Host) (name : List ℕ) (blocks : ℕ) (tops : List (List (List ℕ))) → create_refusal h name blocks tops ≡ None
+pub all_have : (h : Host) (name : List ℕ) (blocks : ℕ) (tops : List (List (List ℕ))) → create_refusal h name blocks tops ≡ None
     → AllByRecursion (HasName h.table (all_names tops)) (leaves_of h.table tops)
 all_have h name blocks tops none = all_named h.table tops 1 1 (none_refused h name blocks tops none).1.1.1.1.1.1.1.0
 

@@ -81,6 +81,6 @@ pub record Headline (c : Codec) (past : Past) (h : Host) (acts : List Act) (entr
   -- a member stays one, unless this very line wasn't refused, and makes a pool or brings in a leaf on its device, or takes its leaf out
   pub keeps : (l : LineOf c past acts entries) (d : ℕ) → (pool_before l).member d ≡ true
       → ((pool_behind l).member d ≡ true) ⊎ IsTakenBy (pool_before l) (host_before h l) l.entry d
-  -- a line is suspended or undone, or told a device that failed, only where the count of a device of its own rose in that very line, or nobody was left
-  -- before; and a turn only where each leaf of the lost top that was still on its board failed in it, as its device's count tells
-  pub counts : (l : LineOf c past acts entries) (from to : ℕ → ℕ) → AllCaused (calls_in_line l) from to → IsCounted c (host_before h l) l.entry from to
+  -- a line is suspended or undone for a top, or told a device that failed, only where the count of this device rose in that very line, or of the
+  -- device of each leaf of the top that was on its board
+  pub counts : (l : LineOf c past acts entries) (from to : ℕ → ℕ) → AllCaused (calls_in_line l) from to → IsCounted c (pool_before l) (host_before h l) l.entry from to
