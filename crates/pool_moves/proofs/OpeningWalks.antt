@@ -331,12 +331,12 @@ module _ (c : Codec) (size : ℕ → ℕ) (handed : List ℕ → Option ℕ) (na
         (tries (copies_of each.0.sum x.leaves)) turn.reads turn.wrong (Some each.0.bytes) each.0.tried),
     λ none. let may = turn_when turn p1 each.0 backs.0 has (answers_front mine (calls_of_turns turns) p1.sectors
         (answers_front (mine ++ calls_of_turns turns) o.row.last p1.sectors answers)) none in (
-      mays_second c (as_events turn.reads) (as_events turn.rewrites) p1 (subst (Mays c p1) (events_more turn.reads turn.rewrites) may),
-      subst (λ u. MayTurns c u r.cells x.found turns o.row.last) end_is
-          (turns_each turns (with_calls mine p1) each.1 backs.1 (on_behind x r p1 mine has may)
-          (answers_behind mine (calls_of_turns turns ++ o.row.last) p1.sectors
-          (subst (AllAnswer p1.sectors) (append_assoc mine (calls_of_turns turns) o.row.last) answers)) reads),
-    ),
+          mays_second c (as_events turn.reads) (as_events turn.rewrites) p1 (subst (Mays c p1) (events_more turn.reads turn.rewrites) may),
+          subst (λ u. MayTurns c u r.cells x.found turns o.row.last) end_is
+              (turns_each turns (with_calls mine p1) each.1 backs.1 (on_behind x r p1 mine has may)
+              (answers_behind mine (calls_of_turns turns ++ o.row.last) p1.sectors
+              (subst (AllAnswer p1.sectors) (append_assoc mine (calls_of_turns turns) o.row.last) answers)) reads),
+        ),
   )
     where
       mine : List Noted

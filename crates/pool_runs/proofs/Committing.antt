@@ -343,9 +343,11 @@ first_all c size s t vs reply kept walks none row = by row.turn row.ends row.beh
 
     by : (turn : TurnReply) → EndsGroup c size s row.first turn → SyncBehind turn c size (steps row.first s) row.rest reply
         → (n : ℕ) × CommitsGroup t.pool (after_moves vs t).pool n
-    by (Committed n) ends behind = let same = only row.rest (idle n row.rest behind) row.moves in
-        (n, subst (λ l. CommitsGroup t.pool (after_moves l t).pool n) (sym same)
-        (group_all c size s t row.first n kept (subst (Walks c t) same walks) ends))
+    by (Committed n) ends behind = let same = only row.rest (idle n row.rest behind) row.moves in (
+      n,
+      subst (λ l. CommitsGroup t.pool (after_moves l t).pool n) (sym same)
+          (group_all c size s t row.first n kept (subst (Walks c t) same walks) ends),
+    )
     by Idle ends behind = absurd (subst FreezesNone behind.1 none)
     by Write ends behind = absurd (subst FreezesNone behind.1 none)
     by Flush ends behind = absurd (subst FreezesNone behind.1 none)

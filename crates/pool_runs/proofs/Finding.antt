@@ -1,5 +1,5 @@
 -- An import finds its pool, and opens a live record of it.
-use Rattle.std.proofs.Common.{◌≡◌, inl, inr, ℕ, ◌+◌, ◌≤◌, ◌<◌, ◌==◌, ◌&&◌, ◌||◌, nat_le, Bool, true, false, not, cond, List, [], ◌∷◌, ◌++◌, length, Option, Some, None, refl, sym, ap, ◌∙◌, subst, arith, append_assoc, map}
+use Rattle.std.proofs.Common.{◌≡◌, inl, inr, ℕ, ◌+◌, ◌≤◌, ◌<◌, ◌==◌, ◌&&◌, ◌||◌, nat_le, Bool, true, false, not, cond, List, [], ◌∷◌, ◌++◌, length, Option, Some, None, refl, sym, ap, ◌∙◌, subst, arith, map}
 use Rattle.std.specs.List.{AllByRecursion}
 use Rattle.std.proofs.lemmas.Bool.Decides.{nat_tests}
 use Rattle.std.specs.Option.{is_none}
@@ -8,7 +8,7 @@ use Rattle.bank_core.specs.Calls.{device_of, fault_of}
 use Rattle.bank_core.specs.Disk.{Noted}
 use Rattle.label_store.specs.declared.found.Found.{Found}
 use Rattle.mp_base.specs.declared.place.Key.{Key}
-use Rattle.txg_history.specs.Events.{Known, Calls, Opens, as_events}
+use Rattle.txg_history.specs.Events.{Known, Opens, as_events}
 use Rattle.txg_history.specs.Looks.{known_by}
 use Rattle.txg_history.specs.Pages.{Codec}
 use Rattle.txg_history.specs.Pools.{Pool, after, pool_after}
@@ -28,7 +28,7 @@ use Rattle.pool_moves.specs.States.{PoolSeen, PoolState, Side}
 use Rattle.pool_moves.proofs.FreeWalks.{moves_more}
 use Rattle.pool_moves.proofs.Keeping.{walk_keeps}
 use Rattle.pool_moves.proofs.ResilverWalks.{resume_walks}
-use Rattle.pool_runs.specs.Acts.{Act, Opening, Seeks_by, Marks, Looked, Enters, does, bare, read_by, pool_along, calls_along, Does, Reads_as}
+use Rattle.pool_runs.specs.Acts.{Act, Opening, Seeks_by, Marks, Looked, Enters, does, bare, read_by, pool_along, calls_along, Does}
 use Rattle.pool_runs.specs.Committing.{OpensLive, opening_in, LosesPage, EndsNumbers, FindsPool}
 use Rattle.pool_runs.specs.Devices.{size_in, handed}
 use Rattle.pool_runs.specs.Fairness.{AreFair}

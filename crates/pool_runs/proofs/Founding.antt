@@ -1,24 +1,21 @@
 -- A create that made its pool acknowledged record 1.
-use Rattle.std.proofs.Common.{◌≡◌, ◌≢◌, ◌⊎◌, inl, inr, ℕ, ◌+◌, Bool, true, false, cond, List, [], ◌∷◌, ◌++◌, Option, Some, None, refl, sym, ap, ◌∙◌, subst, append_assoc}
-use Rattle.std.specs.List.{AllByRecursion}
+use Rattle.std.proofs.Common.{◌≡◌, ℕ, ◌+◌, Bool, true, false, cond, List, [], ◌∷◌, ◌++◌, Option, Some, None, refl, sym, ap, ◌∙◌, append_assoc}
 use Rattle.std.specs.Str.{bytes_eq}
 use Rattle.std.proofs.lemmas.Slice.Eq.{bytes_eq-Decides}
 use Rattle.bank_core.specs.Asks.{Ask}
 use Rattle.label_store.specs.declared.member.Member.{Member}
 use Rattle.label_store.specs.Rounds.{third_plan}
-use Rattle.mp_base.specs.Block.{zero_block}
 use Rattle.txg_history.specs.Pages.{Codec}
-use Rattle.txg_history.specs.Pools.{Pool}
 use Rattle.txg_history.specs.Records.{number_of, block_at}
 use Rattle.txg_history.specs.Rounds.{all_true}
 use Rattle.pool_moves.specs.Boards.{board_of}
 use Rattle.pool_moves.specs.CommitRows.{RowFound}
 use Rattle.pool_moves.specs.FreezeRow.{up_devs}
 use Rattle.pool_moves.specs.Keeping.{Kept}
-use Rattle.pool_moves.specs.Moves.{Draft, Move, Freeze, Flushed_all, Widen, Commits, step, state_step, steps, after_moves}
+use Rattle.pool_moves.specs.Moves.{Draft, Move, Freeze, Flushed_all, Widen, Commits, state_step, steps, after_moves}
 use Rattle.pool_moves.specs.StampRow.{first_failed, found_reply, CreateReply, Created, FaultOn, CommitsFirst, new_state}
-use Rattle.pool_moves.specs.States.{PoolSeen, PoolState, Side}
-use Rattle.pool_moves.specs.TurnRows.{IsThirdMoves, RowRound, round_moves}
+use Rattle.pool_moves.specs.States.{PoolState, Side}
+use Rattle.pool_moves.specs.TurnRows.{IsThirdMoves, round_moves}
 use Rattle.pool_moves.specs.Widening.{AreWidens}
 use Rattle.pool_moves.proofs.CommitWalks.{found_walks}
 use Rattle.pool_moves.proofs.Keeping.{walk_keeps}
@@ -29,7 +26,7 @@ use Rattle.pool_runs.specs.Devices.{size_in}
 use Rattle.pool_runs.specs.Hosts.{Host, named, host_by, host_along}
 use Rattle.pool_runs.specs.Lines.{Reply, To_create}
 use Rattle.pool_runs.proofs.Bearing.{bears_known, side_behind}
-use Rattle.pool_runs.proofs.Committing.{EndsIn, IsAckedAs, ends_acked, KeepsWritten, KeepsWrites, written_kind, writes_kind, written_along, frozen_writes, kept_blocks, does_pool}
+use Rattle.pool_runs.proofs.Committing.{EndsIn, ends_acked, KeepsWritten, KeepsWrites, written_kind, writes_kind, written_along, frozen_writes, kept_blocks, does_pool}
 use Rattle.pool_runs.proofs.Finding.{does_head, steps_name}
 use Rattle.pool_runs.proofs.GroupMoves.{all_found, all_round}
 

@@ -13,7 +13,6 @@ use Rattle.label_store.specs.Newest.{AreReads}
 use Rattle.label_store.specs.declared.found.Found.{Found}
 use Rattle.label_store.specs.Rounds.{config_of}
 use Rattle.txg_history.specs.Events.{Known, Calls, Looks, Opens, as_events}
-use Rattle.txg_history.specs.Groups.{at_device}
 use Rattle.txg_history.specs.Looks.{known_by}
 use Rattle.txg_history.specs.Moves.{Mays}
 use Rattle.txg_history.specs.Pages.{Codec, ClashesAt}
@@ -23,7 +22,7 @@ use Rattle.txg_history.specs.Records.{Rec, IsIn, number_of}
 use Rattle.txg_history.proofs.LookedParts.{answer_first, answer_second}
 use Rattle.txg_history.proofs.LooksFound.{known_of}
 use Rattle.txg_history.proofs.LooksShow.{looks_true}
-use Rattle.txg_history.proofs.Folding.{calls_after, events_more, pool_more, mays_first, mays_second}
+use Rattle.txg_history.proofs.Folding.{calls_after, events_more, pool_more}
 use Rattle.txg_history.proofs.Logging.{by_bool, true_not_false}
 use Rattle.txg_history.proofs.Moving.{event_survives}
 use Rattle.pool_moves.specs.CommitRows.{IsOpened}

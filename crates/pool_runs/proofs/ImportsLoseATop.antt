@@ -18,12 +18,12 @@ use Rattle.pool_moves.specs.Opened.{opened_leaves}
 use Rattle.pool_moves.specs.OpeningRow.{SeekReply, NoRecord, NumbersEnd, TakesRecord, OpenReply, Opens_state, NoPage, RowOpen, is_up_under, lacking_of, ResumesUnless, RowResume}
 use Rattle.pool_moves.specs.Refusing.{is_writable}
 use Rattle.pool_moves.specs.States.{PoolState}
-use Rattle.pool_runs.specs.Acts.{Act, Opening, Looked, Reads_as, Enters, Closes, does, bare, calls_along}
+use Rattle.pool_runs.specs.Acts.{Act, Opening, Looked, Enters, Closes, does, bare, calls_along}
 use Rattle.pool_runs.specs.Committing.{opening_in}
 use Rattle.pool_runs.specs.Counting.{HasRisen, is_under, IsLostBy, LosesTop, FailsOpening}
 use Rattle.pool_runs.specs.Devices.{size_in}
 use Rattle.pool_runs.specs.Hosts.{Host, free_in, named}
-use Rattle.pool_runs.specs.Importing.{read_in, all_shown, OpensBy, FollowsMap, OpensFound, ImportBy, host_behind, Imports, ImportFor, ImportUnless, RowImport}
+use Rattle.pool_runs.specs.Importing.{OpensBy, FollowsMap, OpensFound, ImportBy, host_behind, Imports, ImportFor, ImportUnless, RowImport}
 use Rattle.pool_runs.specs.Lines.{Reply, To_import, Unopened}
 use Rattle.pool_runs.proofs.Lists.{same_test, some_same, or_left, or_right}
 use Rattle.pool_runs.proofs.Failing.{IsCaught, caught_first, caught_second, caught_rose}

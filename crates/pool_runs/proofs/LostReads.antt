@@ -1,11 +1,11 @@
 -- Why a read gives no block: it was written in no group since the record, or the volume has no such block.
-use Rattle.std.proofs.Common.{◌≡◌, ◌⊎◌, inl, inr, ℕ, ◌≤◌, List, Option, Some, None, map, refl, sym, ◌∙◌}
+use Rattle.std.proofs.Common.{◌≡◌, inl, inr, ℕ, ◌≤◌, List, Option, Some, None, map, refl}
 use Rattle.txg_history.specs.Pages.{Sum}
 use Rattle.txg_history.specs.Records.{Cell, key}
 use Rattle.pool_moves.specs.Moves.{Move}
-use Rattle.pool_moves.specs.ReadRow.{ReadReply, Gives, Exhausted, NoAddress, reply_by, ReadRecord, ReadGroup, ReadOpen, RowRead}
+use Rattle.pool_moves.specs.ReadRow.{Exhausted, NoAddress, reply_by, ReadRecord, ReadGroup, ReadOpen, RowRead}
 use Rattle.pool_moves.specs.Showing.{LeafShown}
-use Rattle.pool_moves.specs.States.{PoolSeen, PoolState}
+use Rattle.pool_moves.specs.States.{PoolState}
 
 pub exhausted_unwritten : (s : PoolState) (a : ℕ) (vs : List Move) (shown : List LeafShown) → RowRead s a vs (Exhausted shown)
     → (s.own.writes a ≡ None) × (s.core.group.cells (key 0 a) ≡ None)

@@ -403,9 +403,11 @@ keep_import_by (NumbersEnd limit count) c h name acts reply d row = subst (Keep 
 keep_import_by (TakesRecord found) c h name acts reply d row = subst (Keep d) (sym row.are) (
   tt,
   keep_bare d row.row.ids (all_shown found.pool.0 (read_in row.row.ids) row.row.devs ++ (mark ∷ turned))
-      (keep_shown d found.pool.0 (read_in row.row.ids) row.row.devs (mark ∷ turned)
-      (tt, keep_map d found.pool.0 row.row.bytes row.row.turns row.row.last row.rest
-      (keep_follows row.outcome c (size_in h.table) d found.pool.0 row.rest reply row.follows))),
+      (keep_shown d found.pool.0 (read_in row.row.ids) row.row.devs (mark ∷ turned) (
+        tt,
+        keep_map d found.pool.0 row.row.bytes row.row.turns row.row.last row.rest
+            (keep_follows row.outcome c (size_in h.table) d found.pool.0 row.rest reply row.follows),
+      )),
 )
   where
     mark : Act

@@ -1,5 +1,5 @@
 -- The acts of an opening, one after another: its calls, what they show, and its pages.
-use Rattle.std.proofs.Common.{◌≡◌, ◌≢◌, ◌⊎◌, ℕ, ◌==◌, Bool, true, false, cond, List, [], ◌∷◌, ◌++◌, Option, Some, None, refl, sym, ap, ◌∙◌, subst, append_assoc}
+use Rattle.std.proofs.Common.{◌≡◌, ℕ, ◌==◌, cond, List, [], ◌∷◌, ◌++◌, Option, Some, None, refl, sym, ap, ◌∙◌, subst, append_assoc}
 use Rattle.mp_base.specs.declared.place.Key.{Key}
 use Rattle.bank_core.specs.Disk.{Noted, run}
 use Rattle.txg_history.specs.Events.{Known, Calls, as_events}
@@ -104,7 +104,6 @@ bare_fair c (noted ∷ made) more p fair = bare_fair c made more (after (Calls n
 pub bare_pool : (made : List Noted) (p : Pool) → pool_along (bare made) p ≡ pool_after (as_events made) p
 bare_pool [] p = refl
 bare_pool (noted ∷ made) p = bare_pool made (after (Calls noted) p)
-
 
 pub shown_fair : (c : Codec) (g : ℕ) (known : Known) (devs : List (Option ℕ)) (more : List Act) (p : Pool) → AreFair c p (all_shown g known devs ++ more) → AreFair c p more
 shown_fair c g known [] more p fair = fair

@@ -142,8 +142,11 @@ module _ (past : Past) (was : ℕ → ℕ) (called : ℕ → List ℕ) (h : Host
 
   named_now : AreNamed past was called h → AreNamed past now called h
   named_now names = record {
-    numbers = (names.numbers.0, λ d is. let at = (is_in_size d is).0 in
-        ap names.numbers.0 at ∙ names.numbers.1 d (subst (λ n. (pool_of past).member n ≡ true) at is));
+    numbers = (
+      names.numbers.0,
+      λ d is. let at = (is_in_size d is).0 in
+          ap names.numbers.0 at ∙ names.numbers.1 d (subst (λ n. (pool_of past).member n ≡ true) at is),
+    );
     kept = λ d is. let at = (is_in_size d is).0 in
         names.kept d (subst (λ n. (pool_of past).member n ≡ true) at is) ∙ ap (called_in past) (sym at);
     here = names.here;

@@ -364,9 +364,11 @@ named_import_by (NumbersEnd limit count) c h name acts reply row = subst (AllNam
 named_import_by (TakesRecord found) c h name acts reply row = subst (AllNamed name) (sym row.are) (
   refl,
   named_bare name row.row.ids (all_shown found.pool.0 (read_in row.row.ids) row.row.devs ++ (mark ∷ turned))
-      (named_shown name found.pool.0 (read_in row.row.ids) row.row.devs (mark ∷ turned)
-      (tt, named_map name found.pool.0 row.row.bytes row.row.turns row.row.last row.rest
-      (named_follows row.outcome c (size_in h.table) name found.pool.0 row.rest reply row.follows))),
+      (named_shown name found.pool.0 (read_in row.row.ids) row.row.devs (mark ∷ turned) (
+        tt,
+        named_map name found.pool.0 row.row.bytes row.row.turns row.row.last row.rest
+            (named_follows row.outcome c (size_in h.table) name found.pool.0 row.rest reply row.follows),
+      )),
 )
   where
     mark : Act
