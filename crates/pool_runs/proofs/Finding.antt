@@ -8,7 +8,7 @@ use Rattle.bank_core.specs.Calls.{device_of, fault_of}
 use Rattle.bank_core.specs.Disk.{Noted}
 use Rattle.label_store.specs.declared.found.Found.{Found}
 use Rattle.mp_base.specs.declared.place.Key.{Key}
-use Rattle.txg_history.specs.Events.{Known, Opens, as_events}
+use Rattle.txg_history.specs.Events.{Calls, Known, Opens, as_events}
 use Rattle.txg_history.specs.Looks.{known_by}
 use Rattle.txg_history.specs.Pages.{Codec}
 use Rattle.txg_history.specs.Pools.{Pool, after, pool_after}
@@ -31,7 +31,7 @@ use Rattle.pool_moves.proofs.ResilverWalks.{resume_walks}
 use Rattle.pool_runs.specs.Acts.{Act, Opening, Seeks_by, Marks, Looked, Enters, does, bare, read_by, pool_along, calls_along, Does}
 use Rattle.pool_runs.specs.Committing.{OpensLive, opening_in, LosesPage, EndsNumbers, FindsPool}
 use Rattle.pool_runs.specs.Devices.{size_in, handed}
-use Rattle.pool_runs.specs.Fairness.{AreFair}
+use Rattle.pool_runs.specs.Fairness.{AreFair, AreFairLooks}
 use Rattle.pool_runs.specs.HostRows.{AreMade}
 use Rattle.pool_runs.specs.Hosts.{Host, named, host_by, host_along, moved}
 use Rattle.pool_runs.specs.Importing.{read_in, all_shown, map_acts, OpensBy, FollowsMap, OpensFound, ImportBy, host_behind, Imports, ImportFor, ImportUnless, RowImport}
@@ -109,6 +109,10 @@ resumed_by : (top : Option ℕ) (c : Codec) (size : ℕ → ℕ) (s : PoolState)
 resumed_by (Some top) c size s t vs n kept row = absurd (let no = row.1 in cc)
 resumed_by None c size s t vs n kept row = resumed c size s t vs n kept row
 
+bare_looks : (c : Codec) (made : List Noted) (more : List Act) (p : Pool) → AreFairLooks c p (bare made ++ more) → AreFairLooks c (pool_after (as_events made) p) more
+bare_looks c [] more p fair = fair
+bare_looks c (noted ∷ made) more p fair = bare_looks c made more (after (Calls noted) p) fair
+
 -- An opening of a record that was found.
 opened_number : (a b : ℕ) → To_import (Opened a) ≡ To_import (Opened b) → a ≡ b
 opened_number a b e = cc
@@ -120,9 +124,9 @@ record Looked_live (p before : Pool) (found : Found) : Type 0 where
   same : p.live ≡ before.live
 
 -- the pool behind the calls of an opening
-opens_behind : (c : Codec) (h : Host) (p : Pool) (name : List ℕ) (found : Found) (acts : List Act) (reply : Reply) (opens : OpensFound c h name found acts reply) → p.pool.0 ≡ found.pool.0
-    → pool_along acts p ≡ pool_along opens.rest (pool_after (as_events opens.made) (after (Opens (read_by (opening_of c h name found acts reply opens) p)) p))
-opens_behind c h p name found acts reply opens number = let g = found.pool.0 in let r = read_by (opening_of c h name found acts reply opens) p in
+opens_behind : (c : Codec) (h : Host) (p : Pool) (name : List ℕ) (known : Known) (found : Found) (acts : List Act) (reply : Reply) (opens : OpensFound c h name known found acts reply) → p.pool.0 ≡ found.pool.0
+    → pool_along acts p ≡ pool_along opens.rest (pool_after (as_events opens.made) (after (Opens (read_by (opening_of c h name known found acts reply opens) p)) p))
+opens_behind c h p name known found acts reply opens number = let g = found.pool.0 in let r = read_by (opening_of c h name known found acts reply opens) p in
     ap (λ a. pool_along a p) opens.are
     ∙ (ap (λ vs. pool_along (bare opens.row.ids ++ (all_shown g (read_in opens.row.ids) opens.row.devs ++ (mark ∷ turned))) (pool_after vs p))
     (ap (λ t. cond t (Opens r ∷ []) []) (same_number p.pool.0 found.pool.0 number))
@@ -165,13 +169,13 @@ record OpensAs (before behind : Pool) (after : Host) (name : List ℕ) (n : ℕ)
   state : PoolState
   at : IsOpenAs behind after name state
 
-opens_live : (c : Codec) (h : Host) (p before : Pool) (name : List ℕ) (found : Found) (acts : List Act) (reply : Reply) (n : ℕ) → Knows c h p → Looked_live p before found → p.name ≡ name
-    → AreMade h (calls_along acts) → AreFair c p acts → OpensFound c h name found acts reply → reply ≡ To_import (Opened n)
+opens_live : (c : Codec) (h : Host) (p before : Pool) (name : List ℕ) (known : Known) (found : Found) (acts : List Act) (reply : Reply) (n : ℕ) → Knows c h p → Looked_live p before found → p.name ≡ name
+    → AreMade h (calls_along acts) → AreFair c p acts → OpensFound c h name known found acts reply → reply ≡ To_import (Opened n)
     → OpensAs before (pool_along acts p) (host_along acts h) name n
-opens_live c h p before name found acts reply n knows live titled made fair opens says = follow opens.outcome refl opens.follows
+opens_live c h p before name known found acts reply n knows live titled made fair opens says = follow opens.outcome refl opens.follows
   where
     opening : Opening
-    opening = opening_of c h name found acts reply opens
+    opening = opening_of c h name known found acts reply opens
 
     g : ℕ
     g = found.pool.0
@@ -182,19 +186,19 @@ opens_live c h p before name found acts reply n knows live titled made fair open
     number : p.pool.0 ≡ found.pool.0
     number = sym (ap (λ x. x.0) live.is.pool_is)
 
-    facts : OpeningFacts c h p name found acts reply opens
-    facts = opening_facts c h p name found acts reply live.one opens knows live.is made
-        (opening_fair c h p name found acts reply live.one opens knows live.is number fair)
+    facts : OpeningFacts c h p name known found acts reply opens
+    facts = opening_facts c h p name known found acts reply live.one opens knows live.is made
+        (opening_fair c h p name known found acts reply live.one opens knows live.is number fair)
 
     q : Pool
     q = pool_after (as_events opens.made) (after (Opens r) p)
 
     behind : pool_along acts p ≡ pool_along opens.rest q
-    behind = opens_behind c h p name found acts reply opens number
+    behind = opens_behind c h p name known found acts reply opens number
 
     -- the acts before it enters
     early : (front : List Act) × (acts ≡ front ++ opens.rest)
-    early = opening_front c h name found acts reply opens
+    early = opening_front c h name known found acts reply opens
 
     q_written : q.written ≡ block_at r
     q_written = ap (λ x. x.written) (calls_after opens.made (after (Opens r) p))
@@ -292,12 +296,12 @@ pub opening_bare : (made : List Noted) (more : List Act) → opening_in (bare ma
 opening_bare [] more = refl
 opening_bare (noted ∷ made) more = opening_bare made more
 
-opens_loses : (c : Codec) (h : Host) (p before : Pool) (name : List ℕ) (found : Found) (acts : List Act) (reply : Reply) (page : Key) (shown : List LeafShown) → Knows c h p → Looked_live p before found
-    → AreMade h (calls_along acts) → AreFair c p acts → OpensFound c h name found acts reply → reply ≡ To_import (PageLost page shown) → LosesPage c before (pool_along acts p) acts page
-opens_loses c h p before name found acts reply page shown knows live made fair opens says = follow opens.outcome refl opens.follows
+opens_loses : (c : Codec) (h : Host) (p before : Pool) (name : List ℕ) (known : Known) (found : Found) (acts : List Act) (reply : Reply) (page : Key) (shown : List LeafShown) → Knows c h p → Looked_live p before found
+    → AreMade h (calls_along acts) → AreFair c p acts → OpensFound c h name known found acts reply → reply ≡ To_import (PageLost page shown) → LosesPage c before (pool_along acts p) acts page
+opens_loses c h p before name known found acts reply page shown knows live made fair opens says = follow opens.outcome refl opens.follows
   where
     opening : Opening
-    opening = opening_of c h name found acts reply opens
+    opening = opening_of c h name known found acts reply opens
 
     r : Rec
     r = read_by opening p
@@ -305,22 +309,22 @@ opens_loses c h p before name found acts reply page shown knows live made fair o
     number : p.pool.0 ≡ found.pool.0
     number = sym (ap (λ x. x.0) live.is.pool_is)
 
-    facts : OpeningFacts c h p name found acts reply opens
-    facts = opening_facts c h p name found acts reply live.one opens knows live.is made
-        (opening_fair c h p name found acts reply live.one opens knows live.is number fair)
+    facts : OpeningFacts c h p name known found acts reply opens
+    facts = opening_facts c h p name known found acts reply live.one opens knows live.is made
+        (opening_fair c h p name known found acts reply live.one opens knows live.is number fair)
 
     q : Pool
     q = pool_after (as_events opens.made) (after (Opens r) p)
 
     behind : pool_along acts p ≡ pool_along opens.rest q
-    behind = opens_behind c h p name found acts reply opens number
+    behind = opens_behind c h p name known found acts reply opens number
 
     leaves : List LeafSeen
     leaves = opened_leaves (c.leaves found.blob.items) opens.row.devs
 
     -- each call of the pages is one of the line
     among : (d : ℕ) → failed_on (page_calls opens.row) d ≡ true → failed_on (calls_along acts) d ≡ true
-    among d is = subst (λ made. failed_on made d ≡ true) (sym (opening_calls c h name found acts reply opens))
+    among d is = subst (λ made. failed_on made d ≡ true) (sym (opening_calls c h name known found acts reply opens))
         (failed_first opens.made (calls_along opens.rest) d (subst (λ made. failed_on made d ≡ true) (sym opens.row.calls) (failed_more opens.row.ids (page_calls opens.row) d is)))
 
     lost : (k : Key) (ks : List LeafShown) → opens.outcome ≡ NoPage k ks → k ≡ page → opens.rest ≡ [] → LosesPage c before (pool_along acts p) acts page
@@ -380,9 +384,9 @@ IsUnread (TooManyPools limit count) = Unit {0}
 IsUnread (LastNumber limit count) = Unit {0}
 IsUnread other = ⊥
 
-opens_some : (c : Codec) (h : Host) (name : List ℕ) (found : Found) (acts : List Act) (reply : Reply) (other : ImportReply) → OpensFound c h name found acts reply
+opens_some : (c : Codec) (h : Host) (name : List ℕ) (known : Known) (found : Found) (acts : List Act) (reply : Reply) (other : ImportReply) → OpensFound c h name known found acts reply
     → reply ≡ To_import other → IsUnread other → ⊥
-opens_some c h name found acts reply other opens says is = follow opens.outcome opens.follows
+opens_some c h name known found acts reply other opens says is = follow opens.outcome opens.follows
   where
     same : (a b : ImportReply) → To_import a ≡ To_import b → a ≡ b
     same a b e = cc
@@ -431,13 +435,13 @@ never_none : (ended : Bool) (found : Found) → NoRecord ≡ taken_by ended foun
 never_none true found e = cc
 never_none false found e = cc
 
-found_finds : (seek : SeekReply) (c : Codec) (h : Host) (before p : Pool) (name : List ℕ) (acts : List Act) (reply : Reply) → Knows c h p
+found_finds : (seek : SeekReply) (c : Codec) (h : Host) (before p : Pool) (name : List ℕ) (known : Known) (acts : List Act) (reply : Reply) → Knows c h p
     → p.name ≡ name → before.name ≡ name → AreMade h (calls_along acts)
     → AreFair c p acts → (seek ≡ NoRecord → ⊥) → ((found : Found) → seek ≡ TakesRecord found → Looked_live p before found)
-    → ((limit count : ℕ) → seek ≡ NumbersEnd limit count → EndsNumbers before limit count) → ImportBy seek c h name acts reply
+    → ((limit count : ℕ) → seek ≡ NumbersEnd limit count → EndsNumbers before limit count) → ImportBy seek c h name known acts reply
     → FindsPool c h before (pool_along acts p) (host_along acts h) acts reply
-found_finds NoRecord c h before p name acts reply knows titled called made fair some live ended row = absurd (some refl)
-found_finds (NumbersEnd limit count) c h before p name acts reply knows titled called made fair some live ended row =
+found_finds NoRecord c h before p name known acts reply knows titled called made fair some live ended row = absurd (some refl)
+found_finds (NumbersEnd limit count) c h before p name known acts reply knows titled called made fair some live ended row =
     not_opened c h before (pool_along acts p) (host_along acts h) acts reply (LastNumber limit count) row.1 (λ e. cc) (λ n e. cc) (λ page shown e. cc)
     (λ e. absurd (cc)) (λ limit count e. absurd (cc))
     (λ l k e. subst (λ n. EndsNumbers before n k) (limit_one limit count l k e) (subst (EndsNumbers before limit) (count_one limit count l k e) (ended limit count refl)))
@@ -447,20 +451,21 @@ found_finds (NumbersEnd limit count) c h before p name acts reply knows titled c
 
     count_one : (a b x y : ℕ) → LastNumber a b ≡ LastNumber x y → b ≡ y
     count_one a b x y e = cc
-found_finds (TakesRecord found) c h before p name acts reply knows titled called made fair some live ended row = record {
-  some = λ says. opens_some c h name found acts reply NothingFound row says tt;
-  name_open = λ says. absurd (opens_some c h name found acts reply NameOpen row says tt);
-  too_many = λ limit count says. absurd (opens_some c h name found acts reply (TooManyPools limit count) row says tt);
-  ended = λ limit count says. absurd (opens_some c h name found acts reply (LastNumber limit count) row says tt);
-  opened = λ n says. (opens_live c h p before name found acts reply n knows (live found refl) titled made fair row says).live;
-  is_open = λ n says. let opens = opens_live c h p before name found acts reply n knows (live found refl) titled made fair row says in
+found_finds (TakesRecord found) c h before p name known acts reply knows titled called made fair some live ended row = record {
+  some = λ says. opens_some c h name known found acts reply NothingFound row says tt;
+  name_open = λ says. absurd (opens_some c h name known found acts reply NameOpen row says tt);
+  too_many = λ limit count says. absurd (opens_some c h name known found acts reply (TooManyPools limit count) row says tt);
+  ended = λ limit count says. absurd (opens_some c h name known found acts reply (LastNumber limit count) row says tt);
+  opened = λ n says. (opens_live c h p before name known found acts reply n knows (live found refl) titled made fair row says).live;
+  is_open = λ n says. let opens = opens_live c h p before name known found acts reply n knows (live found refl) titled made fair row says in
       (opens.state, subst (λ name. IsOpenAs (pool_along acts p) (host_along acts h) name opens.state) (sym called) opens.at);
-  loses = λ page shown says. opens_loses c h p before name found acts reply page shown knows (live found refl) made fair row says;
+  loses = λ page shown says. opens_loses c h p before name known found acts reply page shown knows (live found refl) made fair row says;
 }
 
-pub import_finds : (c : Codec) (h : Host) (p : Pool) (name : List ℕ) (acts : List Act) (reply : Reply) → Knows c h p → p.name ≡ name → AreMade h (calls_along acts) → AreFair c p acts → RowImport c h name acts reply
+pub import_finds : (c : Codec) (h : Host) (p : Pool) (name : List ℕ) (acts : List Act) (reply : Reply) → Knows c h p → p.name ≡ name → AreMade h (calls_along acts) → AreFair c p acts → AreFairLooks c p acts
+    → RowImport c h name acts reply
     → FindsPool c h p (pool_along acts p) (host_along acts h) acts reply
-import_finds c h p name acts reply knows titled made fair row = unless (named_in h.pools) refl row
+import_finds c h p name acts reply knows titled made fair looks row = unless (named_in h.pools) refl row
   where
     named_in : List PoolState → Option PoolState
     named_in pools = named name pools
@@ -501,12 +506,13 @@ import_finds c h p name acts reply knows titled made fair row = unless (named_in
         let facts = look_facts c h p name acts reply knows made row in
         let all = bare_fair c row.made (Looked name known ∷ row.rest) p (subst (AreFair c p) row.are fair) in
         let named1 : p1.name ≡ name = ap (λ x. x.name) (calls_after row.made p) ∙ titled in
-        let seeks = facts.seeks titled (all.0 named1) in
+        let seeks = facts.seeks titled
+        ((bare_looks c row.made (Looked name known ∷ row.rest) p (subst (AreFairLooks c p) row.are looks)).0 named1) in
         let rest_fair : AreFair c p1 row.rest = subst (λ x. AreFair c x row.rest) (looks_along (bytes_eq p1.name name) known p1) all.1 in
         let pool_is : pool_along acts p ≡ pool_along row.rest p1 = ap (λ a. pool_along a p) row.are ∙ (bare_more row.made (Looked name known ∷ row.rest) p
         ∙ ap (pool_along row.rest) (looks_along (bytes_eq p1.name name) known p1)) in
         line_finds row.made known row.rest p1 row.are pool_is
-        (found_finds row.seek c (host_behind row.made h) p p1 name row.rest reply facts.knows named1 titled facts.made rest_fair
+        (found_finds row.seek c (host_behind row.made h) p p1 name known row.rest reply facts.knows named1 titled facts.made rest_fair
         (λ none. never_none (nat_le last_numbers seeks.found.number.0) seeks.found (sym none ∙ seeks.says))
         (λ found is. let taken = taken_live c p row.made known row.seek found seeks is in record {
           one = taken.0;

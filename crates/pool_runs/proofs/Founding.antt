@@ -116,11 +116,13 @@ founds c h name blocks tops acts reply k new says = of k.answer (answered k.answ
         let acked = ends_acked k.moves 1 t (founds_in c (size_in h.table) s k.moves row) in
         let pool_is = does_pool k.pool.0 k.moves t refl in
         let head = does_head k.pool.0 k.moves s (host_stamped h k.pool.0 k.stamps).pools start refl refl in
+        let still = written_along k.moves t (all_found KeepsWritten written_kind (λ cells board. tt) c (size_in h.table) s k.moves true row) in
         let same : bytes_eq (steps k.moves s).core.name name ≡ true = (bytes_eq-Decides (steps k.moves s).core.name name).1 (steps_name k.moves s) in record {
           acked = ap (λ p. number_of p.acked) pool_is ∙ acked.number;
           blocks = λ a. ap (λ p. block_at p.acked a) pool_is
               ∙ (kept_blocks c (steps k.moves s) (after_moves k.moves t) 1 kept acked (founds_writes c (size_in h.table) s k.moves true row) a
-              ∙ ap (λ w. w a) (written_along k.moves t (all_found KeepsWritten written_kind (λ cells board. tt) c (size_in h.table) s k.moves true row)));
+              ∙ ap (λ w. w a) still);
+          written = λ a. ap (λ p. p.written a) pool_is ∙ ap (λ w. w a) still;
           state = steps k.moves s;
           is_open = record {
             named = ap (named name) head.1 ∙ ap (λ b. cond b (Some (steps k.moves s)) (named name head.0)) same;

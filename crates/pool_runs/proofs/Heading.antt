@@ -34,7 +34,7 @@ use Rattle.pool_runs.specs.Acts.{Act, Gives_for, Marks, Hears, calls_along, pool
 use Rattle.pool_runs.specs.Committing.{FreezesNone, CommitsAll, FindsPool, CommitsGroup}
 use Rattle.pool_runs.specs.Counting.{has_leaf_at, HasRisen, RoseAt, HasLostBoard, Suspends, FailsOpening, IsCounted, LosesBoard, LosesFreeze, LosesSince, FailsNamed}
 use Rattle.pool_runs.specs.Devices.{number_in, size_in}
-use Rattle.pool_runs.specs.Fairness.{AreFair}
+use Rattle.pool_runs.specs.Fairness.{AreFair, AreFairLooks}
 use Rattle.pool_runs.specs.Headline.{TakesFor, IsRequiredFor, Headline}
 use Rattle.pool_runs.specs.HostRows.{AreMade, ReadLine, TurnLine, SyncLine, OfflineLine, OnPool, RowOf, HostRow, acts_in, IsRun, GraftUnless, GraftOnto, GraftIf, GraftLine, DetachLine}
 use Rattle.pool_runs.specs.Hosts.{Host, named, host_by, host_along, holder}
@@ -213,12 +213,12 @@ line_outside c h p e name a s limit met asked at is = of met.row
     of (inr out) = read_not_memory (NoAddress limit) (sym is ∙ out.says)
 
 -- An import finds the pool.
-line_opens : (c : Codec) (h : Host) (p : Pool) (e : Entry) → Meets c h p e → e.asked ≡ Asks_import p.name → AreFair c p e.acts
+line_opens : (c : Codec) (h : Host) (p : Pool) (e : Entry) → Meets c h p e → e.asked ≡ Asks_import p.name → AreFair c p e.acts → AreFairLooks c p e.acts
     → FindsPool c h p (pool_along e.acts p) (host_along e.acts h) e.acts e.reply
-line_opens c h p e met asked fair = of met.row
+line_opens c h p e met asked fair looks = of met.row
   where
     of : HostRow c h e → FindsPool c h p (pool_along e.acts p) (host_along e.acts h) e.acts e.reply
-    of (inl row) = import_finds c h p p.name e.acts e.reply met.knows refl row.1 fair (subst (λ x. RowOf c h x e.acts e.reply) asked row.0)
+    of (inl row) = import_finds c h p p.name e.acts e.reply met.knows refl row.1 fair looks (subst (λ x. RowOf c h x e.acts e.reply) asked row.0)
     of (inr out) = record {
       some = λ says. import_not_memory NothingFound (sym says ∙ out.says);
       opened = λ n says. import_not_memory (Opened n) (sym says ∙ out.says);
@@ -489,7 +489,7 @@ headline_from c past h acts entries f = record {
   left = at_left c past h acts entries f;
   sound = λ m. survives_sound c (pool_at m) (at_known c past h acts entries f m).survives;
   contents = at_contents c past h acts entries f;
-  opens = λ l asked fair. line_opens c (host_before h l) (pool_before l) l.entry (meets c past h acts entries f l) asked fair;
+  opens = λ l asked fair looks. line_opens c (host_before h l) (pool_before l) l.entry (meets c past h acts entries f l) asked fair looks;
   commits = λ l. record {
     syncs = λ name s n asked at is. line_syncs c (host_before h l) (pool_before l) l.entry name s n (meets c past h acts entries f l) asked at is;
     first = λ name s reply asked at frozen none is. line_first c (host_before h l) (pool_before l) l.entry name s reply (meets c past h acts entries f l) asked at frozen none is;

@@ -176,11 +176,11 @@ commit_may Flush c h t s g vs acts reply knows is kept none row own by = absurd 
 commit_may (Round number) c h t s g vs acts reply knows is kept none row own by = absurd by
 
 -- What an opening may do of a pool of the number that it found.
-record Own (c : Codec) (h : Host) (p : Pool) (name : List ℕ) (found : Found) : Type 0 where
+record Own (c : Codec) (h : Host) (p : Pool) (name : List ℕ) (known : Known) (found : Found) : Type 0 where
   knows : Knows c h p
   number : p.pool.0 ≡ found.pool.0
   free : named name h.pools ≡ None
-  live : p.name ≡ name → (r : Rec) × IsLiveOne p found r
+  live : p.name ≡ name → Premises c.head_of p known → (r : Rec) × IsLiveOne p found r
 
 -- the calls of an opening answer by the pool's history
 opening_answers : (h : Host) (p : Pool) (made more : List Noted) → AreMade h (made ++ more) → ((d s : ℕ) → 1 ≤ size_in h.table d → p.sectors d s ≡ h.disk d s) → AllAnswer p.sectors made
@@ -238,8 +238,8 @@ opens_lost c h p name found r made (NoPage k ks) row knows same is answers twin 
     one a b xs ys e = cc
 
 -- what an opening reads
-abbrev pub opening_of : (c : Codec) (h : Host) (name : List ℕ) (found : Found) (acts : List Act) (reply : Reply) → OpensFound c h name found acts reply → Opening
-opening_of c h name found acts reply opens = record { name = name; found = found; devs = opens.row.devs }
+abbrev pub opening_of : (c : Codec) (h : Host) (name : List ℕ) (known : Known) (found : Found) (acts : List Act) (reply : Reply) → OpensFound c h name known found acts reply → Opening
+opening_of c h name known found acts reply opens = record { name = name; known = known; found = found; devs = opens.row.devs }
 
 -- a search that is fair shows that there is no twin
 opens_twin : (c : Codec) (h : Host) (p : Pool) (name : List ℕ) (found : Found) (r : Rec) (made : List Noted) (outcome : OpenReply)
@@ -256,22 +256,22 @@ opens_twin c h p name found r made outcome row knows is fair = row_no_twin c (si
     reads = sought_reads found.pool (size_in h.table) (c.room found.blob.items) (free_in h) (c.leaves found.blob.items) row.ids row.devs row.sought
 
 -- What is fair of an opening, and what follows from it.
-pub record FairOpening (c : Codec) (h : Host) (p : Pool) (name : List ℕ) (found : Found) (acts : List Act) (reply : Reply) (opens : OpensFound c h name found acts reply) : Type 0 where
+pub record FairOpening (c : Codec) (h : Host) (p : Pool) (name : List ℕ) (known : Known) (found : Found) (acts : List Act) (reply : Reply) (opens : OpensFound c h name known found acts reply) : Type 0 where
   pub named : p.name ≡ name
-  pub twin : HasNoTwin p (read_by (opening_of c h name found acts reply opens) p) (claims_of (c.leaves found.blob.items) opens.row.devs)
-  pub pages : ClashesAt (read_by (opening_of c h name found acts reply opens) p).cells opens.row.bytes → ⊥
+  pub twin : HasNoTwin p (read_by (opening_of c h name known found acts reply opens) p) (claims_of (c.leaves found.blob.items) opens.row.devs)
+  pub pages : ClashesAt (read_by (opening_of c h name known found acts reply opens) p).cells opens.row.bytes → ⊥
 
-pub record OpeningFacts (c : Codec) (h : Host) (p : Pool) (name : List ℕ) (found : Found) (acts : List Act) (reply : Reply) (opens : OpensFound c h name found acts reply) : Type 0 where
-  pub is : IsLiveOne p found (read_by (opening_of c h name found acts reply opens) p)
-  pub seats : (s : PoolState) → opens.outcome ≡ Opens_state s → HasSeats c s (pool_after (as_events opens.made) (after (Opens (read_by (opening_of c h name found acts reply opens) p)) p))
+pub record OpeningFacts (c : Codec) (h : Host) (p : Pool) (name : List ℕ) (known : Known) (found : Found) (acts : List Act) (reply : Reply) (opens : OpensFound c h name known found acts reply) : Type 0 where
+  pub is : IsLiveOne p found (read_by (opening_of c h name known found acts reply opens) p)
+  pub seats : (s : PoolState) → opens.outcome ≡ Opens_state s → HasSeats c s (pool_after (as_events opens.made) (after (Opens (read_by (opening_of c h name known found acts reply opens) p)) p))
   pub pages : (page : Key) (shown : List LeafShown) → opens.outcome ≡ NoPage page shown
-      → IsLostPage (pool_after (as_events opens.made) (after (Opens (read_by (opening_of c h name found acts reply opens) p)) p)) (read_by (opening_of c h name found acts reply opens) p)
+      → IsLostPage (pool_after (as_events opens.made) (after (Opens (read_by (opening_of c h name known found acts reply opens) p)) p)) (read_by (opening_of c h name known found acts reply opens) p)
       page (answers_in (opened_leaves (c.leaves found.blob.items) opens.row.devs) (page_calls opens.row))
 
 -- what an opening does before its commit
-pub opening_front : (c : Codec) (h : Host) (name : List ℕ) (found : Found) (acts : List Act) (reply : Reply) → (opens : OpensFound c h name found acts reply)
+pub opening_front : (c : Codec) (h : Host) (name : List ℕ) (known : Known) (found : Found) (acts : List Act) (reply : Reply) → (opens : OpensFound c h name known found acts reply)
     → (front : List Act) × (acts ≡ front ++ opens.rest)
-opening_front c h name found acts reply opens = (
+opening_front c h name known found acts reply opens = (
   Reads_as opening ∷ (bare opens.row.ids ++ (shown ++ pages)),
   opens.are ∙ ap (λ l. Reads_as opening ∷ l)
       (ap (λ l. bare opens.row.ids ++ (shown ++ (mark ∷ l))) (map_split found.pool.0 opens.row.bytes opens.row.turns opens.row.last opens.rest)
@@ -279,7 +279,7 @@ opening_front c h name found acts reply opens = (
 )
   where
     opening : Opening
-    opening = opening_of c h name found acts reply opens
+    opening = opening_of c h name known found acts reply opens
 
     shown : List Act
     shown = all_shown found.pool.0 (read_in opens.row.ids) opens.row.devs
@@ -290,8 +290,8 @@ opening_front c h name found acts reply opens = (
     pages : List Act
     pages = mark ∷ map_acts found.pool.0 opens.row.bytes opens.row.turns opens.row.last []
 
-pub opening_calls : (c : Codec) (h : Host) (name : List ℕ) (found : Found) (acts : List Act) (reply : Reply) → (opens : OpensFound c h name found acts reply) → calls_along acts ≡ opens.made ++ calls_along opens.rest
-opening_calls c h name found acts reply opens =
+pub opening_calls : (c : Codec) (h : Host) (name : List ℕ) (known : Known) (found : Found) (acts : List Act) (reply : Reply) → (opens : OpensFound c h name known found acts reply) → calls_along acts ≡ opens.made ++ calls_along opens.rest
+opening_calls c h name known found acts reply opens =
     ap calls_along opens.are ∙ (bare_calls opens.row.ids (all_shown g (read_in opens.row.ids) opens.row.devs ++ more)
     ∙ (ap (λ l. opens.row.ids ++ l) (shown_calls g (read_in opens.row.ids) opens.row.devs more
     ∙ map_calls_along g opens.row.bytes opens.row.turns opens.row.last opens.rest)
@@ -303,9 +303,9 @@ opening_calls c h name found acts reply opens =
     more : List Act
     more = Marks g (Seeks_by opens.row.ids opens.row.devs) ∷ map_acts g opens.row.bytes opens.row.turns opens.row.last opens.rest
 
-pub opening_facts : (c : Codec) (h : Host) (p : Pool) (name : List ℕ) (found : Found) (acts : List Act) (reply : Reply) (one : Rec) → (opens : OpensFound c h name found acts reply) → Knows c h p → IsLiveOne p found one
-    → AreMade h (calls_along acts) → FairOpening c h p name found acts reply opens → OpeningFacts c h p name found acts reply opens
-opening_facts c h p name found acts reply one opens knows found_one made fair = record {
+pub opening_facts : (c : Codec) (h : Host) (p : Pool) (name : List ℕ) (known : Known) (found : Found) (acts : List Act) (reply : Reply) (one : Rec) → (opens : OpensFound c h name known found acts reply) → Knows c h p → IsLiveOne p found one
+    → AreMade h (calls_along acts) → FairOpening c h p name known found acts reply opens → OpeningFacts c h p name known found acts reply opens
+opening_facts c h p name known found acts reply one opens knows found_one made fair = record {
   is = is;
   seats = opens_seats c h p name found r opens.made opens.outcome opens.row knows fair.named is answers fair.twin fair.pages;
   pages = λ page shown out. ⊎_elim (λ lost. lost) (λ clash. absurd (fair.pages clash))
@@ -313,25 +313,25 @@ opening_facts c h p name found acts reply one opens knows found_one made fair = 
 }
   where
     r : Rec
-    r = read_by (opening_of c h name found acts reply opens) p
+    r = read_by (opening_of c h name known found acts reply opens) p
 
-    is : IsLiveOne p found (read_by (opening_of c h name found acts reply opens) p)
+    is : IsLiveOne p found (read_by (opening_of c h name known found acts reply opens) p)
     is = record_live p found one found_one
 
     answers : AllAnswer p.sectors opens.made
-    answers = opening_answers h p opens.made (calls_along opens.rest) (subst (AreMade h) (opening_calls c h name found acts reply opens) made) knows.disk
+    answers = opening_answers h p opens.made (calls_along opens.rest) (subst (AreMade h) (opening_calls c h name known found acts reply opens) made) knows.disk
 
 -- what was fair of an opening's acts
-pub opening_fair : (c : Codec) (h : Host) (p : Pool) (name : List ℕ) (found : Found) (acts : List Act) (reply : Reply) (one : Rec) → (opens : OpensFound c h name found acts reply) → Knows c h p → IsLiveOne p found one
-    → p.pool.0 ≡ found.pool.0 → AreFair c p acts → FairOpening c h p name found acts reply opens
-opening_fair c h p name found acts reply one opens knows found_one number fair = record {
-  named = fair1.0 number;
+pub opening_fair : (c : Codec) (h : Host) (p : Pool) (name : List ℕ) (known : Known) (found : Found) (acts : List Act) (reply : Reply) (one : Rec) → (opens : OpensFound c h name known found acts reply) → Knows c h p → IsLiveOne p found one
+    → p.pool.0 ≡ found.pool.0 → AreFair c p acts → FairOpening c h p name known found acts reply opens
+opening_fair c h p name known found acts reply one opens knows found_one number fair = record {
+  named = (fair1.0 number).0;
   twin = opens_twin c h p name found r opens.made opens.outcome opens.row knows (record_live p found one found_one) (fair3.0 number3);
   pages = map_fair c g opens.row.bytes opens.row.turns opens.row.last opens.rest (pool_after (as_events ids) q) r number3 (ap (λ x. x.reads) (calls_after ids q)) fair3.1;
 }
   where
     opening : Opening
-    opening = opening_of c h name found acts reply opens
+    opening = opening_of c h name known found acts reply opens
 
     g : ℕ
     g = found.pool.0
@@ -363,13 +363,13 @@ opening_fair c h p name found acts reply one opens knows found_one number fair =
     number3 = ap (λ n. n.0) (calls_number ids q) ∙ number
 
 -- the calls of an opening, and what follows
-opens_more : (c : Codec) (h : Host) (p : Pool) (name : List ℕ) (found : Found) (acts : List Act) (reply : Reply) (one : Rec) → (opens : OpensFound c h name found acts reply) → Own c h p name found
+opens_more : (c : Codec) (h : Host) (p : Pool) (name : List ℕ) (known : Known) (found : Found) (acts : List Act) (reply : Reply) (one : Rec) → (opens : OpensFound c h name known found acts reply) → Own c h p name known found
     → p.name ≡ name → IsLiveOne p found one → AreMade h (calls_along acts)
-    → Knows c h (after (Opens (read_by (opening_of c h name found acts reply opens) p)) p) → AreOwnActs found.pool.0 h acts
-    → MayActs c h (after (Opens (read_by (opening_of c h name found acts reply opens) p)) p)
+    → Knows c h (after (Opens (read_by (opening_of c h name known found acts reply opens) p)) p) → AreOwnActs found.pool.0 h acts
+    → MayActs c h (after (Opens (read_by (opening_of c h name known found acts reply opens) p)) p)
     (bare opens.row.ids ++ (all_shown found.pool.0 (read_in opens.row.ids) opens.row.devs
     ++ (Marks found.pool.0 (Seeks_by opens.row.ids opens.row.devs) ∷ map_acts found.pool.0 opens.row.bytes opens.row.turns opens.row.last opens.rest)))
-opens_more c h p name found acts reply one opens o titled found_one made knows own =
+opens_more c h p name known found acts reply one opens o titled found_one made knows own =
     bare_then c ids (shown ++ behind) h q (reads_may c q ids
     (sought_reads found.pool (size_in h.table) (c.room found.blob.items) (free_in h) (c.leaves found.blob.items) ids opens.row.devs opens.row.sought)) knows
     (λ before known1. shown_then c g (read_in ids) opens.row.devs behind h1 q1 number1 known1
@@ -394,9 +394,9 @@ opens_more c h p name found acts reply one opens o titled found_one made knows o
     behind = Marks g (Seeks_by ids opens.row.devs) ∷ map_acts g opens.row.bytes opens.row.turns opens.row.last opens.rest
 
     r : Rec
-    r = read_by (opening_of c h name found acts reply opens) p
+    r = read_by (opening_of c h name known found acts reply opens) p
 
-    is : IsLiveOne p found (read_by (opening_of c h name found acts reply opens) p)
+    is : IsLiveOne p found (read_by (opening_of c h name known found acts reply opens) p)
     is = record_live p found one found_one
 
     q : Pool
@@ -418,7 +418,7 @@ opens_more c h p name found acts reply one opens o titled found_one made knows o
     h3 = host_behind opens.row.last (host_turned opens.row.turns h2)
 
     answers : AllAnswer p.sectors opens.made
-    answers = opening_answers h p opens.made (calls_along opens.rest) (subst (AreMade h) (opening_calls c h name found acts reply opens) made) o.knows.disk
+    answers = opening_answers h p opens.made (calls_along opens.rest) (subst (AreMade h) (opening_calls c h name known found acts reply opens) made) o.knows.disk
 
     end_is : pool_after (as_events (page_calls opens.row)) q1 ≡ q3
     end_is = sym (ap (λ vs. pool_after vs q) (ap as_events opens.row.calls ∙ events_more ids (page_calls opens.row))
@@ -447,28 +447,28 @@ opens_more c h p name found acts reply one opens o titled found_one made knows o
     rest_may twin none known = follows_may opens.outcome c h p name found r opens.made opens.row h3 opens.rest reply table_is
         (opens_seats c h p name found r opens.made opens.outcome opens.row o.knows titled is answers twin none) known number3 none_here own3 opens.follows
 
-own_opens : (c : Codec) (h : Host) (p : Pool) (name : List ℕ) (found : Found) (acts : List Act) (reply : Reply) → Own c h p name found → AreMade h (calls_along acts) → OpensFound c h name found acts reply
+own_opens : (c : Codec) (h : Host) (p : Pool) (name : List ℕ) (known : Known) (found : Found) (acts : List Act) (reply : Reply) → Own c h p name known found → AreMade h (calls_along acts) → OpensFound c h name known found acts reply
     → MayActs c h p acts
-own_opens c h p name found acts reply o made opens = subst (MayActs c h p) (sym opens.are) (λ fair. of (fair o.number))
+own_opens c h p name known found acts reply o made opens = subst (MayActs c h p) (sym opens.are) (λ fair. of (fair o.number))
   where
     opening : Opening
-    opening = opening_of c h name found acts reply opens
+    opening = opening_of c h name known found acts reply opens
 
     more : List Act
     more = bare opens.row.ids ++ (all_shown found.pool.0 (read_in opens.row.ids) opens.row.devs
         ++ (Marks found.pool.0 (Seeks_by opens.row.ids opens.row.devs) ∷ map_acts found.pool.0 opens.row.bytes opens.row.turns opens.row.last opens.rest))
 
-    of : p.name ≡ name → Mays c p (events_for (Reads_as opening) p) × Knows c (host_by (Reads_as opening) h) (pool_by (Reads_as opening) p)
+    of : (p.name ≡ name) × Premises c.head_of p known → Mays c p (events_for (Reads_as opening) p) × Knows c (host_by (Reads_as opening) h) (pool_by (Reads_as opening) p)
         × MayActs c (host_by (Reads_as opening) h) (pool_by (Reads_as opening) p) more
-    of titled =
-        let one = o.live titled in
+    of (titled, premises) =
+        let one = o.live titled premises in
         let is = record_live p found one.0 one.1 in
         let r = read_by opening p in
         let events : events_for (Reads_as opening) p ≡ Opens r ∷ [] = ap (λ t. cond t (Opens r ∷ []) []) (same_number p.pool.0 found.pool.0 o.number) in
-        let known = opens_known c h p r o.knows is.is_live (none_open c h p name o.knows titled o.free) in (
+        let behind = opens_known c h p r o.knows is.is_live (none_open c h p name o.knows titled o.free) in (
           subst (Mays c p) (sym events) (is.is_live, tt),
-          subst (λ vs. Knows c h (pool_after vs p)) (sym events) known,
-          subst (λ vs. MayActs c h (pool_after vs p) more) (sym events) (opens_more c h p name found acts reply one.0 opens o titled one.1 made known opens.own),
+          subst (λ vs. Knows c h (pool_after vs p)) (sym events) behind,
+          subst (λ vs. MayActs c h (pool_after vs p) more) (sym events) (opens_more c h p name known found acts reply one.0 opens o titled one.1 made behind opens.own),
         )
 
 -- The looks of an opening, whichever pool is asked for.
@@ -481,12 +481,13 @@ true_look c h name made seek row answers = record {
 }
 
 -- by what the looks found
-found_may : (seek : SeekReply) (c : Codec) (h : Host) (p : Pool) (name : List ℕ) (acts : List Act) (reply : Reply) → Knows c h p → named name h.pools ≡ None
-    → ((found : Found) → seek ≡ TakesRecord found → p.name ≡ name → (r : Rec) × IsLiveOne p found r) → AreMade h (calls_along acts) → ImportBy seek c h name acts reply → MayActs c h p acts
-found_may NoRecord c h p name acts reply knows free live made row = subst (MayActs c h p) (sym row.0) tt
-found_may (NumbersEnd limit count) c h p name acts reply knows free live made row = subst (MayActs c h p) (sym row.0) tt
-found_may (TakesRecord found) c h p name acts reply knows free live made row = by_bool (p.pool.0 == found.pool.0)
-    (λ mine. own_opens c h p name found acts reply (record { knows = knows; number = number_of_test p.pool.0 found.pool.0 mine; free = free; live = live found refl }) made row)
+found_may : (seek : SeekReply) (c : Codec) (h : Host) (p : Pool) (name : List ℕ) (known : Known) (acts : List Act) (reply : Reply) → Knows c h p → named name h.pools ≡ None
+    → ((found : Found) → seek ≡ TakesRecord found → p.name ≡ name → Premises c.head_of p known → (r : Rec) × IsLiveOne p found r) → AreMade h (calls_along acts)
+    → ImportBy seek c h name known acts reply → MayActs c h p acts
+found_may NoRecord c h p name known acts reply knows free live made row = subst (MayActs c h p) (sym row.0) tt
+found_may (NumbersEnd limit count) c h p name known acts reply knows free live made row = subst (MayActs c h p) (sym row.0) tt
+found_may (TakesRecord found) c h p name known acts reply knows free live made row = by_bool (p.pool.0 == found.pool.0)
+    (λ mine. own_opens c h p name known found acts reply (record { knows = knows; number = number_of_test p.pool.0 found.pool.0 mine; free = free; live = live found refl }) made row)
     (λ off. other_may c h p found.pool.0 acts knows (λ e. other p.pool.0 found.pool.0 off (sym e)) row.own)
   where
     other : (m n : ℕ) → (m == n) ≡ false → m ≢ n
@@ -540,7 +541,7 @@ imports_may c h p name acts reply knows made row = subst (MayActs c h p) (sym ro
       looked.0,
       looked.1,
       subst (λ x. MayActs c h1 x row.rest) (sym (looks_along (bytes_eq p1.name name) known p1))
-          (found_may row.seek c h1 p1 name row.rest reply known1 row.free (λ found is same. live found is same (fair same)) facts.made row.follows),
+          (found_may row.seek c h1 p1 name known row.rest reply known1 row.free live facts.made row.follows),
     )))
   where
     known : Known

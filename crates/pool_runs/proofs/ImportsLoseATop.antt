@@ -9,6 +9,7 @@ use Rattle.bank_core.specs.Calls.{AllCaused}
 use Rattle.bank_core.specs.Disk.{Noted}
 use Rattle.label_store.specs.declared.found.Found.{Found}
 use Rattle.vdev_tree.specs.Leaf.{is_up}
+use Rattle.txg_history.specs.Events.{Known}
 use Rattle.txg_history.specs.Pages.{Codec}
 use Rattle.txg_history.proofs.Logging.{by_bool, true_not_false}
 use Rattle.pool_moves.specs.Leaves.{LeafSeen}
@@ -113,20 +114,20 @@ opened_is c size handed name found made (Opens_state x) row s out = (
     one a b e = cc
 opened_is c size handed name found made (NoPage page shown) row s out = absurd (cc)
 
-opens_unopened : (c : Codec) (h : Host) (name : List ℕ) (found : Found) (acts : List Act) (reply : Reply) (group : ℕ)
+opens_unopened : (c : Codec) (h : Host) (name : List ℕ) (known : Known) (found : Found) (acts : List Act) (reply : Reply) (group : ℕ)
     (top : Guid) (faults : ℕ)
-    → (opens : OpensFound c h name found acts reply) → reply ≡ To_import (Unopened group top faults)
-    → EndsUnopened c (size_in h.table) (opening_of c h name found acts reply opens) acts group top faults
-opens_unopened c h name found acts reply group top faults opens says = follow opens.outcome refl opens.follows
+    → (opens : OpensFound c h name known found acts reply) → reply ≡ To_import (Unopened group top faults)
+    → EndsUnopened c (size_in h.table) (opening_of c h name known found acts reply opens) acts group top faults
+opens_unopened c h name known found acts reply group top faults opens says = follow opens.outcome refl opens.follows
   where
     A : Type 0
-    A = EndsUnopened c (size_in h.table) (opening_of c h name found acts reply opens) acts group top faults
+    A = EndsUnopened c (size_in h.table) (opening_of c h name known found acts reply opens) acts group top faults
 
     by_turn : (turn : TurnReply) (s : PoolState) (vs : List Move) → opens.outcome ≡ Opens_state s
         → RowResume c (size_in h.table) s vs turn → OpensBy turn found.pool.0 s vs opens.rest reply → A
     by_turn (Committed m) s vs out row by = absurd (let no = sym by.1 ∙ says in cc)
     by_turn (Suspended n t k) s vs out row by =
-        let front = opening_front c h name found acts reply opens in
+        let front = opening_front c h name known found acts reply opens in
         let is = opened_is c (size_in h.table) (free_in h) name found opens.made opens.outcome opens.row s out in
         record {
           front = front.0;
@@ -175,18 +176,18 @@ fails_opening c size opening acts group top faults from to reads caused x =
     }
 
 -- The line.
-seek_unopened : (seek : SeekReply) (c : Codec) (h : Host) (name : List ℕ) (acts : List Act) (reply : Reply)
+seek_unopened : (seek : SeekReply) (c : Codec) (h : Host) (name : List ℕ) (known : Known) (acts : List Act) (reply : Reply)
     (group : ℕ) (top : Guid) (faults : ℕ)
-    → ImportBy seek c h name acts reply → reply ≡ To_import (Unopened group top faults)
+    → ImportBy seek c h name known acts reply → reply ≡ To_import (Unopened group top faults)
     → (opening : Opening) × (opening_in acts ≡ Some opening)
     × EndsUnopened c (size_in h.table) opening acts group top faults
-seek_unopened NoRecord c h name acts reply group top faults row says = absurd (let no = sym row.1 ∙ says in cc)
-seek_unopened (NumbersEnd limit count) c h name acts reply group top faults row says =
+seek_unopened NoRecord c h name known acts reply group top faults row says = absurd (let no = sym row.1 ∙ says in cc)
+seek_unopened (NumbersEnd limit count) c h name known acts reply group top faults row says =
     absurd (let no = sym row.1 ∙ says in cc)
-seek_unopened (TakesRecord found) c h name acts reply group top faults row says = (
-  opening_of c h name found acts reply row,
+seek_unopened (TakesRecord found) c h name known acts reply group top faults row says = (
+  opening_of c h name known found acts reply row,
   ap opening_in row.are,
-  opens_unopened c h name found acts reply group
+  opens_unopened c h name known found acts reply group
       top faults row says,
 )
 
@@ -201,7 +202,7 @@ import_loses c h name acts reply group top faults from to row caused says = unle
         let look : Act = Looked name _ in
         let all : acts ≡ bare row.made ++ (look ∷ row.rest) = row.are in
         let ends = seek_unopened row.seek c
-        (host_behind row.made h) name row.rest reply group top faults row.follows says in
+        (host_behind row.made h) name _ row.rest reply group top faults row.follows says in
         let x = ends.2 in
         fails_opening c (size_in h.table) ends.0 acts group top faults from to
         (ap opening_in all ∙ (opening_bare row.made (look ∷ row.rest) ∙ ends.1)) caused (record {

@@ -397,10 +397,10 @@ keep_follows : (outcome : OpenReply) (c : Codec) (size : ℕ → ℕ) (d : Held)
 keep_follows (NoPage page shown) c size d g acts reply row = subst (Keep d) (sym row.0) tt
 keep_follows (Opens_state s) c size d g acts reply row = keep_opens row.1 d g s row.0 acts reply (line_resume KeepsMembers kept_line (lacking_of s.core.leaves s.core.leaves) c size s row.0 row.1 row.2) row.3
 
-keep_import_by : (seek : SeekReply) (c : Codec) (h : Host) (name : List ℕ) (acts : List Act) (reply : Reply) (d : Held) → ImportBy seek c h name acts reply → Keep d acts
-keep_import_by NoRecord c h name acts reply d row = subst (Keep d) (sym row.0) tt
-keep_import_by (NumbersEnd limit count) c h name acts reply d row = subst (Keep d) (sym row.0) tt
-keep_import_by (TakesRecord found) c h name acts reply d row = subst (Keep d) (sym row.are) (
+keep_import_by : (seek : SeekReply) (c : Codec) (h : Host) (name : List ℕ) (known : Known) (acts : List Act) (reply : Reply) (d : Held) → ImportBy seek c h name known acts reply → Keep d acts
+keep_import_by NoRecord c h name known acts reply d row = subst (Keep d) (sym row.0) tt
+keep_import_by (NumbersEnd limit count) c h name known acts reply d row = subst (Keep d) (sym row.0) tt
+keep_import_by (TakesRecord found) c h name known acts reply d row = subst (Keep d) (sym row.are) (
   tt,
   keep_bare d row.row.ids (all_shown found.pool.0 (read_in row.row.ids) row.row.devs ++ (mark ∷ turned))
       (keep_shown d found.pool.0 (read_in row.row.ids) row.row.devs (mark ∷ turned) (
@@ -418,7 +418,7 @@ keep_import_by (TakesRecord found) c h name acts reply d row = subst (Keep d) (s
 
 keep_for : (full : Bool) (c : Codec) (h : Host) (name : List ℕ) (acts : List Act) (reply : Reply) (d : Held) → ImportFor full c h name acts reply → Keep d acts
 keep_for true c h name acts reply d row = subst (Keep d) (sym row.0) tt
-keep_for false c h name acts reply d row = subst (Keep d) (sym row.are) (keep_bare d row.made (Looked name _ ∷ row.rest) (tt, keep_import_by row.seek c (host_behind row.made h) name row.rest reply d row.follows))
+keep_for false c h name acts reply d row = subst (Keep d) (sym row.are) (keep_bare d row.made (Looked name _ ∷ row.rest) (tt, keep_import_by row.seek c (host_behind row.made h) name _ row.rest reply d row.follows))
 
 keep_unless : (found : Option PoolState) (c : Codec) (h : Host) (name : List ℕ) (acts : List Act) (reply : Reply) (d : Held) → ImportUnless found c h name acts reply → Keep d acts
 keep_unless (Some s) c h name acts reply d row = subst (Keep d) (sym row.0) tt

@@ -13,6 +13,7 @@ use Rattle.txg_history.specs.Pages.{Codec}
 use Rattle.txg_history.specs.Pools.{Pool, after, pool_after}
 use Rattle.txg_history.proofs.Folding.{name_kept}
 use Rattle.txg_history.proofs.Logging.{by_bool}
+use Rattle.txg_history.specs.Premises.{Premises}
 use Rattle.pool_moves.specs.AwayRows.{WriteReply, Taken, BadAddress, Full, NoSpace, WriteFits, WriteBy, RowWrite, is_spare, leaf_named}
 use Rattle.pool_moves.specs.LineRows.{TurnReply, Idle, Write, Flush, Round, Committed, Suspended}
 use Rattle.pool_moves.specs.Moves.{Move, Makes, Puts, events_of, Widen, step, steps}
@@ -358,10 +359,10 @@ named_map name g bytes (turn ∷ turns) last rest all =
     named_bare name turn.reads (Marks g (Reads_pages (up_to (page_of turn) bytes)) ∷ (bare turn.rewrites ++ map_acts g bytes turns last rest))
     (tt, named_bare name turn.rewrites (map_acts g bytes turns last rest) (named_map name g bytes turns last rest all))
 
-named_import_by : (seek : SeekReply) (c : Codec) (h : Host) (name : List ℕ) (acts : List Act) (reply : Reply) → ImportBy seek c h name acts reply → AllNamed name acts
-named_import_by NoRecord c h name acts reply row = subst (AllNamed name) (sym row.0) tt
-named_import_by (NumbersEnd limit count) c h name acts reply row = subst (AllNamed name) (sym row.0) tt
-named_import_by (TakesRecord found) c h name acts reply row = subst (AllNamed name) (sym row.are) (
+named_import_by : (seek : SeekReply) (c : Codec) (h : Host) (name : List ℕ) (known : Known) (acts : List Act) (reply : Reply) → ImportBy seek c h name known acts reply → AllNamed name acts
+named_import_by NoRecord c h name known acts reply row = subst (AllNamed name) (sym row.0) tt
+named_import_by (NumbersEnd limit count) c h name known acts reply row = subst (AllNamed name) (sym row.0) tt
+named_import_by (TakesRecord found) c h name known acts reply row = subst (AllNamed name) (sym row.are) (
   refl,
   named_bare name row.row.ids (all_shown found.pool.0 (read_in row.row.ids) row.row.devs ++ (mark ∷ turned))
       (named_shown name found.pool.0 (read_in row.row.ids) row.row.devs (mark ∷ turned) (
@@ -380,7 +381,7 @@ named_import_by (TakesRecord found) c h name acts reply row = subst (AllNamed na
 named_for : (full : Bool) (c : Codec) (h : Host) (name : List ℕ) (acts : List Act) (reply : Reply) → ImportFor full c h name acts reply → AllNamed name acts
 named_for true c h name acts reply row = subst (AllNamed name) (sym row.0) tt
 named_for false c h name acts reply row = subst (AllNamed name) (sym row.are)
-    (named_bare name row.made (Looked name _ ∷ row.rest) (tt, named_import_by row.seek c (host_behind row.made h) name row.rest reply row.follows))
+    (named_bare name row.made (Looked name _ ∷ row.rest) (tt, named_import_by row.seek c (host_behind row.made h) name _ row.rest reply row.follows))
 
 named_import : (found : Option PoolState) (c : Codec) (h : Host) (name : List ℕ) (acts : List Act) (reply : Reply) → ImportUnless found c h name acts reply → AllNamed name acts
 named_import (Some s) c h name acts reply row = subst (AllNamed name) (sym row.0) tt
@@ -391,8 +392,8 @@ act_named : (c : Codec) (name : List ℕ) (act : Act) (p : Pool) → NamedAt nam
 act_named c name (Reads_as opening) p is = by (p.pool.0 == opening.found.pool.0) refl
   where
     by : (t : Bool) → (p.pool.0 == opening.found.pool.0) ≡ t
-        → ((o : Opening) × (Reads_as opening ≡ Reads_as o) × (o.found.pool.0 ≡ p.pool.0) × ((p.pool.0 ≡ opening.found.pool.0 → p.name ≡ opening.name) → p.name ≡ name)) ⊎ ((pool_after (cond t (Opens (read_by opening p) ∷ []) []) p).written ≡ p.written)
-    by true same = inl (opening, refl, sym (number_of_test p.pool.0 opening.found.pool.0 same), λ fair. fair (number_of_test p.pool.0 opening.found.pool.0 same) ∙ is)
+        → ((o : Opening) × (Reads_as opening ≡ Reads_as o) × (o.found.pool.0 ≡ p.pool.0) × ((p.pool.0 ≡ opening.found.pool.0 → (p.name ≡ opening.name) × Premises c.head_of p opening.known) → p.name ≡ name)) ⊎ ((pool_after (cond t (Opens (read_by opening p) ∷ []) []) p).written ≡ p.written)
+    by true same = inl (opening, refl, sym (number_of_test p.pool.0 opening.found.pool.0 same), λ fair. (fair (number_of_test p.pool.0 opening.found.pool.0 same)).0 ∙ is)
     by false off = inr refl
 act_named c name (Does g v) p is = inr (act_still (Does g v) p is)
 act_named c name act p is = inr (act_still act p tt)

@@ -14,9 +14,10 @@ use Rattle.pool_moves.specs.Moves.{Move, events_of}
 use Rattle.pool_moves.specs.ReadRow.{ReadReply, made_in}
 use Rattle.pool_moves.specs.States.{PoolState}
 
--- What an opening reads: the name that was asked, the record that it found, and the devices on which it finds the record's leaves.
+-- What an opening reads: the name that was asked, what its looks showed, the record that it found, and the devices on which it finds the record's leaves.
 pub record Opening : Type 0 where
   pub name : List ℕ
+  pub known : Known
   pub found : Found
   pub devs : List (Option ℕ)
 

@@ -27,10 +27,12 @@ pub record CommitsGroup (before behind : Pool) (n : ℕ) : Type 0 where
   pub acked : number_of behind.acked ≡ n
   pub blocks : (a : ℕ) → block_at behind.acked a ≡ before.group.content a
 
--- A create that answers that the pool is made acknowledged record 1, in which each block is zeros, and the pool is open under its name.
+-- A create that answers that the pool is made acknowledged record 1, in which each block is zeros, as it is read from now on, and the pool is open
+-- under its name.
 pub record FoundsPool (behind : Pool) (after : Host) (name : List ℕ) : Type 0 where
   pub acked : number_of behind.acked ≡ 1
   pub blocks : (a : ℕ) → block_at behind.acked a ≡ zero_block
+  pub written : (a : ℕ) → behind.written a ≡ zero_block
   pub state : PoolState
   pub is_open : IsOpenAs behind after name state
 

@@ -23,14 +23,12 @@ IsFairMark p (Steps_by made) = ¬ (FoundClash p made)
 IsFairMark p (Seeks_by made found) = AreWholeReads p made × AllByRecursion (IsMember p) found
 IsFairMark p (Reads_pages bytes) = ¬ (ClashesAt p.reads.cells bytes)
 
--- What is assumed of an act, for a pool. Its own marks are fair. An opening by its name has the premises of openings, and one that reads a record
--- of its number is one by its name. Where identities were read, no ring sector was torn into a correct uberblock. And no other pool is made under
--- its number.
+-- What is assumed of an act, for a pool. Its own marks are fair. An opening that reads a record of its number is one by its name, and has the
+-- premises of openings. Where identities were read, no ring sector was torn into a correct uberblock. And no other pool is made under its number.
 abbrev pub IsFair : Codec → Pool → Act → Type 0
 IsFair c p (Marks g mark) = p.pool.0 ≡ g → IsFairMark p mark
-IsFair c p (Looked name known) = p.name ≡ name → Premises c.head_of p known
 IsFair c p (Shows g d known) = AreNotTorn p known
-IsFair c p (Reads_as opening) = p.pool.0 ≡ opening.found.pool.0 → p.name ≡ opening.name
+IsFair c p (Reads_as opening) = p.pool.0 ≡ opening.found.pool.0 → (p.name ≡ opening.name) × Premises c.head_of p opening.known
 IsFair c p (Names g) = g ≢ p.pool.0
 IsFair c p act = Unit {0}
 
@@ -38,3 +36,9 @@ IsFair c p act = Unit {0}
 abbrev pub AreFair : Codec → Pool → List Act → Type 0
 AreFair c p [] = Unit {0}
 AreFair c p (act ∷ acts) = IsFair c p act × AreFair c (pool_by act p) acts
+
+-- the premises of openings hold at each look by the pool's name among these acts
+abbrev pub AreFairLooks : Codec → Pool → List Act → Type 0
+AreFairLooks c p [] = Unit {0}
+AreFairLooks c p (Looked name known ∷ acts) = (p.name ≡ name → Premises c.head_of p known) × AreFairLooks c (pool_by (Looked name known) p) acts
+AreFairLooks c p (act ∷ acts) = AreFairLooks c (pool_by act p) acts

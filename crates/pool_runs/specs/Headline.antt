@@ -14,7 +14,7 @@ use Rattle.pool_runs.specs.Acts.{Act, calls_along, history}
 use Rattle.pool_runs.specs.Committing.{Acknowledges, FindsPool}
 use Rattle.pool_moves.specs.TreeRows.{Required as DetachRequired}
 use Rattle.pool_runs.specs.Counting.{IsCounted}
-use Rattle.pool_runs.specs.Fairness.{AreFair}
+use Rattle.pool_runs.specs.Fairness.{AreFair, AreFairLooks}
 use Rattle.pool_runs.specs.HostRows.{acts_in}
 use Rattle.pool_runs.specs.Hosts.{Host}
 use Rattle.pool_runs.specs.Lines.{Asks_read, Asks_offline, Asks_import, Reply, To_offline, No_memory, Entry, Asks_detach, To_detach}
@@ -63,6 +63,7 @@ pub record Headline (c : Codec) (past : Past) (h : Host) (acts : List Act) (entr
   -- an import of its name finds a live record, not below the acknowledged one, and opens it above, or tells a page of it that has no good leaf, or is
   -- refused by its cause
   pub opens : (l : LineOf c past acts entries) → l.entry.asked ≡ Asks_import (pool_before l).name → AreFair c (pool_before l) l.entry.acts
+      → AreFairLooks c (pool_before l) l.entry.acts
       → FindsPool c (host_before h l) (pool_before l) (pool_behind l) (host_after h l) l.entry.acts l.entry.reply
   -- a sync, a turn or a detach that answers a number acknowledged that record; a sync's and a detach's has each block as it was written last, and a turn's
   -- as it was before the group was frozen; and a sync that freezes none acknowledged the group that was frozen before

@@ -54,22 +54,22 @@ map_acts g bytes turns last more = page_acts g bytes turns (bare last ++ (Marks 
 
 -- An opening reads the record that it found: it looks for the identities of the leaves on the devices that are no open pool's, each of which shows
 -- whose its device is, marks what it read of them, then it reads the map, and commits.
-pub record OpensFound (c : Codec) (h : Host) (name : List ℕ) (found : Found) (acts : List Act) (reply : Reply) : Type 0 where
+pub record OpensFound (c : Codec) (h : Host) (name : List ℕ) (known : Known) (found : Found) (acts : List Act) (reply : Reply) : Type 0 where
   pub made : List Noted
   pub outcome : OpenReply
   pub row : RowOpen c (size_in h.table) (free_in h) name found made outcome
   pub rest : List Act
   pub follows : FollowsMap outcome c (size_in h.table) found.pool.0 rest reply
-  pub are : acts ≡ Reads_as (record { name = name; found = found; devs = row.devs })
+  pub are : acts ≡ Reads_as (record { name = name; known = known; found = found; devs = row.devs })
       ∷ (bare row.ids ++ (all_shown found.pool.0 (read_in row.ids) row.devs
       ++ (Marks found.pool.0 (Seeks_by row.ids row.devs) ∷ map_acts found.pool.0 row.bytes row.turns row.last rest)))
   pub own : AreOwnActs found.pool.0 h acts
 
 -- by what the looks found
-abbrev pub ImportBy : SeekReply → Codec → Host → (name : List ℕ) → List Act → Reply → Type 0
-ImportBy NoRecord c h name acts reply = (acts ≡ []) × (reply ≡ To_import NothingFound)
-ImportBy (NumbersEnd limit count) c h name acts reply = (acts ≡ []) × (reply ≡ To_import (LastNumber limit count))
-ImportBy (TakesRecord found) c h name acts reply = OpensFound c h name found acts reply
+abbrev pub ImportBy : SeekReply → Codec → Host → (name : List ℕ) → Known → List Act → Reply → Type 0
+ImportBy NoRecord c h name known acts reply = (acts ≡ []) × (reply ≡ To_import NothingFound)
+ImportBy (NumbersEnd limit count) c h name known acts reply = (acts ≡ []) × (reply ≡ To_import (LastNumber limit count))
+ImportBy (TakesRecord found) c h name known acts reply = OpensFound c h name known found acts reply
 
 -- the host behind calls
 abbrev pub host_behind : (made : List Noted) → Host → Host
@@ -82,7 +82,7 @@ pub record Imports (c : Codec) (h : Host) (name : List ℕ) (acts : List Act) (r
   pub seek : SeekReply
   pub row : RowSeek c (size_in h.table) (handed h.table) name made seek
   pub rest : List Act
-  pub follows : ImportBy seek c (host_behind made h) name rest reply
+  pub follows : ImportBy seek c (host_behind made h) name (known_by (size_in h.table) (handed h.table) row.looks) rest reply
   pub are : acts ≡ bare made ++ (Looked name (known_by (size_in h.table) (handed h.table) row.looks) ∷ rest)
 
 -- by the open pool of the name, and by whether the host has as many pools as it may
