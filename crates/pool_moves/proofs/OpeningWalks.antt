@@ -29,7 +29,7 @@ use Rattle.pool_moves.specs.Keeping.{HasNumberBelow, Walks}
 use Rattle.pool_moves.specs.Leaves.{LeafSeen, Seat}
 use Rattle.pool_moves.specs.Opened.{opened_leaves, opened_state, opened_seats, claims_of}
 use Rattle.pool_moves.specs.OpeningRow.{IsLiveOne, OpenReply, Opens_state, NoPage, reading_of, RowOpen, page_calls, MayTurns, IsLostPage}
-use Rattle.pool_moves.specs.PageReads.{Reading, is_read_before, IsKnown, IsPageHere, PageTurn, page_of, calls_of_turns, up_to, IsPageTurn, IsReadTo, ReadsMap, LeafShown, StopsAt, failed_on, answers_in}
+use Rattle.pool_moves.specs.PageReads.{Reading, is_read_before, IsKnown, IsPageHere, PageTurn, page_of, calls_of_turns, up_to, IsPageTurn, IsReadTo, ReadsMap, LeafShown, StopsAt, is_failed_read, failed_at, answers_in}
 use Rattle.pool_moves.specs.ReadRow.{copies_of}
 use Rattle.pool_moves.specs.Rosters.{IsRoster}
 use Rattle.pool_moves.specs.States.{Sums, sums, no_group_seen, no_scan_seen, PoolSeen, PoolState, Side, seen}
@@ -409,9 +409,9 @@ module _ (c : Codec) (size : ℕ → ℕ) (handed : List ℕ → Option ℕ) (na
         ∙ (pool_more (as_events turned) (as_events o.row.last) behind
         ∙ (ap (λ u. pool_after (as_events o.row.last) u) (calls_after turned behind) ∙ calls_after o.row.last stopped)))))
 
-    none_failed : (d : ℕ) → answers_in x.leaves (page_calls o.row) d ≡ true → (up_devs x.leaves d ≡ true) × (failed_on o.row.last d ≡ false)
-    none_failed d is = let parts = and_parts (up_devs x.leaves d) (not (failed_on (page_calls o.row) d)) is in
-        (parts.0, failed_second turned o.row.last d (not_of (failed_on (page_calls o.row) d) parts.1))
+    none_failed : (at d : ℕ) → answers_in x.leaves (page_calls o.row) at d ≡ true → (up_devs x.leaves d ≡ true) × (failed_at at o.row.last d ≡ false)
+    none_failed at d is = let parts = and_parts (up_devs x.leaves d) (not (failed_at at (page_calls o.row) d)) is in
+        (parts.0, failed_second turned o.row.last (not_of (failed_at at (page_calls o.row) d) parts.1))
       where
         not_of : (t : Bool) → not t ≡ true → t ≡ false
         not_of true is = absurd (cc)
@@ -421,10 +421,9 @@ module _ (c : Codec) (size : ℕ → ℕ) (handed : List ℕ → Option ℕ) (na
         or_last true u is = absurd (cc)
         or_last false u is = is
 
-        failed_second : (first second : List Noted) (d : ℕ) → failed_on (first ++ second) d ≡ false → failed_on second d ≡ false
-        failed_second [] second d is = is
-        failed_second (noted ∷ first) second d is = failed_second first second d
-            (or_last ((device_of noted.call == d) && not (is_none (fault_of noted.call))) (failed_on (first ++ second) d) is)
+        failed_second : (first second : List Noted) → failed_at at (first ++ second) d ≡ false → failed_at at second d ≡ false
+        failed_second [] second is = is
+        failed_second (noted ∷ first) second is = failed_second first second (or_last (is_failed_read at d noted.call) (failed_at at (first ++ second) d) is)
 
     cell_here : AreRightTo level index st.back → (cell : Cell) × (r.cells (key (suc level) index) ≡ Some cell) × (sum_of_cell cell ≡ st.sum)
     cell_here right = cell_of (r.cells (key (suc level) index)) st.sum (sym (right_here right).pointer ∙ st.sum_is)
@@ -433,10 +432,12 @@ module _ (c : Codec) (size : ℕ → ℕ) (handed : List ℕ → Option ℕ) (na
     stopped_lost = ⊎_elim (λ right. ⊎_elim (λ may. let cell = cell_here right in inl (record {
       cell = cell.0;
       cell_is = cell.1;
-      none = λ good. stop_never x r stopped level index st.sum o.row.last st.wrong (answers_in x.leaves (page_calls o.row))
-          (on_behind x r behind turned on may) st.low st.sum_is (right_here right) reads_answer st.tried none_failed
-          (λ other at. subst (λ u. HasGoodLeaf u r other (answers_in x.leaves (page_calls o.row))) end_is
-          (subst (λ a. HasGoodLeaf (pool_after (as_events made) q) r a (answers_in x.leaves (page_calls o.row)))
+      none = λ good. stop_never x r stopped level index st.sum o.row.last st.wrong (answers_in x.leaves (page_calls o.row) (data_start + cell.0.sector))
+          (on_behind x r behind turned on may) st.low st.sum_is (right_here right) reads_answer st.tried
+          (λ d is. subst (λ sector. (up_devs x.leaves d ≡ true) × (failed_at (data_start + sector) o.row.last d ≡ false)) (ap (λ sum. sum.sector) cell.2)
+          (none_failed (data_start + cell.0.sector) d is))
+          (λ other at. subst (λ u. HasGoodLeaf u r other (answers_in x.leaves (page_calls o.row) (data_start + cell.0.sector))) end_is
+          (subst (λ a. HasGoodLeaf (pool_after (as_events made) q) r a (answers_in x.leaves (page_calls o.row) (data_start + cell.0.sector)))
           (same_cell cell.0 other (sym cell.1 ∙ at)) good));
     }))
         (λ clash. inr clash) (first_may right)) (λ clash. inr clash) right_or

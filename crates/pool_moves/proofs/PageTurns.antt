@@ -23,7 +23,7 @@ use Rattle.txg_history.proofs.Logging.{by_bool, same_device, true_not_false}
 use Rattle.txg_history.proofs.Moving.{event_survives}
 use Rattle.txg_history.proofs.Showing.{read_damage, stays_damaged}
 use Rattle.txg_history.proofs.Surviving.{history_survives}
-use Rattle.pool_moves.specs.PageReads.{Reading, is_read_before, IsKnown, IsPageHere, AreTried, PageTurn, page_of, calls_of_turns, IsPageTurn, failed_on}
+use Rattle.pool_moves.specs.PageReads.{Reading, is_read_before, IsKnown, IsPageHere, AreTried, PageTurn, page_of, calls_of_turns, IsPageTurn, is_failed_read, failed_at}
 use Rattle.vdev_tree.specs.Leaf.{is_up}
 use Rattle.txg_history.specs.Premises.{HasGoodLeaf}
 use Rattle.txg_history.specs.Groups.{Logs}
@@ -296,14 +296,15 @@ HasCopy d [] = ⊥
 HasCopy d (copy ∷ copies) = ((copy.dev ≡ d) × (copy.lacks ≡ false)) ⊎ HasCopy d copies
 
 failed_here : (d : ℕ) (noted : Noted) (at : ℕ) (bytes : List ℕ) (fault : Fault) (made : List Noted) → noted.call ≡ Read d at bytes (Some fault)
-    → failed_on (noted ∷ made) d ≡ true
-failed_here d noted at bytes fault made call = let here : (d == d) ≡ true = grind (arith, nat_tests) in
-    subst (λ call. (((device_of call == d) && not (is_none (fault_of call))) || failed_on made d) ≡ true) (sym call) (rw here refl)
+    → failed_at at (noted ∷ made) d ≡ true
+failed_here d noted at bytes fault made call =
+    let here : (d == d) ≡ true = grind (arith, nat_tests) in let there : (at == at) ≡ true = grind (arith, nat_tests) in
+    subst (λ call. (is_failed_read at d call || failed_at at made d) ≡ true) (sym call) (rw (here, there) refl)
 
-failed_more : (d : ℕ) (noted : Noted) (made : List Noted) → failed_on made d ≡ true → failed_on (noted ∷ made) d ≡ true
-failed_more d noted made is = by ((device_of noted.call == d) && not (is_none (fault_of noted.call)))
+failed_more : (at d : ℕ) (noted : Noted) (made : List Noted) → failed_at at made d ≡ true → failed_at at (noted ∷ made) d ≡ true
+failed_more at d noted made is = by (is_failed_read at d noted.call)
   where
-    by : (t : Bool) → (t || failed_on made d) ≡ true
+    by : (t : Bool) → (t || failed_at at made d) ≡ true
     by true = refl
     by false = is
 
@@ -311,14 +312,14 @@ none_good : (c : Codec) (p : Pool) (k : Key) (cell : Cell) (Good : List ℕ → 
     (wrong : List CopyOf) → Good cell.block → Survives c p
     → p.reads.cells k ≡ Some cell → AllByRecursion (IsCopy p.member p.in_top p.owes cell) copies → AllAnswer p.sectors made
     → AreTried (data_start + cell.sector) Good copies made wrong None
-    → HasCopy d copies → (run made p.sectors d (data_start + cell.sector)).damaged ≡ false → failed_on made d ≡ true
+    → HasCopy d copies → (run made p.sectors d (data_start + cell.sector)).damaged ≡ false → failed_at (data_start + cell.sector) made d ≡ true
 none_good c p k cell Good d [] made wrong good sv at are answers tried has sound = absurd has
 none_good c p k cell Good d (copy ∷ more) [] wrong good sv at are answers tried has sound = absurd tried
 none_good c p k cell Good d (copy ∷ more) (noted ∷ made) wrong good sv at are answers (inl (fails, rest)) (inl here) sound =
     failed_here d noted (data_start + cell.sector) fails.bytes fails.fault made
     (subst (λ e. noted.call ≡ Read e (data_start + cell.sector) fails.bytes (Some fails.fault)) here.0 fails.gives.is)
 none_good c p k cell Good d (copy ∷ more) (noted ∷ made) wrong good sv at are answers (inl (fails, rest)) (inr later) sound =
-    failed_more d noted made (none_good c (after (Calls noted) p) k cell Good d more made wrong good
+    failed_more (data_start + cell.sector) d noted made (none_good c (after (Calls noted) p) k cell Good d more made wrong good
     (event_survives c p (Calls noted) sv (read_one c p noted copy.dev (data_start + cell.sector) fails.bytes (Some fails.fault) fails.gives.is)) at
     are.1 answers.1 rest later sound)
 none_good c p k cell Good d (copy ∷ more) (noted ∷ made) wrong good sv at are answers (inr (inl (others, bytes, gave, wrong_is, rest))) (inl here) sound =
@@ -330,7 +331,7 @@ none_good c p k cell Good d (copy ∷ more) (noted ∷ made) wrong good sv at ar
     (subst (λ e. (run made (after (Calls noted) p).sectors e (data_start + cell.sector)).damaged ≡ true) here.0
     (stays_damaged made copy.dev (data_start + cell.sector) (after (Calls noted) p).sectors (none_heals made copy.dev later.only) hurt)) sound
 none_good c p k cell Good d (copy ∷ more) (noted ∷ made) wrong good sv at are answers (inr (inl (others, bytes, gave, wrong_is, rest))) (inr later) sound =
-    failed_more d noted made (none_good c (after (Calls noted) p) k cell Good d more made others good
+    failed_more (data_start + cell.sector) d noted made (none_good c (after (Calls noted) p) k cell Good d more made others good
     (event_survives c p (Calls noted) sv (read_one c p noted copy.dev (data_start + cell.sector) bytes None gave.gives.is)) at are.1 answers.1 rest later sound)
 none_good c p k cell Good d (copy ∷ more) (noted ∷ made) wrong good sv at are answers (inr (inr (bytes, gave, made_is, wrong_is, outcome_is))) has
     sound = absurd (let no : None ≡ Some bytes = outcome_is in cc)
@@ -408,9 +409,9 @@ pub stop_never : (x : Reading) (r : Rec) (p : Pool) (level index : ℕ) (sum : S
     → IsOn x r p → level < 3 → x.got (key (suc level) index) ≡ Some sum
     → IsRightTurn x r level index → AllAnswer p.sectors reads
     → AreTried (data_start + sum.sector) (IsPageHere x level index sum) (tries (copies_of sum x.leaves)) reads wrong None
-    → ((d : ℕ) → answering d ≡ true → (up_devs x.leaves d ≡ true) × (failed_on reads d ≡ false))
+    → ((d : ℕ) → answering d ≡ true → (up_devs x.leaves d ≡ true) × (failed_at (data_start + sum.sector) reads d ≡ false))
     → ((cell : Cell) → r.cells (key (suc level) index) ≡ Some cell → HasGoodLeaf (with_calls reads p) r cell answering) → ⊥
-stop_never x r p level index sum reads wrong answering on low sum_is right answers tried up goods = subst Goal cell.2 whole tried
+stop_never x r p level index sum reads wrong answering on low sum_is right answers tried up goods = subst Goal cell.2 whole tried up
   where
     cell : (c : Cell) × (r.cells (key (suc level) index) ≡ Some c) × (sum_of_cell c ≡ sum)
     cell = cell_of (r.cells (key (suc level) index)) sum (sym right.pointer ∙ sum_is)
@@ -419,10 +420,11 @@ stop_never x r p level index sum reads wrong answering on low sum_is right answe
     good = goods cell.0 cell.1
 
     Goal : Sum → Type 0
-    Goal sum = AreTried (data_start + sum.sector) (IsPageHere x level index sum) (tries (copies_of sum x.leaves)) reads wrong None → ⊥
+    Goal sum = AreTried (data_start + sum.sector) (IsPageHere x level index sum) (tries (copies_of sum x.leaves)) reads wrong None
+        → ((d : ℕ) → answering d ≡ true → (up_devs x.leaves d ≡ true) × (failed_at (data_start + sum.sector) reads d ≡ false)) → ⊥
 
     whole : Goal (sum_of_cell cell.0)
-    whole tried = true_not_false (failed_on reads good.d)
+    whole tried up = true_not_false (failed_at (data_start + cell.0.sector) reads good.d)
         (none_good x.codec p (key (suc level) index) cell.0 (IsPageHere x level index (sum_of_cell cell.0)) good.d
         (tries (copies_of (sum_of_cell cell.0) x.leaves)) reads wrong
         (page_here x p r level index cell.0 on.of low cell.1 right.known) on.of.survives (on.reads_is (key (suc level) index) ∙ cell.1)

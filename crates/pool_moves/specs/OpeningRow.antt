@@ -16,7 +16,7 @@ use Rattle.txg_history.specs.Moves.{Mays}
 use Rattle.txg_history.specs.Pages.{LeafKept, Codec, ClashesAt}
 use Rattle.txg_history.specs.Pools.{Pool, pool_after}
 use Rattle.txg_history.specs.Premises.{AreNotTorn, HasGoodLeaf}
-use Rattle.txg_history.specs.Records.{Rec, Cell, Cells, IsIn, key, number_of}
+use Rattle.txg_history.specs.Records.{Rec, Cell, Cells, IsIn, key, number_of, data_start}
 use Rattle.pool_moves.specs.CommitRows.{RowReopen}
 use Rattle.pool_moves.specs.Leaves.{LeafSeen}
 use Rattle.pool_moves.specs.LineRows.{TurnReply, Committed, Suspended}
@@ -158,11 +158,11 @@ MayTurns c p cells found (turn ∷ turns) last = Mays c p (as_events turn.reads)
     × ((ClashesAt cells (up_to (page_of turn) found) → ⊥) → Mays c (pool_after (as_events turn.reads) p) (as_events turn.rewrites)
     × MayTurns c (pool_after (as_events turn.rewrites) (pool_after (as_events turn.reads) p)) cells found turns last)
 
--- This page of a record was lost: none of the leaves that answer has it, is undamaged there, and stands on the page's top.
-pub record IsLostPage (p : Pool) (r : Rec) (page : Key) (answering : ℕ → Bool) : Type 0 where
+-- This page of a record was lost: none of the leaves that answer at its sector has it, is undamaged there, and stands on the page's top.
+pub record IsLostPage (p : Pool) (r : Rec) (page : Key) (answering : (at : ℕ) → ℕ → Bool) : Type 0 where
   pub cell : Cell
   pub cell_is : r.cells page ≡ Some cell
-  pub none : ¬ (HasGoodLeaf p r cell answering)
+  pub none : ¬ (HasGoodLeaf p r cell (answering (data_start + cell.sector)))
 
 -- the top of the first of these leaves whose top has no readable leaf among all
 abbrev pub is_up_under : (top : ℕ) → LeafSeen → Bool

@@ -1,9 +1,9 @@
 -- How an opening reads the pages of a map back: one after another, each from the copies on the leaves of its top.
-use Rattle.std.specs.Prelude.{◌≡◌, ◌⊎◌, ℕ, suc, ◌+◌, ◌*◌, ◌<◌, ◌≤◌, ◌==◌, ◌&&◌, ◌||◌, nat_lt, Bool, true, cond, Option, Some, None, not, List, [], ◌∷◌, ◌++◌, map}
+use Rattle.std.specs.Prelude.{◌≡◌, ◌⊎◌, ℕ, suc, ◌+◌, ◌*◌, ◌<◌, ◌≤◌, ◌==◌, ◌&&◌, ◌||◌, nat_lt, Bool, true, false, cond, Option, Some, None, not, List, [], ◌∷◌, ◌++◌, map}
 use Rattle.std.specs.List.{AllByRecursion}
 use Rattle.sha2.specs.Sha256.{sha256}
 use Rattle.mp_base.specs.declared.place.Key.{Key}
-use Rattle.bank_core.specs.Disk.{Call, Noted}
+use Rattle.bank_core.specs.Disk.{Call, Read, Noted}
 use Rattle.mirror_io.specs.declared.copies.CopyOf.{CopyOf}
 use Rattle.mirror_io.specs.Copies.{tries}
 use Rattle.mirror_io.specs.Mirror.{IsHealed}
@@ -135,9 +135,18 @@ pub record ReadsMap (x : Reading) (turns : List PageTurn) : Type 0 where
   pub only : (k : Key) (bytes : List ℕ) → x.found k ≡ Some bytes → IsTurned k turns
   pub back : IsReadTo x (λ k. true)
 
--- a leaf of these that is readable is on the device, and none of these calls failed there
-abbrev pub answers_in : List LeafSeen → List Noted → ℕ → Bool
-answers_in leaves made d = up_devs leaves d && not (failed_on made d)
+-- a read of this sector of the device failed, and one of these calls is such a read
+abbrev pub is_failed_read : (at d : ℕ) → Call → Bool
+is_failed_read at d (Read dev from bytes (Some fault)) = (dev == d) && (from == at)
+is_failed_read at d call = false
+
+abbrev pub failed_at : (at : ℕ) → List Noted → ℕ → Bool
+failed_at at [] d = false
+failed_at at (noted ∷ made) d = is_failed_read at d noted.call || failed_at at made d
+
+-- a leaf of these that is readable is on the device, and none of these calls failed to read this sector there
+abbrev pub answers_in : List LeafSeen → List Noted → (at : ℕ) → ℕ → Bool
+answers_in leaves made at d = up_devs leaves d && not (failed_at at made d)
 
 -- The map is read up to a page of which no copy is good, by these reads.
 pub record StopsAt (x : Reading) (level index : ℕ) (shown : List LeafShown) (turns : List PageTurn) (reads : List Noted) : Type 0 where

@@ -12,7 +12,7 @@ use Rattle.txg_history.specs.Events.{Calls, Known, Opens, as_events}
 use Rattle.txg_history.specs.Looks.{known_by}
 use Rattle.txg_history.specs.Pages.{Codec}
 use Rattle.txg_history.specs.Pools.{Pool, after, pool_after}
-use Rattle.txg_history.specs.Records.{Rec, IsIn, number_of, block_at}
+use Rattle.txg_history.specs.Records.{Rec, IsIn, number_of, block_at, data_start}
 use Rattle.txg_history.proofs.Folding.{calls_after, events_more, pool_more}
 use Rattle.pool_moves.specs.CommitRows.{uncounts}
 use Rattle.pool_moves.specs.Keeping.{Kept}
@@ -22,7 +22,7 @@ use Rattle.pool_moves.specs.Moves.{Move, Freeze, Scan_from, state_step, steps, a
 use Rattle.pool_moves.specs.OpeningRow.{IsLiveOne, SeekReply, NoRecord, NumbersEnd, TakesRecord, taken_by, last_numbers, SeeksLive, OpenReply, Opens_state, NoPage, page_calls, IsLostPage, lacking_of, Resumes, ResumesUnless, RowResume}
 use Rattle.pool_moves.specs.FreezeRow.{up_devs}
 use Rattle.pool_moves.specs.Opened.{opened_leaves}
-use Rattle.pool_moves.specs.PageReads.{LeafShown, failed_on, answers_in}
+use Rattle.pool_moves.specs.PageReads.{LeafShown, is_failed_read, failed_at, answers_in}
 use Rattle.pool_moves.specs.Resilvers.{rest_if, Resilvers}
 use Rattle.pool_moves.specs.States.{PoolSeen, PoolState, Side}
 use Rattle.pool_moves.proofs.FreeWalks.{moves_more}
@@ -256,17 +256,18 @@ opens_live c h p before name known found acts reply n knows live titled made fai
 
 -- A page that was lost.
 
-failed_more : (first second : List Noted) (d : ℕ) → failed_on second d ≡ true → failed_on (first ++ second) d ≡ true
-failed_more [] second d is = is
-failed_more (noted ∷ first) second d is = or_right ((device_of noted.call == d) && not (is_none (fault_of noted.call))) (failed_on (first ++ second) d) (failed_more first second d is)
+failed_more : (first second : List Noted) (at d : ℕ) → failed_at at second d ≡ true → failed_at at (first ++ second) d ≡ true
+failed_more [] second at d is = is
+failed_more (noted ∷ first) second at d is = or_right (is_failed_read at d noted.call) (failed_at at (first ++ second) d) (failed_more first second at d is)
   where
     or_right : (a b : Bool) → b ≡ true → (a || b) ≡ true
     or_right true b is = refl
     or_right false b is = is
 
-failed_first : (first second : List Noted) (d : ℕ) → failed_on first d ≡ true → failed_on (first ++ second) d ≡ true
-failed_first [] second d is = absurd (cc)
-failed_first (noted ∷ first) second d is = either ((device_of noted.call == d) && not (is_none (fault_of noted.call))) (failed_on first d) (failed_on (first ++ second) d) (failed_first first second d) is
+failed_first : (first second : List Noted) (at d : ℕ) → failed_at at first d ≡ true → failed_at at (first ++ second) d ≡ true
+failed_first [] second at d is = absurd (cc)
+failed_first (noted ∷ first) second at d is =
+    either (is_failed_read at d noted.call) (failed_at at first d) (failed_at at (first ++ second) d) (failed_first first second at d) is
   where
     either : (a b e : Bool) → (b ≡ true → e ≡ true) → (a || b) ≡ true → (a || e) ≡ true
     either true b e up is = refl
@@ -278,7 +279,8 @@ fewer_fail false true true up is = absurd (let no : false ≡ true = up refl in 
 fewer_fail false false true up is = refl
 fewer_fail a b false up is = absurd (cc)
 
-lost_for_fewer : (p : Pool) (r : Rec) (page : Key) (few many : ℕ → Bool) → ((d : ℕ) → few d ≡ true → many d ≡ true) → IsLostPage p r page many → IsLostPage p r page few
+lost_for_fewer : (p : Pool) (r : Rec) (page : Key) (few many : (at : ℕ) → ℕ → Bool) → ((at d : ℕ) → few at d ≡ true → many at d ≡ true)
+    → IsLostPage p r page many → IsLostPage p r page few
 lost_for_fewer p r page few many up lost = record {
   cell = lost.cell;
   cell_is = lost.cell_is;
@@ -288,7 +290,7 @@ lost_for_fewer p r page few many up lost = record {
     top_is = leaf.top_is;
     has = leaf.has;
     unhurt = leaf.unhurt;
-    answers = up leaf.d leaf.answers;
+    answers = up (data_start + lost.cell.sector) leaf.d leaf.answers;
   });
 }
 
@@ -323,9 +325,10 @@ opens_loses c h p before name known found acts reply page shown knows live made 
     leaves = opened_leaves (c.leaves found.blob.items) opens.row.devs
 
     -- each call of the pages is one of the line
-    among : (d : ℕ) → failed_on (page_calls opens.row) d ≡ true → failed_on (calls_along acts) d ≡ true
-    among d is = subst (λ made. failed_on made d ≡ true) (sym (opening_calls c h name known found acts reply opens))
-        (failed_first opens.made (calls_along opens.rest) d (subst (λ made. failed_on made d ≡ true) (sym opens.row.calls) (failed_more opens.row.ids (page_calls opens.row) d is)))
+    among : (at d : ℕ) → failed_at at (page_calls opens.row) d ≡ true → failed_at at (calls_along acts) d ≡ true
+    among at d is = subst (λ made. failed_at at made d ≡ true) (sym (opening_calls c h name known found acts reply opens))
+        (failed_first opens.made (calls_along opens.rest) at d
+        (subst (λ made. failed_at at made d ≡ true) (sym opens.row.calls) (failed_more opens.row.ids (page_calls opens.row) at d is)))
 
     lost : (k : Key) (ks : List LeafShown) → opens.outcome ≡ NoPage k ks → k ≡ page → opens.rest ≡ [] → LosesPage c before (pool_along acts p) acts page
     lost k ks out same none = record {
@@ -336,7 +339,7 @@ opens_loses c h p before name known found acts reply page shown knows live made 
       is = facts.is.config_is;
       lost = subst (λ x. IsLostPage x r page (answers_in leaves (calls_along acts))) (sym (behind ∙ ap (λ a. pool_along a q) none))
           (lost_for_fewer q r page (answers_in leaves (calls_along acts)) (answers_in leaves (page_calls opens.row))
-          (λ d is. fewer_fail (failed_on (calls_along acts) d) (failed_on (page_calls opens.row) d) (up_devs leaves d) (among d) is)
+          (λ at d is. fewer_fail (failed_at at (calls_along acts) d) (failed_at at (page_calls opens.row) d) (up_devs leaves d) (among at d) is)
           (facts.pages page ks (out ∙ ap (λ k. NoPage k ks) same)));
     }
 
@@ -490,8 +493,8 @@ import_finds c h p name acts reply knows titled made fair looks row = unless (na
         lost = let leaves = opened_leaves (c.leaves lost.opening.found.blob.items) lost.opening.devs in
             subst (λ x. IsLostPage x lost.r page (answers_in leaves (calls_along acts))) (sym same)
             (lost_for_fewer (pool_along rest p1) lost.r page (answers_in leaves (calls_along acts)) (answers_in leaves (calls_along rest))
-            (λ d is. fewer_fail (failed_on (calls_along acts) d) (failed_on (calls_along rest) d) (up_devs leaves d)
-            (λ failed. subst (λ calls. failed_on calls d ≡ true) (sym (ap calls_along are ∙ bare_calls made (Looked name known ∷ rest))) (failed_more made (calls_along rest) d failed)) is)
+            (λ at d is. fewer_fail (failed_at at (calls_along acts) d) (failed_at at (calls_along rest) d) (up_devs leaves d)
+            (λ failed. subst (λ calls. failed_at at calls d ≡ true) (sym (ap calls_along are ∙ bare_calls made (Looked name known ∷ rest))) (failed_more made (calls_along rest) at d failed)) is)
             lost.lost);
       };
       name_open = finds.name_open;

@@ -71,7 +71,7 @@ opening_in (Reads_as opening ∷ acts) = Some opening
 opening_in (act ∷ acts) = opening_in acts
 
 -- An opening that lost a page of the map read a live record, which has that page, and the page has no good leaf: no leaf of its top was found, is
--- readable, has the page by its log, undamaged, and had no failed call in this line.
+-- readable, has the page by its log, undamaged, and had no failed read of the page in this line.
 pub record LosesPage (c : Codec) (before behind : Pool) (acts : List Act) (page : Key) : Type 0 where
   pub opening : Opening
   pub reads : opening_in acts ≡ Some opening
