@@ -1,5 +1,5 @@
 -- What is acknowledged where a group ends so.
-use Rattle.std.proofs.Common.{◌≡◌, inl, inr, ℕ, ◌≤◌, Bool, true, false, cond, List, [], ◌∷◌, ◌++◌, Option, Some, None, refl, sym, ap, ◌∙◌, subst, append-nil, append_assoc, arith}
+use Rattle.std.proofs.Common.{◌≡◌, inl, inr, ℕ, ◌+◌, ◌<◌, ◌≤◌, Bool, true, false, cond, List, [], ◌∷◌, ◌++◌, Option, Some, None, refl, sym, ap, ◌∙◌, subst, append-nil, append_assoc, arith}
 use Rattle.std.specs.List.{AllByRecursion}
 use Rattle.bank_core.specs.Disk.{Noted}
 use Rattle.txg_history.specs.Pages.{Codec}
@@ -229,17 +229,32 @@ kept_blocks c s t n kept acked none a = ap (λ r. block_at r a) acked.reads ∙ 
 
 -- A sync.
 record SyncCommits (s : PoolState) (vs : List Move) (n : ℕ) : Type 0 where
+  up : s.core.number < n
   ends : EndsIn vs n
   none : (steps vs s).own.writes ≡ (λ x. None)
 
 ended_turn : (a b : TurnReply) → Ended a ≡ Ended b → a ≡ b
 ended_turn a b e = cc
 
+-- a new group's numbers are above those that were drawn before
+open_up : (c : Codec) (size : ℕ → ℕ) (s : PoolState) (vs : List Move) (n : ℕ) → CommitsOpen c size s vs (Committed n) → s.core.number < n
+open_up c size s vs n w =
+    let frozen : s.core.number + 1 ≤ (steps w.first s).core.number = subst (λ l. s.core.number + 1 ≤ (steps l s).core.number) (sym w.freeze.moves.moves)
+    (numbers_up w.freeze.moves.widens (state_step (Freeze w.freeze.cells (up_devs s.core.leaves)) s)) in
+    let most = (group_commits c size (steps w.first s) w.rest n w.ends).up in omega (arith, frozen, most)
+
+-- and so above the record that was acknowledged
+acked_below : (c : Codec) (s : PoolState) (t : Side) (n : ℕ) → Kept c s t → s.core.number < n → number_of t.pool.acked < n
+acked_below c s t n kept up =
+    let top : number_of t.pool.acked ≤ s.core.number = subst (λ h. number_of t.pool.acked ≤ h) (sym (ap (λ core. core.number) kept.core)) kept.survives.order.acked_top in
+    omega (arith, top, up)
+
 open_commits : (refusal : Option FreezeRefusal) (c : Codec) (size : ℕ → ℕ) (s : PoolState) (vs : List Move) (n : ℕ) → CommitsFor refusal c size s vs (Ended (Committed n)) → SyncCommits s vs n
 open_commits (Some refusal) c size s vs n row = absurd (let no = row.1 in cc)
 open_commits None c size s vs n row =
     let w : CommitsOpen c size s vs (Committed n) = subst (CommitsOpen c size s vs) (sym (ended_turn (Committed n) row.0 row.2)) row.1 in
     let rest = group_commits c size (steps w.first s) w.rest n w.ends in record {
+      up = open_up c size s vs n w;
       ends = subst (λ l. EndsIn l n) (sym w.moves) (ends_behind w.first w.rest n rest.ends);
       none = ap (λ l. (steps l s).own.writes) w.moves ∙ frozen_writes w.first w.rest s w.freeze.cells (up_devs s.core.leaves) w.freeze.moves
           (all_group KeepsWrites writes_kind c size (steps w.first s) w.rest (Committed n) (λ bad. absurd bad) w.ends);
@@ -257,14 +272,17 @@ behind_commits (Suspended group top faults) c size s first vs n row = absurd (le
 sync_commits : (frozen : Bool) (c : Codec) (size : ℕ → ℕ) (s : PoolState) (vs : List Move) (n : ℕ) → SyncBy frozen c size s vs (Ended (Committed n)) → SyncCommits s vs n
 sync_commits false c size s vs n row = open_commits row.0 c size s vs n row.2
 sync_commits true c size s vs n row = let behind = behind_commits row.turn c size (steps row.first s) row.first row.rest n row.behind in record {
+  up = let first = numbers_up row.first s in let last = behind.up in omega (arith, first, last);
   ends = subst (λ l. EndsIn l n) (sym row.moves) (ends_behind row.first row.rest n behind.ends);
   none = ap (λ l. (steps l s).own.writes) row.moves ∙ (ap (λ x. x.own.writes) (steps_more row.first row.rest s) ∙ behind.none);
 }
 
-pub sync_all : (c : Codec) (size : ℕ → ℕ) (s : PoolState) (t : Side) (vs : List Move) (n : ℕ) → Kept c (steps vs s) (after_moves vs t) → RowSync c size s vs (Ended (Committed n)) → CommitsAll t.pool (after_moves vs t).pool n
-sync_all c size s t vs n kept row =
+pub sync_all : (c : Codec) (size : ℕ → ℕ) (s : PoolState) (t : Side) (vs : List Move) (n : ℕ) → Kept c s t → Kept c (steps vs s) (after_moves vs t)
+    → RowSync c size s vs (Ended (Committed n)) → CommitsAll t.pool (after_moves vs t).pool n
+sync_all c size s t vs n begun kept row =
     let commits = sync_commits s.core.group.frozen c size s vs n row in
     let acked = ends_acked vs n t commits.ends in record {
+      above = acked_below c s t n begun commits.up;
       acked = acked.number;
       blocks = λ a. kept_blocks c (steps vs s) (after_moves vs t) n kept acked commits.none a
           ∙ ap (λ w. w a) (written_along vs t (all_sync KeepsWritten written_kind (λ cells board. tt) s.core.group.frozen c size s vs (Ended (Committed n)) (λ bad. tt) row));
@@ -369,6 +387,7 @@ record CommitsFirst (s : PoolState) (vs : List Move) (n : ℕ) : Type 0 where
   front : List Move
   rest : List Move
   moves : vs ≡ front ++ rest
+  up : s.core.number < n
   ends : EndsIn front n
   none : (steps front s).own.writes ≡ (λ x. None)
   keeps : AllByRecursion KeepsWritten front
@@ -399,6 +418,7 @@ without_commits c size s name leaf seat vs n row = by row.turn row.commit row.be
           front = out ++ row.part;
           rest = row.rest;
           moves = row.moves ∙ sym (append_assoc out row.part row.rest);
+          up = let first = numbers_up out s in let last = open_up c size gone row.part n w in omega (arith, first, last);
           ends = ends_behind out row.part n (subst (λ l. EndsIn l n) (sym w.moves) (ends_behind w.first w.rest n rest.ends));
           none = ap (λ x. x.own.writes) (steps_more out row.part s) ∙ (ap (λ l. (steps l gone).own.writes) w.moves
               ∙ frozen_writes w.first w.rest gone w.freeze.cells (up_devs gone.core.leaves) w.freeze.moves
@@ -434,6 +454,7 @@ detach_all c size s t name seat vs n kept walks row =
     let acked = ends_acked w.front n t w.ends in
     let same : (after_moves vs t).pool.acked ≡ (after_moves w.front t).pool.acked =
     ap (λ l. (after_moves l t).pool.acked) w.moves ∙ (ap (λ x. x.pool.acked) (moves_more w.front w.rest t) ∙ w.acked (after_moves w.front t)) in record {
+      above = acked_below c s t n kept w.up;
       acked = ap number_of same ∙ acked.number;
       blocks = λ a. ap (λ r. block_at r a) same
           ∙ (kept_blocks c (steps w.front s) (after_moves w.front t) n before acked w.none a ∙ ap (λ f. f a) (written_along w.front t w.keeps));

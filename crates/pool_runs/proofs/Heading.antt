@@ -242,7 +242,7 @@ line_syncs c h p e name s n met asked at is = of met.row
         let done : RowSync c (size_in h.table) s vs (Ended (Committed n)) = subst (RowSync c (size_in h.table) s vs) (sync_reply line.0 (Ended (Committed n)) (sym line.1 ∙ is)) line.2.row in
         let kept : Kept c (steps vs s) (after_moves vs t) = walk_keeps c vs s t (sync_walks c (size_in h.table) s t vs (Ended (Committed n)) has.1 met.knows.sizes done) has.1 in
         subst (λ q. CommitsAll p q n) (sym (ap (λ a. pool_along a p) line.2.are ∙ does_pool s.core.pool.0 vs t (sym at.ours)))
-        (sync_all c (size_in h.table) s t vs n kept done)
+        (sync_all c (size_in h.table) s t vs n has.1 kept done)
     of (inr out) = sync_not_memory (Ended (Committed n)) (sym is ∙ out.says)
 
 line_first : (c : Codec) (h : Host) (p : Pool) (e : Entry) (name : List ℕ) (s : PoolState) (reply : SyncReply) → Meets c h p e → e.asked ≡ Asks_sync name → IsOpenAs p h name s

@@ -17,8 +17,9 @@ use Rattle.pool_moves.specs.States.{PoolState}
 use Rattle.pool_runs.specs.Hosts.{Host, named}
 use Rattle.pool_runs.specs.Moments.{IsOpenAs}
 
--- Behind a line record n is acknowledged, and it has each block as it was written last before the line.
+-- Behind a line record n is acknowledged, a later one than before, and it has each block as it was written last before the line.
 pub record CommitsAll (before behind : Pool) (n : ℕ) : Type 0 where
+  pub above : number_of before.acked < n
   pub acked : number_of behind.acked ≡ n
   pub blocks : (a : ℕ) → block_at behind.acked a ≡ before.written a
 
