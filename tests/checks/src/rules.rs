@@ -1,8 +1,8 @@
 //! The rules on trees that are built by hand.
-use crate::built::{inner, leaf, member};
+use crate::built::{inner, leaf, member, range, scattered};
 use dtl_rules::{Extent, LogKind, ROOT, fit, fit_one, logs_of, required};
 use group_set::GroupSet;
-use mp_base::{Group, GroupRange, Guid, MemFault};
+use mp_base::{Group, Guid, MemFault};
 use std::alloc::Global;
 use std::test::Fail;
 use vdev_tree::{Kind, State, Top, Vdev};
@@ -119,25 +119,21 @@ fn the_logs_of_a_mirror(rt: HostRuntime) -> Result<(), Fail> {
 }
 
 /// This many groups, no two of which touch.
-fn scattered(alloc: Global, ranges: u32) -> Result<GroupSet, MemFault> {
+fn scattered_set(alloc: Global, count: u64) -> Result<GroupSet, MemFault> {
     let mut alone = Vec::new(alloc);
-    for k in 0..ranges {
-        let group = Group(u64::from(k) * 2 + 1);
-        alone.push(GroupRange {
-            low: group,
-            high: group,
-        })?;
+    for (low, high) in &scattered(alloc, count)? {
+        alone.push(range(*low, *high))?;
     }
     GroupSet::from_ranges(alloc, &alone)
 }
 
 /// A mirror of a (number 2) and b (number 3), whose logs have this many ranges.
-fn scattered_pair(alloc: Global, a: u32, b: u32) -> Result<Top, Fail> {
+fn scattered_pair(alloc: Global, a: u64, b: u64) -> Result<Top, Fail> {
     let up = State::Online;
     let mut first = member(alloc, 2, b"a", up, &[])?;
     let mut second = member(alloc, 3, b"b", up, &[])?;
-    first.log = scattered(alloc, a)?;
-    second.log = scattered(alloc, b)?;
+    first.log = scattered_set(alloc, a)?;
+    second.log = scattered_set(alloc, b)?;
     let leaves = vec![in alloc; Vdev::Leaf(first), Vdev::Leaf(second)]?;
     Ok(Top::new(inner(1, Kind::Mirror, leaves), 500).ok_or("no top")?)
 }
@@ -158,7 +154,7 @@ fn ranges(alloc: Global, top: &Top) -> Result<Vec<usize>, MemFault> {
 #[test]
 fn the_largest_log_becomes_one_range(rt: HostRuntime) -> Result<(), Fail> {
     let alloc = rt.alloc();
-    let rows: [(u32, u32, [usize; 2]); 4] = [
+    let rows: [(u64, u64, [usize; 2]); 4] = [
         (4000, 97, [1, 97]),
         (97, 4000, [97, 1]),
         (4000, 96, [4000, 96]),
