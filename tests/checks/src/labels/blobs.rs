@@ -4,7 +4,7 @@ ghost use Rattle.mp_base.specs.Block.{zeros};
 ghost use Rattle.label_store.specs.Committing.{IsSealed};
 ghost use Rattle.label_store.specs.Records.{IsHeaded};
 ghost use Rattle.label_store.specs.Uberblock.{number_at};
-ghost use Rattle.base_tests.specs.Blobs.{test_head};
+ghost use Rattle.checks.specs.Blobs.{test_head};
 
 use super::setting::POOL;
 use bank_core::SECTOR_BYTES;
@@ -17,7 +17,7 @@ use std::test::Fail;
 pub(crate) struct TestRule;
 
 impl BlobRule for TestRule {
-    ghost use Rattle.base_tests.specs.Blobs.{test_head};
+    ghost use Rattle.checks.specs.Blobs.{test_head};
 
     ghost head_of = { test_head };
 

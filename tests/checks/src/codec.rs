@@ -3,8 +3,9 @@ ghost use Rattle.std.specs.Prelude.{◌<◌};
 ghost use Rattle.config_codec.specs.Fields.{config_fields};
 ghost use Rattle.config_codec.specs.Validity.{IsValid};
 
+use crate::built::{range, scattered};
 use config_codec::{Config, KeptState, PART_BYTES, Pointer, decode, encode_into};
-use mp_base::{Group, GroupRange, Guid, MemFault};
+use mp_base::{Group, Guid, MemFault};
 use std::alloc::{AllocError, Global};
 use std::process::Abort;
 use std::test::Fail;
@@ -60,18 +61,6 @@ fn log_of(alloc: Global, ranges: &[(u64, u64)]) -> Result<Vec<u8>, AllocError> {
     Ok(bytes)
 }
 
-// Flags 0, and a log of the first so many odd groups.
-fn odd_groups(alloc: Global, count: u16) -> Result<Vec<u8>, AllocError> {
-    let mut bytes = b"\x00".to_vec(alloc)?;
-    bytes.extend_from_slice(&u32::from(count).to_be_bytes())?;
-    for k in 0..u64::from(count) {
-        let group = (2 * k + 1).to_be_bytes();
-        bytes.extend_from_slice(&group)?;
-        bytes.extend_from_slice(&group)?;
-    }
-    Ok(bytes)
-}
-
 // A configuration whose three names have so many bytes, whose blocks at even addresses are holes, and
 // whose leaves lack the first so many odd groups.
 fn wide(
@@ -98,7 +87,7 @@ fn wide(
         bytes.extend_from_slice(&[0, 0, 0, 0, 0, 0, 0, 0, member])?;
         bytes.extend_from_slice(&name)?;
         bytes.extend_from_slice(&vec![in alloc; letter; name_bytes]?)?;
-        bytes.extend_from_slice(&odd_groups(alloc, count)?)?;
+        bytes.extend_from_slice(&log_of(alloc, &scattered(alloc, u64::from(count))?)?)?;
     }
     bytes.extend_from_slice(&[0; 4])?;
     Ok(bytes)
@@ -345,13 +334,6 @@ fn assert_logs(rt: &impl Abort, config: &Config) {
         [range(1, 2), range(4, 9)].as_slice()
     );
     assert_eq!(rt; config.second.log.as_slice(), [range(5, 5)].as_slice());
-}
-
-fn range(low: u64, high: u64) -> GroupRange {
-    GroupRange {
-        low: Group(low),
-        high: Group(high),
-    }
 }
 
 #[test]

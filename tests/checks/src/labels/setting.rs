@@ -4,7 +4,7 @@ ghost use Rattle.bank_core.specs.MemBank.{bank_size};
 ghost use Rattle.label_store.specs.Seats.{AreSeated, AreApart};
 
 use super::blobs::{Blob, TestRule, is_headed, is_sealed};
-use bank_core::{Bank, Fault, ImageChoice, MemBank};
+use bank_core::{Bank, Fault, ImageChoice, MemBank, SECTOR_BYTES};
 use label_store::{Found, LEAST_SECTORS, Member, commit_record, identity, newest, stamp};
 use mp_base::{Guid, Name};
 use std::alloc::Global;
@@ -104,13 +104,32 @@ pub(crate) fn stamp_as(
     stamp(bank, dev, POOL, member)
 }
 
-/// Stamps the members, and answers the bank that goes on after a crash behind it.
+/// Fills the rings of a device but for their first slots, in which stamps are. These bytes name a number
+/// above the last one, so a search passes them without a sum. Of a slot of zeros it takes one, and here
+/// that is most of what it costs.
+pub(crate) fn fill_rings(
+    rt: &impl Abort,
+    alloc: Global,
+    bank: &mut MemBank,
+    dev: u32,
+) -> Result<(), Fail> {
+    let sectors = bank.sectors(dev);
+    assert!(rt; sectors >= LEAST_SECTORS);
+    let filling = vec![in alloc; 0xff; 31 * SECTOR_BYTES]?;
+    for label in [0, 64, sectors - 128, sectors - 64] {
+        bank.write(dev, label + 33, &filling)?;
+    }
+    Ok(bank.flush(dev)?)
+}
+
+/// A bank of the stamped members, with filled rings.
 pub(crate) fn stamped_bank(rt: &impl Abort, alloc: Global) -> Result<MemBank, Fail> {
     let mut bank = blank_bank(rt, alloc)?;
     for m in MEMBERS {
         stamp_as(rt, &mut bank, m.dev, m.guid)?;
+        fill_rings(rt, alloc, &mut bank, m.dev)?;
     }
-    crashed(rt, alloc, &bank, bank.place(), ImageChoice::Noise(1))
+    Ok(bank)
 }
 
 /// Makes a round, and answers its results.
@@ -139,12 +158,12 @@ pub(crate) fn commit(
     Ok(results)
 }
 
-/// The bank that goes on after a crash behind a whole round of this record.
+/// A bank on which a whole round of this record was made.
 pub(crate) fn bank_with(rt: &impl Abort, alloc: Global, blob: &Blob) -> Result<MemBank, Fail> {
     let mut bank = stamped_bank(rt, alloc)?;
     let results = commit(rt, alloc, &mut bank, &MEMBERS, blob)?;
     assert_eq!(rt; results.as_slice(), [true, true].as_slice());
-    crashed(rt, alloc, &bank, bank.place(), ImageChoice::Noise(2))
+    Ok(bank)
 }
 
 /// The newest record of the pool named tank.

@@ -1,6 +1,6 @@
 //! Uberblocks: their bytes against bytes from outside, and which sectors are none.
 use super::blobs::Blob;
-use super::setting::{POOL, blank_bank, find, identify, is_found};
+use super::setting::{POOL, blank_bank, fill_rings, find, identify, is_found};
 use bank_core::{Bank, MemBank, SECTOR_BYTES};
 use label_store::{Uberblock, read_uberblock, write_uberblock};
 use mp_base::{Group, Guid};
@@ -68,28 +68,64 @@ fn put(rt: &impl Abort, bank: &mut MemBank, at: u64, bytes: &[u8]) -> Result<(),
     Ok(bank.write(0, at, bytes)?)
 }
 
-/// Whether the sector counts as an uberblock: by itself, for the identity of a device, and for its record
-/// where the configuration stands in label 0.
-fn is_taken(
+/// Whether one of these sectors counts as an uberblock: by itself, for the identity of a device in whose
+/// ring they are, and for its record where the configuration stands in label 0.
+fn is_one_taken(
     rt: &impl Abort,
     alloc: Global,
-    sector: &[u8; SECTOR_BYTES],
+    bank: &mut MemBank,
+    sectors: &[u8],
     blob: &Blob,
 ) -> Result<bool, Fail> {
-    let mut bank = blank_bank(rt, alloc)?;
-    put(rt, &mut bank, 4, &blob.bytes)?;
-    put(rt, &mut bank, 41, sector)?;
-    let taken = read_uberblock(sector).is_some();
-    assert_eq!(rt; identify(rt, &mut bank, 0, GOOD.member), Ok(taken));
-    let found = find(rt, alloc, &mut bank, &[0])?;
+    put(rt, bank, 4, &blob.bytes)?;
+    put(rt, bank, 41, sectors)?;
+    let taken = sectors
+        .chunks(SECTOR_BYTES)
+        .any(|sector| read_uberblock(sector).is_some());
+    assert_eq!(rt; identify(rt, bank, 0, GOOD.member), Ok(taken));
+    let found = find(rt, alloc, bank, &[0])?;
     assert_eq!(rt; is_found(&found, blob), taken);
     assert_eq!(rt; found.is_some(), taken);
     Ok(taken)
 }
 
+/// Sectors that are nearly this uberblock or one of number 0, and are none.
+fn wrong_sectors(rt: &impl Abort, alloc: Global, u: &Uberblock) -> Result<Vec<u8>, Fail> {
+    let mut wrong = Vec::new(alloc);
+    for (length, sum) in [(80, [0; 32]), (0, [9; 32])] {
+        let sector = sector_of(&Uberblock {
+            number: Group(0),
+            length,
+            sum,
+            ..GOOD
+        });
+        assert!(rt;
+            read_uberblock(&sector).is_none(),
+            "number 0, length {length}"
+        );
+        wrong.extend_from_slice(&sector)?;
+    }
+    // the two ends of the magic, of the version and of the zeros, each with the last sum made right
+    for (at, byte) in [(0, 1), (7, 0), (8, 1), (15, 2), (80, 1), (4063, 1)] {
+        let mut sector = sector_of(u);
+        assert!(rt; at < SECTOR_BYTES);
+        sector[at] = byte;
+        seal(&mut sector);
+        assert!(rt; read_uberblock(&sector).is_none(), "byte {at}");
+        wrong.extend_from_slice(&sector)?;
+    }
+    let mut sector = sector_of(u);
+    sector[4095] ^= 1;
+    assert!(rt; read_uberblock(&sector).is_none());
+    wrong.extend_from_slice(&sector)?;
+    Ok(wrong)
+}
+
 #[test]
 fn an_uberblock_with_a_field_out_of_range_is_not_correct(rt: HostRuntime) -> Result<(), Fail> {
     let alloc = rt.alloc();
+    let mut bank = blank_bank(&rt, alloc)?;
+    fill_rings(&rt, alloc, &mut bank, 0)?;
     for (number, length, taken) in [
         (1, 80, true),
         (1 << 62, 80, true),
@@ -102,34 +138,13 @@ fn an_uberblock_with_a_field_out_of_range_is_not_correct(rt: HostRuntime) -> Res
         let blob = Blob::new(alloc, number, b'u', length)?;
         let sector = sector_of(&naming(&blob));
         assert_eq!(rt;
-            is_taken(&rt, alloc, &sector, &blob)?,
+            is_one_taken(&rt, alloc, &mut bank, &sector, &blob)?,
             taken,
             "number {number}, length {length}"
         );
     }
     let blob = Blob::new(alloc, 3, b'u', 80)?;
-    for (length, sum) in [(80, [0; 32]), (0, [9; 32])] {
-        let sector = sector_of(&Uberblock {
-            number: Group(0),
-            length,
-            sum,
-            ..GOOD
-        });
-        assert!(rt;
-            !is_taken(&rt, alloc, &sector, &blob)?,
-            "number 0, length {length}"
-        );
-    }
-    // the two ends of the magic, of the version and of the zeros, each with the last sum made right
-    for (at, byte) in [(0, 1), (7, 0), (8, 1), (15, 2), (80, 1), (4063, 1)] {
-        let mut sector = sector_of(&naming(&blob));
-        assert!(rt; at < SECTOR_BYTES);
-        sector[at] = byte;
-        seal(&mut sector);
-        assert!(rt; !is_taken(&rt, alloc, &sector, &blob)?, "byte {at}");
-    }
-    let mut sector = sector_of(&naming(&blob));
-    sector[4095] ^= 1;
-    assert!(rt; !is_taken(&rt, alloc, &sector, &blob)?);
+    let wrong = wrong_sectors(&rt, alloc, &naming(&blob))?;
+    assert!(rt; !is_one_taken(&rt, alloc, &mut bank, &wrong, &blob)?);
     Ok(())
 }

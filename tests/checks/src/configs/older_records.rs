@@ -1,8 +1,8 @@
 //! Openings of devices that hold an older record and newer bytes which break a rule of configurations. Both sums of
 //! these are right, that of the bytes and that of the uberblock which names them: by a rule that takes any bytes they
 //! are found. So the rule of configurations alone decides, and the older record is found.
-use crate::by_hand::{self, Leaf, MIRROR, Spelled};
-use crate::rules::{REFUSED_HEADS, REFUSED_SPARES, REFUSED_VDEVS, Row, changed, two_leaves};
+use super::by_hand::{self, Leaf, MIRROR, Spelled};
+use super::fields::{REFUSED_HEADS, REFUSED_SPARES, REFUSED_VDEVS, Row, changed, two_leaves};
 use bank_core::{Bank, MemBank, SECTOR_BYTES};
 use label_store::{
     BlobRule, Found, Head, Member, Uberblock, commit_record, newest, write_uberblock,
@@ -46,7 +46,7 @@ const MEMBERS: [Member; 2] = [
 struct ConfigRule;
 
 impl BlobRule for ConfigRule {
-    ghost use Rattle.config_tests.specs.Heads.{head_of};
+    ghost use Rattle.checks.specs.Heads.{head_of};
 
     ghost head_of = { head_of };
 
@@ -63,7 +63,7 @@ impl BlobRule for ConfigRule {
 struct AnyRule;
 
 impl BlobRule for AnyRule {
-    ghost use Rattle.config_tests.specs.Heads.{newer_head};
+    ghost use Rattle.checks.specs.Heads.{newer_head};
 
     ghost head_of = { newer_head };
 

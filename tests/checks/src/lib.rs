@@ -1,4 +1,4 @@
-//! Tests of the crates below by their public calls alone: a file for each crate, and many cases in each test.
+//! Tests by public calls alone: a file for each crate or rule, and many cases in each test.
 #![tactic(auto)]
 
 #[cfg(test)]
@@ -10,9 +10,19 @@ mod built;
 #[cfg(test)]
 mod codec;
 #[cfg(test)]
+mod configs;
+#[cfg(test)]
+mod edits;
+#[cfg(test)]
 mod files;
 #[cfg(test)]
 mod labels;
+#[cfg(test)]
+mod maps;
+#[cfg(test)]
+mod mirrors;
+#[cfg(test)]
+mod pages;
 #[cfg(test)]
 mod planned_files;
 #[cfg(test)]

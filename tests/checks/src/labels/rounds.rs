@@ -11,6 +11,10 @@ use std::test::Fail;
 /// the third.
 const CALLS: u64 = 22;
 
+/// Moments of each phase, and the one at which the first member's uberblocks are flushed and the second
+/// has none.
+const MOMENTS: [u64; 5] = [5, 10, 11, 15, 20];
+
 /// Where the third phase begins.
 const THIRD: u64 = 16;
 
@@ -73,24 +77,28 @@ fn a_round_stopped_at_any_call_leaves_the_old_or_the_new_record(
     let alloc = rt.alloc();
     let (old, new) = old_and_new(alloc)?;
     let mut bank = bank_with(&rt, alloc, &old)?;
+    let begin = bank.place();
     let results = commit(&rt, alloc, &mut bank, &MEMBERS, &new)?;
     assert_eq!(rt; results.as_slice(), [true, true].as_slice());
-    assert_eq!(rt; bank.place(), CALLS);
-    for moment in (0..=CALLS).step_by(5) {
+    assert_eq!(rt; bank.place() - begin, CALLS);
+    for moment in MOMENTS {
         let choice = choice_at(moment);
-        let mut left = crashed(&rt, alloc, &bank, moment, choice)?;
-        let wanted = wanted_after(moment, UBERBLOCKS_AT[0], choice);
-        let both = find(&rt, alloc, &mut left, &[0, 1])?;
-        assert!(rt;
-            is_wanted(&both, &old, &new, wanted),
-            "at {moment} with {choice:?}"
-        );
-        for (dev, at) in [(0, UBERBLOCKS_AT[0]), (1, UBERBLOCKS_AT[1])] {
-            let wanted = wanted_after(moment, at, choice);
+        let mut left = crashed(&rt, alloc, &bank, begin + moment, choice)?;
+        let first = wanted_after(moment, UBERBLOCKS_AT[0], choice);
+        let second = wanted_after(moment, UBERBLOCKS_AT[1], choice);
+        for (dev, wanted) in [(0, first), (1, second)] {
             let alone = find(&rt, alloc, &mut left, &[dev])?;
             assert!(rt;
                 is_wanted(&alone, &old, &new, wanted),
                 "{dev} at {moment} with {choice:?}"
+            );
+        }
+        // where they differ, the first is ahead
+        if first != second {
+            let both = find(&rt, alloc, &mut left, &[0, 1])?;
+            assert!(rt;
+                is_wanted(&both, &old, &new, first),
+                "at {moment} with {choice:?}"
             );
         }
     }
@@ -145,9 +153,9 @@ fn wanted_of_failed(place: u64, choice: ImageChoice) -> Wanted {
 fn a_member_whose_call_fails_leaves_the_round(rt: HostRuntime) -> Result<(), Fail> {
     let alloc = rt.alloc();
     let (old, new) = old_and_new(alloc)?;
-    let begun = bank_with(&rt, alloc, &old)?;
+    let mut begun = bank_with(&rt, alloc, &old)?;
     for place in (0..CALLS).step_by(7) {
-        let mut bank = crashed(&rt, alloc, &begun, 0, ImageChoice::Old)?;
+        let mut bank = crashed(&rt, alloc, &begun, begun.place(), ImageChoice::Noise(2))?;
         let results = failing_round(&rt, alloc, &mut bank, place, &new)?;
         let dev = failed_device(&bank).ok_or("no call failed")?;
         assert!(rt; dev < 2);
@@ -162,10 +170,8 @@ fn a_member_whose_call_fails_leaves_the_round(rt: HostRuntime) -> Result<(), Fai
         assert_eq!(rt; calls_on(&bank, other), PART_CALLS, "at {place}");
         let choice = choice_at(place);
         let mut left = crashed(&rt, alloc, &bank, bank.place(), choice)?;
-        for devs in [[0, 1].as_slice(), [other].as_slice()] {
-            let found = find(&rt, alloc, &mut left, devs)?;
-            assert!(rt; is_found(&found, &new), "at {place} with {choice:?}");
-        }
+        let found = find(&rt, alloc, &mut left, &[other])?;
+        assert!(rt; is_found(&found, &new), "at {place} with {choice:?}");
         let alone = find(&rt, alloc, &mut left, &[dev])?;
         let wanted = wanted_of_failed(place, choice);
         assert!(rt;
@@ -174,9 +180,9 @@ fn a_member_whose_call_fails_leaves_the_round(rt: HostRuntime) -> Result<(), Fai
         );
     }
     // a round has no more calls than these
-    let mut bank = crashed(&rt, alloc, &begun, 0, ImageChoice::Old)?;
-    let results = failing_round(&rt, alloc, &mut bank, CALLS, &new)?;
+    let end = begun.place() + CALLS;
+    let results = failing_round(&rt, alloc, &mut begun, end, &new)?;
     assert_eq!(rt; results.as_slice(), [true, true].as_slice());
-    assert_eq!(rt; failed_device(&bank), None);
+    assert_eq!(rt; failed_device(&begun), None);
     Ok(())
 }

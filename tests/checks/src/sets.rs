@@ -1,7 +1,5 @@
 //! Sets of groups against lists of their groups.
-ghost use Rattle.std.specs.Prelude.{◌≡◌};
-
-use crate::built::set_of;
+use crate::built::{range, set_of};
 use group_set::GroupSet;
 use mp_base::{Group, GroupRange, MemFault};
 use std::alloc::Global;
@@ -98,16 +96,6 @@ fn what_all_sets_have(rt: HostRuntime) -> Result<(), Fail> {
     }
     assert_eq!(rt; listed(alloc, &same)?.as_slice(), [4, 5, 9].as_slice());
     Ok(())
-}
-
-fn range(low: u64, high: u64) -> GroupRange
-    ensures low { result.low.0 ≡ low }
-    ensures high { result.high.0 ≡ high }
-{
-    GroupRange {
-        low: Group(low),
-        high: Group(high),
-    }
 }
 
 #[test]

@@ -1,5 +1,6 @@
 //! Which trees a configuration may have, how many of each thing, and what may stand in it twice.
-use crate::by_hand::{Head, LEAF, Leaf, MIRROR, REPLACING, SPARE, Spelled};
+use super::by_hand::{Head, LEAF, Leaf, MIRROR, REPLACING, SPARE, Spelled};
+use crate::built::scattered;
 use pool_config::decode;
 use std::alloc::Global;
 use std::test::Fail;
@@ -209,23 +210,13 @@ fn no_number_and_no_device_stands_in_two_tops(rt: HostRuntime) -> Result<(), Fai
     Ok(())
 }
 
-/// So many ranges of one group each, with one group between two.
-fn ranges(alloc: Global, count: u64) -> Result<Vec<(u64, u64)>, Fail> {
-    let mut ranges = Vec::new(alloc);
-    for i in 0..count {
-        let group = i.saturating_mul(2).saturating_add(1);
-        ranges.push((group, group))?;
-    }
-    Ok(ranges)
-}
-
 /// A mirror of leaves whose logs have so many ranges.
 fn has_logs(alloc: Global, logs: &[u64]) -> Result<bool, Fail> {
     let mut vdevs = head(alloc, 1)?;
     vdevs.spelled.number(64)?;
     vdevs.put((MIRROR, u8::try_from(logs.len())?), ONCE, &[])?;
     for count in logs {
-        vdevs.put(L, ONCE, &ranges(alloc, *count)?)?;
+        vdevs.put(L, ONCE, &scattered(alloc, *count)?)?;
     }
     is_read(alloc, vdevs)
 }

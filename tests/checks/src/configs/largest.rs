@@ -1,6 +1,6 @@
 //! A configuration of 32 leaves in 8 tops with 4,096 ranges and 16 spares, all of whose names and numbers are
 //! as long as they may be.
-use crate::by_hand::{Head, LEAF, Leaf, MIRROR, REPLACING, SPARE, Spelled};
+use super::by_hand::{Head, LEAF, Leaf, MIRROR, REPLACING, SPARE, Spelled};
 use pool_config::{Config, PART_BYTES, decode, encode_into};
 use std::alloc::Global;
 use std::test::Fail;

@@ -1,5 +1,5 @@
 //! Each rule of the fields of a configuration, broken in turn.
-use crate::by_hand::{Head, Leaf, MIRROR, Spelled};
+use super::by_hand::{Head, Leaf, MIRROR, Spelled};
 use pool_config::{decode, encode};
 use std::alloc::Global;
 use std::process::Abort;

@@ -2,7 +2,7 @@
 //! is written again.
 ghost use Rattle.std.specs.Prelude.{◌≤◌};
 
-use crate::by_hand::{Head, Leaf, MIRROR, REPLACING, SPARE, Spelled};
+use super::by_hand::{Head, Leaf, MIRROR, REPLACING, SPARE, Spelled};
 use mp_base::Group;
 use pool_config::{Config, decode, encode};
 use std::alloc::Global;

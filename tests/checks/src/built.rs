@@ -1,9 +1,31 @@
-//! Sets of groups and trees that are built by hand.
+//! Ranges, sets of groups and trees that are built by hand.
+ghost use Rattle.std.specs.Prelude.{◌≡◌};
+
 use group_set::GroupSet;
-use mp_base::{Group, Guid, MemFault, Name};
-use std::alloc::Global;
+use mp_base::{Group, GroupRange, Guid, MemFault, Name};
+use std::alloc::{AllocError, Global};
 use std::test::Fail;
 use vdev_tree::{Counts, InnerVdev, Kind, LeafVdev, State, Vdev};
+
+pub fn range(low: u64, high: u64) -> GroupRange
+    ensures low { result.low.0 ≡ low }
+    ensures high { result.high.0 ≡ high }
+{
+    GroupRange {
+        low: Group(low),
+        high: Group(high),
+    }
+}
+
+/// So many runs of one group each, with one group between two.
+pub fn scattered(alloc: Global, count: u64) -> Result<Vec<(u64, u64)>, AllocError> {
+    let mut runs = Vec::new(alloc);
+    for i in 0..count {
+        let group = i.saturating_mul(2).saturating_add(1);
+        runs.push((group, group))?;
+    }
+    Ok(runs)
+}
 
 /// The set into which these runs were put, one after the other.
 pub fn set_of(alloc: Global, runs: &[(u64, u64)]) -> Result<GroupSet, MemFault> {

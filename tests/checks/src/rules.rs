@@ -1,6 +1,7 @@
 //! The rules on trees that are built by hand.
-use crate::built::{inner, leaf};
+use crate::built::{inner, leaf, member, range, scattered};
 use dtl_rules::{Extent, LogKind, ROOT, fit, fit_one, logs_of, required};
+use group_set::GroupSet;
 use mp_base::{Group, Guid, MemFault};
 use std::alloc::Global;
 use std::test::Fail;
@@ -117,14 +118,24 @@ fn the_logs_of_a_mirror(rt: HostRuntime) -> Result<(), Fail> {
     Ok(())
 }
 
-/// The runs of this many groups, no two of which touch.
-fn scattered(alloc: Global, ranges: u32) -> Result<Vec<(u64, u64)>, MemFault> {
-    let mut runs = Vec::new(alloc);
-    for k in 0..ranges {
-        let group = u64::from(k) * 2 + 1;
-        runs.push((group, group))?;
+/// This many groups, no two of which touch.
+fn scattered_set(alloc: Global, count: u64) -> Result<GroupSet, MemFault> {
+    let mut alone = Vec::new(alloc);
+    for (low, high) in &scattered(alloc, count)? {
+        alone.push(range(*low, *high))?;
     }
-    Ok(runs)
+    GroupSet::from_ranges(alloc, &alone)
+}
+
+/// A mirror of a (number 2) and b (number 3), whose logs have this many ranges.
+fn scattered_pair(alloc: Global, a: u64, b: u64) -> Result<Top, Fail> {
+    let up = State::Online;
+    let mut first = member(alloc, 2, b"a", up, &[])?;
+    let mut second = member(alloc, 3, b"b", up, &[])?;
+    first.log = scattered_set(alloc, a)?;
+    second.log = scattered_set(alloc, b)?;
+    let leaves = vec![in alloc; Vdev::Leaf(first), Vdev::Leaf(second)]?;
+    Ok(Top::new(inner(1, Kind::Mirror, leaves), 500).ok_or("no top")?)
 }
 
 /// How many ranges the logs of the mirror's leaves have.
@@ -143,20 +154,17 @@ fn ranges(alloc: Global, top: &Top) -> Result<Vec<usize>, MemFault> {
 #[test]
 fn the_largest_log_becomes_one_range(rt: HostRuntime) -> Result<(), Fail> {
     let alloc = rt.alloc();
-    let up = State::Online;
-    let rows: [(u32, u32, [usize; 2]); 4] = [
+    let rows: [(u64, u64, [usize; 2]); 4] = [
         (4000, 97, [1, 97]),
         (97, 4000, [97, 1]),
         (4000, 96, [4000, 96]),
         (2100, 2100, [1, 2100]),
     ];
     for (a, b, left) in rows {
-        let a = scattered(alloc, a)?;
-        let b = scattered(alloc, b)?;
-        let mut tops = [pair(alloc, up, &a, up, &b)?];
+        let mut tops = [scattered_pair(alloc, a, b)?];
         fit(&mut tops);
         assert_eq!(rt; ranges(alloc, &tops[0])?.as_slice(), left.as_slice());
-        let mut top = pair(alloc, up, &a, up, &b)?;
+        let mut top = scattered_pair(alloc, a, b)?;
         fit_one(&mut top);
         assert_eq!(rt; ranges(alloc, &top)?.as_slice(), left.as_slice());
     }

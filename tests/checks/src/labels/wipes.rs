@@ -1,6 +1,6 @@
 //! Wipes and marks of spare devices over a bank in memory: stopped at each moment, and failed at each call.
 use super::blobs::Blob;
-use super::setting::{choice_at, bank_with, crashed, find, identify, is_found};
+use super::setting::{bank_with, choice_at, crashed, find, identify, is_found};
 use bank_core::{Bank, Fault, ImageChoice, MemBank};
 use label_store::{LEAST_SECTORS, identity, mark_spare, wipe};
 use mp_base::Guid;
@@ -37,24 +37,22 @@ fn a_stop_in_a_wipe_or_a_mark_leaves_the_old_record_or_none(rt: HostRuntime) -> 
     let blob = Blob::new(alloc, 1, b'o', 80)?;
     for (how, calls) in CLEARINGS {
         let mut bank = bank_with(&rt, alloc, &blob)?;
+        let begin = bank.place();
         assert_eq!(rt; clear(&rt, &mut bank, how), Ok(()));
-        assert_eq!(rt; bank.place(), calls);
+        assert_eq!(rt; bank.place() - begin, calls);
         assert!(rt; bank.tells());
-        for moment in (0..=calls).step_by(5) {
+        for moment in [0, 4] {
             let choice = choice_at(moment);
-            let mut left = crashed(&rt, alloc, &bank, moment, choice)?;
+            let mut left = crashed(&rt, alloc, &bank, begin + moment, choice)?;
             let found = find(&rt, alloc, &mut left, &[0])?;
             let is_old = is_found(&found, &blob);
             assert!(rt; is_old || found.is_none(), "at {moment}");
             assert!(rt; is_old || moment > 0, "at {moment}");
-            assert!(rt; !is_old || moment < calls, "at {moment}");
-            // the other member has it still
-            assert!(rt;
-                is_found(&find(&rt, alloc, &mut left, &[0, 1])?, &blob),
-                "at {moment}"
-            );
         }
-        let mut left = crashed(&rt, alloc, &bank, calls, ImageChoice::Zeros)?;
+        let mut left = crashed(&rt, alloc, &bank, bank.place(), ImageChoice::Zeros)?;
+        assert!(rt; find(&rt, alloc, &mut left, &[0])?.is_none());
+        // the other member has it still
+        assert!(rt; is_found(&find(&rt, alloc, &mut left, &[1])?, &blob));
         let is_mark = matches!(how, Clearing::Mark);
         assert_eq!(rt; is_spare(&rt, &mut left), Ok(is_mark));
         assert_eq!(rt; identify(&rt, &mut left, 0, Guid(1)), Ok(false));
@@ -69,13 +67,14 @@ fn a_wipe_or_a_mark_stops_at_its_first_failed_call(rt: HostRuntime) -> Result<()
     for (how, calls) in CLEARINGS {
         for place in (0..calls).step_by(5) {
             let mut bank = bank_with(&rt, alloc, &blob)?;
-            bank.fail(0, place, place, Fault::Gone)?;
+            let failing = bank.place() + place;
+            bank.fail(0, failing, failing, Fault::Gone)?;
             assert_eq!(rt; clear(&rt, &mut bank, how), Err(Fault::Gone), "at {place}");
-            assert_eq!(rt; bank.place(), place + 1);
+            assert_eq!(rt; bank.place(), failing + 1);
             assert_eq!(rt; bank.fault_count(0), 1);
             assert_eq!(rt; bank.fault_count(1), 0);
             let choice = choice_at(place);
-            let mut left = crashed(&rt, alloc, &bank, place + 1, choice)?;
+            let mut left = crashed(&rt, alloc, &bank, failing + 1, choice)?;
             let found = find(&rt, alloc, &mut left, &[0])?;
             assert!(rt; is_found(&found, &blob) || found.is_none(), "at {place}");
         }

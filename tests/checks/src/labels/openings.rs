@@ -1,9 +1,9 @@
 //! Which record an opening finds.
 use super::blobs::Blob;
 use super::setting::{
-    MEMBERS, bank_with, blank_bank, commit, crashed, find, find_named, is_found, stamped_bank,
+    MEMBERS, blank_bank, commit, fill_rings, find, find_named, is_found, stamped_bank,
 };
-use bank_core::{Fault, ImageChoice, MemBank};
+use bank_core::{Fault, MemBank};
 use std::alloc::Global;
 use std::process::Abort;
 use std::test::Fail;
@@ -20,7 +20,7 @@ fn bank_of_two(
     assert_eq!(rt; results.as_slice(), [true].as_slice());
     let results = commit(rt, alloc, &mut bank, &MEMBERS[1..], second)?;
     assert_eq!(rt; results.as_slice(), [true].as_slice());
-    crashed(rt, alloc, &bank, bank.place(), ImageChoice::Old)
+    Ok(bank)
 }
 
 #[test]
@@ -41,40 +41,46 @@ fn the_greatest_number_is_taken_of_the_devices_that_answer(rt: HostRuntime) -> R
     let alloc = rt.alloc();
     let lower = Blob::new(alloc, 31, b'a', 80)?;
     let greater = Blob::new(alloc, 33, b'b', 80)?;
-    let begun = bank_of_two(&rt, alloc, &lower, &greater)?;
+    let mut bank = bank_of_two(&rt, alloc, &lower, &greater)?;
     for devs in [[0, 1], [1, 0]] {
-        let mut bank = crashed(&rt, alloc, &begun, 0, ImageChoice::Old)?;
+        let before = bank.place();
         let found = find(&rt, alloc, &mut bank, &devs)?;
         assert!(rt; is_found(&found, &greater));
         // each label has two reads
-        assert_eq!(rt; bank.place(), 16);
+        assert_eq!(rt; bank.place() - before, 16);
     }
-    let mut bank = crashed(&rt, alloc, &begun, 0, ImageChoice::Old)?;
-    bank.fail(1, 0, 15, Fault::Gone)?;
+    // where one read fails, three labels are left
+    for read in 0..8 {
+        let place = bank.place() + read;
+        bank.fail(1, place, place, Fault::Failed)?;
+        let found = find(&rt, alloc, &mut bank, &[1])?;
+        assert!(rt; is_found(&found, &greater), "read {read}");
+        assert_eq!(rt; bank.fault_count(1), read + 1);
+    }
+    let begin = bank.place();
+    bank.fail(1, begin, begin + 15, Fault::Gone)?;
     let found = find(&rt, alloc, &mut bank, &[0, 1])?;
     assert!(rt; is_found(&found, &lower));
-    // where one read fails, three labels are left
-    for place in 8..16 {
-        let mut bank = crashed(&rt, alloc, &begun, 0, ImageChoice::Old)?;
-        bank.fail(1, place, place, Fault::Failed)?;
-        let found = find(&rt, alloc, &mut bank, &[0, 1])?;
-        assert!(rt; is_found(&found, &greater), "at {place}");
-    }
     Ok(())
 }
 
 #[test]
 fn nothing_is_found_where_no_record_of_the_name_is_read(rt: HostRuntime) -> Result<(), Fail> {
     let alloc = rt.alloc();
+    // the rings of the first device are zeros
     let mut blank = blank_bank(&rt, alloc)?;
+    fill_rings(&rt, alloc, &mut blank, 1)?;
     assert!(rt; find(&rt, alloc, &mut blank, &[0, 1])?.is_none());
-    let mut stamped = stamped_bank(&rt, alloc)?;
-    assert!(rt; find(&rt, alloc, &mut stamped, &[0, 1])?.is_none());
-    let mut bank = bank_with(&rt, alloc, &Blob::new(alloc, 1, b'o', 80)?)?;
+    let mut bank = stamped_bank(&rt, alloc)?;
+    assert!(rt; find(&rt, alloc, &mut bank, &[0, 1])?.is_none());
+    let blob = Blob::new(alloc, 1, b'o', 80)?;
+    let results = commit(&rt, alloc, &mut bank, &MEMBERS, &blob)?;
+    assert_eq!(rt; results.as_slice(), [true, true].as_slice());
     assert!(rt; find_named(&rt, alloc, &mut bank, &[0, 1], b"tanks")?.is_none());
     assert!(rt; find(&rt, alloc, &mut bank, &[])?.is_none());
     assert!(rt; find(&rt, alloc, &mut bank, &[0])?.is_some());
-    bank.fail(0, 0, 100, Fault::Gone)?;
+    let begin = bank.place();
+    bank.fail(0, begin, begin + 7, Fault::Gone)?;
     assert!(rt; find(&rt, alloc, &mut bank, &[0])?.is_none());
     Ok(())
 }

@@ -1,11 +1,11 @@
 //! Edits of trees: each at each kind of place, and each refusal. A tree is shown in tree order, a leaf by its
 //! name's letter, an inner vdev by its kind (M, R or S), its number and its children in brackets.
-use group_set::GroupSet;
-use mp_base::{Group, Guid, Name, PlaceRule, Refusal};
+use crate::built::{self, inner};
+use mp_base::{Group, Guid, PlaceRule, Refusal};
 use std::alloc::Global;
 use std::process::Abort;
 use std::test::Fail;
-use vdev_tree::{Counts, GraftFault, InnerVdev, Kind, LeafVdev, State, Top, Vdev};
+use vdev_tree::{GraftFault, Kind, LeafVdev, State, Top, Vdev};
 
 /// The leaf that comes in, and the number of the inner vdev that is made.
 const NEW: u8 = b'x';
@@ -20,27 +20,18 @@ enum Edit {
     Prune,
 }
 
-/// A leaf of this letter. Its number is the letter's byte, it owes the group of that number, and it is
+/// A leaf of this letter. Its number is the letter's byte, it owes the group behind that number, and it is
 /// DEGRADED where that is odd.
 fn member(alloc: Global, letter: u8) -> Result<LeafVdev, Fail> {
-    let mut log = GroupSet::new(alloc);
-    log.reserve(1)?;
-    log.insert(Group(u64::from(letter) + 1));
-    Ok(LeafVdev {
-        guid: Guid(u64::from(letter)),
-        name: Name::new(alloc, &[letter])?,
-        dev: None,
-        state: state_of(letter),
-        log,
-        settled: GroupSet::new(alloc),
-        marked: false,
-        temporary: false,
-        counts: Counts {
-            reads: 0,
-            writes: 0,
-            mismatches: 0,
-        },
-    })
+    let number = u64::from(letter);
+    let group = number + 1;
+    built::member(
+        alloc,
+        number,
+        &[letter],
+        state_of(letter),
+        &[(group, group)],
+    )
 }
 
 fn state_of(letter: u8) -> State {
@@ -70,14 +61,6 @@ fn leaves(alloc: Global, letters: &[u8]) -> Result<Vec<Vdev>, Fail> {
         vdevs.push(Vdev::Leaf(member(alloc, *letter)?))?;
     }
     Ok(vdevs)
-}
-
-fn inner(guid: u64, kind: Kind, children: Vec<Vdev>) -> Vdev {
-    Vdev::Inner(InnerVdev {
-        guid: Guid(guid),
-        kind,
-        children,
-    })
 }
 
 /// The mirror 1 of these children.
