@@ -1,23 +1,24 @@
 -- An opening reads a live record: its calls may be made, and the state that it comes to is what the history has; or a page's bytes
 -- clash.
-use Rattle.std.proofs.Common.{◌≡◌, ◌⊎◌, inl, inr, ⊎_elim, ℕ, zero, suc, ◌+◌, ◌*◌, ◌/◌, ◌%◌, ◌≤◌, ◌<◌, ◌==◌, ◌&&◌, ◌||◌, not, is_none, Bool, true, false, Option, Some, None, List, [], ◌∷◌, ◌++◌, refl, sym, ap, ◌∙◌, subst, arith}
+use Rattle.std.proofs.Common.{◌≡◌, ◌⊎◌, inl, inr, ⊎_elim, ℕ, zero, suc, ◌+◌, ◌*◌, ◌/◌, ◌%◌, ◌≤◌, ◌<◌, ◌==◌, ◌&&◌, ◌||◌, not, Bool, true, false, cond, Option, Some, None, List, [], ◌∷◌, ◌++◌, refl, sym, ap, ◌∙◌, subst, append_assoc, arith}
 use mathlib.Core.Path.{fun_ext}
 use Rattle.std.specs.List.{AllByRecursion}
 use Rattle.std.proofs.lemmas.Bool.{and_parts}
 use Rattle.std.proofs.lemmas.Bool.Decides.{nat_tests}
 use Rattle.mp_base.specs.declared.number.Guid.{Guid}
 use Rattle.mp_base.specs.declared.place.Key.{Key}
-use Rattle.bank_core.specs.Calls.{device_of, fault_of}
 use Rattle.bank_core.specs.Disk.{Noted, AllAnswer}
 use Rattle.label_store.specs.declared.found.Found.{Found}
+use Rattle.label_store.specs.Newest.{AreReads}
+use Rattle.mirror_io.specs.Copies.{tries}
 use Rattle.txg_history.specs.Events.{Opens, as_events}
 use Rattle.txg_history.specs.Moves.{Mays}
 use Rattle.txg_history.specs.Pages.{LeafKept, Codec, Sum, sum_of, IsOfVolume, kept_top, kept_log, ClashesAt}
 use Rattle.txg_history.specs.Pools.{Pool, after, pool_after}
-use Rattle.txg_history.specs.Premises.{HasNoTwin, HasGoodLeaf, HasGoodPages}
-use Rattle.txg_history.specs.Records.{Rec, Cell, key, number_of}
+use Rattle.txg_history.specs.Premises.{HasNoTwin, HasGoodLeaf}
+use Rattle.txg_history.specs.Records.{Rec, Cell, key, data_start, number_of}
 use Rattle.txg_history.specs.Survival.{Fits, Survives}
-use Rattle.txg_history.proofs.Folding.{with_calls, calls_after, events_more, mays_calls, pool_more}
+use Rattle.txg_history.proofs.Folding.{with_calls, calls_after, events_more, mays_second, mays_calls, pool_more}
 use Rattle.txg_history.proofs.Moving.{event_survives}
 use Rattle.txg_history.proofs.ReadingBack.{numbered_fits}
 use Rattle.txg_history.proofs.Surviving.{history_survives}
@@ -26,15 +27,16 @@ use Rattle.pool_moves.specs.FreezeRow.{is_dev, up_devs}
 use Rattle.pool_moves.specs.Keeping.{HasNumberBelow, Walks}
 use Rattle.pool_moves.specs.Leaves.{LeafSeen, Seat}
 use Rattle.pool_moves.specs.Opened.{opened_leaves, opened_state, opened_seats, claims_of}
-use Rattle.pool_moves.specs.OpeningRow.{IsLiveOne, OpenReply, Opens_state, NoPage, reading_of, RowOpen}
-use Rattle.pool_moves.specs.PageReads.{Reading, is_read_before, IsKnown, PageTurn, page_of, calls_of_turns, IsPageTurn, IsReadTo, ReadsMap, LeafShown, StopsAt, failed_on, answers_in}
+use Rattle.pool_moves.specs.OpeningRow.{IsLiveOne, OpenReply, Opens_state, NoPage, reading_of, RowOpen, page_calls, MayTurns, IsLostPage}
+use Rattle.pool_moves.specs.PageReads.{Reading, is_read_before, IsKnown, IsPageHere, PageTurn, page_of, calls_of_turns, up_to, IsPageTurn, IsReadTo, ReadsMap, LeafShown, StopsAt, is_failed_read, failed_at, answers_in}
+use Rattle.pool_moves.specs.ReadRow.{copies_of}
 use Rattle.pool_moves.specs.Rosters.{IsRoster}
 use Rattle.pool_moves.specs.States.{Sums, sums, no_group_seen, no_scan_seen, PoolSeen, PoolState, Side, seen}
 use Rattle.pool_moves.proofs.OpenedSeats.{IsIn as IsKeptIn, kept_in_record, AreSeatsOf, seats_are, opened_seated, opened_away, opened_apart, opened_below, opened_numbered, opened_topped, seats_seen}
-use Rattle.pool_moves.proofs.PagesBack.{of_volume_or, volume_width, below_known, known_right, before_more, above_before, closed_before}
-use Rattle.pool_moves.proofs.PageTurns.{IsTrueLeaf, IsOn, on_behind, IsRightTurn, answers_behind, turns_may, stop_may, stop_never}
+use Rattle.pool_moves.proofs.PagesBack.{of_volume_or, volume_width, below_known, known_right, before_more, not_before_itself, read_to_fewer, read_to_page, clash_of_more, above_before, closed_before}
+use Rattle.pool_moves.proofs.PageTurns.{tried_reads, IsTrueLeaf, IsOn, on_behind, IsRightTurn, answers_behind, cell_of, turn_may, turns_may, stop_may, stop_never}
 use Rattle.pool_moves.specs.Walking.{as_moves}
-use Rattle.pool_moves.proofs.ReadWalks.{answers_front, calls_walk}
+use Rattle.pool_moves.proofs.ReadWalks.{answers_front, calls_walk, sum_of_cell}
 use Rattle.pool_moves.proofs.Seeking.{reads_may, sought_reads, sought_paired}
 
 -- What the configuration says of the record.
@@ -137,13 +139,13 @@ module _ (c : Codec) (size : ℕ → ℕ) (handed : List ℕ → Option ℕ) (na
     leaves = true_leaves p r leaves o.row.devs kept o.home;
   }
 
-  pages_answer : AllAnswer behind.sectors o.row.pages
-  pages_answer = answers_behind o.row.ids o.row.pages p.sectors (subst (AllAnswer p.sectors) o.row.calls o.answers)
+  pages_answer : AllAnswer behind.sectors (page_calls o.row)
+  pages_answer = answers_behind o.row.ids (page_calls o.row) p.sectors (subst (AllAnswer p.sectors) o.row.calls o.answers)
 
   -- where the pages' calls may be made, all may
-  all_may : Mays c behind (as_events o.row.pages) → Mays c q (as_events made)
+  all_may : Mays c behind (as_events (page_calls o.row)) → Mays c q (as_events made)
   all_may may = subst (λ l. Mays c q (as_events l)) (sym o.row.calls)
-      (subst (Mays c q) (sym (events_more o.row.ids o.row.pages)) (mays_calls c o.row.ids (as_events o.row.pages) q ids_may may))
+      (subst (Mays c q) (sym (events_more o.row.ids (page_calls o.row))) (mays_calls c o.row.ids (as_events (page_calls o.row)) q ids_may may))
 
   -- The whole map.
   known_all : (reached : Key → Bool) → ((k : Key) → reached k ≡ true) → IsReadTo x reached
@@ -188,10 +190,14 @@ module _ (c : Codec) (size : ℕ → ℕ) (handed : List ℕ → Option ℕ) (na
   map_right back = ⊎_elim (λ right. inl (known_all (λ k. true) (λ k. refl) back right)) (λ clash. inr clash)
       (known_right x r p.room (λ k. true) (o.survives.fit r o.is.is_live).1 back (λ level index low is. refl) o.row.volume root inside)
 
-  map_may : ReadsMap x o.row.pages → ((k : Key) → x.got k ≡ sum_of (r.cells k)) → Mays c q (as_events made) ⊎ ClashesAt r.cells x.found
-  map_may reads right = ⊎_elim (λ may. inl (all_may (subst (λ l. Mays c behind (as_events l)) (sym reads.calls) may))) (λ clash. inr clash)
-      (turns_may x r behind reads.turns on reads.each (all_right reads.turns) (subst (AllAnswer behind.sectors) reads.calls pages_answer))
+  map_may : ReadsMap x o.row.turns → o.row.last ≡ [] → ((k : Key) → x.got k ≡ sum_of (r.cells k)) → Mays c q (as_events made) ⊎ ClashesAt r.cells x.found
+  map_may reads none right = ⊎_elim (λ may. inl (all_may (subst (λ l. Mays c behind (as_events (turned ++ l))) (sym none)
+      (subst (Mays c behind) (sym (events_more turned [])) (mays_calls c turned [] behind may tt))))) (λ clash. inr clash)
+      (turns_may x r behind o.row.turns on reads.each (all_right o.row.turns) (answers_front turned o.row.last behind.sectors pages_answer))
     where
+      turned : List Noted
+      turned = calls_of_turns o.row.turns
+
       all_right : (turns : List PageTurn) → AllByRecursion (λ turn. IsRightTurn x r turn.level turn.index) turns
       all_right [] = tt
       all_right (turn ∷ turns) = (record { pointer = right (page_of turn); known = λ k is. right k }, all_right turns)
@@ -252,31 +258,34 @@ module _ (c : Codec) (size : ℕ → ℕ) (handed : List ℕ → Option ℕ) (na
     unwritten = λ a. ap (λ u. u.own.writes a) is;
   }
 
-  -- A page of which no copy is good.
-  module _ (level index : ℕ) (shown : List LeafShown) (st : StopsAt x level index shown o.row.pages) where
+  -- What is known up to a page.
+  module _ (level index : ℕ) (back : IsReadTo x (λ k. is_read_before k (key (suc level) index))) where
     abbrev stop : Key
     stop = key (suc level) index
 
-    abbrev up_to : Key → Bool
-    up_to k = is_read_before k stop
+    abbrev is_before : Key → Bool
+    is_before k = is_read_before k stop
+
+    abbrev AreRightTo : Type 0
+    AreRightTo = (k : Key) → IsKnown is_before k → x.got k ≡ sum_of (r.cells k)
 
     root_index : (i : ℕ) (sum : Sum) → x.got (key 3 i) ≡ Some sum → i ≡ 0
     root_index i sum is = ⊎_elim (λ v. let lt : i < 1 = volume_width (c.blocks config) 3 i o.row.volume v in let e : i ≡ 0 = omega (arith, lt) in e)
-        (λ off. absurd (let no : None ≡ Some sum = sym (st.back.beyond (key 3 i) off) ∙ is in cc)) (of_volume_or (c.blocks config) (key 3 i))
+        (λ off. absurd (let no : None ≡ Some sum = sym (back.beyond (key 3 i) off) ∙ is in cc)) (of_volume_or (c.blocks config) (key 3 i))
 
-    stop_right : ((k : Key) → IsKnown up_to k → x.got k ≡ sum_of (r.cells k)) ⊎ ClashesAt r.cells x.found
-    stop_right = known_right x r p.room up_to (o.survives.fit r o.is.is_live).1 st.back (closed_before stop) o.row.volume root inside
+    stop_right : AreRightTo ⊎ ClashesAt r.cells (up_to stop x.found)
+    stop_right = known_right (record x { found = up_to stop x.found }) r p.room is_before (o.survives.fit r o.is.is_live).1 (read_to_page x stop back)
+        (closed_before stop) o.row.volume root inside
 
     -- a page with a pointer is known, where the page above it is read
-    page_is_known : (l i : ℕ) (sum : Sum) → l < 3 → x.got (key (suc l) i) ≡ Some sum → (l < 2 → up_to (key (suc (suc l)) (i / 64)) ≡ true)
-        → IsKnown up_to (key (suc l) i)
-    page_is_known zero i sum low is above = below_known up_to 0 i (omega arith) (above (omega arith))
-    page_is_known (suc zero) i sum low is above = below_known up_to 1 i (omega arith) (above (omega arith))
+    page_is_known : (l i : ℕ) (sum : Sum) → l < 3 → x.got (key (suc l) i) ≡ Some sum → (l < 2 → is_before (key (suc (suc l)) (i / 64)) ≡ true)
+        → IsKnown is_before (key (suc l) i)
+    page_is_known zero i sum low is above = below_known is_before 0 i (omega arith) (above (omega arith))
+    page_is_known (suc zero) i sum low is above = below_known is_before 1 i (omega arith) (above (omega arith))
     page_is_known (suc (suc zero)) i sum low is above = inl (ap (key 3) (root_index i sum is))
     page_is_known (suc (suc (suc l))) i sum low is above = absurd (omega (arith, low))
 
-    turn_right : ((k : Key) → IsKnown up_to k → x.got k ≡ sum_of (r.cells k)) → (turn : PageTurn) → IsPageTurn x turn → up_to (page_of turn) ≡ true
-        → IsRightTurn x r turn.level turn.index
+    turn_right : AreRightTo → (turn : PageTurn) → IsPageTurn x turn → is_before (page_of turn) ≡ true → IsRightTurn x r turn.level turn.index
     turn_right right turn is before = record {
       pointer = right (page_of turn) (page_is_known turn.level turn.index is.sum is.low is.sum_is (λ low. closed_before stop turn.level turn.index low before));
       known = λ k known. right k (⊎_elim (λ e. inl e) (λ b. inr (record {
@@ -290,51 +299,118 @@ module _ (c : Codec) (size : ℕ → ℕ) (handed : List ℕ → Option ℕ) (na
       })) known);
     }
 
-    turns_right : ((k : Key) → IsKnown up_to k → x.got k ≡ sum_of (r.cells k)) → (turns : List PageTurn) → AllByRecursion (IsPageTurn x) turns
-        → AllByRecursion (λ turn. up_to (page_of turn) ≡ true) turns
+    turns_right : AreRightTo → (turns : List PageTurn) → AllByRecursion (IsPageTurn x) turns → AllByRecursion (λ turn. is_before (page_of turn) ≡ true) turns
         → AllByRecursion (λ turn. IsRightTurn x r turn.level turn.index) turns
     turns_right right [] each before = tt
     turns_right right (turn ∷ turns) each before = (turn_right right turn each.0 before.0, turns_right right turns each.1 before.1)
 
-    stop_turn : ((k : Key) → IsKnown up_to k → x.got k ≡ sum_of (r.cells k)) → IsRightTurn x r level index
-    stop_turn right = record {
-      pointer = right stop (page_is_known level index st.sum st.low st.sum_is (λ low. above_before level index (index / 64)));
+    stop_turn : AreRightTo → (sum : Sum) → level < 3 → x.got stop ≡ Some sum → IsRightTurn x r level index
+    stop_turn right sum low is = record {
+      pointer = right stop (page_is_known level index sum low is (λ low. above_before level index (index / 64)));
       known = right;
     }
 
-    answered : AllAnswer behind.sectors (calls_of_turns st.turns ++ st.reads)
-    answered = subst (AllAnswer behind.sectors) st.calls pages_answer
+  -- One page after another, each where no bytes clash up to there.
+  turn_when : (turn : PageTurn) (p1 : Pool) → IsPageTurn x turn → IsReadTo x (λ k. is_read_before k (page_of turn)) → IsOn x r p1
+      → AllAnswer p1.sectors (turn.reads ++ turn.rewrites) → (ClashesAt r.cells (up_to (page_of turn) x.found) → ⊥)
+      → Mays c p1 (as_events (turn.reads ++ turn.rewrites))
+  turn_when turn p1 is back on answers none = ⊎_elim
+      (λ right. ⊎_elim (λ may. may) (λ clash. absurd (none clash))
+      (turn_may x r p1 turn (up_to (page_of turn) x.found) on is
+      (ap (λ t. cond t None (x.found (page_of turn))) (not_before_itself (page_of turn)) ∙ is.bytes_are)
+      (stop_turn turn.level turn.index back right is.sum is.low is.sum_is) answers))
+      (λ clash. absurd (none clash)) (stop_right turn.level turn.index back)
 
-    first_may : ((k : Key) → IsKnown up_to k → x.got k ≡ sum_of (r.cells k)) → Mays c behind (as_events (calls_of_turns st.turns)) ⊎ ClashesAt r.cells x.found
-    first_may right = turns_may x r behind st.turns on st.each (turns_right right st.turns st.each st.before)
-        (answers_front (calls_of_turns st.turns) st.reads behind.sectors answered)
+  turns_each : (turns : List PageTurn) (p1 : Pool) → AllByRecursion (IsPageTurn x) turns
+      → AllByRecursion (λ turn. IsReadTo x (λ k. is_read_before k (page_of turn))) turns → IsOn x r p1
+      → AllAnswer p1.sectors (calls_of_turns turns ++ o.row.last) → AreReads o.row.last → MayTurns c p1 r.cells x.found turns o.row.last
+  turns_each [] p1 each backs has answers reads = reads_may c p1 o.row.last reads
+  turns_each (turn ∷ turns) p1 each backs has answers reads = (
+    reads_may c p1 turn.reads (tried_reads (data_start + each.0.sum.sector) (IsPageHere x turn.level turn.index each.0.sum)
+        (tries (copies_of each.0.sum x.leaves)) turn.reads turn.wrong (Some each.0.bytes) each.0.tried),
+    λ none. let may = turn_when turn p1 each.0 backs.0 has (answers_front mine (calls_of_turns turns) p1.sectors
+        (answers_front (mine ++ calls_of_turns turns) o.row.last p1.sectors answers)) none in (
+          mays_second c (as_events turn.reads) (as_events turn.rewrites) p1 (subst (Mays c p1) (events_more turn.reads turn.rewrites) may),
+          subst (λ u. MayTurns c u r.cells x.found turns o.row.last) end_is
+              (turns_each turns (with_calls mine p1) each.1 backs.1 (on_behind x r p1 mine has may)
+              (answers_behind mine (calls_of_turns turns ++ o.row.last) p1.sectors
+              (subst (AllAnswer p1.sectors) (append_assoc mine (calls_of_turns turns) o.row.last) answers)) reads),
+        ),
+  )
+    where
+      mine : List Noted
+      mine = turn.reads ++ turn.rewrites
+
+      end_is : with_calls mine p1 ≡ pool_after (as_events turn.rewrites) (pool_after (as_events turn.reads) p1)
+      end_is = sym (calls_after mine p1) ∙ (ap (λ vs. pool_after vs p1) (events_more turn.reads turn.rewrites)
+          ∙ pool_more (as_events turn.reads) (as_events turn.rewrites) p1)
+
+  turns_from : AllByRecursion (IsPageTurn x) o.row.turns → AllByRecursion (λ turn. IsReadTo x (λ k. is_read_before k (page_of turn))) o.row.turns
+      → AreReads o.row.last → MayTurns c (pool_after (as_events o.row.ids) q) r.cells o.row.bytes o.row.turns o.row.last
+  turns_from each backs reads = subst (λ u. MayTurns c u r.cells x.found o.row.turns o.row.last) (sym (calls_after o.row.ids q))
+      (turns_each o.row.turns behind each backs on pages_answer reads)
+
+  whole_turns : ReadsMap x o.row.turns → o.row.last ≡ [] → MayTurns c (pool_after (as_events o.row.ids) q) r.cells o.row.bytes o.row.turns o.row.last
+  whole_turns reads none = turns_from reads.each (all o.row.turns) (subst AreReads (sym none) tt)
+    where
+      all : (turns : List PageTurn) → AllByRecursion (λ turn. IsReadTo x (λ k. is_read_before k (page_of turn))) turns
+      all [] = tt
+      all (turn ∷ turns) = (read_to_fewer x (λ k. is_read_before k (page_of turn)) (λ k. true) (λ k is. refl) reads.back, all turns)
+
+  -- A page of which no copy is good.
+  module _ (level index : ℕ) (shown : List LeafShown) (st : StopsAt x level index shown o.row.turns o.row.last) where
+    lost_turns : MayTurns c (pool_after (as_events o.row.ids) q) r.cells o.row.bytes o.row.turns o.row.last
+    lost_turns = turns_from st.each (all o.row.turns st.before)
+        (tried_reads (data_start + st.sum.sector) (IsPageHere x level index st.sum) (tries (copies_of st.sum x.leaves)) o.row.last st.wrong None st.tried)
+      where
+        all : (turns : List PageTurn) → AllByRecursion (λ turn. is_read_before (page_of turn) (key (suc level) index) ≡ true) turns
+            → AllByRecursion (λ turn. IsReadTo x (λ k. is_read_before k (page_of turn))) turns
+        all [] before = tt
+        all (turn ∷ turns) before = (
+          read_to_fewer x (λ k. is_read_before k (page_of turn)) (λ k. is_read_before k (key (suc level) index))
+              (λ k is. before_more k (page_of turn) (key (suc level) index) is before.0) st.back,
+          all turns before.1,
+        )
+
+    abbrev turned : List Noted
+    turned = calls_of_turns o.row.turns
+
+    first_may : AreRightTo level index st.back → Mays c behind (as_events turned) ⊎ ClashesAt r.cells x.found
+    first_may right = turns_may x r behind o.row.turns on st.each (turns_right level index st.back right o.row.turns st.each st.before)
+        (answers_front turned o.row.last behind.sectors pages_answer)
 
     abbrev stopped : Pool
-    stopped = with_calls (calls_of_turns st.turns) behind
+    stopped = with_calls turned behind
 
-    reads_answer : AllAnswer stopped.sectors st.reads
-    reads_answer = answers_behind (calls_of_turns st.turns) st.reads behind.sectors answered
+    reads_answer : AllAnswer stopped.sectors o.row.last
+    reads_answer = answers_behind turned o.row.last behind.sectors pages_answer
+
+    right_here : AreRightTo level index st.back → IsRightTurn x r level index
+    right_here right = stop_turn level index st.back right st.sum st.low st.sum_is
+
+    right_or : AreRightTo level index st.back ⊎ ClashesAt r.cells x.found
+    right_or = ⊎_elim (λ right. inl right) (λ clash. inr (clash_of_more r.cells (key (suc level) index) x.found clash)) (stop_right level index st.back)
 
     stopped_may : Mays c q (as_events made) ⊎ ClashesAt r.cells x.found
-    stopped_may = ⊎_elim (λ right. ⊎_elim (λ may. inl (all_may (subst (λ l. Mays c behind (as_events l)) (sym st.calls)
-        (subst (Mays c behind) (sym (events_more (calls_of_turns st.turns) st.reads)) (mays_calls c (calls_of_turns st.turns) (as_events st.reads) behind may
-        (stop_may x r stopped level index st.sum st.reads st.wrong None (on_behind x r behind (calls_of_turns st.turns) on may) st.low st.sum_is
-        (stop_turn right) reads_answer st.tried))))))
-        (λ clash. inr clash) (first_may right)) (λ clash. inr clash) stop_right
+    stopped_may = ⊎_elim (λ right. ⊎_elim (λ may. inl (all_may
+        (subst (Mays c behind) (sym (events_more turned o.row.last)) (mays_calls c turned (as_events o.row.last) behind may
+        (stop_may x r stopped level index st.sum o.row.last st.wrong None (on_behind x r behind turned on may) st.low st.sum_is
+        (right_here right) reads_answer st.tried)))))
+        (λ clash. inr clash) (first_may right)) (λ clash. inr clash) right_or
 
     -- the pool behind all calls
-    end_is : pool_after (as_events made) q ≡ with_calls st.reads stopped
-    end_is = ap (λ l. pool_after (as_events l) q) (o.row.calls ∙ ap (λ l. o.row.ids ++ l) st.calls)
-        ∙ (ap (λ vs. pool_after vs q) (events_more o.row.ids (calls_of_turns st.turns ++ st.reads)
-        ∙ ap (λ vs. as_events o.row.ids ++ vs) (events_more (calls_of_turns st.turns) st.reads))
-        ∙ (pool_more (as_events o.row.ids) (as_events (calls_of_turns st.turns) ++ as_events st.reads) q
-        ∙ (ap (λ u. pool_after (as_events (calls_of_turns st.turns) ++ as_events st.reads) u) (calls_after o.row.ids q)
-        ∙ (pool_more (as_events (calls_of_turns st.turns)) (as_events st.reads) behind
-        ∙ (ap (λ u. pool_after (as_events st.reads) u) (calls_after (calls_of_turns st.turns) behind) ∙ calls_after st.reads stopped)))))
+    end_is : pool_after (as_events made) q ≡ with_calls o.row.last stopped
+    end_is = ap (λ l. pool_after (as_events l) q) o.row.calls
+        ∙ (ap (λ vs. pool_after vs q) (events_more o.row.ids (turned ++ o.row.last)
+        ∙ ap (λ vs. as_events o.row.ids ++ vs) (events_more turned o.row.last))
+        ∙ (pool_more (as_events o.row.ids) (as_events turned ++ as_events o.row.last) q
+        ∙ (ap (λ u. pool_after (as_events turned ++ as_events o.row.last) u) (calls_after o.row.ids q)
+        ∙ (pool_more (as_events turned) (as_events o.row.last) behind
+        ∙ (ap (λ u. pool_after (as_events o.row.last) u) (calls_after turned behind) ∙ calls_after o.row.last stopped)))))
 
-    none_failed : (d : ℕ) → answers_in x.leaves o.row.pages d ≡ true → (up_devs x.leaves d ≡ true) × (failed_on st.reads d ≡ false)
-    none_failed d is = let parts = and_parts (up_devs x.leaves d) (not (failed_on o.row.pages d)) is in
-        (parts.0, failed_second (calls_of_turns st.turns) st.reads d (subst (λ l. failed_on l d ≡ false) st.calls (not_of (failed_on o.row.pages d) parts.1)))
+    none_failed : (at d : ℕ) → answers_in x.leaves (page_calls o.row) at d ≡ true → (up_devs x.leaves d ≡ true) × (failed_at at o.row.last d ≡ false)
+    none_failed at d is = let parts = and_parts (up_devs x.leaves d) (not (failed_at at (page_calls o.row) d)) is in
+        (parts.0, failed_second turned o.row.last (not_of (failed_at at (page_calls o.row) d) parts.1))
       where
         not_of : (t : Bool) → not t ≡ true → t ≡ false
         not_of true is = absurd (cc)
@@ -344,17 +420,29 @@ module _ (c : Codec) (size : ℕ → ℕ) (handed : List ℕ → Option ℕ) (na
         or_last true u is = absurd (cc)
         or_last false u is = is
 
-        failed_second : (first second : List Noted) (d : ℕ) → failed_on (first ++ second) d ≡ false → failed_on second d ≡ false
-        failed_second [] second d is = is
-        failed_second (noted ∷ first) second d is = failed_second first second d
-            (or_last ((device_of noted.call == d) && not (is_none (fault_of noted.call))) (failed_on (first ++ second) d) is)
+        failed_second : (first second : List Noted) → failed_at at (first ++ second) d ≡ false → failed_at at second d ≡ false
+        failed_second [] second is = is
+        failed_second (noted ∷ first) second is = failed_second first second (or_last (is_failed_read at d noted.call) (failed_at at (first ++ second) d) is)
 
-    stopped_never : HasGoodPages (pool_after (as_events made) q) r (λ k. answers_in x.leaves o.row.pages) → ClashesAt r.cells x.found
-    stopped_never good = ⊎_elim (λ right. ⊎_elim (λ may. absurd (stop_never x r stopped level index st.sum st.reads st.wrong (answers_in x.leaves o.row.pages)
-        (on_behind x r behind (calls_of_turns st.turns) on may) st.low st.sum_is (stop_turn right) reads_answer st.tried none_failed
-        (λ cell at. subst (λ u. HasGoodLeaf u r cell (answers_in x.leaves o.row.pages)) end_is
-        (good (suc level) index cell (omega arith) (let low = st.low in omega (arith, low)) at))))
-        (λ clash. clash) (first_may right)) (λ clash. clash) stop_right
+    cell_here : AreRightTo level index st.back → (cell : Cell) × (r.cells (key (suc level) index) ≡ Some cell) × (sum_of_cell cell ≡ st.sum)
+    cell_here right = cell_of (r.cells (key (suc level) index)) st.sum (sym (right_here right).pointer ∙ st.sum_is)
+
+    stopped_lost : IsLostPage (pool_after (as_events made) q) r (key (suc level) index) (answers_in x.leaves (page_calls o.row)) ⊎ ClashesAt r.cells x.found
+    stopped_lost = ⊎_elim (λ right. ⊎_elim (λ may. let cell = cell_here right in inl (record {
+      cell = cell.0;
+      cell_is = cell.1;
+      none = λ good. stop_never x r stopped level index st.sum o.row.last st.wrong (answers_in x.leaves (page_calls o.row) (data_start + cell.0.sector))
+          (on_behind x r behind turned on may) st.low st.sum_is (right_here right) reads_answer st.tried
+          (λ d is. subst (λ sector. (up_devs x.leaves d ≡ true) × (failed_at (data_start + sector) o.row.last d ≡ false)) (ap (λ sum. sum.sector) cell.2)
+          (none_failed (data_start + cell.0.sector) d is))
+          (λ other at. subst (λ u. HasGoodLeaf u r other (answers_in x.leaves (page_calls o.row) (data_start + cell.0.sector))) end_is
+          (subst (λ a. HasGoodLeaf (pool_after (as_events made) q) r a (answers_in x.leaves (page_calls o.row) (data_start + cell.0.sector)))
+          (same_cell cell.0 other (sym cell.1 ∙ at)) good));
+    }))
+        (λ clash. inr clash) (first_may right)) (λ clash. inr clash) right_or
+      where
+        same_cell : (a b : Cell) → Some a ≡ Some b → a ≡ b
+        same_cell a b e = cc
 
 -- An opening that comes to a state.
 pub opening_opens : (c : Codec) (size : ℕ → ℕ) (handed : List ℕ → Option ℕ) (name : List ℕ) (p : Pool) (r : Rec) (roster : List ℕ) (found : Found)
@@ -366,10 +454,10 @@ pub opening_opens : (c : Codec) (size : ℕ → ℕ) (handed : List ℕ → Opti
     ⊎ ClashesAt r.cells row.bytes
 opening_opens c size handed name p r roster found made s sv named is ros row answers home = ⊎_elim
     (λ right. ⊎_elim (λ may. inl (
-      opened_at c size handed name p r found made (Opens_state s) o roster s ros row.ends.1 right,
+      opened_at c size handed name p r found made (Opens_state s) o roster s ros row.ends.2 right,
       calls_walk c made (side c size handed name p r found made (Opens_state s) o roster) may,
     ))
-    (λ clash. inr clash) (map_may c size handed name p r found made (Opens_state s) o row.ends.0 right))
+    (λ clash. inr clash) (map_may c size handed name p r found made (Opens_state s) o row.ends.0 row.ends.1 right))
     (λ clash. inr clash) (map_right c size handed name p r found made (Opens_state s) o row.ends.0.back)
   where
     o : Opening c size handed name p r found made (Opens_state s)
@@ -382,7 +470,7 @@ pub opening_may : (c : Codec) (size : ℕ → ℕ) (handed : List ℕ → Option
     → HasNoTwin p r (claims_of (c.leaves found.blob.items) row.devs)
     → Mays c (after (Opens r) p) (as_events made) ⊎ ClashesAt r.cells row.bytes
 opening_may c size handed name p r found made (Opens_state s) sv named is row answers home =
-    ⊎_elim (λ right. map_may c size handed name p r found made (Opens_state s) o row.ends.0 right) (λ clash. inr clash)
+    ⊎_elim (λ right. map_may c size handed name p r found made (Opens_state s) o row.ends.0 row.ends.1 right) (λ clash. inr clash)
     (map_right c size handed name p r found made (Opens_state s) o row.ends.0.back)
   where
     o : Opening c size handed name p r found made (Opens_state s)
@@ -393,12 +481,34 @@ opening_may c size handed name p r found made (NoPage page shown) sv named is ro
     o : Opening c size handed name p r found made (NoPage page shown)
     o = record { survives = sv; named = named; is = is; row = row; answers = answers; home = home }
 
--- Where each page has a good leaf, each is found.
-pub opening_finds : (c : Codec) (size : ℕ → ℕ) (handed : List ℕ → Option ℕ) (name : List ℕ) (p : Pool) (r : Rec) (found : Found) (made : List Noted) (page : Key) (shown : List LeafShown) → Survives c p → p.name ≡ name
-    → IsLiveOne p found r → (row : RowOpen c size handed name found made (NoPage page shown)) → AllAnswer p.sectors made → HasNoTwin p r (claims_of (c.leaves found.blob.items) row.devs)
-    → HasGoodPages (pool_after (as_events made) (after (Opens r) p)) r (λ k. answers_in (opened_leaves (c.leaves found.blob.items) row.devs) row.pages) → ClashesAt r.cells row.bytes
-opening_finds c size handed name p r found made page shown sv named is row answers home good =
-    stopped_never c size handed name p r found made (NoPage page shown) o row.ends.0 page.index shown row.ends.2 good
+-- So they may be page by page, where only the bytes of the pages so far don't clash.
+pub opening_turns : (c : Codec) (size : ℕ → ℕ) (handed : List ℕ → Option ℕ) (name : List ℕ) (p : Pool) (r : Rec) (found : Found) (made : List Noted)
+    (reply : OpenReply) → Survives c p → p.name ≡ name
+    → IsLiveOne p found r → (row : RowOpen c size handed name found made reply) → AllAnswer p.sectors made
+    → HasNoTwin p r (claims_of (c.leaves found.blob.items) row.devs)
+    → MayTurns c (pool_after (as_events row.ids) (after (Opens r) p)) r.cells row.bytes row.turns row.last
+opening_turns c size handed name p r found made (Opens_state s) sv named is row answers home =
+    whole_turns c size handed name p r found made (Opens_state s) o row.ends.0 row.ends.1
+  where
+    o : Opening c size handed name p r found made (Opens_state s)
+    o = record { survives = sv; named = named; is = is; row = row; answers = answers; home = home }
+opening_turns c size handed name p r found made (NoPage page shown) sv named is row answers home =
+    lost_turns c size handed name p r found made (NoPage page shown) o row.ends.0 page.index shown row.ends.2
+  where
+    o : Opening c size handed name p r found made (NoPage page shown)
+    o = record { survives = sv; named = named; is = is; row = row; answers = answers; home = home }
+
+-- A page that no good leaf gave.
+pub opening_loses : (c : Codec) (size : ℕ → ℕ) (handed : List ℕ → Option ℕ) (name : List ℕ) (p : Pool) (r : Rec) (found : Found) (made : List Noted)
+    (page : Key) (shown : List LeafShown) → Survives c p → p.name ≡ name → IsLiveOne p found r
+    → (row : RowOpen c size handed name found made (NoPage page shown)) → AllAnswer p.sectors made
+    → HasNoTwin p r (claims_of (c.leaves found.blob.items) row.devs)
+    → IsLostPage (pool_after (as_events made) (after (Opens r) p)) r page (answers_in (opened_leaves (c.leaves found.blob.items) row.devs) (page_calls row))
+    ⊎ ClashesAt r.cells row.bytes
+opening_loses c size handed name p r found made page shown sv named is row answers home = subst
+    (λ k. IsLostPage (pool_after (as_events made) (after (Opens r) p)) r k (answers_in (opened_leaves (c.leaves found.blob.items) row.devs) (page_calls row))
+    ⊎ ClashesAt r.cells row.bytes) (sym row.ends.1)
+    (stopped_lost c size handed name p r found made (NoPage page shown) o row.ends.0 page.index shown row.ends.2)
   where
     o : Opening c size handed name p r found made (NoPage page shown)
     o = record { survives = sv; named = named; is = is; row = row; answers = answers; home = home }

@@ -1,12 +1,12 @@
 -- The pages of a map may be read back, and wrong copies of them rewritten; and where each has a good leaf, each is found.
-use Rattle.std.proofs.Common.{◌≡◌, ◌≢◌, ◌⊎◌, inl, inr, ⊎_elim, ℕ, suc, ◌+◌, ◌<◌, ◌==◌, ◌&&◌, ◌||◌, not, is_none, Bool, true, false, cond, Option, Some, None, List, [], ◌∷◌, ◌++◌, map, length, refl, sym, ap, ◌∙◌, subst, arith}
+use Rattle.std.proofs.Common.{◌≡◌, ◌≢◌, ◌⊎◌, inl, inr, ⊎_elim, ℕ, suc, ◌+◌, ◌<◌, ◌==◌, ◌&&◌, ◌||◌, not, Bool, true, false, cond, Option, Some, None, List, [], ◌∷◌, ◌++◌, map, length, refl, sym, ap, ◌∙◌, subst, arith}
 use Rattle.std.specs.List.{AllByRecursion, filter}
 use Rattle.std.proofs.lemmas.Bool.{and_parts}
 use Rattle.std.proofs.lemmas.Bool.Decides.{nat_tests}
 use Rattle.mp_base.specs.declared.place.Key.{Key}
 use Rattle.bank_core.specs.declared.bank.Fault.{Fault}
-use Rattle.bank_core.specs.Calls.{device_of, fault_of}
 use Rattle.bank_core.specs.Disk.{Read, Noted, Sectors, Answers, AllAnswer, as_found, run}
+use Rattle.label_store.specs.Newest.{IsRead, AreReads}
 use Rattle.mirror_io.specs.declared.copies.CopyOf.{CopyOf}
 use Rattle.mirror_io.specs.Copies.{is_due, tries}
 use Rattle.mirror_io.specs.Mirror.{IsHealed}
@@ -22,7 +22,7 @@ use Rattle.txg_history.proofs.Logging.{by_bool, same_device, true_not_false}
 use Rattle.txg_history.proofs.Moving.{event_survives}
 use Rattle.txg_history.proofs.Showing.{read_damage, stays_damaged}
 use Rattle.txg_history.proofs.Surviving.{history_survives}
-use Rattle.pool_moves.specs.PageReads.{Reading, is_read_before, IsKnown, IsPageHere, AreTried, PageTurn, page_of, calls_of_turns, IsPageTurn, failed_on}
+use Rattle.pool_moves.specs.PageReads.{Reading, is_read_before, IsKnown, IsPageHere, AreTried, PageTurn, page_of, calls_of_turns, IsPageTurn, is_failed_read, failed_at}
 use Rattle.vdev_tree.specs.Leaf.{is_up}
 use Rattle.txg_history.specs.Premises.{HasGoodLeaf}
 use Rattle.txg_history.specs.Groups.{Logs}
@@ -113,6 +113,18 @@ tried_good at Good (copy ∷ more) (noted ∷ made) wrong bytes (inr (inr (found
     some_same : (a b : List ℕ) → Some a ≡ Some b → a ≡ b
     some_same a b e = cc
 
+-- and all calls are reads
+pub tried_reads : (at : ℕ) (Good : List ℕ → Type 0) (copies : List CopyOf) (made : List Noted) (wrong : List CopyOf) (outcome : Option (List ℕ))
+    → AreTried at Good copies made wrong outcome → AreReads made
+tried_reads at Good [] made wrong outcome tried = subst AreReads (sym tried.0) tt
+tried_reads at Good (copy ∷ more) [] wrong outcome tried = tt
+tried_reads at Good (copy ∷ more) (noted ∷ made) wrong outcome (inl (fails, rest)) =
+    (subst IsRead (sym fails.gives.is) tt, tried_reads at Good more made wrong outcome rest)
+tried_reads at Good (copy ∷ more) (noted ∷ made) wrong outcome (inr (inl (others, bytes, gave, wrong_is, rest))) =
+    (subst IsRead (sym gave.gives.is) tt, tried_reads at Good more made others outcome rest)
+tried_reads at Good (copy ∷ more) (noted ∷ made) wrong outcome (inr (inr (bytes, gave, made_is, wrong_is, outcome_is))) =
+    (subst IsRead (sym gave.gives.is) tt, subst AreReads (sym made_is) tt)
+
 -- A leaf that has a device is as the history has it there.
 pub record IsTrueLeaf (member : ℕ → Bool) (in_top : ℕ → ℕ) (owes : Logs) (leaf : LeafSeen) : Type 0 where
   pub is_member : (d : ℕ) → leaf.dev ≡ Some d → member d ≡ true
@@ -190,7 +202,7 @@ pub answers_behind : (made more : List Noted) (sectors : Sectors) → AllAnswer 
 answers_behind [] more sectors all = all
 answers_behind (noted ∷ made) more sectors all = answers_behind made more (run (noted ∷ []) sectors) all.1
 
-cell_of : (cell : Option Cell) (sum : Sum) → sum_of cell ≡ Some sum → (c : Cell) × (cell ≡ Some c) × (sum_of_cell c ≡ sum)
+pub cell_of : (cell : Option Cell) (sum : Sum) → sum_of cell ≡ Some sum → (c : Cell) × (cell ≡ Some c) × (sum_of_cell c ≡ sum)
 cell_of None sum is = absurd (cc)
 cell_of (Some c) sum is = (c, refl, same is)
   where
@@ -198,10 +210,10 @@ cell_of (Some c) sum is = (c, refl, same is)
     same e = cc
 
 -- One page: it may be read and its wrong copies rewritten, or its bytes clash.
-turn_may : (x : Reading) (r : Rec) (p : Pool) (turn : PageTurn) → IsOn x r p → IsPageTurn x turn → IsRightTurn x r turn.level turn.index
-    → AllAnswer p.sectors (turn.reads ++ turn.rewrites)
-    → Mays x.codec p (as_events (turn.reads ++ turn.rewrites)) ⊎ ClashesAt r.cells x.found
-turn_may x r p turn on is right answers = subst Goal cell.2 whole is.tried is.healed
+pub turn_may : (x : Reading) (r : Rec) (p : Pool) (turn : PageTurn) (found : Key → Option (List ℕ)) → IsOn x r p → (is : IsPageTurn x turn)
+    → found (page_of turn) ≡ Some is.bytes → IsRightTurn x r turn.level turn.index → AllAnswer p.sectors (turn.reads ++ turn.rewrites)
+    → Mays x.codec p (as_events (turn.reads ++ turn.rewrites)) ⊎ ClashesAt r.cells found
+turn_may x r p turn found on is here right answers = subst Goal cell.2 whole is.tried is.healed
   where
     cell : (c : Cell) × (r.cells (page_of turn) ≡ Some c) × (sum_of_cell c ≡ is.sum)
     cell = cell_of (r.cells (page_of turn)) is.sum (sym right.pointer ∙ is.sum_is)
@@ -210,7 +222,7 @@ turn_may x r p turn on is right answers = subst Goal cell.2 whole is.tried is.he
     Goal sum = AreTried (data_start + sum.sector) (IsPageHere x turn.level turn.index sum) (tries (copies_of sum x.leaves)) turn.reads turn.wrong
         (Some is.bytes)
         → IsHealed (data_start + sum.sector) (Some is.bytes) turn.wrong turn.rewrites
-        → Mays x.codec p (as_events (turn.reads ++ turn.rewrites)) ⊎ ClashesAt r.cells x.found
+        → Mays x.codec p (as_events (turn.reads ++ turn.rewrites)) ⊎ ClashesAt r.cells found
 
     at : p.reads.cells (page_of turn) ≡ Some cell.0
     at = on.reads_is (page_of turn) ∙ cell.1
@@ -228,7 +240,7 @@ turn_may x r p turn on is right answers = subst Goal cell.2 whole is.tried is.he
           cell = cell.0;
           cell_is = cell.1;
           bytes = is.bytes;
-          bytes_are = is.bytes_are;
+          bytes_are = here;
           clash = record {
             other = other;
             same_sum = (tried_good (data_start + cell.0.sector) (IsPageHere x turn.level turn.index (sum_of_cell cell.0))
@@ -256,7 +268,7 @@ turns_may x r p (turn ∷ turns) on each right answers = ⊎_elim
     (turns_may x r (with_calls (turn.reads ++ turn.rewrites) p) turns (on_behind x r p (turn.reads ++ turn.rewrites) on may) each.1 right.1
     (answers_behind (turn.reads ++ turn.rewrites) (calls_of_turns turns) p.sectors answers)))
     (λ clash. inr clash)
-    (turn_may x r p turn on each.0 right.0 (answers_front (turn.reads ++ turn.rewrites) (calls_of_turns turns) p.sectors answers))
+    (turn_may x r p turn x.found on each.0 each.0.bytes_are right.0 (answers_front (turn.reads ++ turn.rewrites) (calls_of_turns turns) p.sectors answers))
 
 -- A page none of whose copies is good.
 pub stop_may : (x : Reading) (r : Rec) (p : Pool) (level index : ℕ) (sum : Sum) (reads : List Noted) (wrong : List CopyOf)
@@ -283,14 +295,15 @@ HasCopy d [] = ⊥
 HasCopy d (copy ∷ copies) = ((copy.dev ≡ d) × (copy.lacks ≡ false)) ⊎ HasCopy d copies
 
 failed_here : (d : ℕ) (noted : Noted) (at : ℕ) (bytes : List ℕ) (fault : Fault) (made : List Noted) → noted.call ≡ Read d at bytes (Some fault)
-    → failed_on (noted ∷ made) d ≡ true
-failed_here d noted at bytes fault made call = let here : (d == d) ≡ true = grind (arith, nat_tests) in
-    subst (λ call. (((device_of call == d) && not (is_none (fault_of call))) || failed_on made d) ≡ true) (sym call) (rw here refl)
+    → failed_at at (noted ∷ made) d ≡ true
+failed_here d noted at bytes fault made call =
+    let here : (d == d) ≡ true = grind (arith, nat_tests) in let there : (at == at) ≡ true = grind (arith, nat_tests) in
+    subst (λ call. (is_failed_read at d call || failed_at at made d) ≡ true) (sym call) (rw (here, there) refl)
 
-failed_more : (d : ℕ) (noted : Noted) (made : List Noted) → failed_on made d ≡ true → failed_on (noted ∷ made) d ≡ true
-failed_more d noted made is = by ((device_of noted.call == d) && not (is_none (fault_of noted.call)))
+failed_more : (at d : ℕ) (noted : Noted) (made : List Noted) → failed_at at made d ≡ true → failed_at at (noted ∷ made) d ≡ true
+failed_more at d noted made is = by (is_failed_read at d noted.call)
   where
-    by : (t : Bool) → (t || failed_on made d) ≡ true
+    by : (t : Bool) → (t || failed_at at made d) ≡ true
     by true = refl
     by false = is
 
@@ -298,14 +311,14 @@ none_good : (c : Codec) (p : Pool) (k : Key) (cell : Cell) (Good : List ℕ → 
     (wrong : List CopyOf) → Good cell.block → Survives c p
     → p.reads.cells k ≡ Some cell → AllByRecursion (IsCopy p.member p.in_top p.owes cell) copies → AllAnswer p.sectors made
     → AreTried (data_start + cell.sector) Good copies made wrong None
-    → HasCopy d copies → (run made p.sectors d (data_start + cell.sector)).damaged ≡ false → failed_on made d ≡ true
+    → HasCopy d copies → (run made p.sectors d (data_start + cell.sector)).damaged ≡ false → failed_at (data_start + cell.sector) made d ≡ true
 none_good c p k cell Good d [] made wrong good sv at are answers tried has sound = absurd has
 none_good c p k cell Good d (copy ∷ more) [] wrong good sv at are answers tried has sound = absurd tried
 none_good c p k cell Good d (copy ∷ more) (noted ∷ made) wrong good sv at are answers (inl (fails, rest)) (inl here) sound =
     failed_here d noted (data_start + cell.sector) fails.bytes fails.fault made
     (subst (λ e. noted.call ≡ Read e (data_start + cell.sector) fails.bytes (Some fails.fault)) here.0 fails.gives.is)
 none_good c p k cell Good d (copy ∷ more) (noted ∷ made) wrong good sv at are answers (inl (fails, rest)) (inr later) sound =
-    failed_more d noted made (none_good c (after (Calls noted) p) k cell Good d more made wrong good
+    failed_more (data_start + cell.sector) d noted made (none_good c (after (Calls noted) p) k cell Good d more made wrong good
     (event_survives c p (Calls noted) sv (read_one c p noted copy.dev (data_start + cell.sector) fails.bytes (Some fails.fault) fails.gives.is)) at
     are.1 answers.1 rest later sound)
 none_good c p k cell Good d (copy ∷ more) (noted ∷ made) wrong good sv at are answers (inr (inl (others, bytes, gave, wrong_is, rest))) (inl here) sound =
@@ -317,7 +330,7 @@ none_good c p k cell Good d (copy ∷ more) (noted ∷ made) wrong good sv at ar
     (subst (λ e. (run made (after (Calls noted) p).sectors e (data_start + cell.sector)).damaged ≡ true) here.0
     (stays_damaged made copy.dev (data_start + cell.sector) (after (Calls noted) p).sectors (none_heals made copy.dev later.only) hurt)) sound
 none_good c p k cell Good d (copy ∷ more) (noted ∷ made) wrong good sv at are answers (inr (inl (others, bytes, gave, wrong_is, rest))) (inr later) sound =
-    failed_more d noted made (none_good c (after (Calls noted) p) k cell Good d more made others good
+    failed_more (data_start + cell.sector) d noted made (none_good c (after (Calls noted) p) k cell Good d more made others good
     (event_survives c p (Calls noted) sv (read_one c p noted copy.dev (data_start + cell.sector) bytes None gave.gives.is)) at are.1 answers.1 rest later sound)
 none_good c p k cell Good d (copy ∷ more) (noted ∷ made) wrong good sv at are answers (inr (inr (bytes, gave, made_is, wrong_is, outcome_is))) has
     sound = absurd (let no : None ≡ Some bytes = outcome_is in cc)
@@ -395,9 +408,9 @@ pub stop_never : (x : Reading) (r : Rec) (p : Pool) (level index : ℕ) (sum : S
     → IsOn x r p → level < 3 → x.got (key (suc level) index) ≡ Some sum
     → IsRightTurn x r level index → AllAnswer p.sectors reads
     → AreTried (data_start + sum.sector) (IsPageHere x level index sum) (tries (copies_of sum x.leaves)) reads wrong None
-    → ((d : ℕ) → answering d ≡ true → (up_devs x.leaves d ≡ true) × (failed_on reads d ≡ false))
+    → ((d : ℕ) → answering d ≡ true → (up_devs x.leaves d ≡ true) × (failed_at (data_start + sum.sector) reads d ≡ false))
     → ((cell : Cell) → r.cells (key (suc level) index) ≡ Some cell → HasGoodLeaf (with_calls reads p) r cell answering) → ⊥
-stop_never x r p level index sum reads wrong answering on low sum_is right answers tried up goods = subst Goal cell.2 whole tried
+stop_never x r p level index sum reads wrong answering on low sum_is right answers tried up goods = subst Goal cell.2 whole tried up
   where
     cell : (c : Cell) × (r.cells (key (suc level) index) ≡ Some c) × (sum_of_cell c ≡ sum)
     cell = cell_of (r.cells (key (suc level) index)) sum (sym right.pointer ∙ sum_is)
@@ -406,10 +419,11 @@ stop_never x r p level index sum reads wrong answering on low sum_is right answe
     good = goods cell.0 cell.1
 
     Goal : Sum → Type 0
-    Goal sum = AreTried (data_start + sum.sector) (IsPageHere x level index sum) (tries (copies_of sum x.leaves)) reads wrong None → ⊥
+    Goal sum = AreTried (data_start + sum.sector) (IsPageHere x level index sum) (tries (copies_of sum x.leaves)) reads wrong None
+        → ((d : ℕ) → answering d ≡ true → (up_devs x.leaves d ≡ true) × (failed_at (data_start + sum.sector) reads d ≡ false)) → ⊥
 
     whole : Goal (sum_of_cell cell.0)
-    whole tried = true_not_false (failed_on reads good.d)
+    whole tried up = true_not_false (failed_at (data_start + cell.0.sector) reads good.d)
         (none_good x.codec p (key (suc level) index) cell.0 (IsPageHere x level index (sum_of_cell cell.0)) good.d
         (tries (copies_of (sum_of_cell cell.0) x.leaves)) reads wrong
         (page_here x p r level index cell.0 on.of low cell.1 right.known) on.of.survives (on.reads_is (key (suc level) index) ∙ cell.1)

@@ -1,5 +1,5 @@
 -- What is read back of a live record's pages are its pointers, or bytes with another page's sum; and each of its pages is one.
-use Rattle.std.proofs.Common.{◌≡◌, ◌≢◌, ◌⊎◌, inl, inr, ⊎_elim, ℕ, zero, suc, ◌+◌, ◌*◌, ◌/◌, ◌%◌, ◌<◌, ◌≤◌, ◌==◌, ◌&&◌, ◌||◌, nat_le, nat_lt, Bool, true, false, Option, Some, None, List, refl, sym, ap, ◌∙◌, subst, arith}
+use Rattle.std.proofs.Common.{◌≡◌, ◌≢◌, ◌⊎◌, inl, inr, ⊎_elim, ℕ, zero, suc, ◌+◌, ◌*◌, ◌/◌, ◌%◌, ◌<◌, ◌≤◌, ◌==◌, ◌&&◌, ◌||◌, nat_le, nat_lt, Bool, true, false, cond, Option, Some, None, List, refl, sym, ap, ◌∙◌, subst, arith}
 use Rattle.std.specs.Str.{bytes_eq}
 use Rattle.std.proofs.lemmas.Slice.Eq.{bytes_eq-Decides}
 use Rattle.std.proofs.lemmas.Bool.{and_parts}
@@ -12,7 +12,7 @@ use Rattle.txg_history.specs.Records.{Rec, Cell, Cells, IsIn, key, number_of}
 use Rattle.txg_history.specs.Survival.{IsMapped, HaveOneKey, Survives}
 use Rattle.txg_history.proofs.Logging.{by_bool, true_not_false}
 use Rattle.txg_history.proofs.ReadingBack.{all_or}
-use Rattle.pool_moves.specs.PageReads.{Reading, is_read_before, IsKnown, IsPageHere, IsReadTo}
+use Rattle.pool_moves.specs.PageReads.{Reading, is_read_before, IsKnown, IsPageHere, up_to, IsReadTo}
 
 -- A key is one of a volume, or not.
 pub of_volume_or : (blocks : ℕ) (k : Key) → IsOfVolume blocks k ⊎ (IsOfVolume blocks k → ⊥)
@@ -205,6 +205,55 @@ not_itself a x = ⊎_elim (λ up. absurd (omega (arith, up))) (λ same. let i = 
 -- the page above one is read before it
 pub above_before : (level index i : ℕ) → is_read_before (key (suc (suc level)) i) (key (suc level) index) ≡ true
 above_before level index i = is_before (key (suc (suc level)) i) (key (suc level) index) (inl (omega arith))
+
+pub not_behind : (a b : Key) → is_read_before a b ≡ true → is_read_before b a ≡ false
+not_behind a b before = by (is_read_before b a) refl
+  where
+    by : (t : Bool) → is_read_before b a ≡ t → t ≡ false
+    by true is = absurd (not_itself a (before_more a b a before is))
+    by false is = refl
+
+pub not_before_itself : (a : Key) → is_read_before a a ≡ false
+not_before_itself a = by (is_read_before a a) refl
+  where
+    by : (t : Bool) → is_read_before a a ≡ t → t ≡ false
+    by true is = absurd (not_itself a is)
+    by false is = refl
+
+-- What is got of pages is so of fewer of them, also by what was found of these alone.
+pub read_to_fewer : (x : Reading) (few many : Key → Bool) → ((k : Key) → few k ≡ true → many k ≡ true) → IsReadTo x many → IsReadTo x few
+read_to_fewer x few many up back = record {
+  root = back.root;
+  holes = λ level index j low lt on. back.holes level index j low lt (up (key (suc level) index) on);
+  pages = λ level index sum low on. back.pages level index sum low (up (key (suc level) index) on);
+  beyond = back.beyond;
+}
+
+pub read_to_page : (x : Reading) (page : Key) → IsReadTo x (λ k. is_read_before k page)
+    → IsReadTo (record x { found = up_to page x.found }) (λ k. is_read_before k page)
+read_to_page x page back = record {
+  root = back.root;
+  holes = back.holes;
+  pages = λ level index sum low on is. let page_is = back.pages level index sum low on is in
+      let kept : up_to page x.found (key (suc level) index) ≡ x.found (key (suc level) index) =
+      ap (λ t. cond t None (x.found (key (suc level) index))) (not_behind (key (suc level) index) page on) in
+      (page_is.0, kept ∙ page_is.1, page_is.2, page_is.3);
+  beyond = back.beyond;
+}
+
+pub clash_of_more : (cells : Cells) (page : Key) (found : Key → Option (List ℕ)) → ClashesAt cells (up_to page found) → ClashesAt cells found
+clash_of_more cells page found clash = record {
+  page = clash.page;
+  cell = clash.cell;
+  cell_is = clash.cell_is;
+  bytes = clash.bytes;
+  bytes_are = by (is_read_before page clash.page) clash.bytes_are;
+  clash = clash.clash;
+}
+  where
+    by : (t : Bool) → cond t None (found clash.page) ≡ Some clash.bytes → found clash.page ≡ Some clash.bytes
+    by true is = absurd (cc)
+    by false is = is
 
 -- pages up to one are closed
 pub closed_before : (stop : Key) → IsClosed (λ k. is_read_before k stop)

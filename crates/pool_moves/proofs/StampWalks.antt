@@ -84,7 +84,7 @@ leaf_of d leaves is = by (leaf_at d leaves) refl is
 abbrev IsNumbered : (low high : ℕ) → NewLeaf → Type 0
 IsNumbered low high leaf = (low ≤ leaf.guid.0) × (leaf.guid.0 < high)
 
-abbrev AreRising : List NewLeaf → Type 0
+abbrev pub AreRising : List NewLeaf → Type 0
 AreRising [] = Unit {0}
 AreRising (leaf ∷ leaves) = AllByRecursion (λ other. leaf.guid.0 < other.guid.0) leaves × AreRising leaves
 
@@ -131,7 +131,7 @@ from_numbered next top (members ∷ tops) = both_all (IsNumbered (suc next) (nex
     (λ leaf is. let x = is.0 in (omega (arith, x), is.1)) (leaves_from (suc next + length members) (suc top) tops)
     (from_numbered (suc next + length members) (suc top) tops))
 
-from_rising : (next top : ℕ) (tops : List (List NewMember)) → AreRising (leaves_from next top tops)
+pub from_rising : (next top : ℕ) (tops : List (List NewMember)) → AreRising (leaves_from next top tops)
 from_rising next top [] = tt
 from_rising next top (members ∷ tops) = rising_more (suc next + length members) (suc next) (next_from (suc next + length members) tops)
     (top_leaves (suc next) top members)

@@ -35,7 +35,7 @@ count_up n = min (n + 1) (2 ^ 64 - 1)
 abbrev pub write_failed : OwnLeaf → OwnLeaf
 write_failed own = record own {
   counts = record (own.counts) { writes = count_up own.counts.writes };
-  faults = cond own.joined (own.faults + 1) own.faults;
+  faults = cond own.joined (count_up own.faults) own.faults;
 }
 
 abbrev pub has_number : Guid → LeafSeen → Bool
@@ -52,13 +52,13 @@ count_moves leaves (m ∷ ms) [] = []
 count_moves leaves (m ∷ ms) (true ∷ results) = count_moves leaves ms results
 count_moves leaves (m ∷ ms) (false ∷ results) = sets_failed (find (has_number m.guid) leaves) ++ count_moves leaves ms results
 
--- how many calls failed since the freeze on the leaves of a top that were on the board then
+-- how many calls failed since the freeze on the leaves of a top that were on the board then; the count that is told stops, too
 abbrev pub faults_under : (top : ℕ) → List LeafSeen → ℕ
 faults_under top [] = 0
 faults_under top (leaf ∷ leaves) = cond (leaf.own.joined && (leaf.top == top)) leaf.own.faults 0 + faults_under top leaves
 
 abbrev pub suspended_by : PoolState → (top : ℕ) → TurnReply
-suspended_by s top = Suspended s.core.group.first (s.own.top_number top) (faults_under top s.core.leaves)
+suspended_by s top = Suspended s.core.group.first (s.own.top_number top) (min (faults_under top s.core.leaves) (2 ^ 64 - 1))
 
 -- A further number, and the logs that are widened behind it; or no move.
 abbrev pub Draws : Bool → PoolSeen → List Move → Type 0

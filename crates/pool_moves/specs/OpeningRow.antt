@@ -13,16 +13,16 @@ use Rattle.label_store.specs.Rounds.{config_of}
 use Rattle.txg_history.specs.Events.{Known, Looks, Opens, as_events}
 use Rattle.txg_history.specs.Looks.{AreDistinct, HaveRoom}
 use Rattle.txg_history.specs.Moves.{Mays}
-use Rattle.txg_history.specs.Pages.{LeafKept, Codec}
+use Rattle.txg_history.specs.Pages.{LeafKept, Codec, ClashesAt}
 use Rattle.txg_history.specs.Pools.{Pool, pool_after}
-use Rattle.txg_history.specs.Premises.{AreNotTorn}
-use Rattle.txg_history.specs.Records.{Rec, IsIn, key, number_of}
+use Rattle.txg_history.specs.Premises.{AreNotTorn, HasGoodLeaf}
+use Rattle.txg_history.specs.Records.{Rec, Cell, Cells, IsIn, key, number_of, data_start}
 use Rattle.pool_moves.specs.CommitRows.{RowReopen}
 use Rattle.pool_moves.specs.Leaves.{LeafSeen}
 use Rattle.pool_moves.specs.LineRows.{TurnReply, Committed, Suspended}
 use Rattle.pool_moves.specs.Moves.{Move, steps}
 use Rattle.pool_moves.specs.Opened.{AreValidLeaves, opened_leaves, opened_state}
-use Rattle.pool_moves.specs.PageReads.{Reading, ReadsMap, LeafShown, StopsAt}
+use Rattle.pool_moves.specs.PageReads.{Reading, PageTurn, page_of, calls_of_turns, up_to, ReadsMap, LeafShown, StopsAt}
 use Rattle.pool_moves.specs.Resilvers.{Resilvers}
 use Rattle.pool_moves.specs.States.{Sums, PoolState}
 
@@ -114,10 +114,10 @@ pub data OpenReply : Type 0 where
   Opens_state : (s : PoolState) → OpenReply
   NoPage : (page : Key) (shown : List LeafShown) → OpenReply
 
--- how the reading of the map ends
-abbrev pub OpenEnds : OpenReply → Codec → (name : List ℕ) → Found → (devs : List (Option ℕ)) → Reading → List Noted → Type 0
-OpenEnds (Opens_state s) c name found devs x made = ReadsMap x made × (s ≡ opened_state c name found devs x.got)
-OpenEnds (NoPage page shown) c name found devs x made = (level : ℕ) × (page ≡ key (suc level) page.index) × StopsAt x level page.index shown made
+-- how the reading of the map ends, behind these pages, and by the last reads of a page that was lost
+abbrev pub OpenEnds : OpenReply → Codec → (name : List ℕ) → Found → (devs : List (Option ℕ)) → Reading → List PageTurn → (last : List Noted) → Type 0
+OpenEnds (Opens_state s) c name found devs x turns last = ReadsMap x turns × (last ≡ []) × (s ≡ opened_state c name found devs x.got)
+OpenEnds (NoPage page shown) c name found devs x turns last = (level : ℕ) × (page ≡ key (suc level) page.index) × StopsAt x level page.index shown turns last
 
 abbrev pub reading_of : Codec → Found → (devs : List (Option ℕ)) → (Key → Option (List ℕ)) → Sums → Reading
 reading_of c found devs bytes got = record {
@@ -140,9 +140,29 @@ pub record RowOpen (c : Codec) (size : ℕ → ℕ) (handed : List ℕ → Optio
   pub sought : AreSought found.pool size (c.room found.blob.items) handed (c.leaves found.blob.items) ids devs
   pub bytes : Key → Option (List ℕ)
   pub got : Sums
-  pub pages : List Noted
-  pub ends : OpenEnds reply c name found devs (reading_of c found devs bytes got) pages
-  pub calls : made ≡ ids ++ pages
+  pub turns : List PageTurn
+  pub last : List Noted
+  pub ends : OpenEnds reply c name found devs (reading_of c found devs bytes got) turns last
+  pub calls : made ≡ ids ++ (calls_of_turns turns ++ last)
+
+-- the calls that read its pages back
+abbrev pub page_calls : {c : Codec} {size : ℕ → ℕ} {handed : List ℕ → Option ℕ} {name : List ℕ} {found : Found} {made : List Noted} {reply : OpenReply}
+    → RowOpen c size handed name found made reply → List Noted
+page_calls row = calls_of_turns row.turns ++ row.last
+
+-- The pool may have the calls that read the pages back, one page after another: the reads of each whatever they give, and its rewriting and what
+-- follows where no bytes found of it or of a page before it clash with the record's.
+abbrev pub MayTurns : Codec → Pool → Cells → (found : Key → Option (List ℕ)) → List PageTurn → (last : List Noted) → Type 0
+MayTurns c p cells found [] last = Mays c p (as_events last)
+MayTurns c p cells found (turn ∷ turns) last = Mays c p (as_events turn.reads)
+    × ((ClashesAt cells (up_to (page_of turn) found) → ⊥) → Mays c (pool_after (as_events turn.reads) p) (as_events turn.rewrites)
+    × MayTurns c (pool_after (as_events turn.rewrites) (pool_after (as_events turn.reads) p)) cells found turns last)
+
+-- This page of a record was lost: none of the leaves that answer at its sector has it, is undamaged there, and stands on the page's top.
+pub record IsLostPage (p : Pool) (r : Rec) (page : Key) (answering : (at : ℕ) → ℕ → Bool) : Type 0 where
+  pub cell : Cell
+  pub cell_is : r.cells page ≡ Some cell
+  pub none : ¬ (HasGoodLeaf p r cell (answering (data_start + cell.sector)))
 
 -- the top of the first of these leaves whose top has no readable leaf among all
 abbrev pub is_up_under : (top : ℕ) → LeafSeen → Bool

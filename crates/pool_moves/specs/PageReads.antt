@@ -1,9 +1,9 @@
 -- How an opening reads the pages of a map back: one after another, each from the copies on the leaves of its top.
-use Rattle.std.specs.Prelude.{◌≡◌, ◌⊎◌, ℕ, suc, ◌+◌, ◌*◌, ◌<◌, ◌≤◌, ◌==◌, ◌&&◌, ◌||◌, nat_lt, Bool, true, Option, Some, None, not, List, [], ◌∷◌, ◌++◌, map}
+use Rattle.std.specs.Prelude.{◌≡◌, ◌⊎◌, ℕ, suc, ◌+◌, ◌*◌, ◌<◌, ◌≤◌, ◌==◌, ◌&&◌, ◌||◌, nat_lt, Bool, true, false, cond, Option, Some, None, not, List, [], ◌∷◌, ◌++◌, map}
 use Rattle.std.specs.List.{AllByRecursion}
 use Rattle.sha2.specs.Sha256.{sha256}
 use Rattle.mp_base.specs.declared.place.Key.{Key}
-use Rattle.bank_core.specs.Disk.{Call, Noted}
+use Rattle.bank_core.specs.Disk.{Call, Read, Noted}
 use Rattle.mirror_io.specs.declared.copies.CopyOf.{CopyOf}
 use Rattle.mirror_io.specs.Copies.{tries}
 use Rattle.mirror_io.specs.Mirror.{IsHealed}
@@ -112,6 +112,10 @@ abbrev pub IsTurned : Key → List PageTurn → Type 0
 IsTurned k [] = ⊥
 IsTurned k (turn ∷ turns) = (k ≡ page_of turn) ⊎ IsTurned k turns
 
+-- what was found of the pages, but for those that are read behind this one
+abbrev pub up_to : (page : Key) → (found : Key → Option (List ℕ)) → Key → Option (List ℕ)
+up_to page found k = cond (is_read_before page k) None (found k)
+
 -- What is got of the pages of this kind: the root's pointer is the configuration's, below a hole are holes, and the pointers below a page
 -- are those of its bytes, which have the sum that its own pointer names. Keys that the volume hasn't are holes.
 pub record IsReadTo (x : Reading) (reached : Key → Bool) : Type 0 where
@@ -124,23 +128,29 @@ pub record IsReadTo (x : Reading) (reached : Key → Bool) : Type 0 where
   pub beyond : (k : Key) → (IsOfVolume (x.codec.blocks x.config) k → ⊥) → x.got k ≡ None
 
 -- The whole map is read: each page that has a pointer, and no other.
-pub record ReadsMap (x : Reading) (made : List Noted) : Type 0 where
-  pub turns : List PageTurn
+pub record ReadsMap (x : Reading) (turns : List PageTurn) : Type 0 where
   pub each : AllByRecursion (IsPageTurn x) turns
   pub order : AreInOrder turns
   pub all : (level index : ℕ) (sum : Sum) → level < 3 → x.got (key (suc level) index) ≡ Some sum → IsTurned (key (suc level) index) turns
   pub only : (k : Key) (bytes : List ℕ) → x.found k ≡ Some bytes → IsTurned k turns
   pub back : IsReadTo x (λ k. true)
-  pub calls : made ≡ calls_of_turns turns
 
--- a leaf of these that is readable is on the device, and none of these calls failed there
-abbrev pub answers_in : List LeafSeen → List Noted → ℕ → Bool
-answers_in leaves made d = up_devs leaves d && not (failed_on made d)
+-- a read of this sector of the device failed, and one of these calls is such a read
+abbrev pub is_failed_read : (at d : ℕ) → Call → Bool
+is_failed_read at d (Read dev from bytes (Some fault)) = (dev == d) && (from == at)
+is_failed_read at d call = false
 
--- The map is read up to a page of which no copy is good.
-pub record StopsAt (x : Reading) (level index : ℕ) (shown : List LeafShown) (made : List Noted) : Type 0 where
+abbrev pub failed_at : (at : ℕ) → List Noted → ℕ → Bool
+failed_at at [] d = false
+failed_at at (noted ∷ made) d = is_failed_read at d noted.call || failed_at at made d
+
+-- a leaf of these that is readable is on the device, and none of these calls failed to read this sector there
+abbrev pub answers_in : List LeafSeen → List Noted → (at : ℕ) → ℕ → Bool
+answers_in leaves made at d = up_devs leaves d && not (failed_at at made d)
+
+-- The map is read up to a page of which no copy is good, by these reads.
+pub record StopsAt (x : Reading) (level index : ℕ) (shown : List LeafShown) (turns : List PageTurn) (reads : List Noted) : Type 0 where
   pub low : level < 3
-  pub turns : List PageTurn
   pub each : AllByRecursion (IsPageTurn x) turns
   pub order : AreInOrder turns
   pub before : AllByRecursion (λ turn. is_read_before (page_of turn) (key (suc level) index) ≡ true) turns
@@ -150,8 +160,6 @@ pub record StopsAt (x : Reading) (level index : ℕ) (shown : List LeafShown) (m
   pub back : IsReadTo x (λ k. is_read_before k (key (suc level) index))
   pub sum : Sum
   pub sum_is : x.got (key (suc level) index) ≡ Some sum
-  pub reads : List Noted
   pub wrong : List CopyOf
   pub tried : AreTried (data_start + sum.sector) (IsPageHere x level index sum) (tries (copies_of sum x.leaves)) reads wrong None
-  pub calls : made ≡ calls_of_turns turns ++ reads
   pub shown_is : shown ≡ map (leaf_shown reads) (copies_of sum x.leaves)

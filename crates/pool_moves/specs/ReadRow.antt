@@ -40,7 +40,7 @@ copies_of sum leaves = map (copy_of sum.birth) (filter (stands_under sum.top) le
 abbrev pub read_failed : OwnLeaf → OwnLeaf
 read_failed own = record own {
   counts = record (own.counts) { reads = count_up own.counts.reads };
-  faults = cond own.joined (own.faults + 1) own.faults;
+  faults = cond own.joined (count_up own.faults) own.faults;
 }
 
 abbrev pub was_wrong : OwnLeaf → OwnLeaf

@@ -11,7 +11,7 @@ ghost use Rattle.txg_history.specs.Moves.{Mays};
 ghost use Rattle.txg_history.specs.Numbering.{renumbered};
 ghost use Rattle.txg_history.specs.Pages.{LeafKept, Codec, ClashesAt};
 ghost use Rattle.txg_history.specs.Pools.{Pool, after, pool_after};
-ghost use Rattle.txg_history.specs.Premises.{Premises, HasNoTwin, HasGoodPages};
+ghost use Rattle.txg_history.specs.Premises.{Premises, HasNoTwin};
 ghost use Rattle.txg_history.specs.Records.{Rec};
 ghost use Rattle.txg_history.specs.Survival.{Survives};
 ghost use Rattle.pool_moves.specs.CommitRows.{IsOpened};
@@ -21,7 +21,7 @@ ghost use Rattle.pool_moves.specs.Making.{IsMade};
 ghost use Rattle.pool_moves.specs.Moves.{Move};
 ghost use Rattle.pool_moves.specs.OnlineRow.{HostDevice, OnlineReply, RowOnline, FindMembers};
 ghost use Rattle.pool_moves.specs.Opened.{opened_leaves, opened_side, claims_of};
-ghost use Rattle.pool_moves.specs.OpeningRow.{SeekReply, RowSeek, HasSizes, IsLiveOne, SeeksLive, AreWholeReads, AreSought, OpenReply, Opens_state, NoPage, RowOpen, RowResume};
+ghost use Rattle.pool_moves.specs.OpeningRow.{SeekReply, RowSeek, HasSizes, IsLiveOne, SeeksLive, AreWholeReads, AreSought, OpenReply, Opens_state, NoPage, RowOpen, page_calls, MayTurns, IsLostPage, RowResume};
 ghost use Rattle.pool_moves.specs.PageReads.{LeafShown, answers_in};
 ghost use Rattle.pool_moves.specs.ReadRow.{made_in};
 ghost use Rattle.pool_moves.specs.Resilvers.{Resilvers};
@@ -59,8 +59,9 @@ pub fn openings_seek_a_live_record()
 /// `state`: the state to which the searches for the leaves' identities and the reading of the map come is what the history has
 /// from the record's reading on, so it is kept at each of their calls. Each leaf is where the history has it: where it was found,
 /// at the member of its number that this run didn't find, or at none. `calls`: the calls may be made, the rewriting of wrong
-/// copies too, however they end. `pages`: that a page is found nowhere does not come where each has a good leaf that was found,
-/// is readable and whose reads didn't fail. `no_twin`: there is no twin where no device that is no member is handed in under a
+/// copies too, however they end. `turns`: so they may page by page, where only the bytes of the pages so far don't clash.
+/// `pages`: a page that is told as lost is the record's, and no leaf that was found, is readable and whose reads didn't fail has
+/// it undamaged. `no_twin`: there is no twin where no device that is no member is handed in under a
 /// leaf's name with the leaf's identity, and no ring sector was torn into a correct uberblock.
 pub fn openings_read_the_record()
     ensures state { (c : Codec) (size : ℕ → ℕ) (handed : List ℕ → Option ℕ) (name : List ℕ) (p : Pool) (r : Rec) (roster : List ℕ)
@@ -74,13 +75,18 @@ pub fn openings_read_the_record()
         → Survives c p → p.name ≡ name → IsLiveOne p found r
         → (row : RowOpen c size handed name found made reply) → AllAnswer p.sectors made → HasNoTwin p r (claims_of (c.leaves found.blob.items) row.devs)
         → Mays c (after (Opens r) p) (as_events made) ⊎ ClashesAt r.cells row.bytes }
+    ensures turns { (c : Codec) (size : ℕ → ℕ) (handed : List ℕ → Option ℕ) (name : List ℕ) (p : Pool) (r : Rec)
+        (found : Found) (made : List Noted) (reply : OpenReply)
+        → Survives c p → p.name ≡ name → IsLiveOne p found r
+        → (row : RowOpen c size handed name found made reply) → AllAnswer p.sectors made → HasNoTwin p r (claims_of (c.leaves found.blob.items) row.devs)
+        → MayTurns c (pool_after (as_events row.ids) (after (Opens r) p)) r.cells row.bytes row.turns row.last }
     ensures pages { (c : Codec) (size : ℕ → ℕ) (handed : List ℕ → Option ℕ) (name : List ℕ) (p : Pool) (r : Rec)
         (found : Found) (made : List Noted) (page : Key) (shown : List LeafShown)
         → Survives c p → p.name ≡ name → IsLiveOne p found r
         → (row : RowOpen c size handed name found made (NoPage page shown)) → AllAnswer p.sectors made
         → HasNoTwin p r (claims_of (c.leaves found.blob.items) row.devs)
-        → HasGoodPages (pool_after (as_events made) (after (Opens r) p)) r (λ k. answers_in (opened_leaves (c.leaves found.blob.items) row.devs) row.pages)
-        → ClashesAt r.cells row.bytes }
+        → IsLostPage (pool_after (as_events made) (after (Opens r) p)) r page (answers_in (opened_leaves (c.leaves found.blob.items) row.devs) (page_calls row))
+        ⊎ ClashesAt r.cells row.bytes }
     ensures no_twin { (c : Codec) (size : ℕ → ℕ) (handed : List ℕ → Option ℕ) (name : List ℕ) (p : Pool) (r : Rec)
         (found : Found) (made : List Noted) (reply : OpenReply)
         → Survives c p → HasSizes size p → IsLiveOne p found r → (row : RowOpen c size handed name found made reply) → AreWholeReads p row.ids

@@ -83,7 +83,7 @@ all_owned pool size (leaf ∷ leaves) (stamp ∷ stamps) h (dev, inl whole) = (
 )
 
 -- The pool behind the stamps.
-abbrev side_behind : Host → (name : List ℕ) → (pool : Guid) → (tops : List (List (List ℕ))) → List Stamp → Side
+abbrev pub side_behind : Host → (name : List ℕ) → (pool : Guid) → (tops : List (List (List ℕ))) → List Stamp → Side
 side_behind h name pool tops stamps = new_side (size_in h.table) name pool (tops_of h.table tops) (host_stamped h pool.0 stamps).disk
 
 is_made : (h : Host) (name : List ℕ) (blocks : ℕ) (tops : List (List (List ℕ))) (pool : Guid) (stamps : List Stamp) → MayCreate h name blocks tops pool
@@ -109,7 +109,7 @@ new_pools : (g : ℕ) (s : PoolState) (pools : List PoolState) → ((s : PoolSta
 new_pools g s pools none x (inl is) number = is
 new_pools g s pools none x (inr more) number = absurd (none x more number)
 
-bears_known : (c : Codec) (h : Host) (name : List ℕ) (blocks : ℕ) (tops : List (List (List ℕ))) (pool : Guid) (stamps : List Stamp) → MayCreate h name blocks tops pool
+pub bears_known : (c : Codec) (h : Host) (name : List ℕ) (blocks : ℕ) (tops : List (List (List ℕ))) (pool : Guid) (stamps : List Stamp) → MayCreate h name blocks tops pool
     → AreStamps (size_in h.table) pool (leaves_of h.table tops) stamps None → IsNew h pool.0
     → Knows c (host_by (Bears (new_birth name pool blocks h.table tops)) (host_stamped h pool.0 stamps)) (born (new_birth name pool blocks h.table tops) (host_stamped h pool.0 stamps).disk)
     × Kept c (new_state (size_in h.table) name pool blocks (tops_of h.table tops)) (side_behind h name pool tops stamps)

@@ -1,5 +1,5 @@
 -- What is acknowledged where a group ends so.
-use Rattle.std.proofs.Common.{◌≡◌, inl, inr, ℕ, ◌≤◌, Bool, true, false, cond, List, [], ◌∷◌, ◌++◌, Option, Some, None, refl, sym, ap, ◌∙◌, subst, append-nil, append_assoc, arith}
+use Rattle.std.proofs.Common.{◌≡◌, inl, inr, ℕ, ◌+◌, ◌<◌, ◌≤◌, Bool, true, false, cond, List, [], ◌∷◌, ◌++◌, Option, Some, None, refl, sym, ap, ◌∙◌, subst, append-nil, append_assoc, arith}
 use Rattle.std.specs.List.{AllByRecursion}
 use Rattle.bank_core.specs.Disk.{Noted}
 use Rattle.txg_history.specs.Pages.{Codec}
@@ -10,7 +10,7 @@ use Rattle.pool_moves.specs.Boards.{board_of, board_under, emptied}
 use Rattle.pool_moves.specs.FreezeRow.{up_devs}
 use Rattle.pool_moves.specs.Keeping.{over, Kept, Walks}
 use Rattle.pool_moves.specs.Leaves.{LeafSeen, Seat}
-use Rattle.pool_moves.specs.LineRows.{TurnReply, Idle, Write, Flush, Round, Committed, Suspended, count_moves, EndsBy, EndsTurn, IsTurnOf, IsRoundPart, StartsBy, TurnBy, RowTurn, AreTurns, moves_in, EndsGroup, CommitsOpen, Ended, CommitsFor, SyncBehind, SyncBy, RowSync}
+use Rattle.pool_moves.specs.LineRows.{TurnReply, Idle, Write, Flush, Round, Committed, Suspended, count_moves, EndsBy, EndsTurn, IsTurnOf, IsRoundPart, StartsBy, TurnBy, RowTurn, AreTurns, moves_in, EndsGroup, CommitsOpen, SyncReply, Ended, EndsFirst, CommitsFor, SyncBehind, SyncBy, RowSync}
 use Rattle.pool_moves.specs.Moves.{Draft, Move, Makes, Lose, Puts, Freeze, Draw, Burn, Commits, Sets, events_of, step, state_step, steps, after_move, after_moves}
 use Rattle.pool_moves.specs.Refusing.{FreezeRefusal}
 use Rattle.pool_moves.specs.States.{PoolState, Side}
@@ -22,7 +22,7 @@ use Rattle.pool_moves.proofs.FreeWalks.{moves_more}
 use Rattle.pool_moves.proofs.Keeping.{walk_keeps}
 use Rattle.pool_moves.proofs.LineWalks.{IsSet, counts_set}
 use Rattle.pool_runs.specs.Acts.{does, pool_along}
-use Rattle.pool_runs.specs.Committing.{CommitsAll, CommitsGroup}
+use Rattle.pool_runs.specs.Committing.{FreezesNone, CommitsAll, CommitsGroup}
 use Rattle.pool_runs.proofs.Acting.{own_events, move_number}
 use Rattle.pool_runs.proofs.GroupMoves.{IsKind, more, all_group, all_sync, all_widens, all_turn, all_commits}
 
@@ -146,7 +146,7 @@ pub record IsAckedAs (p : Pool) (n : ℕ) : Type 0 where
   pub number : number_of p.acked ≡ n
   pub idle : p.group.frozen ≡ false
 
-ends_pool : (vs : List Move) (n : ℕ) (t : Side) → (e : EndsIn vs n) → (after_moves vs t).pool ≡ (after_move (Commits e.draft) (after_moves e.body t)).pool
+pub ends_pool : (vs : List Move) (n : ℕ) (t : Side) → (e : EndsIn vs n) → (after_moves vs t).pool ≡ (after_move (Commits e.draft) (after_moves e.body t)).pool
 ends_pool vs n t e = ap (λ l. (after_moves l t).pool) e.moves
     ∙ (ap (λ x. x.pool) (moves_more e.body (Commits e.draft ∷ e.sets) t) ∙ sets_pool e.sets (after_move (Commits e.draft) (after_moves e.body t)) e.all_set)
 
@@ -229,17 +229,32 @@ kept_blocks c s t n kept acked none a = ap (λ r. block_at r a) acked.reads ∙ 
 
 -- A sync.
 record SyncCommits (s : PoolState) (vs : List Move) (n : ℕ) : Type 0 where
+  up : s.core.number < n
   ends : EndsIn vs n
   none : (steps vs s).own.writes ≡ (λ x. None)
 
 ended_turn : (a b : TurnReply) → Ended a ≡ Ended b → a ≡ b
 ended_turn a b e = cc
 
+-- a new group's numbers are above those that were drawn before
+open_up : (c : Codec) (size : ℕ → ℕ) (s : PoolState) (vs : List Move) (n : ℕ) → CommitsOpen c size s vs (Committed n) → s.core.number < n
+open_up c size s vs n w =
+    let frozen : s.core.number + 1 ≤ (steps w.first s).core.number = subst (λ l. s.core.number + 1 ≤ (steps l s).core.number) (sym w.freeze.moves.moves)
+    (numbers_up w.freeze.moves.widens (state_step (Freeze w.freeze.cells (up_devs s.core.leaves)) s)) in
+    let most = (group_commits c size (steps w.first s) w.rest n w.ends).up in omega (arith, frozen, most)
+
+-- and so above the record that was acknowledged
+acked_below : (c : Codec) (s : PoolState) (t : Side) (n : ℕ) → Kept c s t → s.core.number < n → number_of t.pool.acked < n
+acked_below c s t n kept up =
+    let top : number_of t.pool.acked ≤ s.core.number = subst (λ h. number_of t.pool.acked ≤ h) (sym (ap (λ core. core.number) kept.core)) kept.survives.order.acked_top in
+    omega (arith, top, up)
+
 open_commits : (refusal : Option FreezeRefusal) (c : Codec) (size : ℕ → ℕ) (s : PoolState) (vs : List Move) (n : ℕ) → CommitsFor refusal c size s vs (Ended (Committed n)) → SyncCommits s vs n
 open_commits (Some refusal) c size s vs n row = absurd (let no = row.1 in cc)
 open_commits None c size s vs n row =
     let w : CommitsOpen c size s vs (Committed n) = subst (CommitsOpen c size s vs) (sym (ended_turn (Committed n) row.0 row.2)) row.1 in
     let rest = group_commits c size (steps w.first s) w.rest n w.ends in record {
+      up = open_up c size s vs n w;
       ends = subst (λ l. EndsIn l n) (sym w.moves) (ends_behind w.first w.rest n rest.ends);
       none = ap (λ l. (steps l s).own.writes) w.moves ∙ frozen_writes w.first w.rest s w.freeze.cells (up_devs s.core.leaves) w.freeze.moves
           (all_group KeepsWrites writes_kind c size (steps w.first s) w.rest (Committed n) (λ bad. absurd bad) w.ends);
@@ -257,14 +272,17 @@ behind_commits (Suspended group top faults) c size s first vs n row = absurd (le
 sync_commits : (frozen : Bool) (c : Codec) (size : ℕ → ℕ) (s : PoolState) (vs : List Move) (n : ℕ) → SyncBy frozen c size s vs (Ended (Committed n)) → SyncCommits s vs n
 sync_commits false c size s vs n row = open_commits row.0 c size s vs n row.2
 sync_commits true c size s vs n row = let behind = behind_commits row.turn c size (steps row.first s) row.first row.rest n row.behind in record {
+  up = let first = numbers_up row.first s in let last = behind.up in omega (arith, first, last);
   ends = subst (λ l. EndsIn l n) (sym row.moves) (ends_behind row.first row.rest n behind.ends);
   none = ap (λ l. (steps l s).own.writes) row.moves ∙ (ap (λ x. x.own.writes) (steps_more row.first row.rest s) ∙ behind.none);
 }
 
-pub sync_all : (c : Codec) (size : ℕ → ℕ) (s : PoolState) (t : Side) (vs : List Move) (n : ℕ) → Kept c (steps vs s) (after_moves vs t) → RowSync c size s vs (Ended (Committed n)) → CommitsAll t.pool (after_moves vs t).pool n
-sync_all c size s t vs n kept row =
+pub sync_all : (c : Codec) (size : ℕ → ℕ) (s : PoolState) (t : Side) (vs : List Move) (n : ℕ) → Kept c s t → Kept c (steps vs s) (after_moves vs t)
+    → RowSync c size s vs (Ended (Committed n)) → CommitsAll t.pool (after_moves vs t).pool n
+sync_all c size s t vs n begun kept row =
     let commits = sync_commits s.core.group.frozen c size s vs n row in
     let acked = ends_acked vs n t commits.ends in record {
+      above = acked_below c s t n begun commits.up;
       acked = acked.number;
       blocks = λ a. kept_blocks c (steps vs s) (after_moves vs t) n kept acked commits.none a
           ∙ ap (λ w. w a) (written_along vs t (all_sync KeepsWritten written_kind (λ cells board. tt) s.core.group.frozen c size s vs (Ended (Committed n)) (λ bad. tt) row));
@@ -307,18 +325,57 @@ walk_second : (c : Codec) (vs ws : List Move) (t : Side) → Walks c t (vs ++ ws
 walk_second c [] ws t walks = walks
 walk_second c (v ∷ vs) ws t walks = walk_second c vs ws (after_move v t) walks.1
 
-pub turn_all : (c : Codec) (size : ℕ → ℕ) (s : PoolState) (t : Side) (vs : List Move) (n : ℕ) → Kept c s t → Walks c t vs
-    → RowTurn c size s vs (Committed n) → CommitsGroup t.pool (after_moves vs t).pool n
-turn_all c size s t vs n kept walks row =
-    let e = (turn_commits c size s vs n row).ends in
+ends_content : (c : Codec) (s : PoolState) (t : Side) (vs : List Move) (n : ℕ) → Kept c s t → Walks c t vs → EndsIn vs n → AllByRecursion KeepsContent vs
+    → CommitsGroup t.pool (after_moves vs t).pool n
+ends_content c s t vs n kept walks e keeps =
     let ending = Commits e.draft ∷ e.sets in
     let all : Walks c t (e.body ++ ending) = subst (Walks c t) e.moves walks in
     let now = walk_second c e.body ending t all in
-    let before = walk_keeps c e.body s t (walk_first c e.body ending t all) kept in
-    let keeps : AllByRecursion KeepsContent (e.body ++ ending) = subst (AllByRecursion KeepsContent) e.moves (all_turn KeepsContent content_kind c size s vs (Committed n) (λ bad. tt) row) in record {
+    let before = walk_keeps c e.body s t (walk_first c e.body ending t all) kept in record {
       acked = (ends_acked vs n t e).number;
-      blocks = λ a. ap (λ p. block_at p.acked a) (ends_pool vs n t e) ∙ (before.survives.come_to.contents now.0.0.0.frozen a ∙ ap (λ f. f a) (content_along e.body ending t keeps));
+      blocks = λ a. ap (λ p. block_at p.acked a) (ends_pool vs n t e) ∙ (before.survives.come_to.contents now.0.0.0.frozen a
+          ∙ ap (λ f. f a) (content_along e.body ending t (subst (AllByRecursion KeepsContent) e.moves keeps)));
     }
+
+-- So does a group that is ended by its turns.
+pub group_all : (c : Codec) (size : ℕ → ℕ) (s : PoolState) (t : Side) (vs : List Move) (n : ℕ) → Kept c s t → Walks c t vs
+    → EndsGroup c size s vs (Committed n) → CommitsGroup t.pool (after_moves vs t).pool n
+group_all c size s t vs n kept walks row = ends_content c s t vs n kept walks (group_commits c size s vs n row).ends
+    (all_group KeepsContent content_kind c size s vs (Committed n) (λ bad. tt) row)
+
+-- The frozen group that a sync ended before its own freeze was refused, or found no memory.
+pub first_all : (c : Codec) (size : ℕ → ℕ) (s : PoolState) (t : Side) (vs : List Move) (reply : SyncReply) → Kept c s t → Walks c t vs → FreezesNone reply
+    → EndsFirst c size s vs reply → (n : ℕ) × CommitsGroup t.pool (after_moves vs t).pool n
+first_all c size s t vs reply kept walks none row = by row.turn row.ends row.behind
+  where
+    refused : (refusal : Option FreezeRefusal) (rest : List Move) → CommitsFor refusal c size (steps row.first s) rest reply → rest ≡ []
+    refused (Some refusal) rest of = of.0
+    refused None rest of = absurd (subst FreezesNone of.2 none)
+
+    idle : (n : ℕ) (rest : List Move) → SyncBehind (Committed n) c size (steps row.first s) rest reply → rest ≡ []
+    idle n rest (inl of) = of.0
+    idle n rest (inr of) = refused of.0 rest of.2
+
+    only : (rest : List Move) → rest ≡ [] → vs ≡ row.first ++ rest → vs ≡ row.first
+    only rest is all = all ∙ (ap (λ l. row.first ++ l) is ∙ append-nil row.first)
+
+    by : (turn : TurnReply) → EndsGroup c size s row.first turn → SyncBehind turn c size (steps row.first s) row.rest reply
+        → (n : ℕ) × CommitsGroup t.pool (after_moves vs t).pool n
+    by (Committed n) ends behind = let same = only row.rest (idle n row.rest behind) row.moves in (
+      n,
+      subst (λ l. CommitsGroup t.pool (after_moves l t).pool n) (sym same)
+          (group_all c size s t row.first n kept (subst (Walks c t) same walks) ends),
+    )
+    by Idle ends behind = absurd (subst FreezesNone behind.1 none)
+    by Write ends behind = absurd (subst FreezesNone behind.1 none)
+    by Flush ends behind = absurd (subst FreezesNone behind.1 none)
+    by (Round number) ends behind = absurd (subst FreezesNone behind.1 none)
+    by (Suspended group top faults) ends behind = absurd (subst FreezesNone behind.1 none)
+
+pub turn_all : (c : Codec) (size : ℕ → ℕ) (s : PoolState) (t : Side) (vs : List Move) (n : ℕ) → Kept c s t → Walks c t vs
+    → RowTurn c size s vs (Committed n) → CommitsGroup t.pool (after_moves vs t).pool n
+turn_all c size s t vs n kept walks row = ends_content c s t vs n kept walks (turn_commits c size s vs n row).ends
+    (all_turn KeepsContent content_kind c size s vs (Committed n) (λ bad. tt) row)
 
 -- the pool behind its own moves
 pub does_pool : (g : ℕ) (vs : List Move) (t : Side) → t.pool.pool.0 ≡ g → pool_along (does g vs) t.pool ≡ (after_moves vs t).pool
@@ -330,6 +387,7 @@ record CommitsFirst (s : PoolState) (vs : List Move) (n : ℕ) : Type 0 where
   front : List Move
   rest : List Move
   moves : vs ≡ front ++ rest
+  up : s.core.number < n
   ends : EndsIn front n
   none : (steps front s).own.writes ≡ (λ x. None)
   keeps : AllByRecursion KeepsWritten front
@@ -360,6 +418,7 @@ without_commits c size s name leaf seat vs n row = by row.turn row.commit row.be
           front = out ++ row.part;
           rest = row.rest;
           moves = row.moves ∙ sym (append_assoc out row.part row.rest);
+          up = let first = numbers_up out s in let last = open_up c size gone row.part n w in omega (arith, first, last);
           ends = ends_behind out row.part n (subst (λ l. EndsIn l n) (sym w.moves) (ends_behind w.first w.rest n rest.ends));
           none = ap (λ x. x.own.writes) (steps_more out row.part s) ∙ (ap (λ l. (steps l gone).own.writes) w.moves
               ∙ frozen_writes w.first w.rest gone w.freeze.cells (up_devs gone.core.leaves) w.freeze.moves
@@ -395,6 +454,7 @@ detach_all c size s t name seat vs n kept walks row =
     let acked = ends_acked w.front n t w.ends in
     let same : (after_moves vs t).pool.acked ≡ (after_moves w.front t).pool.acked =
     ap (λ l. (after_moves l t).pool.acked) w.moves ∙ (ap (λ x. x.pool.acked) (moves_more w.front w.rest t) ∙ w.acked (after_moves w.front t)) in record {
+      above = acked_below c s t n kept w.up;
       acked = ap number_of same ∙ acked.number;
       blocks = λ a. ap (λ r. block_at r a) same
           ∙ (kept_blocks c (steps w.front s) (after_moves w.front t) n before acked w.none a ∙ ap (λ f. f a) (written_along w.front t w.keeps));

@@ -62,7 +62,7 @@ wrote_later d (v ∷ vs) ws wrote = wrote_later d vs ws wrote
 -- what a graft makes is of no other device, and, in its pool, of no other number; and it writes to the device
 record Begins (x : Held) (g e : ℕ) (m : Guid) (vs : List Move) (reply : GraftReply) : Type 0 where
   begun : (reply ≡ Grafted) ⊎ (reply ≡ DeviceFault)
-  keeps : (e == x.d) ≡ false → ((x.pool == g) ≡ true → (x.guid.0 == m.0) ≡ false) → KeepAll x g vs
+  keeps : (e == x.d) ≡ false → (reply ≡ Grafted → (x.pool == g) ≡ true → (x.guid.0 == m.0) ≡ false) → KeepAll x g vs
   wrote : HasWriteTo e (made_in vs)
 
 ends_begin : (outcome : Option Fault) (x : Held) (g : ℕ) (graft : Graft) (s : PoolState) (name : List ℕ) (leaf : LeafSeen) (new : List ℕ) (e : ℕ) (made : List Noted) (vs : List Move) (reply : GraftReply)
@@ -79,7 +79,7 @@ ends_begin None x g graft s name leaf new e made vs reply wrote row = let comes 
       (all_more x g (graft_first graft s name leaf new e made) (starts_scan (steps (graft_first graft s name leaf new e made) s) ∷ []) (
         (λ mine. away),
         all_more x g (as_moves made) (comes_in graft s name leaf new e) (all_plain x g (as_moves made) (all_calls KeepsMembers kept_kind made))
-            ((λ mine. tt), ((λ mine. (away, other mine)), ((λ mine. tt), tt))),
+            ((λ mine. tt), ((λ mine. (away, other row.1 mine)), ((λ mine. tt), tt))),
       ) ((λ mine. tt), tt))
       (all_plain x g comes.widens (all_widens KeepsMembers kept_kind (steps (graft_moves graft s name leaf new e made) s).core comes.widens comes.are)));
   wrote = subst (λ l. HasWriteTo e (made_in l)) (sym (comes.moves
@@ -128,7 +128,7 @@ graft_keeps h e p d graft name leaf new s asked stands row = refused (graft_refu
     by : (k : ℕ) → number_in new h.table ≡ Some k → (r : GraftReply) → e.reply ≡ To_graft r → ByGraft h s graft leaf new k r e.acts → Keep x e.acts ⊎ IsGraftedOn p h e d
     by k here r reply line = of (graft_begins x g (size_in h.table) graft s leaf new k line.moves r line.row)
       where
-        taken : (begun : (r ≡ Grafted) ⊎ (r ≡ DeviceFault)) → ((number_in new h.table ≡ Some d) × HasWriteTo d (calls_along e.acts)) ⊎ ((s.core.pool.0 ≡ p.pool.0) × (p.guid d ≡ new_number graft s)) → IsGraftedOn p h e d
+        taken : (begun : (r ≡ Grafted) ⊎ (r ≡ DeviceFault)) → ((number_in new h.table ≡ Some d) × HasWriteTo d (calls_along e.acts)) ⊎ ((r ≡ Grafted) × (s.core.pool.0 ≡ p.pool.0) × (p.guid d ≡ new_number graft s)) → IsGraftedOn p h e d
         taken begun why = record { graft = graft; name = name; leaf = leaf; new = new; asked = asked; s = s; is_open = stands; answer = r; reply = reply; begun = begun; why = why }
 
         wrote : Begins x g k (new_number graft s) line.moves r → k ≡ d → HasWriteTo d (calls_along e.acts)
@@ -137,9 +137,17 @@ graft_keeps h e p d graft name leaf new s asked stands row = refused (graft_refu
         stays : Begins x g k (new_number graft s) line.moves r → (k == d) ≡ false → Keep x e.acts ⊎ IsGraftedOn p h e d
         stays begins away = by_bool (p.pool.0 == g)
             (λ mine. by_bool ((p.guid d).0 == (new_number graft s).0)
-            (λ same. inr (taken begins.begun (inr (sym (same_device p.pool.0 g mine), same_guid (p.guid d) (new_number graft s) same))))
-            (λ other. inl (subst (Keep x) (sym line.are) (graft_acts_keep x g k line.moves away (begins.keeps away (λ ours. other))))))
-            (λ off. inl (subst (Keep x) (sym line.are) (graft_acts_keep x g k line.moves away (begins.keeps away (λ ours. true_not_false (p.pool.0 == g) ours off)))))
+            (λ same. ⊎_elim
+            (λ came. inr (taken begins.begun (inr (came, sym (same_device p.pool.0 g mine), same_guid (p.guid d) (new_number graft s) same))))
+            (λ failed. inl (kept (λ came ours. absurd (not_both came failed)))) begins.begun)
+            (λ other. inl (kept (λ came ours. other))))
+            (λ off. inl (kept (λ came ours. true_not_false (p.pool.0 == g) ours off)))
+          where
+            kept : (r ≡ Grafted → (p.pool.0 == g) ≡ true → ((p.guid d).0 == (new_number graft s).0) ≡ false) → Keep x e.acts
+            kept other = subst (Keep x) (sym line.are) (graft_acts_keep x g k line.moves away (begins.keeps away other))
+
+            not_both : r ≡ Grafted → r ≡ DeviceFault → ⊥
+            not_both came failed = let no : Grafted ≡ DeviceFault = sym came ∙ failed in cc
 
         of : (line.moves ≡ []) ⊎ Begins x g k (new_number graft s) line.moves r → Keep x e.acts ⊎ IsGraftedOn p h e d
         of (inl none) = inl (subst (Keep x) (sym (line.are ∙ ap (graft_acts g k) none)) tt)

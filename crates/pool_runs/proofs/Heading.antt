@@ -1,7 +1,7 @@
 -- The headline, from what a host knows of a pool and from the rows of a run.
 use Rattle.bank_core.specs.Disk.{run}
 use Rattle.txg_history.specs.Records.{Rec, IsIn, key}
-use Rattle.std.proofs.Common.{◌≡◌, ◌⊎◌, inl, inr, ℕ, ◌<◌, Bool, true, false, List, [], ◌∷◌, ◌++◌, take, map, Some, refl, sym, ap, ◌∙◌, subst, arith, Option, None}
+use Rattle.std.proofs.Common.{◌≡◌, ◌⊎◌, inl, inr, ℕ, ◌<◌, ◌≤◌, Bool, true, false, List, [], ◌∷◌, ◌++◌, take, map, remove, Some, refl, sym, ap, ◌∙◌, subst, arith, Option, None}
 use Rattle.mp_base.specs.Outside.{Rose}
 use Rattle.mp_base.specs.declared.number.Guid.{Guid}
 use Rattle.bank_core.specs.Calls.{AllCaused}
@@ -16,41 +16,48 @@ use Rattle.txg_history.proofs.Surviving.{survives_sound}
 use Rattle.pool_moves.specs.AwayRows.{OfflineReply, Gone, Required, LeastOut, is_offline, is_spare, leaf_named, siblings, OfflineLeaf, OfflineHere, OfflineBy}
 use Rattle.pool_moves.specs.Keeping.{Kept}
 use Rattle.pool_moves.specs.Leaves.{LeafSeen, Seat}
-use Rattle.pool_moves.specs.LineRows.{TurnReply, SyncReply, Ended, Committed, Suspended, RowTurn, RowSync, Idle, Write, Flush, Round}
+use Rattle.pool_moves.specs.LineRows.{TurnReply, SyncReply, Ended, Committed, Suspended, RowTurn, SyncBy, RowSync, Idle, Write, Flush, Round}
 use Rattle.pool_moves.specs.Missing.{AllMissed}
 use Rattle.pool_moves.specs.Moves.{Move, steps, after_moves}
-use Rattle.pool_moves.specs.ReadRow.{ReadReply, Gives, Exhausted, RowRead, made_in}
+use Rattle.pool_moves.specs.ReadRow.{ReadReply, Gives, Exhausted, NoAddress, RowRead, made_in}
 use Rattle.pool_moves.specs.Showing.{LeafShown}
-use Rattle.pool_moves.specs.StampRow.{leaf_at, is_leaf_at, FaultOn}
+use Rattle.pool_moves.specs.StampRow.{FaultOn}
 use Rattle.pool_moves.specs.States.{PoolState, Side}
 use Rattle.pool_moves.specs.Refusing.{FreezeRefusal}
-use Rattle.pool_moves.specs.TreeRows.{Graft, TreeRefusal, graft_refusal, GraftReply, DeviceFault, DetachReply, Detached, Undone, Required as DetachRequired, DetachBehind, DetachFor, DetachLeaf, DetachBy, RowDetach}
+use Rattle.pool_moves.specs.TreeRows.{Graft, place_named, TreeRefusal, graft_refusal, GraftReply, DeviceFault, DetachReply, Detached, Undone, Required as DetachRequired, DetachBehind, DetachFor, DetachLeaf, DetachBy, RowDetach}
 use Rattle.pool_moves.proofs.DetachWalks.{detach_walks}
 use Rattle.pool_moves.proofs.Keeping.{walk_keeps}
 use Rattle.pool_moves.proofs.LineWalks.{turn_walks, sync_walks}
 use Rattle.pool_moves.proofs.Missing.{exhausted_missed}
 use Rattle.pool_moves.proofs.ReadWalks.{read_right}
 use Rattle.pool_runs.specs.Acts.{Act, Gives_for, Marks, Hears, calls_along, pool_along}
-use Rattle.pool_runs.specs.Committing.{CommitsAll, FindsPool, CommitsGroup}
-use Rattle.pool_runs.specs.Counting.{has_leaf_at, RoseAt, HasLostBoard, Suspends, FailsOpening, IsCounted, LosesTop}
-use Rattle.pool_runs.specs.Creating.{leaves_of}
+use Rattle.pool_runs.specs.Committing.{FreezesNone, CommitsAll, FindsPool, CommitsGroup}
+use Rattle.pool_runs.specs.Counting.{has_leaf_at, HasRisen, RoseAt, HasLostBoard, Suspends, FailsOpening, IsCounted, LosesBoard, LosesFreeze, LosesSince, FailsNamed}
 use Rattle.pool_runs.specs.Devices.{number_in, size_in}
-use Rattle.pool_runs.specs.Fairness.{AreFair}
+use Rattle.pool_runs.specs.Fairness.{AreFair, AreFairLooks}
 use Rattle.pool_runs.specs.Headline.{TakesFor, IsRequiredFor, Headline}
 use Rattle.pool_runs.specs.HostRows.{AreMade, ReadLine, TurnLine, SyncLine, OfflineLine, OnPool, RowOf, HostRow, acts_in, IsRun, GraftUnless, GraftOnto, GraftIf, GraftLine, DetachLine}
 use Rattle.pool_runs.specs.Hosts.{Host, named, host_by, host_along, holder}
+use Rattle.pool_runs.specs.Writing.{IsLostRead}
 use Rattle.pool_runs.proofs.Known.{Knows, MayActs}
 use Rattle.pool_runs.specs.Knowing.{HasSeats}
-use Rattle.pool_runs.specs.Lines.{Asks_read, Asks_turn, Asks_sync, Asks_offline, Asks_import, Asks_create, Reply, To_read, To_turn, To_sync, To_import, To_offline, To_create, ImportReply, Opened, NothingFound, PageLost, Unopened, No_memory, Entry, Asks_graft, Asks_detach, To_graft, To_detach}
+use Rattle.pool_runs.specs.Lines.{Asks_read, Asks_turn, Asks_sync, Asks_offline, Asks_import, Asks_create, Reply, To_read, To_turn, To_sync, To_import, To_offline, To_create, ImportReply, Opened, NameOpen, TooManyPools, LastNumber, NothingFound, PageLost, Unopened, No_memory, Entry, Asks_graft, Asks_detach, To_graft, To_detach}
 use Rattle.pool_runs.specs.Moments.{Moment, events_at, pool_at, past_at, host_at, LineOf, pool_before, host_before, IsOpenAs}
 use Rattle.pool_runs.specs.Pasts.{Past, pool_of, Left, BeginsRun, HasFrozen}
 use Rattle.pool_runs.proofs.Acting.{history_pool}
 use Rattle.pool_runs.proofs.Answering.{all_answer, does_calls, marked_calls}
-use Rattle.pool_runs.proofs.Committing.{sync_all, does_pool, turn_all, detach_all}
-use Rattle.pool_runs.proofs.Suspending.{turn_counts, sync_counts, import_counts, create_counts, detach_counts, graft_counts}
+use Rattle.pool_runs.proofs.Committing.{sync_all, first_all, does_pool, turn_all, detach_all}
+use Rattle.pool_runs.proofs.Suspending.{turn_counts, sync_counts}
+use Rattle.pool_runs.proofs.GraftsNameTheFailed.{graft_counts}
 use Rattle.pool_runs.proofs.Finding.{import_finds}
+use Rattle.pool_runs.proofs.LostReads.{exhausted_unwritten, outside_only}
 use Rattle.pool_runs.proofs.Knowing.{may_more, acts_keep}
+use Rattle.pool_runs.proofs.DetachesLoseATop.{detach_loses}
+use Rattle.pool_runs.proofs.Failing.{caught_rose}
+use Rattle.pool_runs.proofs.CreatesNameTheFailed.{create_names}
+use Rattle.pool_runs.proofs.ImportsLoseATop.{import_loses}
 use Rattle.pool_runs.proofs.Losing.{turn_loses}
+use Rattle.pool_runs.proofs.SyncsLoseATop.{sync_loses}
 use Rattle.pool_runs.proofs.Grafting.{graft_calls, entry_keeps}
 use Rattle.pool_runs.proofs.Moments.{has_moments, acts_mays, keeps_all, may_take, acts_table, host_more, run_at, run_front}
 use Rattle.pool_runs.proofs.Pasting.{begins_known, then_pool, then_called, then_allowed, live_frozen}
@@ -178,32 +185,48 @@ line_reads c h p e name a s bytes met asked at is = of met.row
     of (inr out) = read_not_memory (Gives bytes) (sym is ∙ out.says)
 
 line_loses : (c : Codec) (h : Host) (p : Pool) (e : Entry) (name : List ℕ) (a : ℕ) (s : PoolState) (shown : List LeafShown) → Meets c h p e → e.asked ≡ Asks_read name a → IsOpenAs p h name s
-    → e.reply ≡ To_read (Exhausted shown) → AllMissed (s.core.committed (key 0 a)) (calls_along e.acts) (run (calls_along e.acts) p.sectors) s.core.leaves
+    → e.reply ≡ To_read (Exhausted shown) → IsLostRead p s a (calls_along e.acts)
 line_loses c h p e name a s shown met asked at is = of met.row
   where
-    of : HostRow c h e → AllMissed (s.core.committed (key 0 a)) (calls_along e.acts) (run (calls_along e.acts) p.sectors) s.core.leaves
+    of : HostRow c h e → IsLostRead p s a (calls_along e.acts)
     of (inl row) = let line = on_open h name s (ReadLine h a) e.acts e.reply at.named (subst (λ x. RowOf c h x e.acts e.reply) asked row.0) in
         let has = met.knows.stands s (named_open name s h.pools at.named) at.ours in
         let calls : calls_along e.acts ≡ made_in line.2.moves = ap calls_along line.2.are ∙ marked_calls (Marks s.core.pool.0 (Gives_for a line.0)) s.core.pool.0 line.2.moves refl in
         let made : AreMade h (made_in line.2.moves) = subst (AreMade h) calls row.1 in
-        subst (λ made. AllMissed (s.core.committed (key 0 a)) made (run made p.sectors) s.core.leaves) (sym calls)
-        (exhausted_missed c s (record { pool = p; seats = has.0 }) a line.2.moves shown has.1
-        (all_answer h.table (made_in line.2.moves) h.disk p.sectors made.here (λ d x one. sym (met.knows.disk d x one)) made.answer)
-        (subst (RowRead s a line.2.moves) (read_reply line.0 (Exhausted shown) (sym line.1 ∙ is)) line.2.row))
+        let told = subst (RowRead s a line.2.moves) (read_reply line.0 (Exhausted shown) (sym line.1 ∙ is)) line.2.row in
+        let none = exhausted_unwritten s a line.2.moves shown told in record {
+          unwritten = none.0;
+          unfrozen = none.1;
+          missed = subst (λ made. AllMissed (s.core.committed (key 0 a)) made (run made p.sectors) s.core.leaves) (sym calls)
+              (exhausted_missed c s (record { pool = p; seats = has.0 }) a line.2.moves shown has.1
+              (all_answer h.table (made_in line.2.moves) h.disk p.sectors made.here (λ d x one. sym (met.knows.disk d x one)) made.answer) told);
+        }
     of (inr out) = read_not_memory (Exhausted shown) (sym is ∙ out.says)
 
--- An import finds the pool.
-line_opens : (c : Codec) (h : Host) (p : Pool) (e : Entry) → Meets c h p e → e.asked ≡ Asks_import p.name → AreFair c p e.acts
-    → FindsPool c p (pool_along e.acts p) (host_along e.acts h) e.acts e.reply
-line_opens c h p e met asked fair = of met.row
+line_outside : (c : Codec) (h : Host) (p : Pool) (e : Entry) (name : List ℕ) (a : ℕ) (s : PoolState) (limit : ℕ) → Meets c h p e → e.asked ≡ Asks_read name a → IsOpenAs p h name s
+    → e.reply ≡ To_read (NoAddress limit) → (limit ≡ s.own.blocks) × (s.own.blocks ≤ a)
+line_outside c h p e name a s limit met asked at is = of met.row
   where
-    of : HostRow c h e → FindsPool c p (pool_along e.acts p) (host_along e.acts h) e.acts e.reply
-    of (inl row) = import_finds c h p p.name e.acts e.reply met.knows refl row.1 fair (subst (λ x. RowOf c h x e.acts e.reply) asked row.0)
+    of : HostRow c h e → (limit ≡ s.own.blocks) × (s.own.blocks ≤ a)
+    of (inl row) = let line = on_open h name s (ReadLine h a) e.acts e.reply at.named (subst (λ x. RowOf c h x e.acts e.reply) asked row.0) in
+        outside_only s a line.2.moves limit (subst (RowRead s a line.2.moves) (read_reply line.0 (NoAddress limit) (sym line.1 ∙ is)) line.2.row)
+    of (inr out) = read_not_memory (NoAddress limit) (sym is ∙ out.says)
+
+-- An import finds the pool.
+line_opens : (c : Codec) (h : Host) (p : Pool) (e : Entry) → Meets c h p e → e.asked ≡ Asks_import p.name → AreFair c p e.acts → AreFairLooks c p e.acts
+    → FindsPool c h p (pool_along e.acts p) (host_along e.acts h) e.acts e.reply
+line_opens c h p e met asked fair looks = of met.row
+  where
+    of : HostRow c h e → FindsPool c h p (pool_along e.acts p) (host_along e.acts h) e.acts e.reply
+    of (inl row) = import_finds c h p p.name e.acts e.reply met.knows refl row.1 fair looks (subst (λ x. RowOf c h x e.acts e.reply) asked row.0)
     of (inr out) = record {
       some = λ says. import_not_memory NothingFound (sym says ∙ out.says);
       opened = λ n says. import_not_memory (Opened n) (sym says ∙ out.says);
       is_open = λ n says. import_not_memory (Opened n) (sym says ∙ out.says);
       loses = λ page shown says. import_not_memory (PageLost page shown) (sym says ∙ out.says);
+      name_open = λ says. import_not_memory NameOpen (sym says ∙ out.says);
+      too_many = λ limit count says. import_not_memory (TooManyPools limit count) (sym says ∙ out.says);
+      ended = λ limit count says. import_not_memory (LastNumber limit count) (sym says ∙ out.says);
     }
 
 -- A sync acknowledges what was written.
@@ -219,8 +242,23 @@ line_syncs c h p e name s n met asked at is = of met.row
         let done : RowSync c (size_in h.table) s vs (Ended (Committed n)) = subst (RowSync c (size_in h.table) s vs) (sync_reply line.0 (Ended (Committed n)) (sym line.1 ∙ is)) line.2.row in
         let kept : Kept c (steps vs s) (after_moves vs t) = walk_keeps c vs s t (sync_walks c (size_in h.table) s t vs (Ended (Committed n)) has.1 met.knows.sizes done) has.1 in
         subst (λ q. CommitsAll p q n) (sym (ap (λ a. pool_along a p) line.2.are ∙ does_pool s.core.pool.0 vs t (sym at.ours)))
-        (sync_all c (size_in h.table) s t vs n kept done)
+        (sync_all c (size_in h.table) s t vs n has.1 kept done)
     of (inr out) = sync_not_memory (Ended (Committed n)) (sym is ∙ out.says)
+
+line_first : (c : Codec) (h : Host) (p : Pool) (e : Entry) (name : List ℕ) (s : PoolState) (reply : SyncReply) → Meets c h p e → e.asked ≡ Asks_sync name → IsOpenAs p h name s
+    → s.core.group.frozen ≡ true → FreezesNone reply → e.reply ≡ To_sync reply → (n : ℕ) × CommitsGroup p (pool_along e.acts p) n
+line_first c h p e name s reply met asked at frozen none is = of met.row
+  where
+    of : HostRow c h e → (n : ℕ) × CommitsGroup p (pool_along e.acts p) n
+    of (inl row) = let line = on_open h name s (SyncLine c h) e.acts e.reply at.named (subst (λ x. RowOf c h x e.acts e.reply) asked row.0) in
+        let has = met.knows.stands s (named_open name s h.pools at.named) at.ours in
+        let t : Side = record { pool = p; seats = has.0 } in
+        let vs = line.2.moves in
+        let done : RowSync c (size_in h.table) s vs reply = subst (RowSync c (size_in h.table) s vs) (sync_reply line.0 reply (sym line.1 ∙ is)) line.2.row in
+        let all = first_all c (size_in h.table) s t vs reply has.1 (sync_walks c (size_in h.table) s t vs reply has.1 met.knows.sizes done) none
+        (subst (λ f. SyncBy f c (size_in h.table) s vs reply) frozen done) in
+        (all.0, subst (λ q. CommitsGroup p q all.0) (sym (ap (λ a. pool_along a p) line.2.are ∙ does_pool s.core.pool.0 vs t (sym at.ours))) all.1)
+    of (inr out) = sync_not_memory reply (sym is ∙ out.says)
 
 -- A turn acknowledges its group.
 line_turns : (c : Codec) (h : Host) (p : Pool) (e : Entry) (name : List ℕ) (s : PoolState) (n : ℕ) → Meets c h p e → e.asked ≡ Asks_turn name
@@ -339,10 +377,12 @@ line_required_out c h p e name device s leaf group met asked at is idle = of met
     of (inr out) = record { only = λ is. detach_not_memory (DetachRequired group) (sym is ∙ out.says); always = λ least. inr out.says }
 
 -- Counts.
-line_counts : (c : Codec) (h : Host) (p : Pool) (e : Entry) (from to : ℕ → ℕ) → Meets c h p e → AllCaused (calls_along e.acts) from to → IsCounted c h e from to
+line_counts : (c : Codec) (h : Host) (p : Pool) (e : Entry) (from to : ℕ → ℕ) → Meets c h p e
+    → AllCaused (calls_along e.acts) from to → IsCounted c p h e from to
 line_counts c h p e from to met caused = record {
   turns = λ name s asked found bad. turns name s asked found bad met.row asked;
   tops = λ name s group top faults asked found says. tops name s group top faults asked found says met.row;
+  syncs = λ name s group top faults asked at says. syncs name s group top faults asked at says met.row;
   detaches = λ name leaf s group top faults asked found says. detaches name leaf s group top faults asked found says met.row;
   grafts = λ graft name leaf new asked says. grafts graft name leaf new asked says met.row;
   imports = λ name group top faults asked says. imports name group top faults asked says met.row;
@@ -352,26 +392,49 @@ line_counts c h p e from to met caused = record {
     turns : (name : List ℕ) (s : PoolState) → (e.asked ≡ Asks_turn name) ⊎ (e.asked ≡ Asks_sync name) → named name h.pools ≡ Some s → Suspends e.reply → HostRow c h e
         → (e.asked ≡ Asks_turn name) ⊎ (e.asked ≡ Asks_sync name) → RoseAt (λ d. has_leaf_at d s) from to ⊎ HasLostBoard s
     turns name s asks found bad (inl row) (inl asked) = let line = on_open h name s (TurnLine c h) e.acts e.reply found (subst (λ x. RowOf c h x e.acts e.reply) asked row.0) in
-        turn_counts c h s line.2.moves line.0 from to line.2.row
+        turn_counts c (size_in h.table) s line.2.moves line.0 from to line.2.row
         (subst (λ calls. AllCaused calls from to) (ap calls_along line.2.are ∙ does_calls s.core.pool.0 line.2.moves) caused) (subst Suspends line.1 bad)
     turns name s asks found bad (inl row) (inr asked) = let line = on_open h name s (SyncLine c h) e.acts e.reply found (subst (λ x. RowOf c h x e.acts e.reply) asked row.0) in
-        sync_counts c h s line.2.moves line.0 from to line.2.row
+        sync_counts c (size_in h.table) s line.2.moves line.0 from to line.2.row
         (subst (λ calls. AllCaused calls from to) (ap calls_along line.2.are ∙ does_calls s.core.pool.0 line.2.moves) caused) (subst Suspends line.1 bad)
     turns name s asks found bad (inr out) asked = absurd (subst Suspends out.says bad)
 
     tops : (name : List ℕ) (s : PoolState) (group : ℕ) (top : Guid) (faults : ℕ) → e.asked ≡ Asks_turn name → named name h.pools ≡ Some s
-        → e.reply ≡ To_turn (Suspended group top faults) → HostRow c h e → LosesTop s (λ d. Rose (from d) (to d)) top
+        → e.reply ≡ To_turn (Suspended group top faults) → HostRow c h e
+        → LosesBoard s (HasRisen from to) group top
     tops name s group top faults asked found says (inl row) =
         let line = on_open h name s (TurnLine c h) e.acts e.reply found (subst (λ x. RowOf c h x e.acts e.reply) asked row.0) in
-        turn_loses c (size_in h.table) s line.2.moves (calls_along e.acts) group top faults from to (ap calls_along line.2.are ∙ does_calls s.core.pool.0 line.2.moves) caused
+        turn_loses (HasRisen from to) c (size_in h.table) s line.2.moves group top faults
+        (caught_rose line.2.moves (calls_along e.acts) from to
+        (ap calls_along line.2.are ∙ does_calls s.core.pool.0 line.2.moves) caused)
         (subst (RowTurn c (size_in h.table) s line.2.moves) (turn_reply line.0 (Suspended group top faults) (sym line.1 ∙ says)) line.2.row)
     tops name s group top faults asked found says (inr out) = turn_not_memory (Suspended group top faults) (sym says ∙ out.says)
 
+    syncs : (name : List ℕ) (s : PoolState) (group : ℕ) (top : Guid) (faults : ℕ) → e.asked ≡ Asks_sync name
+        → IsOpenAs p h name s
+        → e.reply ≡ To_sync (Ended (Suspended group top faults)) → HostRow c h e
+        → LosesBoard s (HasRisen from to) group top ⊎ LosesSince p s e from to group top
+    syncs name s group top faults asked at says (inl row) =
+        let line = on_open h name s (SyncLine c h) e.acts e.reply at.named
+        (subst (λ x. RowOf c h x e.acts e.reply) asked row.0) in
+        sync_loses c (size_in h.table) s p e line.2.moves group top faults from to
+        (met.knows.stands s (named_open name s h.pools at.named) at.ours) at.ours line.2.are caused
+        (subst (RowSync c (size_in h.table) s line.2.moves)
+        (sync_reply line.0 (Ended (Suspended group top faults)) (sym line.1 ∙ says)) line.2.row)
+    syncs name s group top faults asked at says (inr out) =
+        sync_not_memory (Ended (Suspended group top faults)) (sym says ∙ out.says)
+
     detaches : (name leaf : List ℕ) (s : PoolState) (group : ℕ) (top : Guid) (faults : ℕ) → e.asked ≡ Asks_detach name leaf → named name h.pools ≡ Some s
-        → e.reply ≡ To_detach (Undone group top faults) → HostRow c h e → RoseAt (λ d. has_leaf_at d s) from to
-    detaches name leaf s group top faults asked found says (inl row) = let line = on_open h name s (DetachLine c h leaf) e.acts e.reply found (subst (λ x. RowOf c h x e.acts e.reply) asked row.0) in
-        detach_counts c h s leaf line.2.seat line.2.moves line.0 from to group top faults line.2.row
-        (subst (λ calls. AllCaused calls from to) (ap calls_along line.2.are ∙ does_calls s.core.pool.0 line.2.moves) caused) (detach_reply line.0 (Undone group top faults) (sym line.1 ∙ says))
+        → e.reply ≡ To_detach (Undone group top faults) → HostRow c h e
+        → LosesFreeze s (remove s.core.leaves (place_named leaf s.core.leaves)) (HasRisen from to) group top
+    detaches name leaf s group top faults asked found says (inl row) =
+        let line = on_open h name s (DetachLine c h leaf) e.acts e.reply found
+        (subst (λ x. RowOf c h x e.acts e.reply) asked row.0) in
+        detach_loses (HasRisen from to) c (size_in h.table) s leaf line.2.seat group top faults line.2.moves
+        (caught_rose line.2.moves (calls_along e.acts) from to
+        (ap calls_along line.2.are ∙ does_calls s.core.pool.0 line.2.moves) caused)
+        (subst (RowDetach c (size_in h.table) s leaf line.2.seat line.2.moves)
+        (detach_reply line.0 (Undone group top faults) (sym line.1 ∙ says)) line.2.row)
     detaches name leaf s group top faults asked found says (inr out) = detach_not_memory (Undone group top faults) (sym says ∙ out.says)
 
     grafts : (graft : Graft) (name leaf new : List ℕ) → e.asked ≡ Asks_graft graft name leaf new → e.reply ≡ To_graft DeviceFault → HostRow c h e
@@ -406,13 +469,18 @@ line_counts c h p e from to met caused = record {
         on None row = absurd (let no = sym row.1 ∙ says in cc)
         on (Some s) row = refused s (graft_refusal graft s leaf (leaf_named leaf s.core.leaves)) row
 
-    imports : (name : List ℕ) (group : ℕ) (top : Guid) (faults : ℕ) → e.asked ≡ Asks_import name → e.reply ≡ To_import (Unopened group top faults) → HostRow c h e → FailsOpening c e.acts from to
-    imports name group top faults asked says (inl row) = import_counts c h name e.acts e.reply from to group top faults (subst (λ x. RowOf c h x e.acts e.reply) asked row.0) caused says
+    imports : (name : List ℕ) (group : ℕ) (top : Guid) (faults : ℕ) → e.asked ≡ Asks_import name
+        → e.reply ≡ To_import (Unopened group top faults) → HostRow c h e → FailsOpening c e.acts from to top
+    imports name group top faults asked says (inl row) =
+        import_loses c h name e.acts e.reply group top faults from to
+        (subst (λ x. RowOf c h x e.acts e.reply) asked row.0) caused says
     imports name group top faults asked says (inr out) = import_not_memory (Unopened group top faults) (sym says ∙ out.says)
 
     creates : (name : List ℕ) (blocks : ℕ) (tops : List (List (List ℕ))) (device : List ℕ) → e.asked ≡ Asks_create name blocks tops → e.reply ≡ To_create (FaultOn device) → HostRow c h e
-        → RoseAt (λ d. is_leaf_at (leaf_at d (leaves_of h.table tops))) from to
-    creates name blocks tops device asked says (inl row) = create_counts c h name blocks tops e.acts e.reply device from to (subst (λ x. RowOf c h x e.acts e.reply) asked row.0) caused says
+        → FailsNamed h tops device from to
+    creates name blocks tops device asked says (inl row) =
+        create_names c h name blocks tops e.acts e.reply device from to
+        (subst (λ x. RowOf c h x e.acts e.reply) asked row.0) caused says
     creates name blocks tops device asked says (inr out) = absurd (let no = sym says ∙ out.says in cc)
 
 pub headline_from : (c : Codec) (past : Past) (h : Host) (acts : List Act) (entries : List Entry) → Follows c past h acts entries → Headline c past h acts entries
@@ -421,9 +489,10 @@ headline_from c past h acts entries f = record {
   left = at_left c past h acts entries f;
   sound = λ m. survives_sound c (pool_at m) (at_known c past h acts entries f m).survives;
   contents = at_contents c past h acts entries f;
-  opens = λ l asked fair. line_opens c (host_before h l) (pool_before l) l.entry (meets c past h acts entries f l) asked fair;
+  opens = λ l asked fair looks. line_opens c (host_before h l) (pool_before l) l.entry (meets c past h acts entries f l) asked fair looks;
   commits = λ l. record {
     syncs = λ name s n asked at is. line_syncs c (host_before h l) (pool_before l) l.entry name s n (meets c past h acts entries f l) asked at is;
+    first = λ name s reply asked at frozen none is. line_first c (host_before h l) (pool_before l) l.entry name s reply (meets c past h acts entries f l) asked at frozen none is;
     turns = λ name s n asked at is. line_turns c (host_before h l) (pool_before l) l.entry name s n (meets c past h acts entries f l) asked at is;
     detaches = λ name leaf s n asked at is. line_detaches c (host_before h l) (pool_before l) l.entry name leaf s n (meets c past h acts entries f l) asked at is;
   };
@@ -431,6 +500,7 @@ headline_from c past h acts entries f = record {
   reads = λ l name a s asked at. record {
     gives = λ bytes is. line_reads c (host_before h l) (pool_before l) l.entry name a s bytes (meets c past h acts entries f l) asked at is;
     loses = λ shown is. line_loses c (host_before h l) (pool_before l) l.entry name a s shown (meets c past h acts entries f l) asked at is;
+    outside = λ limit is. line_outside c (host_before h l) (pool_before l) l.entry name a s limit (meets c past h acts entries f l) asked at is;
   };
   required = λ l name device s leaf group at is. record {
     away = λ temporary asked plain up. line_required c (host_before h l) (pool_before l) l.entry name device temporary s leaf group (meets c past h acts entries f l) asked at is plain up;

@@ -9,20 +9,20 @@ use Rattle.mp_base.specs.declared.place.Key.{Key}
 use Rattle.bank_core.specs.Calls.{device_of}
 use Rattle.bank_core.specs.Disk.{Noted, AllAnswer, run}
 use Rattle.label_store.proofs.Reading.{look_reads}
+use Rattle.label_store.specs.Newest.{AreReads}
 use Rattle.label_store.specs.declared.found.Found.{Found}
 use Rattle.label_store.specs.Rounds.{config_of}
 use Rattle.txg_history.specs.Events.{Known, Calls, Looks, Opens, as_events}
-use Rattle.txg_history.specs.Groups.{at_device}
 use Rattle.txg_history.specs.Looks.{known_by}
 use Rattle.txg_history.specs.Moves.{Mays}
 use Rattle.txg_history.specs.Pages.{Codec, ClashesAt}
 use Rattle.txg_history.specs.Pools.{Pool, after, pool_after}
-use Rattle.txg_history.specs.Premises.{Premises, HasNoTwin, HasGoodPages}
+use Rattle.txg_history.specs.Premises.{Premises, HasNoTwin}
 use Rattle.txg_history.specs.Records.{Rec, IsIn, number_of}
 use Rattle.txg_history.proofs.LookedParts.{answer_first, answer_second}
 use Rattle.txg_history.proofs.LooksFound.{known_of}
 use Rattle.txg_history.proofs.LooksShow.{looks_true}
-use Rattle.txg_history.proofs.Folding.{calls_after, events_more, pool_more, mays_first, mays_second}
+use Rattle.txg_history.proofs.Folding.{calls_after, events_more, pool_more}
 use Rattle.txg_history.proofs.Logging.{by_bool, true_not_false}
 use Rattle.txg_history.proofs.Moving.{event_survives}
 use Rattle.pool_moves.specs.CommitRows.{IsOpened}
@@ -30,27 +30,29 @@ use Rattle.pool_moves.specs.Keeping.{Kept, Walks}
 use Rattle.pool_moves.specs.LineRows.{TurnReply, Idle, Write, Flush, Round, Committed, Suspended}
 use Rattle.pool_moves.specs.Moves.{Move, steps, after_moves}
 use Rattle.pool_moves.specs.Opened.{opened_leaves, opened_seats, claims_of}
-use Rattle.pool_moves.specs.OpeningRow.{IsLiveOne, SeeksLive, SeekReply, NoRecord, NumbersEnd, TakesRecord, taken_by, last_numbers, RowSeek, OpenReply, Opens_state, NoPage, RowOpen, RowResume}
+use Rattle.pool_moves.specs.OpeningRow.{IsLiveOne, SeeksLive, SeekReply, NoRecord, NumbersEnd, TakesRecord, taken_by, last_numbers, RowSeek, OpenReply, Opens_state, NoPage, RowOpen, page_calls, IsLostPage, RowResume}
 use Rattle.pool_moves.specs.PageReads.{LeafShown, answers_in}
 use Rattle.pool_moves.specs.States.{PoolState, Side}
 use Rattle.pool_moves.specs.Walking.{as_moves}
 use Rattle.pool_moves.proofs.CommitWalks.{opened_kept}
 use Rattle.pool_moves.proofs.Keeping.{walk_keeps}
-use Rattle.pool_moves.proofs.OpeningWalks.{opening_opens, opening_may, opening_finds}
+use Rattle.pool_moves.proofs.OpeningWalks.{opening_opens, opening_turns, opening_loses}
 use Rattle.pool_moves.proofs.ResilverWalks.{resume_walks}
-use Rattle.pool_moves.proofs.Seeking.{reads_may, seeks_live, row_no_twin}
-use Rattle.pool_runs.specs.Acts.{Act, Opening, Looked, Reads_as, Closes, does, bare, calls_along, is_record_of, record_of, read_by, events_for, pool_by, pool_along}
+use Rattle.pool_moves.proofs.Seeking.{reads_may, sought_reads, seeks_live, row_no_twin}
+use Rattle.pool_runs.specs.Acts.{Act, Opening, Seeks_by, Marks, Looked, Reads_as, Closes, does, bare, calls_along, is_record_of, record_of, read_by, events_for, pool_by, pool_along}
 use Rattle.pool_runs.specs.Devices.{size_in, handed}
-use Rattle.pool_runs.specs.Fairness.{IsFairOpening, AreFair}
+use Rattle.pool_runs.specs.Fairness.{IsFairMark, AreFair}
 use Rattle.pool_runs.specs.HostRows.{AreMade}
 use Rattle.pool_runs.specs.Hosts.{Host, free_in, IsOpen, named, is_of, host_by, host_along}
-use Rattle.pool_runs.specs.Importing.{read_in, all_shown, OpensBy, FollowsMap, OpensFound, ImportBy, host_behind, Imports, ImportFor, ImportUnless, RowImport}
+use Rattle.pool_runs.specs.Importing.{read_in, all_shown, map_acts, OpensBy, FollowsMap, OpensFound, ImportBy, host_behind, Imports, ImportFor, ImportUnless, RowImport}
 use Rattle.pool_runs.specs.Knowing.{HasSeats, IsTrueLook, AreOwnActs}
 use Rattle.pool_runs.proofs.Known.{Knows, MayActs}
 use Rattle.pool_runs.specs.Lines.{Reply}
 use Rattle.pool_runs.proofs.Acting.{same_number, number_of_test, calls_number}
 use Rattle.pool_runs.proofs.Answering.{all_answer}
 use Rattle.pool_runs.proofs.Knowing.{may_more, looked_acted, call_known, pools_known, open_kept, roster_by_events, other_may, walk_may}
+use Rattle.pool_runs.proofs.OpeningActs.{own_second, own_first, bare_then, bare_own, bare_calls, bare_fair, shown_calls, shown_then, shown_pools, shown_table, shown_fair, turned_pools, turned_table, host_turned, map_calls_along, map_fair, map_own, map_split, map_then}
+use Rattle.pool_runs.proofs.ReadsBehind.{whole_before, claimed_member}
 
 -- Lists.
 all_first : {A : Type 0} (P : A → Type 0) (xs ys : List A) → AllByRecursion P (xs ++ ys) → AllByRecursion P xs
@@ -60,72 +62,6 @@ all_first P (x ∷ xs) ys all = (all.0, all_first P xs ys all.1)
 all_second : {A : Type 0} (P : A → Type 0) (xs ys : List A) → AllByRecursion P (xs ++ ys) → AllByRecursion P ys
 all_second P [] ys all = all
 all_second P (x ∷ xs) ys all = all_second P xs ys all.1
-
-pub own_second : (g : ℕ) (h : Host) (first second : List Act) → AreOwnActs g h (first ++ second) → AreOwnActs g (host_along first h) second
-own_second g h [] second own = own
-own_second g h (act ∷ first) second own = own_second g (host_by act h) first second own.1
-
-own_first : (g : ℕ) (h : Host) (first second : List Act) → AreOwnActs g h (first ++ second) → AreOwnActs g h first
-own_first g h [] second own = tt
-own_first g h (act ∷ first) second own = (own.0, own_first g (host_by act h) first second own.1)
-
--- Bare calls, and then more.
-bare_then : (c : Codec) (made : List Noted) (more : List Act) (h : Host) (p : Pool) → Mays c p (as_events made) → Knows c h p
-    → (AreFair c p (bare made) → Knows c (host_behind made h) (pool_after (as_events made) p) → MayActs c (host_behind made h) (pool_after (as_events made) p) more) → MayActs c h p (bare made ++ more)
-bare_then c [] more h p may knows then = then tt knows
-bare_then c (noted ∷ made) more h p may knows then = λ fair. let behind = call_known c h p noted (may.0, tt) knows in
-    ((may.0, tt), behind, bare_then c made more (record h { disk = run (noted ∷ []) h.disk }) (after (Calls noted) p) may.1 behind (λ rest known. then (fair, rest) known))
-
-bare_along : (made : List Noted) (more : List Act) (h : Host) → host_along (bare made ++ more) h ≡ host_along more (host_behind made h)
-bare_along [] more h = refl
-bare_along (noted ∷ made) more h = bare_along made more (record h { disk = run (noted ∷ []) h.disk })
-
-bare_own : (g : ℕ) (h : Host) (made : List Noted) (more : List Act) → AreOwnActs g h (bare made ++ more) → AreOwnActs g (host_behind made h) more
-bare_own g h [] more own = own
-bare_own g h (noted ∷ made) more own = bare_own g (record h { disk = run (noted ∷ []) h.disk }) made more own.1
-
-pub bare_calls : (made : List Noted) (more : List Act) → calls_along (bare made ++ more) ≡ made ++ calls_along more
-bare_calls [] more = refl
-bare_calls (noted ∷ made) more = ap (λ rest. noted ∷ rest) (bare_calls made more)
-
-shown_calls : (g : ℕ) (known : Known) (devs : List (Option ℕ)) (more : List Act) → calls_along (all_shown g known devs ++ more) ≡ calls_along more
-shown_calls g known [] more = refl
-shown_calls g known (None ∷ devs) more = shown_calls g known devs more
-shown_calls g known (Some d ∷ devs) more = shown_calls g known devs more
-
--- a device that shows the pool's own identity
-pub own_shown : (c : Codec) (h : Host) (p : Pool) (g d : ℕ) → p.pool.0 ≡ g → Knows c h p → Knows c (record h { owner = at_device d (Some g) h.owner }) p
-own_shown c h p g d number knows = record {
-  survives = knows.survives;
-  roster = knows.roster;
-  stands = knows.stands;
-  once = knows.once;
-  apart = λ e k is off. by_bool (d == e)
-      (λ same. absurd (off (some_same k g (sym is ∙ ap (λ t. cond t (Some g) (h.owner e)) same) ∙ sym number)))
-      (λ away. knows.apart e k (sym (ap (λ t. cond t (Some g) (h.owner e)) away) ∙ is) off);
-  sizes = knows.sizes;
-  disk = knows.disk;
-}
-  where
-    some_same : (a b : ℕ) → Some a ≡ Some b → a ≡ b
-    some_same a b e = cc
-
-shown_then : (c : Codec) (g : ℕ) (known : Known) (devs : List (Option ℕ)) (more : List Act) (h : Host) (p : Pool) → p.pool.0 ≡ g → Knows c h p
-    → (Knows c (host_along (all_shown g known devs) h) p → MayActs c (host_along (all_shown g known devs) h) p more) → MayActs c h p (all_shown g known devs ++ more)
-shown_then c g known [] more h p number knows then = then knows
-shown_then c g known (None ∷ devs) more h p number knows then = shown_then c g known devs more h p number knows then
-shown_then c g known (Some d ∷ devs) more h p number knows then = λ fair. let behind = own_shown c h p g d number knows in
-    (tt, behind, shown_then c g known devs more (record h { owner = at_device d (Some g) h.owner }) p number behind then)
-
-shown_pools : (g : ℕ) (known : Known) (devs : List (Option ℕ)) (h : Host) → (host_along (all_shown g known devs) h).pools ≡ h.pools
-shown_pools g known [] h = refl
-shown_pools g known (None ∷ devs) h = shown_pools g known devs h
-shown_pools g known (Some d ∷ devs) h = shown_pools g known devs (record h { owner = at_device d (Some g) h.owner })
-
-shown_table : (g : ℕ) (known : Known) (devs : List (Option ℕ)) (h : Host) → (host_along (all_shown g known devs) h).table ≡ h.table
-shown_table g known [] h = refl
-shown_table g known (None ∷ devs) h = shown_table g known devs h
-shown_table g known (Some d ∷ devs) h = shown_table g known devs (record h { owner = at_device d (Some g) h.owner })
 
 -- Calls as moves of a pool's state.
 calls_state : (made : List Noted) (s : PoolState) → steps (as_moves made) s ≡ s
@@ -240,11 +176,11 @@ commit_may Flush c h t s g vs acts reply knows is kept none row own by = absurd 
 commit_may (Round number) c h t s g vs acts reply knows is kept none row own by = absurd by
 
 -- What an opening may do of a pool of the number that it found.
-record Own (c : Codec) (h : Host) (p : Pool) (name : List ℕ) (found : Found) : Type 0 where
+record Own (c : Codec) (h : Host) (p : Pool) (name : List ℕ) (known : Known) (found : Found) : Type 0 where
   knows : Knows c h p
   number : p.pool.0 ≡ found.pool.0
   free : named name h.pools ≡ None
-  live : p.name ≡ name → (r : Rec) × IsLiveOne p found r
+  live : p.name ≡ name → Premises c.head_of p known → (r : Rec) × IsLiveOne p found r
 
 -- the calls of an opening answer by the pool's history
 opening_answers : (h : Host) (p : Pool) (made more : List Noted) → AreMade h (made ++ more) → ((d s : ℕ) → 1 ≤ size_in h.table d → p.sectors d s ≡ h.disk d s) → AllAnswer p.sectors made
@@ -292,25 +228,158 @@ opens_seats c h p name found r made (NoPage page shown) row knows same is answer
 opens_lost : (c : Codec) (h : Host) (p : Pool) (name : List ℕ) (found : Found) (r : Rec) (made : List Noted) (outcome : OpenReply) → (row : RowOpen c (size_in h.table) (free_in h) name found made outcome)
     → Knows c h p → p.name ≡ name → IsLiveOne p found r → AllAnswer p.sectors made → HasNoTwin p r (claims_of (c.leaves found.blob.items) row.devs)
     → (page : Key) (shown : List LeafShown) → outcome ≡ NoPage page shown
-    → HasGoodPages (pool_after (as_events made) (after (Opens r) p)) r (λ k. answers_in (opened_leaves (c.leaves found.blob.items) row.devs) row.pages) → ClashesAt r.cells row.bytes
-opens_lost c h p name found r made (Opens_state x) row knows same is answers twin page shown out good = absurd (cc)
-opens_lost c h p name found r made (NoPage k ks) row knows same is answers twin page shown out good =
-    opening_finds c (size_in h.table) (free_in h) name p r found made k ks knows.survives same is row answers twin good
+    → IsLostPage (pool_after (as_events made) (after (Opens r) p)) r page (answers_in (opened_leaves (c.leaves found.blob.items) row.devs) (page_calls row)) ⊎ ClashesAt r.cells row.bytes
+opens_lost c h p name found r made (Opens_state x) row knows same is answers twin page shown out = absurd (cc)
+opens_lost c h p name found r made (NoPage k ks) row knows same is answers twin page shown out = subst
+    (λ page. IsLostPage (pool_after (as_events made) (after (Opens r) p)) r page (answers_in (opened_leaves (c.leaves found.blob.items) row.devs) (page_calls row)) ⊎ ClashesAt r.cells row.bytes)
+    (one k page ks shown out) (opening_loses c (size_in h.table) (free_in h) name p r found made k ks knows.survives same is row answers twin)
+  where
+    one : (a b : Key) (xs ys : List LeafShown) → NoPage a xs ≡ NoPage b ys → a ≡ b
+    one a b xs ys e = cc
+
+-- what an opening reads
+abbrev pub opening_of : (c : Codec) (h : Host) (name : List ℕ) (known : Known) (found : Found) (acts : List Act) (reply : Reply) → OpensFound c h name known found acts reply → Opening
+opening_of c h name known found acts reply opens = record { name = name; known = known; found = found; devs = opens.row.devs }
+
+-- a search that is fair shows that there is no twin
+opens_twin : (c : Codec) (h : Host) (p : Pool) (name : List ℕ) (found : Found) (r : Rec) (made : List Noted) (outcome : OpenReply)
+    → (row : RowOpen c (size_in h.table) (free_in h) name found made outcome) → Knows c h p → IsLiveOne p found r
+    → IsFairMark (pool_after (as_events row.ids) (after (Opens r) p)) (Seeks_by row.ids row.devs) → HasNoTwin p r (claims_of (c.leaves found.blob.items) row.devs)
+opens_twin c h p name found r made outcome row knows is fair = row_no_twin c (size_in h.table) (free_in h) name p r found made outcome knows.survives knows.sizes is row
+    (whole_before row.ids row.ids q reads fair.0)
+    (λ d m claim. ap (λ x. x.member d) (sym (calls_after row.ids q)) ∙ claimed_member (pool_after (as_events row.ids) q) (c.leaves found.blob.items) row.devs d m fair.1 claim)
+  where
+    q : Pool
+    q = after (Opens r) p
+
+    reads : AreReads row.ids
+    reads = sought_reads found.pool (size_in h.table) (c.room found.blob.items) (free_in h) (c.leaves found.blob.items) row.ids row.devs row.sought
+
+-- What is fair of an opening, and what follows from it.
+pub record FairOpening (c : Codec) (h : Host) (p : Pool) (name : List ℕ) (known : Known) (found : Found) (acts : List Act) (reply : Reply) (opens : OpensFound c h name known found acts reply) : Type 0 where
+  pub named : p.name ≡ name
+  pub twin : HasNoTwin p (read_by (opening_of c h name known found acts reply opens) p) (claims_of (c.leaves found.blob.items) opens.row.devs)
+  pub pages : ClashesAt (read_by (opening_of c h name known found acts reply opens) p).cells opens.row.bytes → ⊥
+
+pub record OpeningFacts (c : Codec) (h : Host) (p : Pool) (name : List ℕ) (known : Known) (found : Found) (acts : List Act) (reply : Reply) (opens : OpensFound c h name known found acts reply) : Type 0 where
+  pub is : IsLiveOne p found (read_by (opening_of c h name known found acts reply opens) p)
+  pub seats : (s : PoolState) → opens.outcome ≡ Opens_state s → HasSeats c s (pool_after (as_events opens.made) (after (Opens (read_by (opening_of c h name known found acts reply opens) p)) p))
+  pub pages : (page : Key) (shown : List LeafShown) → opens.outcome ≡ NoPage page shown
+      → IsLostPage (pool_after (as_events opens.made) (after (Opens (read_by (opening_of c h name known found acts reply opens) p)) p)) (read_by (opening_of c h name known found acts reply opens) p)
+      page (answers_in (opened_leaves (c.leaves found.blob.items) opens.row.devs) (page_calls opens.row))
+
+-- what an opening does before its commit
+pub opening_front : (c : Codec) (h : Host) (name : List ℕ) (known : Known) (found : Found) (acts : List Act) (reply : Reply) → (opens : OpensFound c h name known found acts reply)
+    → (front : List Act) × (acts ≡ front ++ opens.rest)
+opening_front c h name known found acts reply opens = (
+  Reads_as opening ∷ (bare opens.row.ids ++ (shown ++ pages)),
+  opens.are ∙ ap (λ l. Reads_as opening ∷ l)
+      (ap (λ l. bare opens.row.ids ++ (shown ++ (mark ∷ l))) (map_split found.pool.0 opens.row.bytes opens.row.turns opens.row.last opens.rest)
+      ∙ (ap (λ l. bare opens.row.ids ++ l) (sym (append_assoc shown pages opens.rest)) ∙ sym (append_assoc (bare opens.row.ids) (shown ++ pages) opens.rest))),
+)
+  where
+    opening : Opening
+    opening = opening_of c h name known found acts reply opens
+
+    shown : List Act
+    shown = all_shown found.pool.0 (read_in opens.row.ids) opens.row.devs
+
+    mark : Act
+    mark = Marks found.pool.0 (Seeks_by opens.row.ids opens.row.devs)
+
+    pages : List Act
+    pages = mark ∷ map_acts found.pool.0 opens.row.bytes opens.row.turns opens.row.last []
+
+pub opening_calls : (c : Codec) (h : Host) (name : List ℕ) (known : Known) (found : Found) (acts : List Act) (reply : Reply) → (opens : OpensFound c h name known found acts reply) → calls_along acts ≡ opens.made ++ calls_along opens.rest
+opening_calls c h name known found acts reply opens =
+    ap calls_along opens.are ∙ (bare_calls opens.row.ids (all_shown g (read_in opens.row.ids) opens.row.devs ++ more)
+    ∙ (ap (λ l. opens.row.ids ++ l) (shown_calls g (read_in opens.row.ids) opens.row.devs more
+    ∙ map_calls_along g opens.row.bytes opens.row.turns opens.row.last opens.rest)
+    ∙ (sym (append_assoc opens.row.ids (page_calls opens.row) (calls_along opens.rest)) ∙ ap (λ l. l ++ calls_along opens.rest) (sym opens.row.calls))))
+  where
+    g : ℕ
+    g = found.pool.0
+
+    more : List Act
+    more = Marks g (Seeks_by opens.row.ids opens.row.devs) ∷ map_acts g opens.row.bytes opens.row.turns opens.row.last opens.rest
+
+pub opening_facts : (c : Codec) (h : Host) (p : Pool) (name : List ℕ) (known : Known) (found : Found) (acts : List Act) (reply : Reply) (one : Rec) → (opens : OpensFound c h name known found acts reply) → Knows c h p → IsLiveOne p found one
+    → AreMade h (calls_along acts) → FairOpening c h p name known found acts reply opens → OpeningFacts c h p name known found acts reply opens
+opening_facts c h p name known found acts reply one opens knows found_one made fair = record {
+  is = is;
+  seats = opens_seats c h p name found r opens.made opens.outcome opens.row knows fair.named is answers fair.twin fair.pages;
+  pages = λ page shown out. ⊎_elim (λ lost. lost) (λ clash. absurd (fair.pages clash))
+      (opens_lost c h p name found r opens.made opens.outcome opens.row knows fair.named is answers fair.twin page shown out);
+}
+  where
+    r : Rec
+    r = read_by (opening_of c h name known found acts reply opens) p
+
+    is : IsLiveOne p found (read_by (opening_of c h name known found acts reply opens) p)
+    is = record_live p found one found_one
+
+    answers : AllAnswer p.sectors opens.made
+    answers = opening_answers h p opens.made (calls_along opens.rest) (subst (AreMade h) (opening_calls c h name known found acts reply opens) made) knows.disk
+
+-- what was fair of an opening's acts
+pub opening_fair : (c : Codec) (h : Host) (p : Pool) (name : List ℕ) (known : Known) (found : Found) (acts : List Act) (reply : Reply) (one : Rec) → (opens : OpensFound c h name known found acts reply) → Knows c h p → IsLiveOne p found one
+    → p.pool.0 ≡ found.pool.0 → AreFair c p acts → FairOpening c h p name known found acts reply opens
+opening_fair c h p name known found acts reply one opens knows found_one number fair = record {
+  named = (fair1.0 number).0;
+  twin = opens_twin c h p name found r opens.made opens.outcome opens.row knows (record_live p found one found_one) (fair3.0 number3);
+  pages = map_fair c g opens.row.bytes opens.row.turns opens.row.last opens.rest (pool_after (as_events ids) q) r number3 (ap (λ x. x.reads) (calls_after ids q)) fair3.1;
+}
+  where
+    opening : Opening
+    opening = opening_of c h name known found acts reply opens
+
+    g : ℕ
+    g = found.pool.0
+
+    ids : List Noted
+    ids = opens.row.ids
+
+    r : Rec
+    r = read_by opening p
+
+    q : Pool
+    q = after (Opens r) p
+
+    behind : List Act
+    behind = Marks g (Seeks_by ids opens.row.devs) ∷ map_acts g opens.row.bytes opens.row.turns opens.row.last opens.rest
+
+    fair1 : AreFair c p (Reads_as opening ∷ (bare ids ++ (all_shown g (read_in ids) opens.row.devs ++ behind)))
+    fair1 = subst (AreFair c p) opens.are fair
+
+    fair2 : AreFair c q (bare ids ++ (all_shown g (read_in ids) opens.row.devs ++ behind))
+    fair2 = subst (λ vs. AreFair c (pool_after vs p) (bare ids ++ (all_shown g (read_in ids) opens.row.devs ++ behind)))
+        (ap (λ t. cond t (Opens r ∷ []) []) (same_number p.pool.0 found.pool.0 number)) fair1.1
+
+    fair3 : AreFair c (pool_after (as_events ids) q) behind
+    fair3 = shown_fair c g (read_in ids) opens.row.devs behind (pool_after (as_events ids) q)
+        (bare_fair c ids (all_shown g (read_in ids) opens.row.devs ++ behind) q fair2)
+
+    number3 : (pool_after (as_events ids) q).pool.0 ≡ g
+    number3 = ap (λ n. n.0) (calls_number ids q) ∙ number
 
 -- the calls of an opening, and what follows
-opens_more : (c : Codec) (h : Host) (p : Pool) (name : List ℕ) (found : Found) (acts : List Act) (reply : Reply) (r : Rec) → (opens : OpensFound c h name found acts reply) → p.pool.0 ≡ found.pool.0
-    → Knows c h (after (Opens r) p) → Mays c (after (Opens r) p) (as_events opens.made)
-    → ((s : PoolState) → opens.outcome ≡ Opens_state s → HasSeats c s (pool_after (as_events opens.made) (after (Opens r) p)))
-    → ((s : PoolState) → IsOpen s h.pools → s.core.pool.0 ≡ p.pool.0 → ⊥)
-    → AreOwnActs found.pool.0 h (bare opens.row.ids ++ (all_shown found.pool.0 (read_in opens.row.ids) opens.row.devs ++ (bare opens.row.pages ++ opens.rest)))
-    → MayActs c h (after (Opens r) p) (bare opens.row.ids ++ (all_shown found.pool.0 (read_in opens.row.ids) opens.row.devs ++ (bare opens.row.pages ++ opens.rest)))
-opens_more c h p name found acts reply r opens number knows mays seats none own =
-    bare_then c ids (shown ++ (bare pages ++ opens.rest)) h q (mays_first c (as_events ids) (as_events pages) q parts) knows
-    (λ fair known1. shown_then c g (read_in ids) opens.row.devs (bare pages ++ opens.rest) h1 q1 number1 known1
-    (λ known2. bare_then c pages opens.rest h2 q1 (mays_second c (as_events ids) (as_events pages) q parts) known2
-    (λ fair known3. subst (λ x. MayActs c h3 x opens.rest) (sym end_is)
-    (follows_may opens.outcome c h p name found r opens.made opens.row h3 opens.rest reply table_is seats (subst (Knows c h3) end_is known3) number3
-    (λ s is at. none s (subst (IsOpen s) (shown_pools g (read_in ids) opens.row.devs h1) is) (at ∙ ap (λ n. n.0) (calls_number opens.made q))) own3 opens.follows))))
+opens_more : (c : Codec) (h : Host) (p : Pool) (name : List ℕ) (known : Known) (found : Found) (acts : List Act) (reply : Reply) (one : Rec) → (opens : OpensFound c h name known found acts reply) → Own c h p name known found
+    → p.name ≡ name → IsLiveOne p found one → AreMade h (calls_along acts)
+    → Knows c h (after (Opens (read_by (opening_of c h name known found acts reply opens) p)) p) → AreOwnActs found.pool.0 h acts
+    → MayActs c h (after (Opens (read_by (opening_of c h name known found acts reply opens) p)) p)
+    (bare opens.row.ids ++ (all_shown found.pool.0 (read_in opens.row.ids) opens.row.devs
+    ++ (Marks found.pool.0 (Seeks_by opens.row.ids opens.row.devs) ∷ map_acts found.pool.0 opens.row.bytes opens.row.turns opens.row.last opens.rest)))
+opens_more c h p name known found acts reply one opens o titled found_one made knows own =
+    bare_then c ids (shown ++ behind) h q (reads_may c q ids
+    (sought_reads found.pool (size_in h.table) (c.room found.blob.items) (free_in h) (c.leaves found.blob.items) ids opens.row.devs opens.row.sought)) knows
+    (λ before known1. shown_then c g (read_in ids) opens.row.devs behind h1 q1 number1 known1
+    (λ known2. λ fair. let twin = opens_twin c h p name found r opens.made opens.outcome opens.row o.knows is (fair number1) in (
+      tt,
+      known2,
+      map_then c g opens.row.bytes opens.row.turns opens.row.last opens.rest h2 q1 r number1 (ap (λ x. x.reads) (calls_after ids q))
+          (opening_turns c (size_in h.table) (free_in h) name p r found opens.made opens.outcome o.knows.survives titled is opens.row answers twin) known2
+          (λ known3 none. subst (λ x. MayActs c h3 x opens.rest) (sym end_is) (rest_may twin none (subst (Knows c h3) end_is known3))),
+    )))
   where
     g : ℕ
     g = found.pool.0
@@ -318,17 +387,26 @@ opens_more c h p name found acts reply r opens number knows mays seats none own 
     ids : List Noted
     ids = opens.row.ids
 
-    pages : List Noted
-    pages = opens.row.pages
-
     shown : List Act
     shown = all_shown g (read_in ids) opens.row.devs
+
+    behind : List Act
+    behind = Marks g (Seeks_by ids opens.row.devs) ∷ map_acts g opens.row.bytes opens.row.turns opens.row.last opens.rest
+
+    r : Rec
+    r = read_by (opening_of c h name known found acts reply opens) p
+
+    is : IsLiveOne p found (read_by (opening_of c h name known found acts reply opens) p)
+    is = record_live p found one found_one
 
     q : Pool
     q = after (Opens r) p
 
     q1 : Pool
     q1 = pool_after (as_events ids) q
+
+    q3 : Pool
+    q3 = pool_after (as_events opens.made) q
 
     h1 : Host
     h1 = host_behind ids h
@@ -337,91 +415,60 @@ opens_more c h p name found acts reply r opens number knows mays seats none own 
     h2 = host_along shown h1
 
     h3 : Host
-    h3 = host_behind pages h2
-
-    all_is : as_events opens.made ≡ as_events ids ++ as_events pages
-    all_is = ap as_events opens.row.calls ∙ events_more ids pages
-
-    parts : Mays c q (as_events ids ++ as_events pages)
-    parts = subst (Mays c q) all_is mays
-
-    end_is : pool_after (as_events pages) q1 ≡ pool_after (as_events opens.made) q
-    end_is = sym (ap (λ vs. pool_after vs q) all_is ∙ pool_more (as_events ids) (as_events pages) q)
-
-    table_is : h3.table ≡ h.table
-    table_is = shown_table g (read_in ids) opens.row.devs h1
-
-    number1 : q1.pool.0 ≡ g
-    number1 = ap (λ n. n.0) (calls_number ids q) ∙ number
-
-    number3 : (pool_after (as_events opens.made) q).pool.0 ≡ g
-    number3 = ap (λ n. n.0) (calls_number opens.made q) ∙ number
-
-    own3 : AreOwnActs g h3 opens.rest
-    own3 = bare_own g h2 pages opens.rest (own_second g h1 shown (bare pages ++ opens.rest) (bare_own g h ids (shown ++ (bare pages ++ opens.rest)) own))
-
--- what an opening reads, as far as it is fair
-abbrev pub opening_of : (c : Codec) (h : Host) (name : List ℕ) (found : Found) (acts : List Act) (reply : Reply) → OpensFound c h name found acts reply → Opening
-opening_of c h name found acts reply opens = record { name = name; found = found; devs = opens.row.devs; ids = opens.row.ids; bytes = opens.row.bytes }
-
-pub record OpeningFacts (c : Codec) (h : Host) (p : Pool) (name : List ℕ) (found : Found) (acts : List Act) (reply : Reply) (opens : OpensFound c h name found acts reply) : Type 0 where
-  pub is : IsLiveOne p found (read_by (opening_of c h name found acts reply opens) p)
-  pub mays : Mays c (after (Opens (read_by (opening_of c h name found acts reply opens) p)) p) (as_events opens.made)
-  pub seats : (s : PoolState) → opens.outcome ≡ Opens_state s → HasSeats c s (pool_after (as_events opens.made) (after (Opens (read_by (opening_of c h name found acts reply opens) p)) p))
-  pub pages : (page : Key) (shown : List LeafShown) → opens.outcome ≡ NoPage page shown
-      → ¬ (HasGoodPages (pool_after (as_events opens.made) (after (Opens (read_by (opening_of c h name found acts reply opens) p)) p)) (read_by (opening_of c h name found acts reply opens) p)
-      (λ k. answers_in (opened_leaves (c.leaves found.blob.items) opens.row.devs) opens.row.pages))
-
-pub opening_calls : (c : Codec) (h : Host) (name : List ℕ) (found : Found) (acts : List Act) (reply : Reply) → (opens : OpensFound c h name found acts reply) → calls_along acts ≡ opens.made ++ calls_along opens.rest
-opening_calls c h name found acts reply opens = ap calls_along opens.are ∙ (bare_calls opens.row.ids (all_shown found.pool.0 (read_in opens.row.ids) opens.row.devs ++ (bare opens.row.pages ++ opens.rest))
-    ∙ (ap (λ l. opens.row.ids ++ l) (shown_calls found.pool.0 (read_in opens.row.ids) opens.row.devs (bare opens.row.pages ++ opens.rest) ∙ bare_calls opens.row.pages opens.rest)
-    ∙ (sym (append_assoc opens.row.ids opens.row.pages (calls_along opens.rest)) ∙ ap (λ l. l ++ calls_along opens.rest) (sym opens.row.calls))))
-
-pub opening_facts : (c : Codec) (h : Host) (p : Pool) (name : List ℕ) (found : Found) (acts : List Act) (reply : Reply) (one : Rec) → (opens : OpensFound c h name found acts reply) → Knows c h p → IsLiveOne p found one
-    → AreMade h (calls_along acts) → IsFairOpening c p (opening_of c h name found acts reply opens) → OpeningFacts c h p name found acts reply opens
-opening_facts c h p name found acts reply one opens knows found_one made fair = record {
-  is = is;
-  mays = ⊎_elim (λ m. m) (λ clash. absurd (fair.pages clash))
-      (opening_may c (size_in h.table) (free_in h) name p r found opens.made opens.outcome knows.survives fair.named is opens.row answers twin);
-  seats = opens_seats c h p name found r opens.made opens.outcome opens.row knows fair.named is answers twin fair.pages;
-  pages = λ page shown out good. fair.pages (opens_lost c h p name found r opens.made opens.outcome opens.row knows fair.named is answers twin page shown out good);
-}
-  where
-    r : Rec
-    r = read_by (opening_of c h name found acts reply opens) p
-
-    is : IsLiveOne p found (read_by (opening_of c h name found acts reply opens) p)
-    is = record_live p found one found_one
-
-    twin : HasNoTwin p (read_by (opening_of c h name found acts reply opens) p) (claims_of (c.leaves found.blob.items) opens.row.devs)
-    twin = row_no_twin c (size_in h.table) (free_in h) name p r found opens.made opens.outcome knows.survives knows.sizes is opens.row fair.whole fair.members
+    h3 = host_behind opens.row.last (host_turned opens.row.turns h2)
 
     answers : AllAnswer p.sectors opens.made
-    answers = opening_answers h p opens.made (calls_along opens.rest) (subst (AreMade h) (opening_calls c h name found acts reply opens) made) knows.disk
+    answers = opening_answers h p opens.made (calls_along opens.rest) (subst (AreMade h) (opening_calls c h name known found acts reply opens) made) o.knows.disk
 
-own_opens : (c : Codec) (h : Host) (p : Pool) (name : List ℕ) (found : Found) (acts : List Act) (reply : Reply) → Own c h p name found → AreMade h (calls_along acts) → OpensFound c h name found acts reply
+    end_is : pool_after (as_events (page_calls opens.row)) q1 ≡ q3
+    end_is = sym (ap (λ vs. pool_after vs q) (ap as_events opens.row.calls ∙ events_more ids (page_calls opens.row))
+        ∙ pool_more (as_events ids) (as_events (page_calls opens.row)) q)
+
+    table_is : h3.table ≡ h.table
+    table_is = turned_table opens.row.turns h2 ∙ shown_table g (read_in ids) opens.row.devs h1
+
+    pools_are : h3.pools ≡ h.pools
+    pools_are = turned_pools opens.row.turns h2 ∙ shown_pools g (read_in ids) opens.row.devs h1
+
+    number1 : q1.pool.0 ≡ g
+    number1 = ap (λ n. n.0) (calls_number ids q) ∙ o.number
+
+    number3 : q3.pool.0 ≡ g
+    number3 = ap (λ n. n.0) (calls_number opens.made q) ∙ o.number
+
+    own3 : AreOwnActs g h3 opens.rest
+    own3 = map_own g h2 opens.row.bytes opens.row.turns opens.row.last opens.rest
+        (own_second g h1 shown behind (bare_own g h ids (shown ++ behind) (subst (AreOwnActs g h) opens.are own).1)).1
+
+    none_here : (s : PoolState) → IsOpen s h3.pools → s.core.pool.0 ≡ q3.pool.0 → ⊥
+    none_here s is at = none_open c h p name o.knows titled o.free s (subst (IsOpen s) pools_are is) (at ∙ ap (λ n. n.0) (calls_number opens.made q))
+
+    rest_may : HasNoTwin p r (claims_of (c.leaves found.blob.items) opens.row.devs) → (ClashesAt r.cells opens.row.bytes → ⊥) → Knows c h3 q3 → MayActs c h3 q3 opens.rest
+    rest_may twin none known = follows_may opens.outcome c h p name found r opens.made opens.row h3 opens.rest reply table_is
+        (opens_seats c h p name found r opens.made opens.outcome opens.row o.knows titled is answers twin none) known number3 none_here own3 opens.follows
+
+own_opens : (c : Codec) (h : Host) (p : Pool) (name : List ℕ) (known : Known) (found : Found) (acts : List Act) (reply : Reply) → Own c h p name known found → AreMade h (calls_along acts) → OpensFound c h name known found acts reply
     → MayActs c h p acts
-own_opens c h p name found acts reply o made opens = subst (MayActs c h p) (sym opens.are) (λ fair. of (fair o.number))
+own_opens c h p name known found acts reply o made opens = subst (MayActs c h p) (sym opens.are) (λ fair. of (fair o.number))
   where
     opening : Opening
-    opening = opening_of c h name found acts reply opens
+    opening = opening_of c h name known found acts reply opens
 
     more : List Act
-    more = bare opens.row.ids ++ (all_shown found.pool.0 (read_in opens.row.ids) opens.row.devs ++ (bare opens.row.pages ++ opens.rest))
+    more = bare opens.row.ids ++ (all_shown found.pool.0 (read_in opens.row.ids) opens.row.devs
+        ++ (Marks found.pool.0 (Seeks_by opens.row.ids opens.row.devs) ∷ map_acts found.pool.0 opens.row.bytes opens.row.turns opens.row.last opens.rest))
 
-    of : IsFairOpening c p opening → Mays c p (events_for (Reads_as opening) p) × Knows c (host_by (Reads_as opening) h) (pool_by (Reads_as opening) p)
+    of : (p.name ≡ name) × Premises c.head_of p known → Mays c p (events_for (Reads_as opening) p) × Knows c (host_by (Reads_as opening) h) (pool_by (Reads_as opening) p)
         × MayActs c (host_by (Reads_as opening) h) (pool_by (Reads_as opening) p) more
-    of fair =
-        let one = o.live fair.named in
-        let facts = opening_facts c h p name found acts reply one.0 opens o.knows one.1 made fair in
+    of (titled, premises) =
+        let one = o.live titled premises in
+        let is = record_live p found one.0 one.1 in
         let r = read_by opening p in
         let events : events_for (Reads_as opening) p ≡ Opens r ∷ [] = ap (λ t. cond t (Opens r ∷ []) []) (same_number p.pool.0 found.pool.0 o.number) in
-        let none = none_open c h p name o.knows fair.named o.free in
-        let known = opens_known c h p r o.knows facts.is.is_live none in (
-          subst (Mays c p) (sym events) (facts.is.is_live, tt),
-          subst (λ vs. Knows c h (pool_after vs p)) (sym events) known,
-          subst (λ vs. MayActs c h (pool_after vs p) more) (sym events)
-              (opens_more c h p name found acts reply r opens o.number known facts.mays facts.seats none (subst (AreOwnActs found.pool.0 h) opens.are opens.own).1),
+        let behind = opens_known c h p r o.knows is.is_live (none_open c h p name o.knows titled o.free) in (
+          subst (Mays c p) (sym events) (is.is_live, tt),
+          subst (λ vs. Knows c h (pool_after vs p)) (sym events) behind,
+          subst (λ vs. MayActs c h (pool_after vs p) more) (sym events) (opens_more c h p name known found acts reply one.0 opens o titled one.1 made behind opens.own),
         )
 
 -- The looks of an opening, whichever pool is asked for.
@@ -434,12 +481,13 @@ true_look c h name made seek row answers = record {
 }
 
 -- by what the looks found
-found_may : (seek : SeekReply) (c : Codec) (h : Host) (p : Pool) (name : List ℕ) (acts : List Act) (reply : Reply) → Knows c h p → named name h.pools ≡ None
-    → ((found : Found) → seek ≡ TakesRecord found → p.name ≡ name → (r : Rec) × IsLiveOne p found r) → AreMade h (calls_along acts) → ImportBy seek c h name acts reply → MayActs c h p acts
-found_may NoRecord c h p name acts reply knows free live made row = subst (MayActs c h p) (sym row.0) tt
-found_may (NumbersEnd limit count) c h p name acts reply knows free live made row = subst (MayActs c h p) (sym row.0) tt
-found_may (TakesRecord found) c h p name acts reply knows free live made row = by_bool (p.pool.0 == found.pool.0)
-    (λ mine. own_opens c h p name found acts reply (record { knows = knows; number = number_of_test p.pool.0 found.pool.0 mine; free = free; live = live found refl }) made row)
+found_may : (seek : SeekReply) (c : Codec) (h : Host) (p : Pool) (name : List ℕ) (known : Known) (acts : List Act) (reply : Reply) → Knows c h p → named name h.pools ≡ None
+    → ((found : Found) → seek ≡ TakesRecord found → p.name ≡ name → Premises c.head_of p known → (r : Rec) × IsLiveOne p found r) → AreMade h (calls_along acts)
+    → ImportBy seek c h name known acts reply → MayActs c h p acts
+found_may NoRecord c h p name known acts reply knows free live made row = subst (MayActs c h p) (sym row.0) tt
+found_may (NumbersEnd limit count) c h p name known acts reply knows free live made row = subst (MayActs c h p) (sym row.0) tt
+found_may (TakesRecord found) c h p name known acts reply knows free live made row = by_bool (p.pool.0 == found.pool.0)
+    (λ mine. own_opens c h p name known found acts reply (record { knows = knows; number = number_of_test p.pool.0 found.pool.0 mine; free = free; live = live found refl }) made row)
     (λ off. other_may c h p found.pool.0 acts knows (λ e. other p.pool.0 found.pool.0 off (sym e)) row.own)
   where
     other : (m n : ℕ) → (m == n) ≡ false → m ≢ n
@@ -448,10 +496,6 @@ found_may (TakesRecord found) c h p name acts reply knows free live made row = b
 taken_same : (ended : Bool) (a b : Found) → TakesRecord a ≡ taken_by ended b → a ≡ b
 taken_same true a b e = absurd (cc)
 taken_same false a b e = cc
-
-pub bare_pool : (made : List Noted) (p : Pool) → pool_along (bare made) p ≡ pool_after (as_events made) p
-bare_pool [] p = refl
-bare_pool (noted ∷ made) p = bare_pool made (after (Calls noted) p)
 
 pub looks_along : (t : Bool) (known : Known) (p : Pool) → pool_after (cond t (Looks known ∷ []) []) p ≡ p
 looks_along true known p = refl
@@ -497,7 +541,7 @@ imports_may c h p name acts reply knows made row = subst (MayActs c h p) (sym ro
       looked.0,
       looked.1,
       subst (λ x. MayActs c h1 x row.rest) (sym (looks_along (bytes_eq p1.name name) known p1))
-          (found_may row.seek c h1 p1 name row.rest reply known1 row.free (λ found is same. live found is same (fair same)) facts.made row.follows),
+          (found_may row.seek c h1 p1 name known row.rest reply known1 row.free live facts.made row.follows),
     )))
   where
     known : Known

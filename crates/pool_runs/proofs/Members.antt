@@ -8,6 +8,7 @@ use Rattle.bank_core.specs.declared.bank.Fault.{Fault}
 use Rattle.bank_core.specs.Disk.{Call, Read, Write as WriteCall, Flush as FlushCall, Admit, Eject, Noted}
 use Rattle.label_store.specs.Layout.{ring_offset}
 use Rattle.label_store.specs.Plans.{zero_ring, stamp_plan}
+use Rattle.mp_base.specs.declared.place.Key.{Key}
 use Rattle.txg_history.specs.Events.{Known, Calls, Looks, Opens, Loses, as_events}
 use Rattle.txg_history.specs.Pages.{Codec}
 use Rattle.txg_history.specs.Pools.{Pool, other_than, after, pool_after}
@@ -19,13 +20,14 @@ use Rattle.pool_moves.specs.Moves.{Move, Makes, Lose, Comes, events_of}
 use Rattle.pool_moves.specs.OpeningRow.{SeekReply, NoRecord, NumbersEnd, TakesRecord, OpenReply, Opens_state, NoPage, lacking_of}
 use Rattle.pool_moves.specs.ReadRow.{made_in}
 use Rattle.pool_moves.specs.StampRow.{NewLeaf, top_leaves, leaves_from, Stamp, AreStamps, new_state, CreateReply, Created, FaultOn}
+use Rattle.pool_moves.specs.PageReads.{PageTurn, page_of, up_to}
 use Rattle.pool_moves.specs.States.{PoolState}
-use Rattle.pool_runs.specs.Acts.{Act, Bare, Does, Looked, Reads_as, Takes, Bears, Closes, does, bare, calls_of_act, calls_along, read_by, pool_by, pool_along}
+use Rattle.pool_runs.specs.Acts.{Act, Bare, Does, Looked, Reads_as, Takes, Bears, Closes, Seeks_by, Reads_pages, Marks, does, bare, calls_of_act, calls_along, read_by, pool_by, pool_along}
 use Rattle.pool_runs.specs.Creating.{dev_or_none, members_of, tops_of, leaves_of, new_birth, or_else, all_names, unknown_by, unknown, create_refusal, stamp_acts, commit_acts, RowCreate}
 use Rattle.pool_runs.specs.Devices.{Device, number_in, size_in}
 use Rattle.pool_runs.specs.HostRows.{WriteLine, OnPool, RowOf, ChangesNone, MayRewrite}
 use Rattle.pool_runs.specs.Hosts.{Host, named}
-use Rattle.pool_runs.specs.Importing.{read_in, all_shown, OpensBy, FollowsMap, ImportBy, host_behind, ImportFor, ImportUnless}
+use Rattle.pool_runs.specs.Importing.{read_in, all_shown, map_acts, OpensBy, FollowsMap, ImportBy, host_behind, ImportFor, ImportUnless}
 use Rattle.pool_runs.specs.Lines.{Asked, Asks_write, Asks_graft, Asks_detach, Asks_import, Asks_create, Reply, To_create, Entry}
 use Rattle.pool_runs.specs.Taking.{IsWriteTo, HasWriteTo, IsCreatedOn}
 use Rattle.pool_runs.proofs.Acting.{calls_number}
@@ -270,7 +272,7 @@ keep_commit Created d g vs all = keep_does d g vs all
 keep_commit (FaultOn device) d g vs all = keep_acts d (does g vs) (Closes g ∷ []) (keep_does d g vs all) (tt, tt)
 
 -- A leaf's device has one of the names.
-abbrev HasName : List Device → (names : List (List ℕ)) → NewLeaf → Type 0
+abbrev pub HasName : List Device → (names : List (List ℕ)) → NewLeaf → Type 0
 HasName table names leaf = IsAmong leaf.name names × (number_in leaf.name table ≡ Some leaf.dev)
 
 among_left : (name : List ℕ) (xs ys : List (List ℕ)) → IsAmong name xs → IsAmong name (xs ++ ys)
@@ -339,7 +341,7 @@ taken_by h e d name blocks tops answer asked on reply = record {
   wrote = on.wrote;
 }
 
-all_have : (h : Host) (name : List ℕ) (blocks : ℕ) (tops : List (List (List ℕ))) → create_refusal h name blocks tops ≡ None
+pub all_have : (h : Host) (name : List ℕ) (blocks : ℕ) (tops : List (List (List ℕ))) → create_refusal h name blocks tops ≡ None
     → AllByRecursion (HasName h.table (all_names tops)) (leaves_of h.table tops)
 all_have h name blocks tops none = all_named h.table tops 1 1 (none_refused h name blocks tops none).1.1.1.1.1.1.1.0
 
@@ -376,6 +378,13 @@ keep_shown d g known [] rest all = all
 keep_shown d g known (None ∷ devs) rest all = keep_shown d g known devs rest all
 keep_shown d g known (Some e ∷ devs) rest all = (tt, keep_shown d g known devs rest all)
 
+keep_map : (d : Held) (g : ℕ) (bytes : Key → Option (List ℕ)) (turns : List PageTurn) (last : List Noted) (rest : List Act) → Keep d rest
+    → Keep d (map_acts g bytes turns last rest)
+keep_map d g bytes [] last rest all = keep_bare d last (Marks g (Reads_pages bytes) ∷ rest) (tt, all)
+keep_map d g bytes (turn ∷ turns) last rest all =
+    keep_bare d turn.reads (Marks g (Reads_pages (up_to (page_of turn) bytes)) ∷ (bare turn.rewrites ++ map_acts g bytes turns last rest))
+    (tt, keep_bare d turn.rewrites (map_acts g bytes turns last rest) (keep_map d g bytes turns last rest all))
+
 keep_opens : (turn : TurnReply) (d : Held) (g : ℕ) (s : PoolState) (vs : List Move) (acts : List Act) (reply : Reply) → AllKeep vs → OpensBy turn g s vs acts reply → Keep d acts
 keep_opens (Committed number) d g s vs acts reply all by = subst (Keep d) (sym by.0) (tt, keep_does d g vs all)
 keep_opens (Suspended group top faults) d g s vs acts reply all by = subst (Keep d) (sym by.0) (tt, keep_acts d (does g vs) (Closes g ∷ []) (keep_does d g vs all) (tt, tt))
@@ -388,19 +397,28 @@ keep_follows : (outcome : OpenReply) (c : Codec) (size : ℕ → ℕ) (d : Held)
 keep_follows (NoPage page shown) c size d g acts reply row = subst (Keep d) (sym row.0) tt
 keep_follows (Opens_state s) c size d g acts reply row = keep_opens row.1 d g s row.0 acts reply (line_resume KeepsMembers kept_line (lacking_of s.core.leaves s.core.leaves) c size s row.0 row.1 row.2) row.3
 
-keep_import_by : (seek : SeekReply) (c : Codec) (h : Host) (name : List ℕ) (acts : List Act) (reply : Reply) (d : Held) → ImportBy seek c h name acts reply → Keep d acts
-keep_import_by NoRecord c h name acts reply d row = subst (Keep d) (sym row.0) tt
-keep_import_by (NumbersEnd limit count) c h name acts reply d row = subst (Keep d) (sym row.0) tt
-keep_import_by (TakesRecord found) c h name acts reply d row = subst (Keep d) (sym row.are) (
+keep_import_by : (seek : SeekReply) (c : Codec) (h : Host) (name : List ℕ) (known : Known) (acts : List Act) (reply : Reply) (d : Held) → ImportBy seek c h name known acts reply → Keep d acts
+keep_import_by NoRecord c h name known acts reply d row = subst (Keep d) (sym row.0) tt
+keep_import_by (NumbersEnd limit count) c h name known acts reply d row = subst (Keep d) (sym row.0) tt
+keep_import_by (TakesRecord found) c h name known acts reply d row = subst (Keep d) (sym row.are) (
   tt,
-  keep_bare d row.row.ids (all_shown found.pool.0 (read_in row.row.ids) row.row.devs ++ (bare row.row.pages ++ row.rest))
-      (keep_shown d found.pool.0 (read_in row.row.ids) row.row.devs (bare row.row.pages ++ row.rest)
-      (keep_bare d row.row.pages row.rest (keep_follows row.outcome c (size_in h.table) d found.pool.0 row.rest reply row.follows))),
+  keep_bare d row.row.ids (all_shown found.pool.0 (read_in row.row.ids) row.row.devs ++ (mark ∷ turned))
+      (keep_shown d found.pool.0 (read_in row.row.ids) row.row.devs (mark ∷ turned) (
+        tt,
+        keep_map d found.pool.0 row.row.bytes row.row.turns row.row.last row.rest
+            (keep_follows row.outcome c (size_in h.table) d found.pool.0 row.rest reply row.follows),
+      )),
 )
+  where
+    mark : Act
+    mark = Marks found.pool.0 (Seeks_by row.row.ids row.row.devs)
+
+    turned : List Act
+    turned = map_acts found.pool.0 row.row.bytes row.row.turns row.row.last row.rest
 
 keep_for : (full : Bool) (c : Codec) (h : Host) (name : List ℕ) (acts : List Act) (reply : Reply) (d : Held) → ImportFor full c h name acts reply → Keep d acts
 keep_for true c h name acts reply d row = subst (Keep d) (sym row.0) tt
-keep_for false c h name acts reply d row = subst (Keep d) (sym row.are) (keep_bare d row.made (Looked name _ ∷ row.rest) (tt, keep_import_by row.seek c (host_behind row.made h) name row.rest reply d row.follows))
+keep_for false c h name acts reply d row = subst (Keep d) (sym row.are) (keep_bare d row.made (Looked name _ ∷ row.rest) (tt, keep_import_by row.seek c (host_behind row.made h) name _ row.rest reply d row.follows))
 
 keep_unless : (found : Option PoolState) (c : Codec) (h : Host) (name : List ℕ) (acts : List Act) (reply : Reply) (d : Held) → ImportUnless found c h name acts reply → Keep d acts
 keep_unless (Some s) c h name acts reply d row = subst (Keep d) (sym row.0) tt

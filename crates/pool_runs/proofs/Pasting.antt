@@ -1,5 +1,5 @@
 -- Pasts: the invariant, the next run, and what live records contain.
-use Rattle.std.proofs.Common.{◌≡◌, ◌⊎◌, inl, inr, ℕ, ◌≤◌, nat_le, true, cond, List, [], ◌∷◌, map, Some, None, refl, sym, ap, ◌∙◌, subst, arith}
+use Rattle.std.proofs.Common.{◌≡◌, ◌⊎◌, inl, inr, ℕ, ◌+◌, ◌≤◌, ◌==◌, ◌||◌, nat_le, Bool, true, false, cond, List, [], ◌∷◌, map, Some, None, refl, sym, ap, ◌∙◌, subst, arith}
 use mathlib.Core.Path.{fun_ext}
 use Rattle.std.proofs.lemmas.Bool.Decides.{nat_tests}
 use Rattle.bank_core.specs.Disk.{after_crash}
@@ -14,17 +14,18 @@ use Rattle.label_store.specs.Records.{place_at}
 use Rattle.label_store.specs.Uberblock.{IsUberblock}
 use Rattle.txg_history.proofs.Containing.{drawn_contents}
 use Rattle.txg_history.proofs.Folding.{pool_kept}
-use Rattle.txg_history.proofs.Logging.{by_bool}
+use Rattle.txg_history.proofs.Logging.{by_bool, same_device}
 use Rattle.txg_history.proofs.Moving.{event_survives}
 use Rattle.txg_history.proofs.Numbering.{renumbered_survives}
 use Rattle.txg_history.proofs.Stamping.{stamped_survives}
+use Rattle.pool_moves.specs.Rosters.{IsListed}
 use Rattle.pool_moves.proofs.Rosters.{roster_anew}
 use Rattle.pool_runs.specs.Devices.{size_in}
 use Rattle.pool_runs.specs.Hosts.{Host, IsOpen}
 use Rattle.pool_runs.specs.Knowing.{HasRoster}
 use Rattle.pool_runs.proofs.Known.{Knows}
 use Rattle.pool_runs.proofs.Knowing.{roster_by_events}
-use Rattle.pool_runs.specs.Pasts.{Past, Born, Then, Numbered, pool_of, called_in, IsAllowed, then_all, BeginsRun, IsFoundAs, IsNext, AreNamed, met, next_past, WasFrozen, HasFrozen}
+use Rattle.pool_runs.specs.Pasts.{Past, Born, Then, Numbered, pool_of, called_in, IsAllowed, then_all, BeginsRun, IsFoundAs, IsNext, AreNamed, in_size, met, next_past, WasFrozen, HasFrozen}
 
 -- A pool has its invariant behind its past.
 pub past_survives : (c : Codec) (past : Past) → IsAllowed c past → Survives c (pool_of past)
@@ -38,6 +39,29 @@ past_roster c (Born birth sectors) ok = ok.1
 past_roster c (Then past v) ok = roster_by_events (v ∷ []) (pool_of past) (past_roster c past ok.0)
 past_roster c (Numbered past was called) ok = let has = past_roster c past ok.0 in
     (map ok.1.0 has.0, roster_anew (pool_of past) was ok.1.0 has.0 has.1 ok.1.1)
+
+-- So some device is none of them.
+abbrev above_all : List ℕ → ℕ
+above_all [] = 0
+above_all (d ∷ devs) = d + 1 + above_all devs
+
+not_listed : (n : ℕ) (devs : List ℕ) → above_all devs ≤ n → IsListed n devs → ⊥
+not_listed n [] most is = is
+not_listed n (d ∷ devs) most (inl here) = above_first n d (above_all devs) most (same_device n d here)
+  where
+    above_first : (n d k : ℕ) → d + 1 + k ≤ n → n ≡ d → ⊥
+    above_first n d k most same = absurd (omega (arith, most, same))
+not_listed n (d ∷ devs) most (inr more) = not_listed n devs (fewer n d (above_all devs) most) more
+  where
+    fewer : (n d k : ℕ) → d + 1 + k ≤ n → k ≤ n
+    fewer n d k most = omega (arith, most)
+
+pub past_stranger : (c : Codec) (past : Past) → IsAllowed c past → (other : ℕ) × ((pool_of past).member other ≡ false)
+past_stranger c past ok = let has = past_roster c past ok in let n = above_all has.0 in
+    (n, by_bool ((pool_of past).member n) (λ is. absurd (not_listed n has.0 (most n) (has.1.all n is))) (λ no. no))
+  where
+    most : (n : ℕ) → n ≤ n
+    most n = omega arith
 
 -- More events.
 pub then_pool : (past : Past) (vs : List Event) → pool_of (then_all past vs) ≡ pool_after vs (pool_of past)
@@ -94,25 +118,61 @@ may_stop p images h next = record {
   unforged = unforged_met p images h next;
 }
 
-size_next : (p : Pool) (images : ℕ → ℕ → List ℕ) (h : Host) → IsNext p images h → (d : ℕ) → 1 ≤ size_in h.table d → cond (p.member d) (p.size d) (size_in h.table d) ≡ size_in h.table d
-size_next p images h next d one = by_bool (p.member d) (λ is. ap (λ t. cond t (p.size d) (size_in h.table d)) is ∙ next.sizes d is one)
-    (λ no. ap (λ t. cond t (p.size d) (size_in h.table d)) no)
+-- Each device that is a member's under these numbers is in its size.
+module _ (past : Past) (was : ℕ → ℕ) (called : ℕ → List ℕ) (h : Host) (other : ℕ) (none : (pool_of past).member other ≡ false) where
+  abbrev now : ℕ → ℕ
+  now = in_size past was other h
 
-pub next_begins : (c : Codec) (past : Past) (was : ℕ → ℕ) (called : ℕ → List ℕ) (images : ℕ → ℕ → List ℕ) (h : Host) → IsAllowed c past
-    → AreNamed past was called h
-    → IsNext (renumbered was (pool_of past)) images h → BeginsRun c (next_past past was called images h) h
-next_begins c past was called images h ok names next = record {
+  pub is_in_size : (d : ℕ) → (pool_of past).member (now d) ≡ true
+      → (now d ≡ was d) × (((size_in h.table d == 0) || ((pool_of past).size (was d) == size_in h.table d)) ≡ true)
+  is_in_size d is = of ((size_in h.table d == 0) || ((pool_of past).size (was d) == size_in h.table d)) is
+    where
+      of : (t : Bool) → (pool_of past).member (cond t (was d) other) ≡ true → (cond t (was d) other ≡ was d) × (t ≡ true)
+      of true is = (refl, refl)
+      of false is = absurd (let no : true ≡ false = sym is ∙ none in cc)
+
+  size_next : (d : ℕ) → 1 ≤ size_in h.table d → cond ((pool_of past).member (now d)) ((pool_of past).size (now d)) (size_in h.table d) ≡ size_in h.table d
+  size_next d one = by_bool ((pool_of past).member (now d))
+      (λ is. let at = is_in_size d is in
+      ap (λ t. cond t ((pool_of past).size (now d)) (size_in h.table d)) is ∙ (ap (pool_of past).size at.0 ∙ same ((pool_of past).size (was d)) (size_in h.table d) one at.1))
+      (λ no. ap (λ t. cond t ((pool_of past).size (now d)) (size_in h.table d)) no)
+    where
+      same : (a b : ℕ) → 1 ≤ b → ((b == 0) || (a == b)) ≡ true → a ≡ b
+      same a b one is = grind (arith, nat_tests)
+
+  named_now : AreNamed past was called h → AreNamed past now called h
+  named_now names = record {
+    numbers = (
+      names.numbers.0,
+      λ d is. let at = (is_in_size d is).0 in
+          ap names.numbers.0 at ∙ names.numbers.1 d (subst (λ n. (pool_of past).member n ≡ true) at is),
+    );
+    kept = λ d is. let at = (is_in_size d is).0 in
+        names.kept d (subst (λ n. (pool_of past).member n ≡ true) at is) ∙ ap (called_in past) (sym at);
+    here = names.here;
+  }
+
+pub next_begins : (c : Codec) (past : Past) (was : ℕ → ℕ) (called : ℕ → List ℕ) (images : ℕ → ℕ → List ℕ) (h : Host) (other : ℕ) → IsAllowed c past
+    → AreNamed past was called h → (pool_of past).member other ≡ false → IsNext (renumbered (in_size past was other h) (pool_of past)) images h
+    → BeginsRun c (next_past past (in_size past was other h) called images h) h
+next_begins c past was called images h other ok are none next = record {
   left = record {
-    allowed = ((ok, names.numbers, names.kept), may_stop (renumbered was (pool_of past)) images h next);
+    allowed = ((ok, names.numbers, names.kept), may_stop behind images h next);
     names = names.here;
-    sizes = λ d one. size_next (renumbered was (pool_of past)) images h next d one;
-    disk = λ d s one. met_here (renumbered was (pool_of past)) images h d s one;
+    sizes = λ d one. size_next past was called h other none d one;
+    disk = λ d s one. met_here behind images h d s one;
     stands = λ s is number. absurd (subst (IsOpen s) next.closed is);
   };
   closed = next.closed;
   unknown = next.unknown;
   at_rest = refl;
 }
+  where
+    behind : Pool
+    behind = renumbered (in_size past was other h) (pool_of past)
+
+    names : AreNamed past (in_size past was other h) called h
+    names = named_now past was called h other none are
 
 -- What live records contain.
 same_frozen : (f g : ℕ → List ℕ) (past : Past) → ((a : ℕ) → f a ≡ g a) → WasFrozen f past → WasFrozen g past

@@ -2,10 +2,9 @@
 use Rattle.std.proofs.Common.{◌≡◌, ◌≢◌, ◌⊎◌, inl, inr, ⊎_elim, ℕ, ◌==◌, Bool, true, false, cond, List, [], ◌∷◌, ◌++◌, map, Option, Some, None, refl, sym, ap, ◌∙◌, subst}
 use Rattle.std.specs.List.{AllByRecursion}
 use Rattle.std.specs.Str.{bytes_eq}
-use Rattle.bank_core.specs.Disk.{Call, Read, Noted, AllAnswer}
+use Rattle.bank_core.specs.Disk.{Noted, AllAnswer}
 use Rattle.txg_history.specs.Events.{Known, Calls, Loses}
-use Rattle.bank_core.specs.Standing.{touches}
-use Rattle.txg_history.specs.Moves.{IsPlain, Mays}
+use Rattle.txg_history.specs.Moves.{Mays}
 use Rattle.txg_history.specs.Pages.{Codec}
 use Rattle.txg_history.specs.Pools.{Pool, after, pool_after}
 use Rattle.txg_history.proofs.Logging.{by_bool}
@@ -15,8 +14,6 @@ use Rattle.pool_moves.specs.Keeping.{Kept, Walks}
 use Rattle.pool_moves.specs.LineRows.{IsSized, RowTurn, RowFreezeLine, RowSync}
 use Rattle.pool_moves.specs.Moves.{Move, Makes, Finds, state_step, after_move}
 use Rattle.pool_moves.specs.OnlineRow.{OnlineReply, FindMembers}
-use Rattle.pool_moves.specs.OpeningRow.{AreWholeReads, read_of}
-use Rattle.txg_history.specs.Premises.{AreNotTorn}
 use Rattle.pool_moves.specs.ReadRow.{RowRead, made_in}
 use Rattle.pool_moves.specs.ScanRows.{is_read_call, first_reads, FoundClash, RowStep, RowScrub, RowStopScrub}
 use Rattle.pool_moves.specs.States.{PoolState, Side}
@@ -42,8 +39,10 @@ use Rattle.pool_runs.specs.Lines.{Asked, Asks_nothing, Asks_write, Asks_read, As
 use Rattle.pool_runs.proofs.Acting.{same_number, number_of_test, own_events}
 use Rattle.pool_runs.proofs.Answering.{all_answer, marked_calls}
 use Rattle.pool_runs.proofs.Creating.{create_may}
-use Rattle.pool_runs.proofs.Importing.{own_shown, import_may}
+use Rattle.pool_runs.proofs.Importing.{import_may}
+use Rattle.pool_runs.proofs.OpeningActs.{own_first, own_shown}
 use Rattle.pool_runs.proofs.Knowing.{acts_number, may_more, moved_own, open_moved, other_may, own_does, walk_may}
+use Rattle.pool_runs.proofs.ReadsBehind.{read_plain, read_untouched, seeks_behind}
 use Rattle.pool_runs.proofs.Seating.{seat_as, detach_as, may_as, own_as, some_seat}
 use Rattle.pool_runs.proofs.Sparing.{untouched_sparing}
 
@@ -79,14 +78,6 @@ line_may c h p s Row acts knows is walks line = by_bool (s.core.pool.0 == p.pool
     (λ off. other_may c h p s.core.pool.0 acts knows (not_same s.core.pool.0 p.pool.0 off) line.own)
 
 -- A read, with its mark: the copies are read whatever their bytes are; behind the mark there is no clash.
-read_plain : (call : Call) → is_read_call call ≡ true → IsPlain call
-read_plain (Read dev at bytes fault) is = tt
-read_plain call is = absurd (cc)
-
-read_untouched : (call : Call) (d s : ℕ) → is_read_call call ≡ true → touches call d s ≡ false
-read_untouched (Read dev at bytes fault) d s is = refl
-read_untouched call d s is = absurd (cc)
-
 abbrev MarkedMay : Codec → Host → PoolState → Side → (g : ℕ) → (mark : Mark) → (vs : List Move) → (acts : List Act) → Type 0
 MarkedMay c h s t g mark vs acts = Knows c h t.pool → IsOpen s h.pools → t.pool.pool.0 ≡ g → Kept c s t → (IsFairMark t.pool mark → Walks c t vs)
     → AreOwnActs g h acts → MayActs c h t.pool acts
@@ -137,25 +128,6 @@ marked_line_may c h p s mark Row acts knows is made was walks line = by_bool (s.
     (subst (AreOwnActs g h) line.are line.own)))
     (λ off. other_may c h p s.core.pool.0 acts knows (not_same s.core.pool.0 p.pool.0 off) line.own)
 
--- What was fair of a search behind a read was so before it.
-untorn : (call : Call) (damage : ℕ → ℕ → Bool) (p : Pool) (known : Known) → is_read_call call ≡ true
-    → AreNotTorn (after (Calls (record { call = call; damage = damage })) p) known → AreNotTorn p known
-untorn (Read dev at bytes fault) damage p known is torn = torn
-untorn call damage p known is torn = absurd (cc)
-
-whole_behind : (noted : Noted) (p : Pool) (made : List Noted) → is_read_call noted.call ≡ true → AreWholeReads (after (Calls noted) p) made → AreWholeReads p made
-whole_behind noted p [] reads all = tt
-whole_behind noted p (one ∷ made) reads all = (untorn noted.call noted.damage p (read_of one.call) reads all.0, whole_behind noted p made reads all.1)
-
-members_behind : (noted : Noted) (p : Pool) (found : List (Option ℕ)) → AllByRecursion (IsMember (after (Calls noted) p)) found → AllByRecursion (IsMember p) found
-members_behind noted p [] all = tt
-members_behind noted p (None ∷ found) all = (tt, members_behind noted p found all.1)
-members_behind noted p (Some d ∷ found) all = (all.0, members_behind noted p found all.1)
-
-seeks_behind : (noted : Noted) (p : Pool) (made : List Noted) (found : List (Option ℕ)) → is_read_call noted.call ≡ true → IsFairMark (after (Calls noted) p) (Seeks_by made found)
-    → IsFairMark p (Seeks_by made found)
-seeks_behind noted p made found reads ok = (whole_behind noted p made reads ok.0, members_behind noted p found ok.1)
-
 -- A leaf that comes back.
 shown_may : (c : Codec) (h : Host) (p : Pool) (g : ℕ) (known : Known) (devs : List (Option ℕ)) → Knows c h p → p.pool.0 ≡ g → MayActs c h p (all_shown g known devs)
 shown_may c h p g known [] knows number = tt
@@ -167,10 +139,6 @@ found_members : (p : Pool) (vs : List Move) → AllByRecursion (IsMember p) (fou
 found_members p [] all = tt
 found_members p (Finds m d ∷ vs) all = (all.0, found_members p vs all.1)
 found_members p (v ∷ vs) all = found_members p vs all
-
-own_front : (g : ℕ) (h : Host) (first second : List Act) → AreOwnActs g h (first ++ second) → AreOwnActs g h first
-own_front g h [] second own = tt
-own_front g h (act ∷ first) second own = (own.0, own_front g (host_by act h) first second own.1)
 
 online_may : (c : Codec) (h : Host) (p : Pool) (s : PoolState) (device : List ℕ) (reply : OnlineReply) (acts : List Act) → Knows c h p → IsOpen s h.pools → ByOnline h s device reply acts
     → MayActs c h p acts
@@ -186,7 +154,7 @@ online_may c h p s device reply acts knows is line = by_bool (s.core.pool.0 == p
     subst (MayActs c h p) (sym line.are) (may_more c h p acts (all_shown g known (found_in line.moves))
     (all_marked_may c h s t g mark line.moves (λ noted q reads ok. seeks_behind noted q (made_in line.moves) (found_in line.moves) reads ok) knows is (sym number) has.1
     (λ ok. online_walks c (size_in h.table) s t device (is_listed device s) (device_for device (number_in device h.table) h g) line.moves reply has.1 knows.sizes
-    line.row ok.0 (found_members p line.moves ok.1)) (own_front g h acts (all_shown g known (found_in line.moves)) own))
+    line.row ok.0 (found_members p line.moves ok.1)) (own_first g h acts (all_shown g known (found_in line.moves)) own))
     (λ fair known_behind. shown_may c (host_along acts h) (pool_along acts p) g known (found_in line.moves) known_behind
     (ap (λ n. n.0) (acts_number acts p) ∙ sym number)) knows))
     (λ off. other_may c h p s.core.pool.0 acts knows (not_same s.core.pool.0 p.pool.0 off) line.own)

@@ -22,6 +22,7 @@ use Rattle.label_store.specs.Rounds.{uberblock_of, config_of, first_plan, second
 use Rattle.txg_history.specs.Branches.{cell_on, branch_cells}
 use Rattle.txg_history.specs.Pages.{Sum, Codec, span, IsOfVolume, sum_of}
 use Rattle.txg_history.specs.Events.{Accepts}
+use Rattle.label_store.specs.Records.{place_at}
 use Rattle.txg_history.specs.Pools.{Pool, pool_after}
 use Rattle.txg_history.specs.Records.{Cell, key}
 use Rattle.txg_history.proofs.Branching.{branch_is, branch_has, keys_one}
@@ -50,14 +51,14 @@ use Rattle.pool_runs.specs.Fairness.{AreFair}
 use Rattle.pool_runs.specs.Headline.{Headline}
 use Rattle.pool_runs.specs.HostRows.{AreMade, WriteLine, ReadLine, SyncLine, OnPool, HostRow, acts_of, acts_in, IsRun}
 use Rattle.pool_runs.specs.Hosts.{Host, named, moved, host_by, host_along}
-use Rattle.pool_runs.specs.Pasts.{pool_of, then_all, Left, BeginsRun, next_past}
+use Rattle.pool_runs.specs.Pasts.{pool_of, then_all, Left, BeginsRun, in_size, next_past}
 use Rattle.pool_runs.specs.Knowing.{IsOwnCall, IsOwnMove, AreOwnActs}
 use Rattle.pool_runs.specs.Lines.{To_write, To_read, To_sync}
 use Rattle.pool_runs.specs.SmallRuns.{small_table, small_host, small_name, small_pool, small_tops, small_birth, small_state, small_member, small_stamp, small_head, small_pointer, small_codec, small_commit, small_draft, small_first, small_thirds, small_round, small_founding, small_made, small_written, small_freeze, small_turn, small_flush, small_last, small_turns, small_sync, small_bytes, small_branch, answered, all_answered, small_device, small_create, small_later, small_born, small_rest, small_past, small_images, small_next}
 use Rattle.pool_runs.proofs.Acting.{same_number}
 use Rattle.pool_runs.proofs.Bearing.{born_headline}
 use Rattle.pool_runs.proofs.Knowing.{acts_number, moved_own, moved_number}
-use Rattle.pool_runs.proofs.Pasting.{then_called, next_begins}
+use Rattle.pool_runs.proofs.Pasting.{then_called, is_in_size, next_begins}
 use Rattle.pool_runs.proofs.Numbers.{number_fits}
 
 none_refused : create_refusal small_host small_name 1 small_tops ≡ None
@@ -784,20 +785,30 @@ small_left block long = subst (λ acts. Left (small_codec block) (then_all small
       fair = subst (AreFair (small_codec block) (pool_of small_born)) (sym (take_all (small_rest block))) (small_fair block);
     }))
 
-pub small_stops : (block : List ℕ) → length block ≡ 4096
-    → BeginsRun (small_codec block) (next_past (small_past block) (λ d. d) (name_in small_table) (small_images block) (small_next block)) (small_next block)
-small_stops block long = let left = small_left block long in
-    next_begins (small_codec block) (small_past block) (λ d. d) (name_in small_table) (small_images block) (small_next block) left.allowed
+pub small_stops : (block : List ℕ) (other : ℕ) → length block ≡ 4096 → (pool_of (small_past block)).member other ≡ false
+    → BeginsRun (small_codec block) (next_past (small_past block) (in_size (small_past block) (λ d. d) other (small_next block)) (name_in small_table)
+    (small_images block) (small_next block)) (small_next block)
+small_stops block other long none = let left = small_left block long in
+    next_begins (small_codec block) (small_past block) (λ d. d) (name_in small_table) (small_images block) (small_next block) other left.allowed
     (record {
       numbers = (λ d. d, λ d is. refl);
       kept = λ d is. sym (ap (λ called. called d) (then_called small_born (history (small_rest block) (pool_of small_born))));
       here = one_name;
     })
+    none
     (record {
-      crash = λ d is s clean. refl;
-      unforged = λ d place u member inside correct. inl refl;
-      sizes = λ d is one. left.sizes d one;
-      disk = λ d s is one. record { stable = refl; still = refl; damage = λ was. was };
+      crash = λ d is s clean. ap (λ n. (p.sectors n s).stable) (sym (at d is));
+      unforged = λ d place u member inside correct. inl (ap (λ n. (p.sectors n (place_at (p.size (now d)) place)).stable) (sym (at d member)));
+      disk = λ d s is one. record { stable = refl; still = refl; damage = λ was. subst (λ n. (p.sectors n s).damaged ≡ true) (at d is) was };
       closed = refl;
       unknown = λ d. refl;
     })
+  where
+    p : Pool
+    p = pool_of (small_past block)
+
+    now : ℕ → ℕ
+    now = in_size (small_past block) (λ d. d) other (small_next block)
+
+    at : (d : ℕ) → p.member (now d) ≡ true → now d ≡ d
+    at d is = (is_in_size (small_past block) (λ d. d) (name_in small_table) (small_next block) other none d is).0

@@ -3,7 +3,7 @@ use Rattle.std.proofs.Common.{◌≡◌, ℕ, List, [], ◌∷◌, ◌++◌, ref
 use Rattle.pool_moves.specs.StampRow.{Stamp, calls_of_stamps}
 use Rattle.pool_runs.specs.Acts.{calls_along}
 use Rattle.pool_runs.specs.Creating.{stamp_acts}
-use Rattle.pool_runs.proofs.Importing.{bare_calls}
+use Rattle.pool_runs.proofs.OpeningActs.{bare_calls}
 
 pub stamp_calls : (g : ℕ) (stamps : List Stamp) → calls_along (stamp_acts g stamps) ≡ calls_of_stamps stamps
 stamp_calls g [] = refl

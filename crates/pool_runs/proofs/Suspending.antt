@@ -1,400 +1,157 @@
--- What counts tell of lines that are suspended, or told a device that failed.
-use Rattle.mp_base.specs.Outside.{Rose}
-use Rattle.std.proofs.Common.{◌≡◌, ◌⊎◌, inl, inr, ⊎_elim, ℕ, ◌==◌, ◌&&◌, ◌||◌, nat_le, Bool, true, false, cond, List, [], ◌∷◌, ◌++◌, map, length, Option, Some, None, refl, sym, ap, ◌∙◌, subst, append-nil, append_assoc, arith, zero, suc, ◌+◌, nat_lt, take}
+-- A turn or a sync is suspended only where the count of some leaf's device rose, or where a top had nobody left on
+-- its board before.
+use Rattle.std.proofs.Common.{◌≡◌, ◌⊎◌, inl, inr, ℕ, ◌==◌, ◌&&◌, ◌||◌, Bool, true, false, cond, List, [], ◌∷◌, ◌++◌, Option, Some, refl, sym, ap, ◌∙◌, subst}
 use Rattle.std.specs.List.{AllByRecursion, list_any}
-use Rattle.std.specs.Prelude.{remove, drop}
-use Rattle.std.specs.Option.{is_some}
-use Rattle.std.proofs.lemmas.Bool.Decides.{nat_tests}
+use Rattle.std.proofs.lemmas.Bool.{and_parts}
 use Rattle.mp_base.specs.declared.number.Guid.{Guid}
-use Rattle.bank_core.specs.declared.bank.Fault.{Fault}
-use Rattle.bank_core.specs.Asks.{IsPart}
 use Rattle.bank_core.specs.Calls.{AllCaused}
-use Rattle.bank_core.specs.Disk.{Noted}
-use Rattle.label_store.specs.declared.found.Found.{Found}
-use Rattle.label_store.specs.declared.member.Member.{Member}
-use Rattle.label_store.specs.Plans.{stamp_plan}
-use Rattle.vdev_tree.specs.Leaf.{is_up}
-use Rattle.txg_history.specs.Pages.{LeafKept, Codec}
-use Rattle.txg_history.specs.Rounds.{all_true}
-use Rattle.txg_history.proofs.Logging.{same_device}
-use Rattle.pool_moves.specs.Boards.{board_of}
+use Rattle.txg_history.specs.Pages.{Codec}
+use Rattle.txg_history.proofs.Logging.{by_bool, same_device, true_not_false}
+use Rattle.pool_moves.specs.Boards.{is_on, has_on, emptied_of}
 use Rattle.pool_moves.specs.FreezeRow.{is_dev}
-use Rattle.pool_moves.specs.Leaves.{LeafSeen, Seat}
-use Rattle.pool_moves.specs.LineRows.{TurnReply, Idle, Write, Flush, Round, Committed, Suspended, SyncReply, RowTurn, RowSync, CommitsOpen}
-use Rattle.pool_moves.specs.Moves.{Move, Flushed_all, steps, Lose}
-use Rattle.pool_moves.specs.Opened.{opened_leaves}
-use Rattle.pool_moves.specs.OpeningRow.{SeekReply, NoRecord, NumbersEnd, TakesRecord, OpenReply, Opens_state, NoPage, RowOpen, RowResume, is_up_under, lacking_of}
+use Rattle.pool_moves.specs.Leaves.{LeafSeen}
+use Rattle.pool_moves.specs.LineRows.{TurnReply, Idle, Write, Flush, Round, Committed, Suspended, RowTurn, SyncReply, Ended, Refused, NoMemory, EndsGroup, SyncBehind, EndsFirst, SyncBy, RowSync}
+use Rattle.pool_moves.specs.Moves.{Move, steps}
 use Rattle.pool_moves.specs.ReadRow.{made_in}
-use Rattle.pool_moves.specs.Refusing.{FreezeRefusal, last_number, is_writable_under, unwritable_of, unwritable, IsRefused}
-use Rattle.pool_moves.specs.StampRow.{NewLeaf, leaf_at, is_leaf_at, Stamp, calls_of_stamps, AreStamps, new_leaf_seen, new_state, CreateReply, Created, FaultOn, first_failed, found_reply}
+use Rattle.pool_moves.specs.Refusing.{is_writable}
 use Rattle.pool_moves.specs.States.{PoolState}
-use Rattle.pool_runs.specs.Acts.{Act, Looked, Enters, Bears, Closes, does, calls_of_act, calls_along}
-use Rattle.pool_moves.specs.AwayRows.{leaf_named}
-use Rattle.pool_moves.specs.TreeRows.{Graft, TreeRefusal, graft_refusal, new_number, place_named, goes_out, GraftReply, DeviceFault, GraftEnds, GraftOn, GraftAt, GraftFor, RowGraft, DetachReply, Undone, DetachBehind, CommitsWithout, DetachFor, DetachLeaf, DetachBy, RowDetach}
-use Rattle.pool_moves.specs.Walking.{as_moves}
-use Rattle.pool_runs.specs.Committing.{opening_in}
-use Rattle.pool_runs.specs.Counting.{has_leaf_at, RoseAt, HasLostBoard, IsSuspended, SuspendsSync, LacksTop, FailsOpening}
-use Rattle.pool_runs.specs.Creating.{tops_of, leaves_of, new_birth, stamp_acts, commit_acts, RowCreate}
-use Rattle.pool_runs.specs.Devices.{size_in}
-use Rattle.pool_runs.specs.Hosts.{Host, free_in, named}
-use Rattle.pool_runs.specs.Importing.{OpensBy, FollowsMap, OpensFound, ImportBy, host_behind, Imports, ImportFor, ImportUnless, RowImport}
-use Rattle.pool_runs.specs.Lines.{Reply, To_import, To_create, Unopened}
-use Rattle.pool_runs.proofs.Answering.{does_calls}
-use Rattle.pool_runs.proofs.Counting.{NoFault, fault_or, Answered, answered_first, answered_second, commits_fine, none_unwritable, OwnDev, AreOwnLeaves, turn_suspends, sync_suspends, resume_fine, stamp_fine, found_fine, line_answered}
-use Rattle.pool_runs.proofs.Stamps.{stamp_calls}
-use Rattle.pool_runs.proofs.Finding.{opening_bare}
-use Rattle.pool_runs.proofs.Importing.{bare_calls, opening_of, opening_calls}
+use Rattle.pool_runs.specs.Counting.{has_leaf_at, RoseAt, HasLostBoard, IsSuspended, SuspendsSync, is_under, IsLostBy, LosesBoard, LosesFreeze}
+use Rattle.pool_runs.proofs.Lists.{same_test, or_left, or_right}
+use Rattle.pool_runs.proofs.Failing.{FailedOn, failed_rose, IsCaught, caught_first, caught_second}
+use Rattle.pool_runs.proofs.Losing.{Anything, any_may, turn_loses, group_loses}
+use Rattle.pool_runs.proofs.OnlyFailedLeave.{Comes, group_comes, steps_any}
+use Rattle.pool_runs.proofs.SyncsLoseATop.{ended_same, open_loses}
 
--- The leaves of an opening are on the devices where it found them.
-abbrev among : (devs : List (Option ℕ)) → ℕ → Bool
-among devs d = list_any (is_dev d) devs
-
-same_dev : (d : ℕ) → (d == d) ≡ true
-same_dev d = grind (arith, nat_tests)
-
-or_right : (a b : Bool) → b ≡ true → (a || b) ≡ true
-or_right true b is = refl
-or_right false b is = is
-
-own_more : (first : Option ℕ) (devs : List (Option ℕ)) (dev : Option ℕ) → OwnDev (among devs) dev → OwnDev (among (first ∷ devs)) dev
-own_more first devs None mine = tt
-own_more first devs (Some d) mine = or_right (is_dev d first) (among devs d) mine
-
-own_first : (dev : Option ℕ) (devs : List (Option ℕ)) → OwnDev (among (dev ∷ devs)) dev
-own_first None devs = tt
-own_first (Some d) devs = ap (λ t. t || among devs d) (same_dev d)
-
-up_all : (first : Option ℕ) (devs : List (Option ℕ)) (leaves : List LeafSeen) → AreOwnLeaves (among devs) leaves → AreOwnLeaves (among (first ∷ devs)) leaves
-up_all first devs [] all = tt
-up_all first devs (leaf ∷ leaves) all = (own_more first devs leaf.dev all.0, up_all first devs leaves all.1)
-
-opened_own_leaves : (leaves : List LeafKept) (devs : List (Option ℕ)) → AreOwnLeaves (among devs) (opened_leaves leaves devs)
-opened_own_leaves [] devs = tt
-opened_own_leaves (leaf ∷ leaves) [] = tt
-opened_own_leaves (leaf ∷ leaves) (dev ∷ devs) = (own_first dev devs, up_all dev devs (opened_leaves leaves devs) (opened_own_leaves leaves devs))
-
--- where such a leaf is readable it has a device
-abbrev IsFoundUp : LeafSeen → Type 0
-IsFoundUp leaf = (is_up leaf.own.mode && is_some leaf.dev) ≡ is_up leaf.own.mode
-
-and_true : (a : Bool) → (a && true) ≡ a
-and_true true = refl
-and_true false = refl
-
-opened_up : (leaves : List LeafKept) (devs : List (Option ℕ)) → AllByRecursion IsFoundUp (opened_leaves leaves devs)
-opened_up [] devs = tt
-opened_up (leaf ∷ leaves) [] = tt
-opened_up (leaf ∷ leaves) (None ∷ devs) = (refl, opened_up leaves devs)
-opened_up (leaf ∷ leaves) (Some d ∷ devs) = (and_true (is_up leaf.mode), opened_up leaves devs)
-
-any_up : (top : ℕ) (leaves : List LeafSeen) → AllByRecursion IsFoundUp leaves → list_any (is_writable_under top) leaves ≡ list_any (is_up_under top) leaves
-any_up top [] all = refl
-any_up top (leaf ∷ leaves) all = ap (λ t. (t && (leaf.top == top)) || list_any (is_writable_under top) leaves) all.0 ∙ ap (λ rest. is_up_under top leaf || rest) (any_up top leaves all.1)
-
-lacks_unwritable : (all leaves : List LeafSeen) → AllByRecursion IsFoundUp all → unwritable_of all leaves ≡ lacking_of all leaves
-lacks_unwritable all [] up = refl
-lacks_unwritable all (leaf ∷ leaves) up = ap (λ t. cond t (unwritable_of all leaves) (Some leaf.top)) (any_up leaf.top all up)
-    ∙ ap (λ rest. cond (list_any (is_up_under leaf.top) all) rest (Some leaf.top)) (lacks_unwritable all leaves up)
-
--- An opening that was suspended.
-opened_is : (c : Codec) (size : ℕ → ℕ) (handed : List ℕ → Option ℕ) (name : List ℕ) (found : Found) (made : List Noted) (outcome : OpenReply) (row : RowOpen c size handed name found made outcome)
-    (s : PoolState) → outcome ≡ Opens_state s → s.core.leaves ≡ opened_leaves (c.leaves found.blob.items) row.devs
-opened_is c size handed name found made (Opens_state x) row s out = ap (λ y. y.core.leaves) (sym (one x s out) ∙ row.ends.1)
-  where
-    one : (a b : PoolState) → Opens_state a ≡ Opens_state b → a ≡ b
-    one a b e = cc
-opened_is c size handed name found made (NoPage page shown) row s out = absurd (cc)
-
-none_second : (own : ℕ → Bool) (a b : List Noted) → AllByRecursion (NoFault own) (a ++ b) → AllByRecursion (NoFault own) b
-none_second own [] b all = all
-none_second own (noted ∷ a) b all = none_second own a b all.1
-
-calls_more : (first second : List Act) → calls_along (first ++ second) ≡ calls_along first ++ calls_along second
-calls_more [] second = refl
-calls_more (act ∷ first) second = ap (λ l. calls_of_act act ++ l) (calls_more first second) ∙ sym (append_assoc (calls_of_act act) (calls_along first) (calls_along second))
-
-closed_calls : (g : ℕ) (vs : List Move) → calls_along (does g vs ++ (Closes g ∷ [])) ≡ made_in vs
-closed_calls g vs = calls_more (does g vs) (Closes g ∷ []) ∙ (append-nil (calls_along (does g vs)) ∙ does_calls g vs)
-
-opens_suspended : (c : Codec) (h : Host) (name : List ℕ) (found : Found) (acts : List Act) (reply : Reply) (before : List Noted) (from to : ℕ → ℕ) (group : ℕ) (top : Guid) (faults : ℕ)
-    → (opens : OpensFound c h name found acts reply) → AllCaused (before ++ calls_along acts) from to → reply ≡ To_import (Unopened group top faults)
-    → RoseAt (among opens.row.devs) from to ⊎ LacksTop c (opening_of c h name found acts reply opens)
-opens_suspended c h name found acts reply before from to group top faults opens caused says = follow opens.outcome refl opens.follows
-  where
-    leaves : List LeafSeen
-    leaves = opened_leaves (c.leaves found.blob.items) opens.row.devs
-
-    own : ℕ → Bool
-    own = among opens.row.devs
-
-    suspended : (s : PoolState) (vs : List Move) (g n : ℕ) (t : Guid) (k : ℕ) → opens.outcome ≡ Opens_state s → RowResume c (size_in h.table) s vs (Suspended n t k)
-        → opens.rest ≡ Enters s ∷ (does g vs ++ (Closes g ∷ [])) → RoseAt own from to ⊎ LacksTop c (opening_of c h name found acts reply opens)
-    suspended s vs g n t k out row rest = ⊎_elim (λ none. by (lacking_of leaves leaves) refl (behind none)) (λ rose. inl rose) (fault_or own (before ++ calls_along acts) from to caused)
-      where
-        are : s.core.leaves ≡ leaves
-        are = opened_is c (size_in h.table) (free_in h) name found opens.made opens.outcome opens.row s out
-
-        behind : AllByRecursion (NoFault own) (before ++ calls_along acts) → AllByRecursion (NoFault own) (made_in vs)
-        behind none = subst (AllByRecursion (NoFault own)) (ap calls_along rest ∙ closed_calls g vs)
-            (none_second own opens.made (calls_along opens.rest)
-            (subst (AllByRecursion (NoFault own)) (opening_calls c h name found acts reply opens) (none_second own before (calls_along acts) none)))
-
-        by : (lack : Option ℕ) → lacking_of leaves leaves ≡ lack → AllByRecursion (NoFault own) (made_in vs) → RoseAt own from to ⊎ LacksTop c (opening_of c h name found acts reply opens)
-        by (Some x) is none = inr (x, is)
-        by None is none = absurd (resume_fine own c (size_in h.table) s vs (Suspended n t k)
-            (subst (λ l. unwritable l ≡ None) (sym are) (lacks_unwritable leaves leaves (opened_up (c.leaves found.blob.items) opens.row.devs) ∙ is))
-            (subst (AreOwnLeaves own) (sym are) (opened_own_leaves (c.leaves found.blob.items) opens.row.devs))
-            (line_answered own vs (made_in vs) refl none) row tt (subst (λ l. lacking_of l l ≡ None) (sym are) is))
-
-    by_turn : (turn : TurnReply) (s : PoolState) (vs : List Move) → opens.outcome ≡ Opens_state s → RowResume c (size_in h.table) s vs turn → OpensBy turn found.pool.0 s vs opens.rest reply
-        → RoseAt own from to ⊎ LacksTop c (opening_of c h name found acts reply opens)
-    by_turn (Committed m) s vs out row by = absurd (let no = sym by.1 ∙ says in cc)
-    by_turn (Suspended n t k) s vs out row by = suspended s vs found.pool.0 n t k out row by.0
-    by_turn Idle s vs out row by = absurd by
-    by_turn Write s vs out row by = absurd by
-    by_turn Flush s vs out row by = absurd by
-    by_turn (Round m) s vs out row by = absurd by
-
-    follow : (outcome : OpenReply) → opens.outcome ≡ outcome → FollowsMap outcome c (size_in h.table) found.pool.0 opens.rest reply
-        → RoseAt own from to ⊎ LacksTop c (opening_of c h name found acts reply opens)
-    follow (Opens_state s) out row = by_turn row.1 s row.0 out row.2 row.3
-    follow (NoPage page shown) out row = absurd (let no = sym row.1 ∙ says in cc)
-
-import_by : (seek : SeekReply) (c : Codec) (h : Host) (name : List ℕ) (acts : List Act) (reply : Reply) (before : List Noted) (from to : ℕ → ℕ) (group : ℕ) (top : Guid) (faults : ℕ)
-    → ImportBy seek c h name acts reply → AllCaused (before ++ calls_along acts) from to → reply ≡ To_import (Unopened group top faults) → FailsOpening c acts from to
-import_by NoRecord c h name acts reply before from to group top faults row caused says = absurd (let no = sym row.1 ∙ says in cc)
-import_by (NumbersEnd limit count) c h name acts reply before from to group top faults row caused says = absurd (let no = sym row.1 ∙ says in cc)
-import_by (TakesRecord found) c h name acts reply before from to group top faults row caused says = record {
-  opening = opening_of c h name found acts reply row;
-  reads = ap opening_in row.are;
-  why = opens_suspended c h name found acts reply before from to group top faults row caused says;
-}
-
-pub import_counts : (c : Codec) (h : Host) (name : List ℕ) (acts : List Act) (reply : Reply) (from to : ℕ → ℕ) (group : ℕ) (top : Guid) (faults : ℕ) → RowImport c h name acts reply
-    → AllCaused (calls_along acts) from to → reply ≡ To_import (Unopened group top faults) → FailsOpening c acts from to
-import_counts c h name acts reply from to group top faults row caused says = unless (named name h.pools) row
-  where
-    imports : Imports c h name acts reply → FailsOpening c acts from to
-    imports row = let fails = import_by row.seek c (host_behind row.made h) name row.rest reply row.made from to group top faults row.follows
-        (subst (λ calls. AllCaused calls from to) (ap calls_along row.are ∙ bare_calls row.made (Looked name _ ∷ row.rest)) caused) says in record {
-          opening = fails.opening;
-          reads = ap opening_in row.are ∙ (opening_bare row.made (Looked name _ ∷ row.rest) ∙ fails.reads);
-          why = fails.why;
-        }
-
-    full_by : (full : Bool) → ImportFor full c h name acts reply → FailsOpening c acts from to
-    full_by true row = absurd (let no = sym row.1 ∙ says in cc)
-    full_by false row = imports row
-
-    unless : (found : Option PoolState) → ImportUnless found c h name acts reply → FailsOpening c acts from to
-    unless (Some s) row = absurd (let no = sym row.1 ∙ says in cc)
-    unless None row = full_by (nat_le 16 (length h.pools)) row
-
--- Turns and syncs: the leaves of a state are on devices where it has a leaf.
+-- Where one of a lost top's leaves is so, its device failed.
 abbrev at_leaves : (leaves : List LeafSeen) → ℕ → Bool
 at_leaves leaves d = list_any (λ leaf. is_dev d leaf.dev) leaves
 
-own_leaf : (first : LeafSeen) (leaves : List LeafSeen) (dev : Option ℕ) → OwnDev (at_leaves leaves) dev → OwnDev (at_leaves (first ∷ leaves)) dev
-own_leaf first leaves None mine = tt
-own_leaf first leaves (Some d) mine = or_right (is_dev d first.dev) (at_leaves leaves d) mine
+abbrev FailsAt : (Fails : ℕ → Type 0) → (leaves : List LeafSeen) → Type 0
+FailsAt Fails leaves = (d : ℕ) × (at_leaves leaves d ≡ true) × Fails d
 
-own_here : (leaf : LeafSeen) (leaves : List LeafSeen) (dev : Option ℕ) → leaf.dev ≡ dev → OwnDev (at_leaves (leaf ∷ leaves)) dev
-own_here leaf leaves None is = tt
-own_here leaf leaves (Some d) is = ap (λ x. is_dev d x || at_leaves leaves d) is ∙ ap (λ t. t || at_leaves leaves d) (same_dev d)
+dev_of : (dev : Option ℕ) (d : ℕ) → dev ≡ Some d → is_dev d dev ≡ true
+dev_of dev d is = ap (is_dev d) is ∙ same_test d d refl
 
-own_up : (first : LeafSeen) (leaves rest : List LeafSeen) → AreOwnLeaves (at_leaves leaves) rest → AreOwnLeaves (at_leaves (first ∷ leaves)) rest
-own_up first leaves [] all = tt
-own_up first leaves (leaf ∷ rest) all = (own_leaf first leaves leaf.dev all.0, own_up first leaves rest all.1)
+some_fails : (which : LeafSeen → Bool) (Fails : ℕ → Type 0) (top : ℕ) (leaves : List LeafSeen)
+    → list_any (λ leaf. which leaf && (leaf.top == top)) leaves ≡ true
+    → AllByRecursion (IsLostBy which Fails top) leaves → FailsAt Fails leaves
+some_fails which Fails top [] some lost = absurd (cc)
+some_fails which Fails top (leaf ∷ leaves) some lost = by_bool (which leaf && (leaf.top == top))
+    (λ here. let parts = and_parts (which leaf) (leaf.top == top) here in let one =
+    lost.0 (same_device leaf.top top parts.1) parts.0 in
+    (one.0, or_left (is_dev one.0 leaf.dev) (at_leaves leaves one.0) (dev_of leaf.dev one.0 one.1), one.2))
+    (λ away. let more = some_fails which Fails top leaves
+    (sym (ap (λ t. t || list_any (λ leaf. which leaf && (leaf.top == top)) leaves) away) ∙ some) lost.1 in
+    (more.0, or_right (is_dev more.0 leaf.dev) (at_leaves leaves more.0) more.1, more.2))
 
-own_all : (leaves : List LeafSeen) → AreOwnLeaves (at_leaves leaves) leaves
-own_all [] = tt
-own_all (leaf ∷ leaves) = (own_here leaf leaves leaf.dev refl, own_up leaf leaves leaves (own_all leaves))
+-- A top that has leaves and nobody on the board.
+some_empty : (top : ℕ) (all leaves : List LeafSeen) → list_any (is_under top) leaves ≡ true → has_on top all ≡ false
+    → (at : ℕ) × (emptied_of all leaves ≡ Some at)
+some_empty top all [] some none = absurd (cc)
+some_empty top all (leaf ∷ leaves) some none = by_bool (has_on leaf.top all)
+    (λ on. by_bool (is_under top leaf)
+    (λ here. true_not_false (has_on leaf.top all) on
+    (subst (λ n. has_on n all ≡ false) (sym (same_device leaf.top top here)) none))
+    (λ away. let more = some_empty top all leaves
+    (sym (ap (λ t. t || list_any (is_under top) leaves) away) ∙ some) none in
+    (more.0, ap (λ t. cond t (emptied_of all leaves) (Some leaf.top)) on ∙ more.1)))
+    (λ off. (leaf.top, ap (λ t. cond t (emptied_of all leaves) (Some leaf.top)) off))
 
-pub turn_counts : (c : Codec) (h : Host) (s : PoolState) (vs : List Move) (reply : TurnReply) (from to : ℕ → ℕ) → RowTurn c (size_in h.table) s vs reply → AllCaused (made_in vs) from to → IsSuspended reply
-    → RoseAt (λ d. has_leaf_at d s) from to ⊎ HasLostBoard s
-turn_counts c h s vs reply from to row caused bad = ⊎_elim
-    (λ none. inr (turn_suspends (at_leaves s.core.leaves) c (size_in h.table) s vs reply (own_all s.core.leaves) (line_answered (at_leaves s.core.leaves) vs (made_in vs) refl none) row bad))
-    (λ rose. inl rose) (fault_or (at_leaves s.core.leaves) (made_in vs) from to caused)
+board_fails : (Fails : ℕ → Type 0) (s : PoolState) (group : ℕ) (top : Guid) → LosesBoard s Fails group top
+    → FailsAt Fails s.core.leaves ⊎ HasLostBoard s
+board_fails Fails s group top x = by_bool (has_on x.lost.at s.core.leaves)
+    (λ some. inl (some_fails is_on Fails x.lost.at s.core.leaves some x.lost.lost))
+    (λ none. let empty = some_empty x.lost.at s.core.leaves s.core.leaves x.lost.some none in
+    inr (record { frozen = x.frozen; top = empty.0; none = empty.1 }))
 
-pub sync_counts : (c : Codec) (h : Host) (s : PoolState) (vs : List Move) (reply : SyncReply) (from to : ℕ → ℕ) → RowSync c (size_in h.table) s vs reply → AllCaused (made_in vs) from to → SuspendsSync reply
-    → RoseAt (λ d. has_leaf_at d s) from to ⊎ HasLostBoard s
-sync_counts c h s vs reply from to row caused bad = ⊎_elim
-    (λ none. inr (sync_suspends (at_leaves s.core.leaves) c (size_in h.table) s vs reply (own_all s.core.leaves) (line_answered (at_leaves s.core.leaves) vs (made_in vs) refl none) row bad))
-    (λ rose. inl rose) (fault_or (at_leaves s.core.leaves) (made_in vs) from to caused)
+freeze_fails : (Fails : ℕ → Type 0) (s : PoolState) (leaves : List LeafSeen) (group : ℕ) (top : Guid)
+    → LosesFreeze s leaves Fails group top → FailsAt Fails leaves
+freeze_fails Fails s leaves group top x = some_fails is_writable Fails x.lost.at leaves x.one x.lost.lost
 
--- Creates.
-abbrev at_new : (leaves : List NewLeaf) → ℕ → Bool
-at_new leaves d = is_leaf_at (leaf_at d leaves)
+-- Lines.
+module _ (c : Codec) (size : ℕ → ℕ) (s : PoolState) where
+  abbrev FailsIn : List Move → Type 0
+  FailsIn vs = FailsAt (λ d. FailedOn d (made_in vs)) s.core.leaves ⊎ HasLostBoard s
 
-found_here : (leaf : NewLeaf) (leaves : List NewLeaf) → at_new (leaf ∷ leaves) leaf.dev ≡ true
-found_here leaf leaves = ap (λ t. is_leaf_at (cond t (Some leaf) (leaf_at leaf.dev leaves))) (same_dev leaf.dev)
+  turn_fails : (vs : List Move) (reply : TurnReply) → RowTurn c size s vs reply → IsSuspended reply → FailsIn vs
+  turn_fails vs (Suspended group top faults) row bad = board_fails (λ d. FailedOn d (made_in vs)) s group top
+      (turn_loses (λ d. FailedOn d (made_in vs)) c size s vs group top faults (λ d failed. failed) row)
+  turn_fails vs Idle row bad = absurd bad
+  turn_fails vs Write row bad = absurd bad
+  turn_fails vs Flush row bad = absurd bad
+  turn_fails vs (Round number) row bad = absurd bad
+  turn_fails vs (Committed number) row bad = absurd bad
 
-found_later : (first : NewLeaf) (leaves : List NewLeaf) (d : ℕ) → at_new leaves d ≡ true → at_new (first ∷ leaves) d ≡ true
-found_later first leaves d is = by (first.dev == d)
-  where
-    by : (t : Bool) → is_leaf_at (cond t (Some first) (leaf_at d leaves)) ≡ true
-    by true = refl
-    by false = is
+  -- behind a group each device is still a leaf's
+  still_at : (vs : List Move) (number d : ℕ) → EndsGroup c size s vs (Committed number)
+      → at_leaves (steps vs s).core.leaves d ≡ true → at_leaves s.core.leaves d ≡ true
+  still_at vs number d ends is =
+      of (group_comes (λ d. Unit {0}) Anything (Unit {0})
+      (λ vs s just may. any_may (steps vs s).core.leaves) c size s vs (Committed number)
+      (λ is. tt) (any_may s.core.leaves) (λ d failed. tt) ends)
+    where
+      of : Comes (λ d. Unit {0}) Anything (Unit {0}) s vs (Committed number) → at_leaves s.core.leaves d ≡ true
+      of (inl lost) = absurd (let no = lost.tells in cc)
+      of (inr just) = sym (steps_any (λ d. Unit {0}) Anything (Unit {0}) (λ m dev top. is_dev d dev) vs s just.0) ∙ is
 
--- every one of these leaves is found among all
-abbrev AreFound : (all leaves : List NewLeaf) → Type 0
-AreFound all leaves = AllByRecursion (λ leaf. at_new all leaf.dev ≡ true) leaves
+  first_fails : (vs : List Move) (group : ℕ) (top : Guid) (faults : ℕ) → s.core.group.frozen ≡ true
+      → EndsFirst c size s vs (Ended (Suspended group top faults)) → FailsIn vs
+  first_fails vs group top faults frozen e = by e.turn e.ends e.behind
+    where
+      parts : IsCaught (λ d. FailedOn d (made_in vs)) (e.first ++ e.rest)
+      parts = subst (IsCaught (λ d. FailedOn d (made_in vs))) e.moves (λ d failed. failed)
 
-found_up : (first : NewLeaf) (all leaves : List NewLeaf) → AreFound all leaves → AreFound (first ∷ all) leaves
-found_up first all [] each = tt
-found_up first all (leaf ∷ leaves) each = (found_later first all leaf.dev each.0, found_up first all leaves each.1)
+      by : (turn : TurnReply) → EndsGroup c size s e.first turn
+          → SyncBehind turn c size (steps e.first s) e.rest (Ended (Suspended group top faults)) → FailsIn vs
+      by (Committed number) ends (inl row) = absurd (let no = row.1 in cc)
+      by (Committed number) ends (inr row) = let behind = steps e.first s in
+          let one = freeze_fails (λ d. FailedOn d (made_in e.rest)) behind behind.core.leaves group top
+          (open_loses c size behind e.rest group top faults row) in
+          inl (
+            one.0,
+            still_at e.first number one.0 ends one.1,
+            caught_second
+                (λ d. FailedOn d (made_in vs)) e.first e.rest parts one.0 one.2,
+          )
+      by (Suspended g t k) ends row = board_fails (λ d. FailedOn d (made_in vs)) s group top
+          (group_loses (λ d. FailedOn d (made_in vs)) c size s e.first group top faults frozen
+          (caught_first (λ d. FailedOn d (made_in vs)) e.first e.rest parts)
+          (subst (EndsGroup c size s e.first) (sym (ended_same (Suspended g t k) group top faults row.1)) ends))
+      by Idle ends row = absurd (let no = row.1 in cc)
+      by Write ends row = absurd (let no = row.1 in cc)
+      by Flush ends row = absurd (let no = row.1 in cc)
+      by (Round number) ends row = absurd (let no = row.1 in cc)
 
-found_all : (leaves : List NewLeaf) → AreFound leaves leaves
-found_all [] = tt
-found_all (leaf ∷ leaves) = (found_here leaf leaves, found_up leaf leaves leaves (found_all leaves))
+  sync_by_fails : (frozen : Bool) (vs : List Move) (group : ℕ) (top : Guid) (faults : ℕ)
+      → s.core.group.frozen ≡ frozen → SyncBy frozen c size s vs (Ended (Suspended group top faults))
+      → FailsIn vs
+  sync_by_fails false vs group top faults is row =
+      inl (freeze_fails (λ d. FailedOn d (made_in vs)) s s.core.leaves group top
+      (open_loses c size s vs group top faults row))
+  sync_by_fails true vs group top faults is row = first_fails vs group top faults is row
 
-new_own_leaves : (all leaves : List NewLeaf) → AreFound all leaves → AreOwnLeaves (at_new all) (map new_leaf_seen leaves)
-new_own_leaves all [] each = tt
-new_own_leaves all (leaf ∷ leaves) each = (each.0, new_own_leaves all leaves each.1)
+  sync_fails : (vs : List Move) (reply : SyncReply) → RowSync c size s vs reply → SuspendsSync reply → FailsIn vs
+  sync_fails vs (Ended (Suspended group top faults)) row bad =
+      sync_by_fails s.core.group.frozen vs group top faults refl row
+  sync_fails vs (Ended Idle) row bad = absurd bad
+  sync_fails vs (Ended Write) row bad = absurd bad
+  sync_fails vs (Ended Flush) row bad = absurd bad
+  sync_fails vs (Ended (Round number)) row bad = absurd bad
+  sync_fails vs (Ended (Committed number)) row bad = absurd bad
+  sync_fails vs (Refused refusal) row bad = absurd bad
+  sync_fails vs NoMemory row bad = absurd bad
 
-none_first : (own : ℕ → Bool) (a b : List Noted) → AllByRecursion (NoFault own) (a ++ b) → AllByRecursion (NoFault own) a
-none_first own [] b all = tt
-none_first own (noted ∷ a) b all = (all.0, none_first own a b all.1)
+  rose_in : (vs : List Move) (from to : ℕ → ℕ) → AllCaused (made_in vs) from to → FailsIn vs
+      → RoseAt (λ d. has_leaf_at d s) from to ⊎ HasLostBoard s
+  rose_in vs from to caused (inl one) = inl (one.0, one.1, failed_rose one.0 (made_in vs) from to caused one.2)
+  rose_in vs from to caused (inr lost) = inr lost
 
--- where no call on them failed all stamps are whole
-stamps_fine : (all : List NewLeaf) (pool : Guid) (size : ℕ → ℕ) (leaves : List NewLeaf) (stamps : List Stamp) (failed : Option NewLeaf) → AreFound all leaves → AreStamps size pool leaves stamps failed
-    → AllByRecursion (NoFault (at_new all)) (calls_of_stamps stamps) → failed ≡ None
-stamps_fine all pool size [] [] failed each are none = are
-stamps_fine all pool size [] (stamp ∷ stamps) failed each are none = absurd are
-stamps_fine all pool size (leaf ∷ leaves) [] failed each are none = absurd are
-stamps_fine all pool size (leaf ∷ leaves) (stamp ∷ stamps) failed each (dev, inl whole) none =
-    stamps_fine all pool size leaves stamps failed each.1 whole.1 (none_second (at_new all) stamp.made (calls_of_stamps stamps) none)
-stamps_fine all pool size (leaf ∷ leaves) (stamp ∷ stamps) failed each (dev, inr stop) none =
-    absurd (let no : Some stop.0 ≡ None = stamp_fine (at_new all) leaf.dev (size leaf.dev) pool leaf.guid stamp.made (Some stop.0) each.0 stop.1 (none_first (at_new all) stamp.made (calls_of_stamps stamps) none) in cc)
+  pub turn_counts : (vs : List Move) (reply : TurnReply) (from to : ℕ → ℕ) → RowTurn c size s vs reply
+      → AllCaused (made_in vs) from to → IsSuspended reply
+      → RoseAt (λ d. has_leaf_at d s) from to ⊎ HasLostBoard s
+  turn_counts vs reply from to row caused bad = rose_in vs from to caused (turn_fails vs reply row bad)
 
-all_fine : (ms : List Member) (results : List Bool) → all_true results ≡ true → first_failed ms results ≡ None
-all_fine [] results on = refl
-all_fine (m ∷ ms) [] on = refl
-all_fine (m ∷ ms) (true ∷ results) on = all_fine ms results on
-all_fine (m ∷ ms) (false ∷ results) on = absurd (cc)
-
-fault_answer : (a b : CreateReply) → To_create a ≡ To_create b → a ≡ b
-fault_answer a b e = cc
-
-pub create_counts : (c : Codec) (h : Host) (name : List ℕ) (blocks : ℕ) (tops : List (List (List ℕ))) (acts : List Act) (reply : Reply) (device : List ℕ) (from to : ℕ → ℕ)
-    → RowCreate c h name blocks tops acts reply → AllCaused (calls_along acts) from to → reply ≡ To_create (FaultOn device) → RoseAt (λ d. is_leaf_at (leaf_at d (leaves_of h.table tops))) from to
-create_counts c h name blocks tops acts reply device from to (inl row) caused says = absurd (let no = sym row.3 ∙ says in cc)
-create_counts c h name blocks tops acts reply device from to (inr (inl row)) caused says = ⊎_elim
-    (λ none. absurd (let no : Some row.leaf ≡ None = stamps_fine leaves row.pool (size_in h.table) leaves row.stamps (Some row.leaf) (found_all leaves) row.are
-    (subst (AllByRecursion (NoFault (at_new leaves))) (ap calls_along row.all ∙ stamp_calls row.pool.0 row.stamps) none) in cc))
-    (λ rose. rose) (fault_or (at_new leaves) (calls_along acts) from to caused)
-  where
-    leaves : List NewLeaf
-    leaves = leaves_of h.table tops
-create_counts c h name blocks tops acts reply device from to (inr (inr row)) caused says = ⊎_elim (λ none. absurd (whole (fine none))) (λ rose. rose) (fault_or (at_new leaves) (calls_along acts) from to caused)
-  where
-    leaves : List NewLeaf
-    leaves = leaves_of h.table tops
-
-    s : PoolState
-    s = new_state (size_in h.table) name row.pool blocks (tops_of h.table tops)
-
-    answer_is : row.answer ≡ FaultOn device
-    answer_is = fault_answer row.answer (FaultOn device) (sym row.says ∙ says)
-
-    calls : calls_along acts ≡ calls_of_stamps row.stamps ++ made_in row.moves
-    calls = ap calls_along row.all ∙ (calls_more (stamp_acts row.pool.0 row.stamps) (Bears (new_birth name row.pool blocks h.table tops) ∷ commit_acts row.answer row.pool.0 row.moves)
-        ∙ (ap (λ made. made ++ calls_along (commit_acts row.answer row.pool.0 row.moves)) (stamp_calls row.pool.0 row.stamps)
-        ∙ ap (λ made. calls_of_stamps row.stamps ++ made) (ap (λ a. calls_along (commit_acts a row.pool.0 row.moves)) answer_is ∙ closed_calls row.pool.0 row.moves)))
-
-    fine : AllByRecursion (NoFault (at_new leaves)) (calls_along acts) → all_true row.row.row.ends.results ≡ true
-    fine none = found_fine (at_new leaves) c (size_in h.table) s row.moves row.row.whole (new_own_leaves leaves leaves (found_all leaves))
-        (line_answered (at_new leaves) row.moves (made_in row.moves) refl
-        (none_second (at_new leaves) (calls_of_stamps row.stamps) (made_in row.moves) (subst (AllByRecursion (NoFault (at_new leaves))) calls none))) row.row.row
-
-    whole : all_true row.row.row.ends.results ≡ true → ⊥
-    whole on = let no : Created ≡ FaultOn device = sym (row.row.says ∙ ap (λ m. found_reply m s.core.leaves)
-        (all_fine (board_of (steps (row.row.row.first ++ (Flushed_all ∷ [])) s).core.leaves) row.row.row.ends.results on)) ∙ answer_is in cc
-
--- A detach that was undone, and a graft whose stamp failed.
-without_counts : (c : Codec) (size : ℕ → ℕ) (s : PoolState) (name : List ℕ) (at : LeafSeen) (seat : Seat) (vs : List Move) (reply : DetachReply) (own : ℕ → Bool) (group : ℕ) (top : Guid) (faults : ℕ)
-    → CommitsWithout c size s name at seat vs reply → unwritable (steps (goes_out s name at) s).core.leaves ≡ None → AreOwnLeaves own (steps (goes_out s name at) s).core.leaves
-    → AllByRecursion (Answered own) vs → reply ≡ Undone group top faults → ⊥
-without_counts c size s name at seat vs reply own group top faults row none mine all says = by row.turn row.commit row.behind
-  where
-    part : AllByRecursion (Answered own) row.part
-    part = answered_first own row.part row.rest (answered_second own (goes_out s name at) (row.part ++ row.rest) (subst (AllByRecursion (Answered own)) row.moves all))
-
-    by : (turn : TurnReply) → CommitsOpen c size (steps (goes_out s name at) s) row.part turn → DetachBehind turn size s name at seat row.rest reply → ⊥
-    by (Committed number) commit behind = let no = sym behind.1 ∙ says in cc
-    by (Suspended g t k) commit behind = commits_fine own c size (steps (goes_out s name at) s) row.part (Suspended g t k) none mine part commit tt
-    by Idle commit behind = behind
-    by Write commit behind = behind
-    by Flush commit behind = behind
-    by (Round n) commit behind = behind
-
--- a list without one of its leaves is on the same devices
-take_own : (own : ℕ → Bool) (i : ℕ) (leaves : List LeafSeen) → AreOwnLeaves own leaves → AreOwnLeaves own (take i leaves)
-take_own own zero leaves all = tt
-take_own own (suc i) [] all = tt
-take_own own (suc i) (leaf ∷ leaves) all = (all.0, take_own own i leaves all.1)
-
-drop_own : (own : ℕ → Bool) (i : ℕ) (leaves : List LeafSeen) → AreOwnLeaves own leaves → AreOwnLeaves own (drop i leaves)
-drop_own own zero leaves all = all
-drop_own own (suc i) [] all = tt
-drop_own own (suc i) (leaf ∷ leaves) all = drop_own own i leaves all.1
-
-both_own : (own : ℕ → Bool) (a b : List LeafSeen) → AreOwnLeaves own a → AreOwnLeaves own b → AreOwnLeaves own (a ++ b)
-both_own own [] b x y = y
-both_own own (leaf ∷ a) b x y = (x.0, both_own own a b x.1 y)
-
-removed_own : (own : ℕ → Bool) (leaves : List LeafSeen) (i : ℕ) → AreOwnLeaves own leaves → AreOwnLeaves own (remove leaves i)
-removed_own own leaves i all = both_own own (take i leaves) (drop (suc i) leaves) (take_own own i leaves all) (drop_own own (suc i) leaves all)
-
-pub detach_counts : (c : Codec) (h : Host) (s : PoolState) (leaf : List ℕ) (seat : Seat) (vs : List Move) (reply : DetachReply) (from to : ℕ → ℕ) (group : ℕ) (top : Guid) (faults : ℕ)
-    → RowDetach c (size_in h.table) s leaf seat vs reply → AllCaused (made_in vs) from to → reply ≡ Undone group top faults → RoseAt (λ d. has_leaf_at d s) from to
-detach_counts c h s leaf seat vs reply from to group top faults row caused says = ⊎_elim (λ none. absurd (by (leaf_named leaf s.core.leaves) none row)) (λ rose. rose) (fault_or own (made_in vs) from to caused)
-  where
-    own : ℕ → Bool
-    own = at_leaves s.core.leaves
-
-    for : (at : LeafSeen) (refusal : Option FreezeRefusal) → AllByRecursion (NoFault own) (made_in vs) → IsRefused (steps (goes_out s leaf at) s) refusal
-        → DetachFor refusal c (size_in h.table) s leaf at seat vs reply → ⊥
-    for at (Some refusal) none is row = let no = sym row.1 ∙ says in cc
-    for at None none is row = without_counts c (size_in h.table) s leaf at seat vs reply own group top faults row
-        (none_unwritable own (nat_le last_number (steps (goes_out s leaf at) s).core.number) (unwritable (steps (goes_out s leaf at) s).core.leaves) (steps (goes_out s leaf at) s) is)
-        (removed_own own s.core.leaves (place_named leaf s.core.leaves) (own_all s.core.leaves)) (line_answered own vs (made_in vs) refl none) says
-
-    leaf_by : (at : LeafSeen) (frozen : Bool) → AllByRecursion (NoFault own) (made_in vs) → DetachLeaf frozen c (size_in h.table) s leaf at seat vs reply → ⊥
-    leaf_by at true none row = let no = sym row.1 ∙ says in cc
-    leaf_by at false none (inl row) = let no = sym row.3 ∙ says in cc
-    leaf_by at false none (inr row) = for at row.1.0 none row.1.1 row.1.2
-
-    by : (found : Option LeafSeen) → AllByRecursion (NoFault own) (made_in vs) → DetachBy found c (size_in h.table) s leaf seat vs reply → ⊥
-    by None none row = let no = sym row.1 ∙ says in cc
-    by (Some at) none row = leaf_by at s.core.group.frozen none row
-
-pub graft_counts : (size : ℕ → ℕ) (graft : Graft) (s : PoolState) (name new : List ℕ) (d : ℕ) (vs : List Move) (reply : GraftReply) (from to : ℕ → ℕ)
-    → RowGraft size graft s name new d vs reply → AllCaused (made_in vs) from to → reply ≡ DeviceFault → Rose (from d) (to d)
-graft_counts size graft s name new d vs reply from to row caused says = ⊎_elim (λ none. absurd (for (graft_refusal graft s name (leaf_named name s.core.leaves)) none row))
-    (λ rose. subst (λ e. Rose (from e) (to e)) (same_device rose.0 d rose.1) rose.2) (fault_or own (made_in vs) from to caused)
-  where
-    own : ℕ → Bool
-    own e = e == d
-
-    made_more : (made : List Noted) → made_in (Lose d ∷ as_moves made) ≡ made
-    made_more [] = refl
-    made_more (noted ∷ made) = ap (λ more. noted ∷ more) (made_more made)
-
-    ends : (outcome : Option Fault) (leaf : LeafSeen) (made : List Noted) → IsPart (stamp_plan d (size d) s.core.pool (new_number graft s)) made outcome
-        → AllByRecursion (NoFault own) (made_in vs) → GraftEnds outcome graft s name leaf new d made vs reply → ⊥
-    ends (Some fault) leaf made part none row = let no : Some fault ≡ None = stamp_fine own d (size d) s.core.pool (new_number graft s) made (Some fault) (same_dev d) part
-        (subst (AllByRecursion (NoFault own)) (ap made_in row.0 ∙ made_more made) none) in cc
-    ends None leaf made part none row = let no = sym row.1 ∙ says in cc
-
-    on : (small : Bool) (leaf : LeafSeen) → AllByRecursion (NoFault own) (made_in vs) → GraftOn small size graft s name leaf new d vs reply → ⊥
-    on true leaf none row = let no = sym row.1 ∙ says in cc
-    on false leaf none row = ends row.outcome leaf row.made row.calls none row.ends
-
-    at : (found : Option LeafSeen) → AllByRecursion (NoFault own) (made_in vs) → GraftAt found size graft s name new d vs reply → ⊥
-    at None none row = row
-    at (Some leaf) none row = on (nat_lt (size d) (s.core.room leaf.top + 256)) leaf none row
-
-    for : (refusal : Option TreeRefusal) → AllByRecursion (NoFault own) (made_in vs) → GraftFor refusal size graft s name new d vs reply → ⊥
-    for (Some refusal) none row = let no = sym row.1 ∙ says in cc
-    for None none row = at (leaf_named name s.core.leaves) none row
+  pub sync_counts : (vs : List Move) (reply : SyncReply) (from to : ℕ → ℕ) → RowSync c size s vs reply
+      → AllCaused (made_in vs) from to → SuspendsSync reply
+      → RoseAt (λ d. has_leaf_at d s) from to ⊎ HasLostBoard s
+  sync_counts vs reply from to row caused bad = rose_in vs from to caused (sync_fails vs reply row bad)

@@ -1,5 +1,5 @@
 -- Which lines leave what was written last.
-use Rattle.pool_runs.specs.Acts.{Opening, Act, Bare, Does, Looked, Reads_as, Takes, Bears, Closes, does, bare, calls_along, pool_by, pool_along, read_by, events_for}
+use Rattle.pool_runs.specs.Acts.{Opening, Act, Bare, Does, Looked, Reads_as, Takes, Bears, Closes, Seeks_by, Reads_pages, Marks, does, bare, calls_along, pool_by, pool_along, read_by, events_for}
 use Rattle.pool_runs.specs.Writing.{HasOpening, IsTakenWrite, IsImport, KeepsWrites}
 use Rattle.pool_runs.proofs.Knowing.{acts_number}
 use Rattle.std.proofs.Common.{◌≡◌, ◌⊎◌, inl, inr, ⊎_elim, ℕ, ◌==◌, Bool, true, false, cond, List, [], ◌∷◌, ◌++◌, Option, Some, None, refl, sym, ap, ◌∙◌, subst, nat_le, length, ◌+◌, nat_lt}
@@ -7,24 +7,27 @@ use Rattle.std.specs.List.{AllByRecursion}
 use Rattle.std.specs.Str.{bytes_eq}
 use Rattle.bank_core.specs.Disk.{Noted}
 use Rattle.label_store.specs.Newest.{AreReads}
+use Rattle.mp_base.specs.declared.place.Key.{Key}
 use Rattle.txg_history.specs.Events.{Calls, Looks, Loses, as_events, Known, Opens}
 use Rattle.txg_history.specs.Pages.{Codec}
 use Rattle.txg_history.specs.Pools.{Pool, after, pool_after}
 use Rattle.txg_history.proofs.Folding.{name_kept}
 use Rattle.txg_history.proofs.Logging.{by_bool}
+use Rattle.txg_history.specs.Premises.{Premises}
 use Rattle.pool_moves.specs.AwayRows.{WriteReply, Taken, BadAddress, Full, NoSpace, WriteFits, WriteBy, RowWrite, is_spare, leaf_named}
 use Rattle.pool_moves.specs.LineRows.{TurnReply, Idle, Write, Flush, Round, Committed, Suspended}
 use Rattle.pool_moves.specs.Moves.{Move, Makes, Puts, events_of, Widen, step, steps}
 use Rattle.pool_moves.specs.OpeningRow.{SeekReply, NoRecord, NumbersEnd, TakesRecord, OpenReply, Opens_state, NoPage, lacking_of}
 use Rattle.pool_moves.specs.ReadRow.{made_in}
 use Rattle.pool_moves.specs.StampRow.{Stamp, CreateReply, Created, FaultOn, new_state}
+use Rattle.pool_moves.specs.PageReads.{PageTurn, page_of, up_to}
 use Rattle.pool_moves.specs.States.{PoolState, PoolSeen}
 use Rattle.pool_runs.specs.Creating.{tops_of, stamp_acts, new_birth, commit_acts, RowCreate}
 use Rattle.pool_runs.specs.Devices.{size_in, number_in}
 use Rattle.pool_runs.specs.HostRows.{WriteLine, OnPool, RowOf, ChangesNone, MayRewrite, HostRow, graft_acts, GraftUnless, GraftOnto, GraftIf, GraftLine, DetachLine}
-use Rattle.pool_runs.specs.Fairness.{IsFairOpening, IsFair, AreFair}
+use Rattle.pool_runs.specs.Fairness.{IsFair, AreFair}
 use Rattle.pool_runs.specs.Hosts.{Host, named, holder}
-use Rattle.pool_runs.specs.Importing.{read_in, all_shown, OpensBy, FollowsMap, ImportBy, host_behind, ImportFor, ImportUnless}
+use Rattle.pool_runs.specs.Importing.{read_in, all_shown, map_acts, OpensBy, FollowsMap, ImportBy, host_behind, ImportFor, ImportUnless}
 use Rattle.pool_runs.specs.Lines.{Asked, Asks_write, Asks_import, Asks_create, Reply, To_write, No_memory, Entry, Asks_graft, Asks_detach}
 use Rattle.pool_runs.proofs.Acting.{number_of_test, own_events}
 use Rattle.pool_runs.proofs.Committing.{KeepsWritten, written_kind, move_written}
@@ -349,20 +352,36 @@ named_follows (NoPage page shown) c size name g acts reply row = subst (AllNamed
 named_follows (Opens_state s) c size name g acts reply row = named_opens row.1 name g s row.0 acts reply
     (line_resume KeepsWritten written_line (lacking_of s.core.leaves s.core.leaves) c size s row.0 row.1 row.2) row.3
 
-named_import_by : (seek : SeekReply) (c : Codec) (h : Host) (name : List ℕ) (acts : List Act) (reply : Reply) → ImportBy seek c h name acts reply → AllNamed name acts
-named_import_by NoRecord c h name acts reply row = subst (AllNamed name) (sym row.0) tt
-named_import_by (NumbersEnd limit count) c h name acts reply row = subst (AllNamed name) (sym row.0) tt
-named_import_by (TakesRecord found) c h name acts reply row = subst (AllNamed name) (sym row.are) (
+named_map : (name : List ℕ) (g : ℕ) (bytes : Key → Option (List ℕ)) (turns : List PageTurn) (last : List Noted) (rest : List Act) → AllNamed name rest
+    → AllNamed name (map_acts g bytes turns last rest)
+named_map name g bytes [] last rest all = named_bare name last (Marks g (Reads_pages bytes) ∷ rest) (tt, all)
+named_map name g bytes (turn ∷ turns) last rest all =
+    named_bare name turn.reads (Marks g (Reads_pages (up_to (page_of turn) bytes)) ∷ (bare turn.rewrites ++ map_acts g bytes turns last rest))
+    (tt, named_bare name turn.rewrites (map_acts g bytes turns last rest) (named_map name g bytes turns last rest all))
+
+named_import_by : (seek : SeekReply) (c : Codec) (h : Host) (name : List ℕ) (known : Known) (acts : List Act) (reply : Reply) → ImportBy seek c h name known acts reply → AllNamed name acts
+named_import_by NoRecord c h name known acts reply row = subst (AllNamed name) (sym row.0) tt
+named_import_by (NumbersEnd limit count) c h name known acts reply row = subst (AllNamed name) (sym row.0) tt
+named_import_by (TakesRecord found) c h name known acts reply row = subst (AllNamed name) (sym row.are) (
   refl,
-  named_bare name row.row.ids (all_shown found.pool.0 (read_in row.row.ids) row.row.devs ++ (bare row.row.pages ++ row.rest))
-      (named_shown name found.pool.0 (read_in row.row.ids) row.row.devs (bare row.row.pages ++ row.rest)
-      (named_bare name row.row.pages row.rest (named_follows row.outcome c (size_in h.table) name found.pool.0 row.rest reply row.follows))),
+  named_bare name row.row.ids (all_shown found.pool.0 (read_in row.row.ids) row.row.devs ++ (mark ∷ turned))
+      (named_shown name found.pool.0 (read_in row.row.ids) row.row.devs (mark ∷ turned) (
+        tt,
+        named_map name found.pool.0 row.row.bytes row.row.turns row.row.last row.rest
+            (named_follows row.outcome c (size_in h.table) name found.pool.0 row.rest reply row.follows),
+      )),
 )
+  where
+    mark : Act
+    mark = Marks found.pool.0 (Seeks_by row.row.ids row.row.devs)
+
+    turned : List Act
+    turned = map_acts found.pool.0 row.row.bytes row.row.turns row.row.last row.rest
 
 named_for : (full : Bool) (c : Codec) (h : Host) (name : List ℕ) (acts : List Act) (reply : Reply) → ImportFor full c h name acts reply → AllNamed name acts
 named_for true c h name acts reply row = subst (AllNamed name) (sym row.0) tt
 named_for false c h name acts reply row = subst (AllNamed name) (sym row.are)
-    (named_bare name row.made (Looked name _ ∷ row.rest) (tt, named_import_by row.seek c (host_behind row.made h) name row.rest reply row.follows))
+    (named_bare name row.made (Looked name _ ∷ row.rest) (tt, named_import_by row.seek c (host_behind row.made h) name _ row.rest reply row.follows))
 
 named_import : (found : Option PoolState) (c : Codec) (h : Host) (name : List ℕ) (acts : List Act) (reply : Reply) → ImportUnless found c h name acts reply → AllNamed name acts
 named_import (Some s) c h name acts reply row = subst (AllNamed name) (sym row.0) tt
@@ -373,8 +392,8 @@ act_named : (c : Codec) (name : List ℕ) (act : Act) (p : Pool) → NamedAt nam
 act_named c name (Reads_as opening) p is = by (p.pool.0 == opening.found.pool.0) refl
   where
     by : (t : Bool) → (p.pool.0 == opening.found.pool.0) ≡ t
-        → ((o : Opening) × (Reads_as opening ≡ Reads_as o) × (o.found.pool.0 ≡ p.pool.0) × ((p.pool.0 ≡ opening.found.pool.0 → IsFairOpening c p opening) → p.name ≡ name)) ⊎ ((pool_after (cond t (Opens (read_by opening p) ∷ []) []) p).written ≡ p.written)
-    by true same = inl (opening, refl, sym (number_of_test p.pool.0 opening.found.pool.0 same), λ fair. (fair (number_of_test p.pool.0 opening.found.pool.0 same)).named ∙ is)
+        → ((o : Opening) × (Reads_as opening ≡ Reads_as o) × (o.found.pool.0 ≡ p.pool.0) × ((p.pool.0 ≡ opening.found.pool.0 → (p.name ≡ opening.name) × Premises c.head_of p opening.known) → p.name ≡ name)) ⊎ ((pool_after (cond t (Opens (read_by opening p) ∷ []) []) p).written ≡ p.written)
+    by true same = inl (opening, refl, sym (number_of_test p.pool.0 opening.found.pool.0 same), λ fair. (fair (number_of_test p.pool.0 opening.found.pool.0 same)).0 ∙ is)
     by false off = inr refl
 act_named c name (Does g v) p is = inr (act_still (Does g v) p is)
 act_named c name act p is = inr (act_still act p tt)

@@ -14,14 +14,12 @@ use Rattle.pool_moves.specs.Moves.{Move, events_of}
 use Rattle.pool_moves.specs.ReadRow.{ReadReply, made_in}
 use Rattle.pool_moves.specs.States.{PoolState}
 
--- What an opening reads: the name that was asked, the record that it found, the devices on which it finds the record's leaves with the calls
--- that looked for their identities, and the bytes that it finds of the map's pages.
+-- What an opening reads: the name that was asked, what its looks showed, the record that it found, and the devices on which it finds the record's leaves.
 pub record Opening : Type 0 where
   pub name : List ℕ
+  pub known : Known
   pub found : Found
   pub devs : List (Option ℕ)
-  pub ids : List Noted
-  pub bytes : Key → Option (List ℕ)
 
 -- A pool that begins behind its stamps: its members with their numbers, the names of the devices, their sectors, its tops' rooms,
 -- under which top each member stands, and its state.
@@ -37,11 +35,13 @@ pub record Birth : Type 0 where
   pub state : PoolState
 
 -- What a line marks of what it read: it gives this reply for block a, and may rewrite copies from here on; a step of a scan made these
--- calls in all, and may write copies from here on; or it looks for identities by these calls, and takes these devices for its leaves.
+-- calls in all, and may write copies from here on; it looks for identities by these calls, and takes these devices for its leaves; or these are
+-- the bytes that it found of a map's pages so far, and it may rewrite copies of the last one from here on.
 pub data Mark : Type 0 where
   Gives_for : (a : ℕ) (reply : ReadReply) → Mark
   Steps_by : (made : List Noted) → Mark
   Seeks_by : (made : List Noted) (found : List (Option ℕ)) → Mark
+  Reads_pages : (bytes : Key → Option (List ℕ)) → Mark
 
 pub data Act : Type 0 where
   -- the clock gave this second

@@ -14,7 +14,7 @@ use Rattle.pool_runs.specs.Acts.{Act, calls_along, history}
 use Rattle.pool_runs.specs.Committing.{Acknowledges, FindsPool}
 use Rattle.pool_moves.specs.TreeRows.{Required as DetachRequired}
 use Rattle.pool_runs.specs.Counting.{IsCounted}
-use Rattle.pool_runs.specs.Fairness.{AreFair}
+use Rattle.pool_runs.specs.Fairness.{AreFair, AreFairLooks}
 use Rattle.pool_runs.specs.HostRows.{acts_in}
 use Rattle.pool_runs.specs.Hosts.{Host}
 use Rattle.pool_runs.specs.Lines.{Asks_read, Asks_offline, Asks_import, Reply, To_offline, No_memory, Entry, Asks_detach, To_detach}
@@ -60,11 +60,13 @@ pub record Headline (c : Codec) (past : Past) (h : Host) (acts : List Act) (entr
   pub sound : (m : Moment c past acts entries) → IsSound (pool_at m)
   -- and each record that an opening may find has the writes that were accepted before a freeze, the last before its round
   pub contents : (m : Moment c past acts entries) (r : Rec) → IsIn r (pool_at m).live → HasFrozen (past_at m) r
-  -- an import of its name finds a live record, not below the acknowledged one, and opens it above, or some page of it has no good leaf
+  -- an import of its name finds a live record, not below the acknowledged one, and opens it above, or tells a page of it that has no good leaf, or is
+  -- refused by its cause
   pub opens : (l : LineOf c past acts entries) → l.entry.asked ≡ Asks_import (pool_before l).name → AreFair c (pool_before l) l.entry.acts
-      → FindsPool c (pool_before l) (pool_behind l) (host_after h l) l.entry.acts l.entry.reply
+      → AreFairLooks c (pool_before l) l.entry.acts
+      → FindsPool c (host_before h l) (pool_before l) (pool_behind l) (host_after h l) l.entry.acts l.entry.reply
   -- a sync, a turn or a detach that answers a number acknowledged that record; a sync's and a detach's has each block as it was written last, and a turn's
-  -- as it was before the group was frozen
+  -- as it was before the group was frozen; and a sync that freezes none acknowledged the group that was frozen before
   pub commits : (l : LineOf c past acts entries) → Acknowledges (host_before h l) (pool_before l) (pool_behind l) l.entry
   -- a write that is taken puts its block where it says, and nothing else but an import of the pool changes what was written last
   pub writes : (l : LineOf c past acts entries) → KeepsWrites c (host_before h l) (pool_before l) (pool_behind l) l.entry
@@ -80,6 +82,6 @@ pub record Headline (c : Codec) (past : Past) (h : Host) (acts : List Act) (entr
   -- a member stays one, unless this very line wasn't refused, and makes a pool or brings in a leaf on its device, or takes its leaf out
   pub keeps : (l : LineOf c past acts entries) (d : ℕ) → (pool_before l).member d ≡ true
       → ((pool_behind l).member d ≡ true) ⊎ IsTakenBy (pool_before l) (host_before h l) l.entry d
-  -- a line is suspended or undone, or told a device that failed, only where the count of a device of its own rose in that very line, or nobody was left
-  -- before; and a turn only where each leaf of the lost top that was still on its board failed in it, as its device's count tells
-  pub counts : (l : LineOf c past acts entries) (from to : ℕ → ℕ) → AllCaused (calls_in_line l) from to → IsCounted c (host_before h l) l.entry from to
+  -- a line is suspended or undone for a top, or told a device that failed, only where the count of this device rose in that very line, or of the
+  -- device of each leaf of the top that was on its board
+  pub counts : (l : LineOf c past acts entries) (from to : ℕ → ℕ) → AllCaused (calls_in_line l) from to → IsCounted c (pool_before l) (host_before h l) l.entry from to

@@ -191,9 +191,8 @@ abbrev pub MayRewrite : Asked → List Act → Type 0
 MayRewrite (Asks_import name) acts = AllByRecursion ChangesNone acts
 MayRewrite asked acts = ⊥
 
--- a line that may want memory: a read takes none, nor does one that makes a turn
+-- a line that may want memory: a turn takes none
 abbrev pub TakesMemory : Asked → Type 0
-TakesMemory (Asks_read name a) = ⊥
 TakesMemory (Asks_turn name) = ⊥
 TakesMemory asked = Unit {0}
 

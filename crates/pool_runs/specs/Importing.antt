@@ -1,6 +1,7 @@
 -- `import` as a row: its refusals, its looks at all labels, what it finds and reads, and its commit.
 use Rattle.std.specs.Prelude.{◌≡◌, ℕ, ◌+◌, nat_le, Bool, true, false, List, [], ◌∷◌, ◌++◌, length, Option, Some, None}
 use Rattle.bank_core.specs.Disk.{Noted, run}
+use Rattle.mp_base.specs.declared.place.Key.{Key}
 use Rattle.label_store.specs.declared.found.Found.{Found}
 use Rattle.txg_history.specs.Events.{Known}
 use Rattle.txg_history.specs.Looks.{known_by}
@@ -8,8 +9,9 @@ use Rattle.txg_history.specs.Pages.{Codec}
 use Rattle.pool_moves.specs.LineRows.{TurnReply, Committed, Suspended}
 use Rattle.pool_moves.specs.Moves.{Move}
 use Rattle.pool_moves.specs.OpeningRow.{SeekReply, NoRecord, NumbersEnd, TakesRecord, RowSeek, OpenReply, Opens_state, NoPage, RowOpen, RowResume, read_of}
+use Rattle.pool_moves.specs.PageReads.{PageTurn, page_of, up_to}
 use Rattle.pool_moves.specs.States.{PoolState}
-use Rattle.pool_runs.specs.Acts.{Act, Looked, Shows, Reads_as, Enters, Closes, does, bare}
+use Rattle.pool_runs.specs.Acts.{Act, Seeks_by, Reads_pages, Marks, Looked, Shows, Reads_as, Enters, Closes, does, bare}
 use Rattle.pool_runs.specs.Devices.{size_in, handed}
 use Rattle.pool_runs.specs.Hosts.{Host, named, free_in}
 use Rattle.pool_runs.specs.Knowing.{AreOwnActs}
@@ -41,23 +43,33 @@ abbrev pub FollowsMap : OpenReply → Codec → (size : ℕ → ℕ) → (g : �
 FollowsMap (Opens_state s) c size g acts reply = (vs : List Move) × (turn : TurnReply) × RowResume c size s vs turn × OpensBy turn g s vs acts reply
 FollowsMap (NoPage page shown) c size g acts reply = (acts ≡ []) × (reply ≡ To_import (PageLost page shown))
 
+-- Pages are read back, each with a mark behind its reads, and then more.
+abbrev pub page_acts : (g : ℕ) → (bytes : Key → Option (List ℕ)) → List PageTurn → (more : List Act) → List Act
+page_acts g bytes [] more = more
+page_acts g bytes (turn ∷ turns) more = bare turn.reads ++ (Marks g (Reads_pages (up_to (page_of turn) bytes)) ∷ (bare turn.rewrites ++ page_acts g bytes turns more))
+
+-- so is the map, and all that was found of it is marked
+abbrev pub map_acts : (g : ℕ) → (bytes : Key → Option (List ℕ)) → List PageTurn → (last : List Noted) → (more : List Act) → List Act
+map_acts g bytes turns last more = page_acts g bytes turns (bare last ++ (Marks g (Reads_pages bytes) ∷ more))
+
 -- An opening reads the record that it found: it looks for the identities of the leaves on the devices that are no open pool's, each of which shows
--- whose its device is, then it reads the map, and commits.
-pub record OpensFound (c : Codec) (h : Host) (name : List ℕ) (found : Found) (acts : List Act) (reply : Reply) : Type 0 where
+-- whose its device is, marks what it read of them, then it reads the map, and commits.
+pub record OpensFound (c : Codec) (h : Host) (name : List ℕ) (known : Known) (found : Found) (acts : List Act) (reply : Reply) : Type 0 where
   pub made : List Noted
   pub outcome : OpenReply
   pub row : RowOpen c (size_in h.table) (free_in h) name found made outcome
   pub rest : List Act
   pub follows : FollowsMap outcome c (size_in h.table) found.pool.0 rest reply
-  pub are : acts ≡ Reads_as (record { name = name; found = found; devs = row.devs; ids = row.ids; bytes = row.bytes })
-      ∷ (bare row.ids ++ (all_shown found.pool.0 (read_in row.ids) row.devs ++ (bare row.pages ++ rest)))
+  pub are : acts ≡ Reads_as (record { name = name; known = known; found = found; devs = row.devs })
+      ∷ (bare row.ids ++ (all_shown found.pool.0 (read_in row.ids) row.devs
+      ++ (Marks found.pool.0 (Seeks_by row.ids row.devs) ∷ map_acts found.pool.0 row.bytes row.turns row.last rest)))
   pub own : AreOwnActs found.pool.0 h acts
 
 -- by what the looks found
-abbrev pub ImportBy : SeekReply → Codec → Host → (name : List ℕ) → List Act → Reply → Type 0
-ImportBy NoRecord c h name acts reply = (acts ≡ []) × (reply ≡ To_import NothingFound)
-ImportBy (NumbersEnd limit count) c h name acts reply = (acts ≡ []) × (reply ≡ To_import (LastNumber limit count))
-ImportBy (TakesRecord found) c h name acts reply = OpensFound c h name found acts reply
+abbrev pub ImportBy : SeekReply → Codec → Host → (name : List ℕ) → Known → List Act → Reply → Type 0
+ImportBy NoRecord c h name known acts reply = (acts ≡ []) × (reply ≡ To_import NothingFound)
+ImportBy (NumbersEnd limit count) c h name known acts reply = (acts ≡ []) × (reply ≡ To_import (LastNumber limit count))
+ImportBy (TakesRecord found) c h name known acts reply = OpensFound c h name known found acts reply
 
 -- the host behind calls
 abbrev pub host_behind : (made : List Noted) → Host → Host
@@ -70,7 +82,7 @@ pub record Imports (c : Codec) (h : Host) (name : List ℕ) (acts : List Act) (r
   pub seek : SeekReply
   pub row : RowSeek c (size_in h.table) (handed h.table) name made seek
   pub rest : List Act
-  pub follows : ImportBy seek c (host_behind made h) name rest reply
+  pub follows : ImportBy seek c (host_behind made h) name (known_by (size_in h.table) (handed h.table) row.looks) rest reply
   pub are : acts ≡ bare made ++ (Looked name (known_by (size_in h.table) (handed h.table) row.looks) ∷ rest)
 
 -- by the open pool of the name, and by whether the host has as many pools as it may

@@ -1,5 +1,5 @@
 -- The past of a pool, over any number of runs.
-use Rattle.std.specs.Prelude.{◌≡◌, ◌⊎◌, ℕ, ◌≤◌, nat_le, Bool, true, false, cond, List, [], ◌∷◌, Some, None}
+use Rattle.std.specs.Prelude.{◌≡◌, ◌⊎◌, ℕ, ◌≤◌, ◌==◌, ◌||◌, nat_le, Bool, true, false, cond, List, [], ◌∷◌, Some, None}
 use Rattle.bank_core.specs.Disk.{Sector, Sectors, Nothing, IsImage, after_crash}
 use Rattle.txg_history.specs.Events.{Event, Freezes, Begins, Stops}
 use Rattle.txg_history.specs.Moves.{May, AreUnforged}
@@ -72,12 +72,11 @@ pub record IsFoundAs (x : Sector) (bytes : List ℕ) (damaged : Bool) : Type 0 w
   pub damage : damaged ≡ true → x.damaged ≡ true
 
 -- What the next run finds behind a stop, where it has the pool's devices under these numbers already: of each member the stop left these
--- images, any that a crash may leave, and no ring sector is forged; each member that the run has shows its image, and has its size. Of other
--- devices nothing is said, and a member may be missing.
+-- images, any that a crash may leave, and no ring sector is forged; and each member that the run has shows its image. Of other devices
+-- nothing is said, and a member may be missing.
 pub record IsNext (p : Pool) (images : ℕ → ℕ → List ℕ) (h : Host) : Type 0 where
   pub crash : (d : ℕ) → p.member d ≡ true → IsImage (p.sectors d) (images d)
   pub unforged : AreUnforged p images
-  pub sizes : (d : ℕ) → p.member d ≡ true → 1 ≤ size_in h.table d → p.size d ≡ size_in h.table d
   pub disk : (d s : ℕ) → p.member d ≡ true → 1 ≤ size_in h.table d → IsFoundAs (h.disk d s) (images d s) (p.sectors d s).damaged
   pub closed : h.pools ≡ []
   pub unknown : (d : ℕ) → h.owner d ≡ None
@@ -87,6 +86,11 @@ pub record AreNamed (past : Past) (was : ℕ → ℕ) (called : ℕ → List ℕ
   pub numbers : KeepsNumbers (pool_of past) was
   pub kept : (d : ℕ) → (pool_of past).member (was d) ≡ true → called d ≡ called_in past (was d)
   pub here : (name : List ℕ) (d : ℕ) → number_in name h.table ≡ Some d → called d ≡ name
+
+-- The number that a device had, where the run lacks it or has it in its size. One that has another size isn't the pool's any more: it gets the
+-- number of a device that is no member.
+abbrev pub in_size : Past → (was : ℕ → ℕ) → (other : ℕ) → Host → ℕ → ℕ
+in_size past was other h d = cond ((size_in h.table d == 0) || ((pool_of past).size (was d) == size_in h.table d)) (was d) other
 
 -- the devices that the run has as it finds them, the others as the stop left them
 abbrev pub met : Pool → (images : ℕ → ℕ → List ℕ) → Host → Sectors

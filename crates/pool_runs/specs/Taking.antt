@@ -36,8 +36,8 @@ pub record IsCreatedOn (h : Host) (e : Entry) (d : ℕ) : Type 0 where
   pub reply : e.reply ≡ To_create answer
   pub wrote : HasWriteTo d (calls_along e.acts)
 
--- The line is an attach or a replace that wasn't refused. It names this device as the new leaf's, and wrote to it; or it is of this very pool, and the
--- new leaf gets the member number that the device has there, which no record that was found knew.
+-- The line is an attach or a replace that wasn't refused. It names this device as the new leaf's, and made a write call to it; or it is of this very pool,
+-- the new leaf came in, and it gets the member number that the device has there, which no record that was found knew.
 pub record IsGraftedOn (p : Pool) (h : Host) (e : Entry) (d : ℕ) : Type 0 where
   pub graft : Graft
   pub name : List ℕ
@@ -49,7 +49,7 @@ pub record IsGraftedOn (p : Pool) (h : Host) (e : Entry) (d : ℕ) : Type 0 wher
   pub answer : GraftReply
   pub reply : e.reply ≡ To_graft answer
   pub begun : (answer ≡ Grafted) ⊎ (answer ≡ DeviceFault)
-  pub why : ((number_in new h.table ≡ Some d) × HasWriteTo d (calls_along e.acts)) ⊎ ((s.core.pool.0 ≡ p.pool.0) × (p.guid d ≡ new_number graft s))
+  pub why : ((number_in new h.table ≡ Some d) × HasWriteTo d (calls_along e.acts)) ⊎ ((answer ≡ Grafted) × (s.core.pool.0 ≡ p.pool.0) × (p.guid d ≡ new_number graft s))
 
 -- The line is a detach of this very pool, of the leaf on this device, and the pool was committed without it. And it wrote to the device.
 pub record IsDetachedFrom (p : Pool) (h : Host) (e : Entry) (d : ℕ) : Type 0 where

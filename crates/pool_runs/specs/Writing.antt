@@ -1,5 +1,5 @@
 -- What a line leaves of what was written last to each block, and what a read answers of it.
-use Rattle.std.specs.Prelude.{[], ◌∷◌, ◌≡◌, ◌⊎◌, ℕ, ◌==◌, cond, List}
+use Rattle.std.specs.Prelude.{[], ◌∷◌, ◌≡◌, ◌⊎◌, ℕ, ◌≤◌, ◌==◌, cond, List, None}
 use Rattle.pool_runs.specs.Acts.{Act, Opening, Reads_as}
 use Rattle.bank_core.specs.Disk.{Noted, run}
 use Rattle.txg_history.specs.Pages.{Codec, IsClash}
@@ -7,7 +7,7 @@ use Rattle.txg_history.specs.Pools.{Pool}
 use Rattle.txg_history.specs.Records.{key}
 use Rattle.pool_moves.specs.AwayRows.{Taken}
 use Rattle.pool_moves.specs.Missing.{AllMissed}
-use Rattle.pool_moves.specs.ReadRow.{Gives, Exhausted}
+use Rattle.pool_moves.specs.ReadRow.{Gives, Exhausted, NoAddress}
 use Rattle.pool_moves.specs.Showing.{LeafShown}
 use Rattle.pool_moves.specs.States.{PoolState}
 use Rattle.pool_runs.specs.Fairness.{AreFair}
@@ -43,8 +43,15 @@ pub record KeepsWrites (c : Codec) (h : Host) (before behind : Pool) (e : Entry)
   pub puts : (a : ℕ) (block : List ℕ) → IsTakenWrite h before e a block → (x : ℕ) → behind.written x ≡ cond (a == x) block (before.written x)
   pub leaves : (((a : ℕ) × (block : List ℕ) × IsTakenWrite h before e a block) ⊎ IsImport c before e) ⊎ ((x : ℕ) → behind.written x ≡ before.written x)
 
--- A read gives the block that was written last, or that block and the bytes that it gave are two byte strings with one SHA-256 sum; and it gives
--- none only where each readable leaf of the block's top missed it in these calls of the line.
+-- A block that was lost was written neither in the open group nor in the frozen one, and each readable leaf of its top missed it in these calls.
+pub record IsLostRead (p : Pool) (s : PoolState) (a : ℕ) (made : List Noted) : Type 0 where
+  pub unwritten : s.own.writes a ≡ None
+  pub unfrozen : s.core.group.cells (key 0 a) ≡ None
+  pub missed : AllMissed (s.core.committed (key 0 a)) made (run made p.sectors) s.core.leaves
+
+-- A read gives the block that was written last, or that block and the bytes that it gave are two byte strings with one SHA-256 sum; it gives none
+-- only where the block was lost, or the volume has no such block.
 pub record ReadsWritten (p : Pool) (s : PoolState) (a : ℕ) (made : List Noted) (reply : Reply) : Type 0 where
   pub gives : (bytes : List ℕ) → reply ≡ To_read (Gives bytes) → (bytes ≡ p.written a) ⊎ IsClash (p.written a) bytes
-  pub loses : (shown : List LeafShown) → reply ≡ To_read (Exhausted shown) → AllMissed (s.core.committed (key 0 a)) made (run made p.sectors) s.core.leaves
+  pub loses : (shown : List LeafShown) → reply ≡ To_read (Exhausted shown) → IsLostRead p s a made
+  pub outside : (limit : ℕ) → reply ≡ To_read (NoAddress limit) → (limit ≡ s.own.blocks) × (s.own.blocks ≤ a)
