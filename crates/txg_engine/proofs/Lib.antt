@@ -1,4 +1,5 @@
 pub mod Calling
+pub mod Closing
 pub mod EachTop
 pub mod Failing
 pub mod Pages
