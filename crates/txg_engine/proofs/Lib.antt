@@ -1,5 +1,6 @@
 pub mod Adopted
 pub mod Calling
+pub mod Closing
 pub mod EachTop
 pub mod Failing
 pub mod Found

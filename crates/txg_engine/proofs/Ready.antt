@@ -15,7 +15,7 @@ use Rattle.txg_engine.specs.Boards.{count_on, on_board, is_on_as, without, faile
 use Rattle.txg_engine.specs.Logs.{AreGrown, Grows, is_off, is_leaf, IsReady, count_write, Counted, has_spare}
 
 -- a set that has no group, to compare leaves apart from their logs
-nothing : Groups
+pub nothing : Groups
 nothing = record { runs = []; spare = 0 }
 
 same_guid : (old new : LeafVdev) → ((log : Groups) → record new { log = log } ≡ record old { log = log }) → new.guid ≡ old.guid
@@ -79,7 +79,7 @@ same_board m x (seat ∷ seats) = ap (λ b. is_on_as x (failed m seat) || b) (sa
 
 module _ (seats : List Seat) (last : ℕ) where
   -- a leaf that differs in other things
-  alike : (old new : LeafVdev) → new.guid ≡ old.guid → new.log ≡ old.log → IsReady seats last old → IsReady seats last new
+  pub alike : (old new : LeafVdev) → new.guid ≡ old.guid → new.log ≡ old.log → IsReady seats last old → IsReady seats last new
   alike old new guid log ready = record {
     spare = rw log ready.spare;
     on = λ e. rw log (ready.on (ap (on_board seats) (sym guid) ∙ e));

@@ -5,6 +5,7 @@ ghost use Rattle.label_store.specs.Records.{IsHeaded};
 ghost use Rattle.dtl_rules.specs.Widening.{leaves_of, marks_of, sectors_of};
 ghost use Rattle.txg_engine.specs.Logs.{IsReady};
 ghost use Rattle.txg_engine.specs.Logs.{HasSettledRoom};
+ghost use Rattle.txg_engine.specs.Turns.{all_done};
 
 use crate::changes::settle_all;
 use crate::fails::drop_failed;
@@ -71,7 +72,7 @@ impl Frozen {
             config_bytes,
             done,
         );
-        if done.iter().all(|done| *done) {
+        if all_done(done) {
             settle_all(tops);
             return Ok(Closed::Committed(number));
         }
@@ -86,4 +87,11 @@ impl Frozen {
         draw(&self.board, tops, &mut self.numbers);
         Ok(Closed::Round(number))
     }
+}
+
+// Whether each of these calls was done.
+fn all_done(done: &[bool]) -> bool
+    ensures { result ≡ all_done done.now }
+{
+    done.iter().all(|done| *done)
 }
