@@ -2,6 +2,7 @@ pub mod Calling
 pub mod EachTop
 pub mod Failing
 pub mod Pages
+pub mod Preparing
 pub mod Ready
 pub mod Seating
 pub mod Settling

@@ -34,12 +34,22 @@ pub enum FreezeFault {
 }
 
 impl From<MemFault> for FreezeFault {
+    ghost use Rattle.std.specs.Prelude.{◌≡◌};
+    ghost use Rattle.txg_engine.specs.declared.freezing.FreezeFault.TheVariants.{Memory};
+
+    ghost from_gives = { λ _ e. e ≡ Memory };
+
     fn from(_: MemFault) -> FreezeFault {
         FreezeFault::Memory
     }
 }
 
 impl From<AllocError> for FreezeFault {
+    ghost use Rattle.std.specs.Prelude.{◌≡◌};
+    ghost use Rattle.txg_engine.specs.declared.freezing.FreezeFault.TheVariants.{Memory};
+
+    ghost from_gives = { λ _ e. e ≡ Memory };
+
     fn from(_: AllocError) -> FreezeFault {
         FreezeFault::Memory
     }

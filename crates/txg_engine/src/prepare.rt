@@ -36,6 +36,7 @@ pub(crate) struct Prepared {
 
 /// Takes all memory of a commit of this group, where it has the places and each top a leaf to be written. Else nothing has
 /// changed but the room in logs.
+#[tactic(auto, using(crate::proofs::Preparing::kept_all))]
 pub(crate) fn prepare(
     alloc: Global,
     group: &Open,
