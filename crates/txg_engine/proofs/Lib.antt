@@ -1,9 +1,11 @@
 pub mod Calling
 pub mod EachTop
 pub mod Failing
+pub mod Owing
 pub mod Pages
 pub mod Preparing
 pub mod Ready
+pub mod Rising
 pub mod Seating
 pub mod Settling
 pub mod TurnEnds

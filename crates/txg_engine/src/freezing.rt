@@ -1,5 +1,6 @@
 //! A freeze.
 ghost use Rattle.std.specs.Prelude.{◌≡◌, ◌+◌, ◌^◌, ◌<◌, ◌≤◌, List, length, All, IfOk, IfErr, OnOk, OnErr};
+ghost use Rattle.block_map.specs.Map.{Map};
 ghost use Rattle.vdev_tree.specs.declared.top.Top.{Top};
 ghost use Rattle.std.specs.List.{AllZip};
 ghost use Rattle.vdev_tree.specs.Changes.{KeepsLog};
@@ -105,13 +106,14 @@ pub fn freeze(
 
 // Gives each key of the group its place.
 fn settle_group(prepared: Prepared, group: Open, map: &mut BlockMap, number: Group) -> Frozen
-    ghost tops: { List Top }
+    ghost first: { Map }
+    requires first { first ≡ map.old }
     requires volume { All (λ write. write.addr < map.old.blocks) group.writes }
     requires low { 1 ≤ number.0 }
     requires high { number.0 + 64 ≤ 2 ^ 62 }
-    requires prepared { IsPrepared group.writes map.old tops prepared }
+    requires prepared { (tops : List Top) × IsPrepared group.writes map.old tops prepared }
     requires few { length prepared.board ≤ 32 }
-    ensures { BeginsGroup number group.writes map.old map.new tops result }
+    ensures { (tops : List Top) → IsPrepared group.writes map.old tops prepared → BeginsGroup number group.writes map.old map.new tops result }
 {
     let Prepared {
         pages,

@@ -1,5 +1,5 @@
 //! All memory of a commit, taken before anything changes.
-ghost use Rattle.std.specs.Prelude.{◌≡◌, ℕ, ◌+◌, ◌*◌, ◌<◌, ◌≤◌, ◌++◌, None, [], length, map, vec_len, All, IfOk, IfErr, OnOk, OnErr};
+ghost use Rattle.std.specs.Prelude.{◌≡◌, ℕ, ◌+◌, ◌*◌, ◌^◌, ◌<◌, ◌≤◌, ◌++◌, None, [], length, map, vec_len, All, IfOk, IfErr, OnOk, OnErr};
 ghost use Rattle.std.specs.List.{AllZip};
 ghost use Rattle.std.specs.Vec.{vec_capacity};
 ghost use Rattle.vdev_tree.specs.Changes.{has_room, KeepsLog};
@@ -46,7 +46,6 @@ pub(crate) fn prepare(
 ) -> Result<Prepared, FreezeFault>
     requires tops { length tops.old ≤ 8 }
     requires few { length (leaves_of tops.old) ≤ 32 }
-    requires writes { length group.now.writes ≤ 262144 }
     ensures prepared { IfOk result (IsPrepared group.now.writes map.now tops.old) }
     ensures room { OnOk result (All (has_room 2) (leaves_of tops.new)) }
     ensures cause { IfErr result (IsCause group.now.writes map.now tops.old) }
@@ -63,7 +62,7 @@ pub(crate) fn prepare(
         });
     }
     let pages = dirty_pages(alloc, group)?;
-    let keys = group.len() + pages.len();
+    let keys = count_keys(group, &pages);
     check_room(map, keys)?;
     let buffers = buffers_for(alloc, pages.len())?;
     let items = Vec::with_capacity(alloc, keys)?;
@@ -77,6 +76,14 @@ pub(crate) fn prepare(
         board,
         back,
     })
+}
+
+// How many keys a group of these pages has.
+fn count_keys(group: &Open, pages: &[Key]) -> usize
+    ensures count { result ≡ length group.now.writes + length pages.now }
+    ensures few { result < 2 ^ 60 }
+{
+    group.writes.len() + pages.len()
 }
 
 // Whether there are places for so many keys.
@@ -94,7 +101,6 @@ fn check_room(map: &BlockMap, keys: usize) -> Result<(), FreezeFault>
 
 // The pages above the group's blocks, in the order of keys.
 fn dirty_pages(alloc: Global, group: &Open) -> Result<Vec<Key>, MemFault>
-    requires { length group.now.writes ≤ 262144 }
     ensures { IfOk result (λ pages. pages.items ≡ page_keys (map addr_of group.now.writes)) }
 {
     let mut addrs = Vec::with_capacity(alloc, group.len())?;
