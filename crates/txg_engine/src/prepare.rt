@@ -81,7 +81,7 @@ pub(crate) fn prepare(
 // How many keys a group of these pages has.
 fn count_keys(group: &Open, pages: &[Key]) -> usize
     ensures count { result ≡ length group.now.writes + length pages.now }
-    ensures few { result < 2 ^ 60 }
+    ensures few { result + 4096 < 2 ^ 64 }
 {
     group.writes.len() + pages.len()
 }
