@@ -46,7 +46,7 @@ unfolding pages_from
 few_from level next [] = omega arith
 few_from level next (a ∷ rest) =
     let few = one_or_none (nat_lt (page_above level a).index next) (page_above level a) (pages_from level next rest) (pages_from level ((page_above level a).index + 1) rest) (length rest)
-        (few_from level next rest) (few_from level ((page_above level a).index + 1) rest) in omega (arith, few)
+    (few_from level next rest) (few_from level ((page_above level a).index + 1) rest) in omega (arith, few)
 
 -- there are no more pages of a level than blocks
 pub few_above : (level : ℕ) (addrs : List ℕ) → length (pages_above level addrs) ≤ length addrs

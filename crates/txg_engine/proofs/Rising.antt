@@ -157,8 +157,8 @@ all_filled level index at before [] rise are = All-nil (IsFilled (laid (before +
 all_filled level index at before (item ∷ items) rise are =
     let P = IsFilled (laid (before ++ item ∷ items) at) in
     let here : P item = λ one. are.0 one ∙ ap page_bytes
-        (children_laid item.key.level item.key.index (item ∷ items) (laid before at) item.key one (omega arith) (inr (refl, omega arith), rise.1)
-        ∙ ap (λ (f : Key → Pointer). children f item.key) (sym (laid_append before (item ∷ items) at))) in
+    (children_laid item.key.level item.key.index (item ∷ items) (laid before at) item.key one (omega arith) (inr (refl, omega arith), rise.1)
+    ∙ ap (λ (f : Key → Pointer). children f item.key) (sym (laid_append before (item ∷ items) at))) in
     All-cons P item items here (subst (λ l. All (IsFilled (laid l at)) items) (append_assoc before (item ∷ []) items)
     (all_filled item.key.level (item.key.index + 1) at (before ++ item ∷ []) items rise.1 are.1))
 

@@ -18,31 +18,39 @@ settle_pages-requires g c =
     let are = ap (λ (group : OpenGroup). length (block_keys group.writes)) c.group.view_is in
     let pages = c.deref.ensures.value ∙ taken.pages in (
       subst (λ (m : Map). All (IsPage m.blocks) c.deref.result.now) (sym c.requires.0)
-      (subst (All (IsPage c.args.map.now.blocks)) (sym pages) (pages_are_pages c.args.map.now.blocks writes c.requires.1.0)), (
-      omega (
-        arith,
-        taken.enough,
-        length-append (block_keys writes) (page_keys (map addr_of writes)),
-        ap length pages,
-        ap length c.settle_blocks.ensures.keys,
-        length-map items key_of,
-        length-map items place_of,
-        are,
-        c.settle_blocks.ensures.settled.takes.count,
-      ), (
-      omega (
-        arith,
-        taken.items_room,
-        length-append (block_keys writes) (page_keys (map addr_of writes)),
-        ap length pages,
-        ap length c.settle_blocks.ensures.keys,
-        length-map items key_of,
-        are,
-        c.settle_blocks.ensures.room,
-      ), (
-      taken.buffers ∙ sym (ap length c.deref.ensures.value), (
-      taken.sizes,
-      subst (λ (m : Map). AreSettled c.args.number.0 m c.settle_blocks.new.map items) (sym c.requires.0) c.settle_blocks.ensures.settled))))
+          (subst (All (IsPage c.args.map.now.blocks)) (sym pages) (pages_are_pages c.args.map.now.blocks writes c.requires.1.0)),
+      (
+        omega (
+          arith,
+          taken.enough,
+          length-append (block_keys writes) (page_keys (map addr_of writes)),
+          ap length pages,
+          ap length c.settle_blocks.ensures.keys,
+          length-map items key_of,
+          length-map items place_of,
+          are,
+          c.settle_blocks.ensures.settled.takes.count,
+        ),
+        (
+          omega (
+            arith,
+            taken.items_room,
+            length-append (block_keys writes) (page_keys (map addr_of writes)),
+            ap length pages,
+            ap length c.settle_blocks.ensures.keys,
+            length-map items key_of,
+            are,
+            c.settle_blocks.ensures.room,
+          ),
+          (
+            taken.buffers ∙ sym (ap length c.deref.ensures.value),
+            (
+              taken.sizes,
+              subst (λ (m : Map). AreSettled c.args.number.0 m c.settle_blocks.new.map items) (sym c.requires.0) c.settle_blocks.ensures.settled,
+            ),
+          ),
+        ),
+      ),
     )
 
 pub invariant_of-result : goal.invariant_of-result
