@@ -28,7 +28,9 @@ RiseFromKey level index [] = Unit {0}
 RiseFromKey level index (k ∷ ks) = IsFrom level index k × RiseFromKey k.level (k.index + 1) ks
 
 level_from : (level index : ℕ) (k : Key) → IsFrom level index k → level ≤ k.level
-level_from level index k from = ⊎_elim {A = level < k.level} {B = (level ≡ k.level) × (index ≤ k.index)} (λ less. omega arith) (λ same. omega (arith, same.0)) from
+level_from level index k from =
+    ⊎_elim {A = level < k.level} {B = (level ≡ k.level) × (index ≤ k.index)} (λ less. omega arith)
+    (λ same. omega (arith, same.0)) from
 
 next_level : (level index : ℕ) (ks : List Key) → RiseFromKey (level + 1) 0 ks → RiseFromKey level index ks
 next_level level index [] rise = tt
@@ -36,22 +38,31 @@ next_level level index (k ∷ ks) rise = (inl (let le = level_from (level + 1) 0
 
 before_next : (a b : Key) → IsFrom a.level (a.index + 1) b → IsBefore a b
 before_next a b from =
-    ⊎_elim {A = a.level < b.level} {B = (a.level ≡ b.level) × (a.index + 1 ≤ b.index)} (λ less. inl less) (λ same. inr (same.0, omega (arith, same.1))) from
+    ⊎_elim {A = a.level < b.level} {B = (a.level ≡ b.level) × (a.index + 1 ≤ b.index)} (λ less. inl less)
+    (λ same. inr (same.0, omega (arith, same.1))) from
 
 pub keys_rise : (level index : ℕ) (items : List Item) → RiseFromKey level index (keys_of items) → KeysRise items
 keys_rise level index [] rise = tt
 keys_rise level index (item ∷ []) rise = tt
-keys_rise level index (item ∷ (next ∷ items)) rise = (before_next item.key next.key rise.1.0, keys_rise item.key.level (item.key.index + 1) (next ∷ items) rise.1)
+keys_rise level index (item ∷ (next ∷ items)) rise =
+    (before_next item.key next.key rise.1.0, keys_rise item.key.level (item.key.index + 1) (next ∷ items) rise.1)
 
-blocks_rise : (low : ℕ) (writes : List Write) (rest : List Key) → RiseFrom low writes → RiseFromKey 1 0 rest → RiseFromKey 0 low (block_keys writes ++ rest)
+blocks_rise : (low : ℕ) (writes : List Write) (rest : List Key) → RiseFrom low writes → RiseFromKey 1 0 rest
+    → RiseFromKey 0 low (block_keys writes ++ rest)
 blocks_rise low [] rest rise behind = next_level 0 low rest behind
-blocks_rise low (write ∷ writes) rest rise behind = (inr (refl, rise.0), blocks_rise (write.addr + 1) writes rest rise.1 behind)
+blocks_rise low (write ∷ writes) rest rise behind =
+    (inr (refl, rise.0), blocks_rise (write.addr + 1) writes rest rise.1 behind)
 
-taken_or_not : (level next : ℕ) (b : Bool) (page : Key) (passed taken rest : List Key) → page.level ≡ level → b ≡ nat_lt page.index next → RiseFromKey level next (passed ++ rest)
-    → RiseFromKey level (page.index + 1) (taken ++ rest) → RiseFromKey level next (cond b passed (page ∷ taken) ++ rest)
+taken_or_not : (level next : ℕ) (b : Bool) (page : Key) (passed taken rest : List Key) → page.level ≡ level
+    → b ≡ nat_lt page.index next → RiseFromKey level next (passed ++ rest)
+    → RiseFromKey level (page.index + 1) (taken ++ rest) → RiseFromKey level next
+    (cond b passed (page ∷ taken) ++ rest)
 taken_or_not level next true page passed taken rest is test on on' = on
-taken_or_not level next false page passed taken rest is test on on' =
-    (inr (sym is, not_less page.index next (sym test)), subst (λ l. RiseFromKey l (page.index + 1) (taken ++ rest)) (sym is) on')
+taken_or_not level next false page passed taken rest is test on on' = (
+  inr (sym is, not_less page.index next (sym test)),
+  subst (λ l. RiseFromKey l (page.index + 1) (taken ++ rest))
+      (sym is) on',
+)
   where
     not_less : (a b : ℕ) → nat_lt a b ≡ false → b ≤ a
     not_less a b e = grind (arith, nat_tests)
@@ -60,15 +71,18 @@ level_of_page : (level a : ℕ) → (page_above level a).level ≡ level
 unfolding page_above
 level_of_page level a = refl
 
-pages_rise : (level next : ℕ) (addrs : List ℕ) (rest : List Key) → RiseFromKey (level + 1) 0 rest → RiseFromKey level next (pages_from level next addrs ++ rest)
+pages_rise : (level next : ℕ) (addrs : List ℕ) (rest : List Key) → RiseFromKey (level + 1) 0 rest
+    → RiseFromKey level next (pages_from level next addrs ++ rest)
 unfolding pages_from
 pages_rise level next [] rest behind = next_level level next rest behind
 pages_rise level next (a ∷ addrs) rest behind =
-    taken_or_not level next (nat_lt (page_above level a).index next) (page_above level a) (pages_from level next addrs)
+    taken_or_not level next (nat_lt (page_above level a).index next) (page_above level a)
+    (pages_from level next addrs)
     (pages_from level ((page_above level a).index + 1) addrs) rest (level_of_page level a) refl
     (pages_rise level next addrs rest behind) (pages_rise level ((page_above level a).index + 1) addrs rest behind)
 
-above_rise : (level : ℕ) (addrs : List ℕ) (rest : List Key) → RiseFromKey (level + 1) 0 rest → RiseFromKey level 0 (pages_above level addrs ++ rest)
+above_rise : (level : ℕ) (addrs : List ℕ) (rest : List Key) → RiseFromKey (level + 1) 0 rest → RiseFromKey level 0
+    (pages_above level addrs ++ rest)
 unfolding pages_above
 above_rise level addrs rest behind = pages_rise level 0 addrs rest behind
 
@@ -76,16 +90,20 @@ above_rise level addrs rest behind = pages_rise level 0 addrs rest behind
 pub dirty_rise : (writes : List Write) → RiseFrom 0 writes → RiseFromKey 0 0 (dirty_keys writes)
 dirty_rise writes rise =
     let addrs = map addr_of writes in
-    let last : RiseFromKey 3 0 (pages_above 3 addrs) = subst (RiseFromKey 3 0) (append-nil (pages_above 3 addrs)) (above_rise 3 addrs [] tt) in
-    blocks_rise 0 writes (page_keys addrs) rise (above_rise 1 addrs (pages_above 2 addrs ++ pages_above 3 addrs) (above_rise 2 addrs (pages_above 3 addrs) last))
+    let last : RiseFromKey 3 0 (pages_above 3 addrs) = subst (RiseFromKey 3 0) (append-nil (pages_above 3 addrs))
+    (above_rise 3 addrs [] tt) in
+    blocks_rise 0 writes (page_keys addrs) rise (above_rise 1 addrs (pages_above 2 addrs ++ pages_above 3 addrs)
+    (above_rise 2 addrs (pages_above 3 addrs) last))
 
 -- pages of a volume
 
-page_or_not : (P : Key → Type 0) (b : Bool) (page : Key) (passed taken : List Key) → P page → All P passed → All P taken → All P (cond b passed (page ∷ taken))
+page_or_not : (P : Key → Type 0) (b : Bool) (page : Key) (passed taken : List Key) → P page → All P passed
+    → All P taken → All P (cond b passed (page ∷ taken))
 page_or_not P true page passed taken here all all' = all
 page_or_not P false page passed taken here all all' = All-cons P page taken here all'
 
-pages_inside : (blocks level next : ℕ) (writes : List Write) → 1 ≤ level → level ≤ 3 → All (λ write. write.addr < blocks) writes
+pages_inside : (blocks level next : ℕ) (writes : List Write) → 1 ≤ level → level ≤ 3 → All
+    (λ write. write.addr < blocks) writes
     → All (IsPage blocks) (pages_from level next (map addr_of writes))
 unfolding pages_from
 pages_inside blocks level next [] low high all = All-nil (IsPage blocks)
@@ -93,46 +111,64 @@ pages_inside blocks level next (write ∷ writes) low high all =
     let a = write.addr in
     let inside : a < blocks = All-head (λ (w : Write). w.addr < blocks) write writes all in
     let rest = All-tail (λ (w : Write). w.addr < blocks) write writes all in
-    page_or_not (IsPage blocks) (nat_lt (page_above level a).index next) (page_above level a) (pages_from level next (map addr_of writes))
+    page_or_not (IsPage blocks) (nat_lt (page_above level a).index next) (page_above level a)
+    (pages_from level next (map addr_of writes))
     (pages_from level ((page_above level a).index + 1) (map addr_of writes))
-    (record { key = they_are_keys blocks level a high inside; level = subst (λ n. 1 ≤ n) (sym (level_of_page level a)) low })
-    (pages_inside blocks level next writes low high rest) (pages_inside blocks level ((page_above level a).index + 1) writes low high rest)
+    (record {
+      key = they_are_keys blocks level a high inside;
+      level = subst (λ n. 1 ≤ n)
+          (sym (level_of_page level a)) low;
+    })
+    (pages_inside blocks level next writes low high rest)
+    (pages_inside blocks level ((page_above level a).index + 1) writes low high rest)
 
-above_inside : (blocks level : ℕ) (writes : List Write) → 1 ≤ level → level ≤ 3 → All (λ write. write.addr < blocks) writes → All (IsPage blocks) (pages_above level (map addr_of writes))
+above_inside : (blocks level : ℕ) (writes : List Write) → 1 ≤ level → level ≤ 3 → All
+    (λ write. write.addr < blocks) writes → All (IsPage blocks) (pages_above level (map addr_of writes))
 unfolding pages_above
 above_inside blocks level writes low high all = pages_inside blocks level 0 writes low high all
 
-pub pages_are_pages : (blocks : ℕ) (writes : List Write) → All (λ write. write.addr < blocks) writes → All (IsPage blocks) (page_keys (map addr_of writes))
+pub pages_are_pages : (blocks : ℕ) (writes : List Write) → All (λ write. write.addr < blocks) writes → All
+    (IsPage blocks) (page_keys (map addr_of writes))
 pages_are_pages blocks writes all =
     let addrs = map addr_of writes in
-    All-append (IsPage blocks) (pages_above 1 addrs) (pages_above 2 addrs ++ pages_above 3 addrs) (above_inside blocks 1 writes (omega arith) (omega arith) all)
-    (All-append (IsPage blocks) (pages_above 2 addrs) (pages_above 3 addrs) (above_inside blocks 2 writes (omega arith) (omega arith) all) (above_inside blocks 3 writes (omega arith) (omega arith) all))
+    All-append (IsPage blocks) (pages_above 1 addrs) (pages_above 2 addrs ++ pages_above 3 addrs)
+    (above_inside blocks 1 writes (omega arith) (omega arith) all)
+    (All-append (IsPage blocks) (pages_above 2 addrs) (pages_above 3 addrs)
+    (above_inside blocks 2 writes (omega arith) (omega arith) all)
+    (above_inside blocks 3 writes (omega arith) (omega arith) all))
 
 abbrev pub IsLow : Key → Type 0
 IsLow k = k.level ≤ 3
 
 low_blocks : (writes : List Write) → All IsLow (block_keys writes)
 low_blocks [] = All-nil IsLow
-low_blocks (write ∷ writes) = All-cons IsLow (record { level = 0; index = write.addr }) (block_keys writes) (omega arith) (low_blocks writes)
+low_blocks (write ∷ writes) =
+    All-cons IsLow (record { level = 0; index = write.addr }) (block_keys writes) (omega arith) (low_blocks writes)
 
 low_pages : (blocks : ℕ) (pages : List Key) → All (IsPage blocks) pages → All IsLow pages
 low_pages blocks [] all = All-nil IsLow
-low_pages blocks (page ∷ pages) all = All-cons IsLow page pages (All-head (IsPage blocks) page pages all).key.level (low_pages blocks pages (All-tail (IsPage blocks) page pages all))
+low_pages blocks (page ∷ pages) all =
+    All-cons IsLow page pages (All-head (IsPage blocks) page pages all).key.level
+    (low_pages blocks pages (All-tail (IsPage blocks) page pages all))
 
 low_items : (items : List Item) → All IsLow (keys_of items) → All (λ item. item.key.level ≤ 3) items
 low_items [] all = All-nil (λ (item : Item). item.key.level ≤ 3)
 low_items (item ∷ items) all =
-    All-cons (λ (i : Item). i.key.level ≤ 3) item items (All-head IsLow item.key (keys_of items) all) (low_items items (All-tail IsLow item.key (keys_of items) all))
+    All-cons (λ (i : Item). i.key.level ≤ 3) item items (All-head IsLow item.key (keys_of items) all)
+    (low_items items (All-tail IsLow item.key (keys_of items) all))
 
-pub levels_low : (blocks : ℕ) (writes : List Write) (items : List Item) → All (λ write. write.addr < blocks) writes → keys_of items ≡ dirty_keys writes
+pub levels_low : (blocks : ℕ) (writes : List Write) (items : List Item) → All (λ write. write.addr < blocks) writes
+    → keys_of items ≡ dirty_keys writes
     → All (λ item. item.key.level ≤ 3) items
 levels_low blocks writes items all is =
     low_items items (subst (All IsLow) (sym is)
-    (All-append IsLow (block_keys writes) (page_keys (map addr_of writes)) (low_blocks writes) (low_pages blocks (page_keys (map addr_of writes)) (pages_are_pages blocks writes all))))
+    (All-append IsLow (block_keys writes) (page_keys (map addr_of writes)) (low_blocks writes)
+    (low_pages blocks (page_keys (map addr_of writes)) (pages_are_pages blocks writes all))))
 
 -- pages are filled
 
-laid_append : (before items : List Item) (at : Key → Pointer) → laid (before ++ items) at ≡ laid items (laid before at)
+laid_append : (before items : List Item) (at : Key → Pointer) → laid (before ++ items) at ≡ laid items
+    (laid before at)
 laid_append [] items at = refl
 laid_append (x ∷ before) items at = laid_append before items (put x at)
 
@@ -143,21 +179,25 @@ not_below page k level le = ap (λ b. b && (k.index / 64 == page.index)) (apart 
     apart a b one le = grind (arith, nat_tests)
 
 -- keys that aren't below a page's level change none of its pointers
-children_laid : (level index : ℕ) (items : List Item) (at : Key → Pointer) (page : Key) → 1 ≤ page.level → page.level ≤ level → RiseFromKey level index (keys_of items)
+children_laid : (level index : ℕ) (items : List Item) (at : Key → Pointer) (page : Key) → 1 ≤ page.level
+    → page.level ≤ level → RiseFromKey level index (keys_of items)
     → children at page ≡ children (laid items at) page
 children_laid level index [] at page one le rise = refl
 children_laid level index (item ∷ items) at page one le rise =
     let from = level_from level index item.key rise.0 in
     let le' : page.level ≤ item.key.level = omega arith in
-    children_same page item at (not_below page item.key one le') ∙ children_laid item.key.level (item.key.index + 1) items (put item at) page one le' rise.1
+    children_same page item at (not_below page item.key one le') ∙ children_laid item.key.level
+    (item.key.index + 1) items (put item at) page one le' rise.1
 
-pub all_filled : (level index : ℕ) (at : Key → Pointer) (before items : List Item) → RiseFromKey level index (keys_of items) → AreFilled at before items
+pub all_filled : (level index : ℕ) (at : Key → Pointer) (before items : List Item) → RiseFromKey level index
+    (keys_of items) → AreFilled at before items
     → All (IsFilled (laid (before ++ items) at)) items
 all_filled level index at before [] rise are = All-nil (IsFilled (laid (before ++ []) at))
 all_filled level index at before (item ∷ items) rise are =
     let P = IsFilled (laid (before ++ item ∷ items) at) in
     let here : P item = λ one. are.0 one ∙ ap page_bytes
-    (children_laid item.key.level item.key.index (item ∷ items) (laid before at) item.key one (omega arith) (inr (refl, omega arith), rise.1)
+    (children_laid item.key.level item.key.index (item ∷ items) (laid before at) item.key one (omega arith)
+    (inr (refl, omega arith), rise.1)
     ∙ ap (λ (f : Key → Pointer). children f item.key) (sym (laid_append before (item ∷ items) at))) in
     All-cons P item items here (subst (λ l. All (IsFilled (laid l at)) items) (append_assoc before (item ∷ []) items)
     (all_filled item.key.level (item.key.index + 1) at (before ++ item ∷ []) items rise.1 are.1))

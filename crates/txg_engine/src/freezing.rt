@@ -113,7 +113,8 @@ fn settle_group(prepared: Prepared, group: Open, map: &mut BlockMap, number: Gro
     requires high { number.0 + 64 ≤ 2 ^ 62 }
     requires prepared { (tops : List Top) × IsPrepared group.writes map.old tops prepared }
     requires few { length prepared.board ≤ 32 }
-    ensures { (tops : List Top) → IsPrepared group.writes map.old tops prepared → BeginsGroup number group.writes map.old map.new tops result }
+    ensures { (tops : List Top) → IsPrepared group.writes map.old tops prepared
+        → BeginsGroup number group.writes map.old map.new tops result }
 {
     let Prepared {
         pages,

@@ -16,8 +16,10 @@ returns-clause-logs c =
     let board = ap (λ (group : FrozenGroup). group.board) c.frozen.view_is ∙ begins.board in
     record {
       grown = leaves_of c.owe_off.new.tops;
-      grow = all_grown (seats_of 0 c.args.tops.now) n (leaves_of c.args.tops.now) (leaves_of c.prepare.new.tops) (leaves_of c.owe_off.new.tops) c.in-Ok.ensures.leaves
-          (subst (λ (seats : List Seat). AllZip (Grows (is_off seats) n n) (leaves_of c.prepare.new.tops) (leaves_of c.owe_off.new.tops)) board c.owe_off.ensures.leaves);
+      grow = all_grown (seats_of 0 c.args.tops.now) n (leaves_of c.args.tops.now) (leaves_of c.prepare.new.tops)
+          (leaves_of c.owe_off.new.tops) c.in-Ok.ensures.leaves
+          (subst (λ (seats : List Seat). AllZip (Grows (is_off seats) n n) (leaves_of c.prepare.new.tops)
+          (leaves_of c.owe_off.new.tops)) board c.owe_off.ensures.leaves);
       widened = c.fit.ensures.widened;
     }
 
@@ -25,6 +27,8 @@ pub returns-clause-ready : goal.returns-clause-ready
 returns-clause-ready c =
     let n = c.args.number.0 in
     let board = ap (λ (group : FrozenGroup). group.board) c.frozen.view_is in
-    owed_ready c.settle_group-frozen.result.board n (leaves_of c.prepare.new.tops) (leaves_of c.owe_off.new.tops) (leaves_of c.fit.new.tops)
-    (subst (λ (seats : List Seat). AllZip (Grows (is_off seats) n n) (leaves_of c.prepare.new.tops) (leaves_of c.owe_off.new.tops)) board c.owe_off.ensures.leaves)
+    owed_ready c.settle_group-frozen.result.board n (leaves_of c.prepare.new.tops) (leaves_of c.owe_off.new.tops)
+    (leaves_of c.fit.new.tops)
+    (subst (λ (seats : List Seat). AllZip (Grows (is_off seats) n n) (leaves_of c.prepare.new.tops)
+    (leaves_of c.owe_off.new.tops)) board c.owe_off.ensures.leaves)
     c.fit.ensures.widened c.in-Ok.ensures.room

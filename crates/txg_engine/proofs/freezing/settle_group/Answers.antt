@@ -18,7 +18,8 @@ settle_pages-requires g c =
     let are = ap (λ (group : OpenGroup). length (block_keys group.writes)) c.group.view_is in
     let pages = c.deref.ensures.value ∙ taken.pages in (
       subst (λ (m : Map). All (IsPage m.blocks) c.deref.result.now) (sym c.requires.0)
-          (subst (All (IsPage c.args.map.now.blocks)) (sym pages) (pages_are_pages c.args.map.now.blocks writes c.requires.1.0)),
+          (subst (All (IsPage c.args.map.now.blocks)) (sym pages)
+          (pages_are_pages c.args.map.now.blocks writes c.requires.1.0)),
       (
         omega (
           arith,
@@ -46,7 +47,8 @@ settle_pages-requires g c =
             taken.buffers ∙ sym (ap length c.deref.ensures.value),
             (
               taken.sizes,
-              subst (λ (m : Map). AreSettled c.args.number.0 m c.settle_blocks.new.map items) (sym c.requires.0) c.settle_blocks.ensures.settled,
+              subst (λ (m : Map). AreSettled c.args.number.0 m c.settle_blocks.new.map items)
+                  (sym c.requires.0) c.settle_blocks.ensures.settled,
             ),
           ),
         ),
@@ -58,7 +60,8 @@ invariant_of-result g c =
     let writes = c.args.group.writes in
     let taken = c.requires.1.1.1.1.0.1 in
     let items = c.settle_pages.new.items.items in
-    let rises : RiseFrom 0 writes = subst (λ (group : OpenGroup). RiseFrom 0 group.writes) c.group.view_is c.group.invariant in
+    let rises : RiseFrom 0 writes = subst
+    (λ (group : OpenGroup). RiseFrom 0 group.writes) c.group.view_is c.group.invariant in
     let keys : keys_of items ≡ dirty_keys writes =
     c.settle_pages.ensures.keys ∙ ap (λ (l : List Key). l ++ c.deref.result.now) c.settle_blocks.ensures.keys
     ∙ ap (λ (l : List Key). block_keys c.group.inside.writes.items ++ l) (c.deref.ensures.value ∙ taken.pages)
@@ -78,7 +81,8 @@ pub returns : goal.returns
 returns g c = λ tops taken.
     let writes = c.args.group.writes in
     let items = c.settle_pages.new.items.items in
-    let rises : RiseFrom 0 writes = subst (λ (group : OpenGroup). RiseFrom 0 group.writes) c.group.view_is c.group.invariant in
+    let rises : RiseFrom 0 writes = subst
+    (λ (group : OpenGroup). RiseFrom 0 group.writes) c.group.view_is c.group.invariant in
     let keys : keys_of items ≡ dirty_keys writes =
     c.settle_pages.ensures.keys ∙ ap (λ (l : List Key). l ++ c.deref.result.now) c.settle_blocks.ensures.keys
     ∙ ap (λ (l : List Key). block_keys c.group.inside.writes.items ++ l) (c.deref.ensures.value ∙ taken.pages)
@@ -94,10 +98,12 @@ returns g c = λ tops taken.
       everywhere = taken.everywhere;
       freeze = record {
         keys = keys;
-        blocks = λ a. c.settle_pages.ensures.blocks a ∙ c.settle_blocks.ensures.blocks a ∙ ap (λ (group : OpenGroup). block_at group.writes a) c.group.view_is;
+        blocks = λ a. c.settle_pages.ensures.blocks a ∙ c.settle_blocks.ensures.blocks a ∙ ap
+            (λ (group : OpenGroup). block_at group.writes a) c.group.view_is;
         places = so.places;
         takes = so.takes;
         signed = so.signed;
-        filled = all_filled 0 0 (pointer_at c.args.map.now) [] items (subst (RiseFromKey 0 0) (sym keys) (dirty_rise writes rises)) so.filled;
+        filled = all_filled 0 0 (pointer_at c.args.map.now) [] items
+            (subst (RiseFromKey 0 0) (sym keys) (dirty_rise writes rises)) so.filled;
       };
     }

@@ -9,6 +9,9 @@ loop-preserved c =
     record {
       count = omega (arith, c.loop.invariant.count, ap length is, length-append c.loop.buffers.items (buffer ∷ []));
       sizes = subst (All (λ (b : Vec ℕ Global). length b.items ≡ 4096)) (sym is)
-          (All-append (λ (b : Vec ℕ Global). length b.items ≡ 4096) c.loop.buffers.items (buffer ∷ []) c.loop.invariant.sizes
-          (All-cons (λ (b : Vec ℕ Global). length b.items ≡ 4096) buffer [] (ap length (c.in_ok-vec.ensures.items_if_clones_equal (λ y e. e))) (All-nil (λ (b : Vec ℕ Global). length b.items ≡ 4096))));
+          (All-append (λ (b : Vec ℕ Global). length b.items ≡ 4096) c.loop.buffers.items
+          (buffer ∷ []) c.loop.invariant.sizes
+          (All-cons (λ (b : Vec ℕ Global). length b.items ≡ 4096) buffer []
+          (ap length (c.in_ok-vec.ensures.items_if_clones_equal (λ y e. e)))
+          (All-nil (λ (b : Vec ℕ Global). length b.items ≡ 4096))));
     }

@@ -39,4 +39,11 @@ returns c =
     let level = c.loop-level.level in
     let last : level - 1 ≡ 3 = omega arith in
     c.loop-level.invariant.pages ∙ ap (λ n. pages_to n addrs) last ∙ pages_all addrs
-    ∙ ap page_keys (c.loop-write.invariant ∙ ap (map addr_of) (take_all c.loop-write.write-index writes (omega (arith, ap length c.deref-write-items.ensures.value, ap (λ (g : OpenGroup). length g.writes) c.group.view_is))))
+    ∙ ap page_keys (c.loop-write.invariant ∙ ap (map addr_of)
+    (take_all c.loop-write.write-index writes
+    (omega (
+      arith,
+      ap length c.deref-write-items.ensures.value,
+      ap
+          (λ (g : OpenGroup). length g.writes) c.group.view_is,
+    ))))

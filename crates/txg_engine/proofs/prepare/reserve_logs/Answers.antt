@@ -30,7 +30,8 @@ returns-in_err-reserve-clause-built c =
     let new = c.reserve.new.self in
     let here : get_or now i d ≡ get_or tops i d = get_same Top now tops i d c.loop-i.invariant.rest in
     sym (all_marks (set now i new))
-    ∙ same_at Top (List Mark) top_marks now tops i new d (omega arith) (omega arith) c.loop-i.invariant.built (drop_one Top now tops i c.loop-i.invariant.rest)
+    ∙ same_at Top (List Mark) top_marks now tops i new d (omega arith) (omega arith) c.loop-i.invariant.built
+    (drop_one Top now tops i c.loop-i.invariant.rest)
     (ap (λ (m : List Mark). m ∷ []) (c.reserve.ensures.built ∙ ap (λ (top : Top). marks top.mirror) here))
     ∙ all_marks tops
 
@@ -43,7 +44,8 @@ returns-in_err-reserve-clause-sectors c =
     let new = c.reserve.new.self in
     let here : get_or now i d ≡ get_or tops i d = get_same Top now tops i d c.loop-i.invariant.rest in
     sym (all_sectors (set now i new))
-    ∙ same_at Top ℕ top_sectors now tops i new d (omega arith) (omega arith) c.loop-i.invariant.sectors (drop_one Top now tops i c.loop-i.invariant.rest)
+    ∙ same_at Top ℕ top_sectors now tops i new d (omega arith) (omega arith) c.loop-i.invariant.sectors
+    (drop_one Top now tops i c.loop-i.invariant.rest)
     (ap (λ (n : ℕ). n ∷ []) (c.reserve.ensures.sectors ∙ ap (λ (top : Top). top.sectors) here))
     ∙ all_sectors tops
 
@@ -60,8 +62,10 @@ loop-i-preserved c =
       rest = drop_set Top now tops i new c.loop-i.invariant.rest;
       room = room_more 2 now i new (omega arith) c.loop-i.invariant.room c.in_ok-reserve.ensures.room;
       kept = changed_top KeepsLog now tops i new d (omega arith) (omega arith) c.loop-i.invariant.kept
-          (subst (λ (top : Top). AllZip KeepsLog (leaves top.mirror) (leaves new.mirror)) here c.reserve.ensures.leaves);
-      built = same_more Top (List Mark) top_marks now tops i new d (omega arith) (omega arith) c.loop-i.invariant.built
+          (subst (λ (top : Top). AllZip KeepsLog (leaves top.mirror)
+          (leaves new.mirror)) here c.reserve.ensures.leaves);
+      built = same_more Top (List Mark) top_marks now tops i new d (omega arith)
+          (omega arith) c.loop-i.invariant.built
           (ap (λ (m : List Mark). m ∷ []) (c.reserve.ensures.built ∙ ap (λ (top : Top). marks top.mirror) here));
       sectors = same_more Top ℕ top_sectors now tops i new d (omega arith) (omega arith) c.loop-i.invariant.sectors
           (ap (λ (n : ℕ). n ∷ []) (c.reserve.ensures.sectors ∙ ap (λ (top : Top). top.sectors) here));
