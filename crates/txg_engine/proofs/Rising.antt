@@ -1,5 +1,5 @@
 -- Keys of a freeze rise, so no page is filled before its children.
-use Rattle.std.proofs.Common.{◌≡◌, ◌≢◌, ◌⊎◌, ⊎_elim, ℕ, zero, suc, ◌+◌, ◌-◌, ◌/◌, ◌<◌, ◌≤◌, ◌==◌, ◌&&◌, nat_lt, cond, Bool, true, false, List, [], ◌∷◌, ◌++◌, All, length, map, refl, sym, ap, ◌∙◌, subst, arith, inl, inr, append_assoc, append-nil, length-append}
+use Rattle.std.proofs.Common.{◌≡◌, ◌⊎◌, ⊎_elim, ℕ, ◌+◌, ◌-◌, ◌/◌, ◌<◌, ◌≤◌, ◌==◌, ◌&&◌, nat_lt, cond, Bool, true, false, List, [], ◌∷◌, ◌++◌, All, length, map, refl, sym, ap, ◌∙◌, subst, arith, inl, inr, append_assoc, append-nil}
 use Rattle.std.proofs.lemmas.Bool.Decides.{nat_tests}
 use Rattle.std.proofs.lemmas.List.Elements.{All-nil, All-cons, All-head, All-tail, All-append}
 use Rattle.mp_base.specs.declared.place.Key.{Key}
@@ -55,13 +55,12 @@ blocks_rise low (write ∷ writes) rest rise behind =
 
 taken_or_not : (level next : ℕ) (b : Bool) (page : Key) (passed taken rest : List Key) → page.level ≡ level
     → b ≡ nat_lt page.index next → RiseFromKey level next (passed ++ rest)
-    → RiseFromKey level (page.index + 1) (taken ++ rest) → RiseFromKey level next
-    (cond b passed (page ∷ taken) ++ rest)
+    → RiseFromKey level (page.index + 1) (taken ++ rest)
+    → RiseFromKey level next (cond b passed (page ∷ taken) ++ rest)
 taken_or_not level next true page passed taken rest is test on on' = on
 taken_or_not level next false page passed taken rest is test on on' = (
   inr (sym is, not_less page.index next (sym test)),
-  subst (λ l. RiseFromKey l (page.index + 1) (taken ++ rest))
-      (sym is) on',
+  subst (λ l. RiseFromKey l (page.index + 1) (taken ++ rest)) (sym is) on',
 )
   where
     not_less : (a b : ℕ) → nat_lt a b ≡ false → b ≤ a
@@ -81,8 +80,8 @@ pages_rise level next (a ∷ addrs) rest behind =
     (pages_from level ((page_above level a).index + 1) addrs) rest (level_of_page level a) refl
     (pages_rise level next addrs rest behind) (pages_rise level ((page_above level a).index + 1) addrs rest behind)
 
-above_rise : (level : ℕ) (addrs : List ℕ) (rest : List Key) → RiseFromKey (level + 1) 0 rest → RiseFromKey level 0
-    (pages_above level addrs ++ rest)
+above_rise : (level : ℕ) (addrs : List ℕ) (rest : List Key) → RiseFromKey (level + 1) 0 rest
+    → RiseFromKey level 0 (pages_above level addrs ++ rest)
 unfolding pages_above
 above_rise level addrs rest behind = pages_rise level 0 addrs rest behind
 
@@ -102,9 +101,8 @@ page_or_not : (P : Key → Type 0) (b : Bool) (page : Key) (passed taken : List 
 page_or_not P true page passed taken here all all' = all
 page_or_not P false page passed taken here all all' = All-cons P page taken here all'
 
-pages_inside : (blocks level next : ℕ) (writes : List Write) → 1 ≤ level → level ≤ 3 → All
-    (λ write. write.addr < blocks) writes
-    → All (IsPage blocks) (pages_from level next (map addr_of writes))
+pages_inside : (blocks level next : ℕ) (writes : List Write) → 1 ≤ level → level ≤ 3
+    → All (λ write. write.addr < blocks) writes → All (IsPage blocks) (pages_from level next (map addr_of writes))
 unfolding pages_from
 pages_inside blocks level next [] low high all = All-nil (IsPage blocks)
 pages_inside blocks level next (write ∷ writes) low high all =
@@ -122,13 +120,13 @@ pages_inside blocks level next (write ∷ writes) low high all =
     (pages_inside blocks level next writes low high rest)
     (pages_inside blocks level ((page_above level a).index + 1) writes low high rest)
 
-above_inside : (blocks level : ℕ) (writes : List Write) → 1 ≤ level → level ≤ 3 → All
-    (λ write. write.addr < blocks) writes → All (IsPage blocks) (pages_above level (map addr_of writes))
+above_inside : (blocks level : ℕ) (writes : List Write) → 1 ≤ level → level ≤ 3
+    → All (λ write. write.addr < blocks) writes → All (IsPage blocks) (pages_above level (map addr_of writes))
 unfolding pages_above
 above_inside blocks level writes low high all = pages_inside blocks level 0 writes low high all
 
-pub pages_are_pages : (blocks : ℕ) (writes : List Write) → All (λ write. write.addr < blocks) writes → All
-    (IsPage blocks) (page_keys (map addr_of writes))
+pub pages_are_pages : (blocks : ℕ) (writes : List Write) → All (λ write. write.addr < blocks) writes
+    → All (IsPage blocks) (page_keys (map addr_of writes))
 pages_are_pages blocks writes all =
     let addrs = map addr_of writes in
     All-append (IsPage blocks) (pages_above 1 addrs) (pages_above 2 addrs ++ pages_above 3 addrs)
@@ -167,8 +165,8 @@ levels_low blocks writes items all is =
 
 -- pages are filled
 
-laid_append : (before items : List Item) (at : Key → Pointer) → laid (before ++ items) at ≡ laid items
-    (laid before at)
+laid_append : (before items : List Item) (at : Key → Pointer)
+    → laid (before ++ items) at ≡ laid items (laid before at)
 laid_append [] items at = refl
 laid_append (x ∷ before) items at = laid_append before items (put x at)
 

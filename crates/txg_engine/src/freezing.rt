@@ -63,12 +63,12 @@ pub struct Unfrozen {
     pub group: Open,
 }
 
-/// Freezes a group under this number, which is above every other one. Its blocks and the pages above them get the least places
-/// that are free and not pinned, in the order of their keys, and their sums; the board is the leaves that may be written, and
-/// every other leaf owes the number. The map keeps the pointers of the record that the pool reads.
+/// Freezes a group under this number, which is above every other one. Its blocks and the pages above them get the least
+/// places that are free and not pinned, in the order of their keys, and their sums; the board is the leaves that may be
+/// written, and every other leaf owes the number. The map keeps the pointers of the record that the pool reads.
 ///
-/// It takes all memory of the commit, before anything changes. At `Err` nothing has changed but the room in logs: a top has no
-/// leaf that may be written, else there are too few places, or there was no memory.
+/// It takes all memory of the commit, before anything changes. At `Err` nothing has changed but the room in logs: a top
+/// has no leaf that may be written, else there are too few places, or there was no memory.
 pub fn freeze(
     alloc: Global,
     group: Open,
@@ -83,7 +83,8 @@ pub fn freeze(
     requires low { 1 ≤ number.0 }
     requires high { number.0 + 64 ≤ 2 ^ 62 }
     ensures group { IfOk result (BeginsGroup number group.writes map.old map.new tops.old) }
-    ensures logs { OnOk result (AreGrown (is_off (seats_of 0 tops.old)) number.0 number.0 (leaves_of tops.old) (leaves_of tops.new)) }
+    ensures logs { OnOk result (AreGrown (is_off (seats_of 0 tops.old)) number.0 number.0
+        (leaves_of tops.old) (leaves_of tops.new)) }
     ensures ready { IfOk result (λ frozen. All (IsReady frozen.board number.0) (leaves_of tops.new)) }
     ensures pins_room { IfOk result (λ frozen. length pins.new.places + length frozen.items ≤ pins.new.room) }
     ensures pins { pins.new.places ≡ pins.old.places }

@@ -23,8 +23,8 @@ use vdev_tree::Top;
 /// Runs of groups that a commit adds to a log at most.
 const RUNS: usize = 2;
 
-/// What a freeze needs: the dirty pages with the memory for their bytes, the board, and room for the group's keys and for the
-/// open group that it becomes where it is suspended.
+/// What a freeze needs: the dirty pages with the memory for their bytes, the board, and room for the group's keys and for
+/// the open group that it becomes where it is suspended.
 #[derive(Drop)]
 pub(crate) struct Prepared {
     pub(crate) pages: Vec<Key>,
@@ -34,8 +34,8 @@ pub(crate) struct Prepared {
     pub(crate) back: Vec<Write>,
 }
 
-/// Takes all memory of a commit of this group, where it has the places and each top a leaf to be written. Else nothing has
-/// changed but the room in logs.
+/// Takes all memory of a commit of this group, where it has the places and each top a leaf to be written. Else nothing
+/// has changed but the room in logs.
 #[tactic(auto, using(crate::proofs::Preparing::kept_all))]
 pub(crate) fn prepare(
     alloc: Global,

@@ -1,9 +1,8 @@
-use Rattle.std.proofs.Common.{◌≡◌, ◌+◌, ◌≤◌, ◌++◌, [], List, All, length, map, ap, sym, subst, refl, ◌∙◌, arith, length-append}
+use Rattle.std.proofs.Common.{◌≡◌, ◌++◌, [], List, All, length, map, ap, sym, subst, refl, ◌∙◌, arith, length-append}
 use Rattle.std.proofs.lemmas.List.{length-map}
 use Rattle.mp_base.specs.declared.place.Key.{Key}
 use Rattle.block_map.specs.Keys.{IsPage}
 use Rattle.block_map.specs.Map.{Map, pointer_at}
-use Rattle.txg_engine.specs.declared.write.Write.{Write}
 use Rattle.txg_engine.specs.Freezing.{addr_of, page_keys, block_keys, dirty_keys, AreSettled}
 use Rattle.txg_engine.specs.Items.{key_of, place_of, keys_of}
 use Rattle.txg_engine.specs.Writes.{OpenGroup, RiseFrom, block_at}
@@ -88,7 +87,8 @@ returns g c = λ tops taken.
     ∙ ap (λ (l : List Key). block_keys c.group.inside.writes.items ++ l) (c.deref.ensures.value ∙ taken.pages)
     ∙ ap (λ (group : OpenGroup). block_keys group.writes ++ page_keys (map addr_of writes)) c.group.view_is in
     let so : AreSettled c.args.number.0 c.args.map.now c.settle_pages.new.map items =
-    subst (λ (m : Map). AreSettled c.args.number.0 m c.settle_pages.new.map items) c.requires.0 c.settle_pages.ensures.settled in
+    subst (λ (m : Map). AreSettled c.args.number.0 m c.settle_pages.new.map items) c.requires.0
+    c.settle_pages.ensures.settled in
     record {
       numbers = refl;
       unwritten = refl;
