@@ -6,9 +6,12 @@ pub mod Failing
 pub mod Found
 pub mod GivenBack
 pub mod Merged
+pub mod Owing
 pub mod Pages
 pub mod Places
+pub mod Preparing
 pub mod Ready
+pub mod Rising
 pub mod Seating
 pub mod Settling
 pub mod TurnEnds

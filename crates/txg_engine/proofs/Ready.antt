@@ -18,13 +18,13 @@ use Rattle.txg_engine.specs.Logs.{AreGrown, Grows, is_off, is_leaf, IsReady, cou
 pub nothing : Groups
 nothing = record { runs = []; spare = 0 }
 
-same_guid : (old new : LeafVdev) → ((log : Groups) → record new { log = log } ≡ record old { log = log }) → new.guid ≡ old.guid
+pub same_guid : (old new : LeafVdev) → ((log : Groups) → record new { log = log } ≡ record old { log = log }) → new.guid ≡ old.guid
 same_guid old new rest = ap (λ (leaf : LeafVdev). leaf.guid) (rest nothing)
 
 same_numbers : (n : ℕ) → (n == n) ≡ true
 same_numbers n = grind (arith, nat_tests)
 
-in_between : (low high g : ℕ) → low ≤ g → g ≤ high → between low high g ≡ true
+pub in_between : (low high g : ℕ) → low ≤ g → g ≤ high → between low high g ≡ true
 in_between low high g le le' = grind (arith, nat_tests)
 
 -- by whether a leaf is on the board
@@ -35,7 +35,7 @@ by_board false f g = g refl
 or_left : (a b : Bool) → a ≡ true → (a || b) ≡ true
 or_left a b e = rw e refl
 
-or_right : (a b : Bool) → b ≡ true → (a || b) ≡ true
+pub or_right : (a b : Bool) → b ≡ true → (a || b) ≡ true
 or_right true b e = refl
 or_right false b e = e
 
@@ -140,7 +140,7 @@ board_ready seats seats' last leaves same all = λ k d lt.
     let ready = all k d lt in
     record { spare = ready.spare; on = λ e. ready.on (sym (same _) ∙ e); off = λ e. ready.off (sym (same _) ∙ e) }
 
-grown_all : {which : LeafVdev → Bool} {low high : ℕ} (P Q : LeafVdev → Type 0) → ((old new : LeafVdev) → Grows which low high old new → P old → Q new)
+pub grown_all : {which : LeafVdev → Bool} {low high : ℕ} (P Q : LeafVdev → Type 0) → ((old new : LeafVdev) → Grows which low high old new → P old → Q new)
     → (old new : List LeafVdev) → AllZip (Grows which low high) old new → All P old → All Q new
 grown_all P Q f [] [] are all = All-nil Q
 grown_all P Q f [] (y ∷ new) are all = absurd are

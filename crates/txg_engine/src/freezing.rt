@@ -1,5 +1,6 @@
 //! A freeze.
 ghost use Rattle.std.specs.Prelude.{◌≡◌, ◌+◌, ◌^◌, ◌<◌, ◌≤◌, List, length, All, IfOk, IfErr, OnOk, OnErr};
+ghost use Rattle.block_map.specs.Map.{Map};
 ghost use Rattle.vdev_tree.specs.declared.top.Top.{Top};
 ghost use Rattle.std.specs.List.{AllZip};
 ghost use Rattle.vdev_tree.specs.Changes.{KeepsLog};
@@ -34,12 +35,22 @@ pub enum FreezeFault {
 }
 
 impl From<MemFault> for FreezeFault {
+    ghost use Rattle.std.specs.Prelude.{◌≡◌};
+    ghost use Rattle.txg_engine.specs.declared.freezing.FreezeFault.TheVariants.{Memory};
+
+    ghost from_gives = { λ _ e. e ≡ Memory };
+
     fn from(_: MemFault) -> FreezeFault {
         FreezeFault::Memory
     }
 }
 
 impl From<AllocError> for FreezeFault {
+    ghost use Rattle.std.specs.Prelude.{◌≡◌};
+    ghost use Rattle.txg_engine.specs.declared.freezing.FreezeFault.TheVariants.{Memory};
+
+    ghost from_gives = { λ _ e. e ≡ Memory };
+
     fn from(_: AllocError) -> FreezeFault {
         FreezeFault::Memory
     }
@@ -52,12 +63,12 @@ pub struct Unfrozen {
     pub group: Open,
 }
 
-/// Freezes a group under this number, which is above every other one. Its blocks and the pages above them get the least places
-/// that are free and not pinned, in the order of their keys, and their sums; the board is the leaves that may be written, and
-/// every other leaf owes the number. The map keeps the pointers of the record that the pool reads.
+/// Freezes a group under this number, which is above every other one. Its blocks and the pages above them get the least
+/// places that are free and not pinned, in the order of their keys, and their sums; the board is the leaves that may be
+/// written, and every other leaf owes the number. The map keeps the pointers of the record that the pool reads.
 ///
-/// It takes all memory of the commit, before anything changes. At `Err` nothing has changed but the room in logs: a top has no
-/// leaf that may be written, else there are too few places, or there was no memory.
+/// It takes all memory of the commit, before anything changes. At `Err` nothing has changed but the room in logs: a top
+/// has no leaf that may be written, else there are too few places, or there was no memory.
 pub fn freeze(
     alloc: Global,
     group: Open,
@@ -72,7 +83,8 @@ pub fn freeze(
     requires low { 1 ≤ number.0 }
     requires high { number.0 + 64 ≤ 2 ^ 62 }
     ensures group { IfOk result (BeginsGroup number group.writes map.old map.new tops.old) }
-    ensures logs { OnOk result (AreGrown (is_off (seats_of 0 tops.old)) number.0 number.0 (leaves_of tops.old) (leaves_of tops.new)) }
+    ensures logs { OnOk result (AreGrown (is_off (seats_of 0 tops.old)) number.0 number.0
+        (leaves_of tops.old) (leaves_of tops.new)) }
     ensures ready { IfOk result (λ frozen. All (IsReady frozen.board number.0) (leaves_of tops.new)) }
     ensures pins_room { IfOk result (λ frozen. length pins.new.places + length frozen.items ≤ pins.new.room) }
     ensures pins { pins.new.places ≡ pins.old.places }
@@ -95,13 +107,15 @@ pub fn freeze(
 
 // Gives each key of the group its place.
 fn settle_group(prepared: Prepared, group: Open, map: &mut BlockMap, number: Group) -> Frozen
-    ghost tops: { List Top }
+    ghost first: { Map }
+    requires first { first ≡ map.old }
     requires volume { All (λ write. write.addr < map.old.blocks) group.writes }
     requires low { 1 ≤ number.0 }
     requires high { number.0 + 64 ≤ 2 ^ 62 }
-    requires prepared { IsPrepared group.writes map.old tops prepared }
+    requires prepared { (tops : List Top) × IsPrepared group.writes map.old tops prepared }
     requires few { length prepared.board ≤ 32 }
-    ensures { BeginsGroup number group.writes map.old map.new tops result }
+    ensures { (tops : List Top) → IsPrepared group.writes map.old tops prepared
+        → BeginsGroup number group.writes map.old map.new tops result }
 {
     let Prepared {
         pages,

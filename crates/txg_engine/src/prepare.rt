@@ -1,5 +1,5 @@
 //! All memory of a commit, taken before anything changes.
-ghost use Rattle.std.specs.Prelude.{◌≡◌, ℕ, ◌+◌, ◌*◌, ◌<◌, ◌≤◌, ◌++◌, None, [], length, map, vec_len, All, IfOk, IfErr, OnOk, OnErr};
+ghost use Rattle.std.specs.Prelude.{◌≡◌, ℕ, ◌+◌, ◌*◌, ◌^◌, ◌<◌, ◌≤◌, ◌++◌, None, [], length, map, vec_len, All, IfOk, IfErr, OnOk, OnErr};
 ghost use Rattle.std.specs.List.{AllZip};
 ghost use Rattle.std.specs.Vec.{vec_capacity};
 ghost use Rattle.vdev_tree.specs.Changes.{has_room, KeepsLog};
@@ -23,8 +23,8 @@ use vdev_tree::Top;
 /// Runs of groups that a commit adds to a log at most.
 const RUNS: usize = 2;
 
-/// What a freeze needs: the dirty pages with the memory for their bytes, the board, and room for the group's keys and for the
-/// open group that it becomes where it is suspended.
+/// What a freeze needs: the dirty pages with the memory for their bytes, the board, and room for the group's keys and for
+/// the open group that it becomes where it is suspended.
 #[derive(Drop)]
 pub(crate) struct Prepared {
     pub(crate) pages: Vec<Key>,
@@ -34,8 +34,9 @@ pub(crate) struct Prepared {
     pub(crate) back: Vec<Write>,
 }
 
-/// Takes all memory of a commit of this group, where it has the places and each top a leaf to be written. Else nothing has
-/// changed but the room in logs.
+/// Takes all memory of a commit of this group, where it has the places and each top a leaf to be written. Else nothing
+/// has changed but the room in logs.
+#[tactic(auto, using(crate::proofs::Preparing::kept_all))]
 pub(crate) fn prepare(
     alloc: Global,
     group: &Open,
@@ -45,7 +46,6 @@ pub(crate) fn prepare(
 ) -> Result<Prepared, FreezeFault>
     requires tops { length tops.old ≤ 8 }
     requires few { length (leaves_of tops.old) ≤ 32 }
-    requires writes { length group.now.writes ≤ 262144 }
     ensures prepared { IfOk result (IsPrepared group.now.writes map.now tops.old) }
     ensures room { OnOk result (All (has_room 2) (leaves_of tops.new)) }
     ensures cause { IfErr result (IsCause group.now.writes map.now tops.old) }
@@ -62,7 +62,7 @@ pub(crate) fn prepare(
         });
     }
     let pages = dirty_pages(alloc, group)?;
-    let keys = group.len() + pages.len();
+    let keys = count_keys(group, &pages);
     check_room(map, keys)?;
     let buffers = buffers_for(alloc, pages.len())?;
     let items = Vec::with_capacity(alloc, keys)?;
@@ -76,6 +76,14 @@ pub(crate) fn prepare(
         board,
         back,
     })
+}
+
+// How many keys a group of these pages has.
+fn count_keys(group: &Open, pages: &[Key]) -> usize
+    ensures count { result ≡ length group.now.writes + length pages.now }
+    ensures few { result + 4096 < 2 ^ 64 }
+{
+    group.writes.len() + pages.len()
 }
 
 // Whether there are places for so many keys.
@@ -93,7 +101,6 @@ fn check_room(map: &BlockMap, keys: usize) -> Result<(), FreezeFault>
 
 // The pages above the group's blocks, in the order of keys.
 fn dirty_pages(alloc: Global, group: &Open) -> Result<Vec<Key>, MemFault>
-    requires { length group.now.writes ≤ 262144 }
     ensures { IfOk result (λ pages. pages.items ≡ page_keys (map addr_of group.now.writes)) }
 {
     let mut addrs = Vec::with_capacity(alloc, group.len())?;
