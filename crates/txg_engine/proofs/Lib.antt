@@ -2,6 +2,7 @@ pub mod Calling
 pub mod Closing
 pub mod EachTop
 pub mod Failing
+pub mod Finding
 pub mod Pages
 pub mod Ready
 pub mod Seating
