@@ -3,6 +3,7 @@ pub mod Calling
 pub mod Closing
 pub mod EachTop
 pub mod Failing
+pub mod Finding
 pub mod Found
 pub mod GivenBack
 pub mod Merged

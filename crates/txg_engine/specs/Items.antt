@@ -1,5 +1,6 @@
 -- The keys of a frozen group, and the pointers that a map has with them.
-use Rattle.std.specs.Prelude.{◌≡◌, ℕ, ◌+◌, ◌-◌, ◌/◌, ◌==◌, ◌&&◌, Bool, List, [], ◌∷◌, map, Option, Some, None, if◌then◌else◌}
+use Rattle.std.specs.Prelude.{◌≡◌, ℕ, ◌+◌, ◌-◌, ◌/◌, ◌==◌, ◌&&◌, ◌<◌, Bool, if◌then◌else◌}
+use Rattle.std.specs.Prelude.{List, [], ◌∷◌, length, slice_index_or, map, Option, Some, None}
 use Rattle.mp_base.specs.declared.place.Key.{Key}
 use Rattle.mp_base.specs.declared.place.Place.{Place}
 use Rattle.mp_base.specs.declared.place.Pointer.{Pointer}
@@ -31,6 +32,11 @@ put item at k = if same_key item.key k then item.pointer else at k
 abbrev pub laid : List Item → (Key → Pointer) → Key → Pointer
 laid [] at k = at k
 laid (item ∷ items) at k = laid items (put item at) k
+
+-- the item of this key, of which there is one at most, stands there
+pub record IsItemAt (items : List Item) (k : Key) (at : ℕ) : Type 0 where
+  pub inside : at < length items
+  pub here : (d : Item) → (slice_index_or items at d).key ≡ k
 
 -- the block of an address among these keys
 abbrev pub frozen_block : List Item → ℕ → Option (List ℕ)

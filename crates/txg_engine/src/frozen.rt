@@ -1,11 +1,11 @@
 //! Frozen groups.
-ghost use Rattle.std.specs.Prelude.{◌≡◌, ℕ, ◌<◌, ◌≤◌, ◌==◌, length, nat_le};
+ghost use Rattle.std.specs.Prelude.{◌≡◌, ◌≢◌, ℕ, ◌<◌, ◌≤◌, ◌==◌, length, nat_le, All, IfSome, IfNone};
 ghost use Rattle.std.specs.Option.{option_copied};
 ghost use Rattle.block_map.specs.Map.{pointer_at};
 ghost use Rattle.block_map.specs.Keys.{root};
 ghost use Rattle.mp_base.specs.declared.place.Pointer.{Pointer};
-ghost use Rattle.txg_engine.specs.Items.{laid, frozen_block};
-ghost use Rattle.txg_engine.specs.Frozen.{is_written_out};
+ghost use Rattle.txg_engine.specs.Items.{laid, frozen_block, IsItemAt};
+ghost use Rattle.txg_engine.specs.Frozen.{is_written_out, KeysRise};
 
 use crate::board::Board;
 use crate::item::Item;
@@ -99,7 +99,7 @@ impl Frozen {
             level: 0,
             index: addr,
         };
-        let at = self.items.binary_search_by_key(&key, |item| item.key).ok()?;
+        let at = find(&self.items, key)?;
         Some(self.items[at].block.as_bytes())
     }
 
@@ -107,9 +107,26 @@ impl Frozen {
     pub fn root(&self, map: &BlockMap) -> Pointer
         ensures { result ≡ laid self.now.items (pointer_at map.now) root }
     {
-        match self.items.last() {
-            Some(item) => item.pointer,
-            None => map.get(ROOT).unwrap_or(Pointer::HOLE),
-        }
+        let Some(at) = find(&self.items, ROOT) else {
+            return root_of(map);
+        };
+        self.items[at].pointer
     }
+}
+
+// Where a key stands.
+fn find(items: &[Item], key: Key) -> Option<usize>
+    requires { KeysRise items.now }
+    ensures found { IfSome result (λ at. IsItemAt items.now key at) }
+    ensures none { IfNone result (All (λ item. item.key ≢ key) items.now) }
+{
+    items.binary_search_by_key(&key, |item| item.key).ok()
+}
+
+// The root's pointer in a map.
+fn root_of(map: &BlockMap) -> Pointer
+    ensures { result ≡ pointer_at map.now root }
+{
+    map.keeps_its_form();
+    map.get(ROOT).unwrap_or(Pointer::HOLE)
 }
