@@ -1,6 +1,6 @@
 -- The calls of a turn, member by member.
-use Rattle.std.proofs.Common.{◌≡◌, ◌⊎◌, ℕ, zero, suc, ◌+◌, ◌<◌, ◌≤◌, Bool, true, false, List, [], ◌∷◌, ◌++◌, length, get_or, set, map, take, Option, Some, None, Result, Ok, Err, is_none, is_ok, refl, sym, ap, ◌∙◌, subst, arith, inl, inr}
-use Rattle.std.specs.Prelude.{slice_get, IfSome, All}
+use Rattle.std.proofs.Common.{◌≡◌, ℕ, zero, suc, ◌+◌, ◌<◌, ◌≤◌, Bool, true, false, List, [], ◌∷◌, ◌++◌, length, get_or, set, map, take, Result, Ok, Err, is_ok, refl, sym, ◌∙◌, subst, arith}
+use Rattle.std.specs.Prelude.{IfSome, All}
 use Rattle.std.specs.List.{AllZip}
 use Rattle.std.proofs.lemmas.Bool.{true≢false}
 use Rattle.std.proofs.lemmas.List.{take_more, take_more_set, take_all, map-append}
@@ -10,7 +10,6 @@ use Rattle.mp_base.specs.Outside.{Rose}
 use Rattle.bank_core.specs.declared.bank.Fault.{Fault}
 use Rattle.bank_core.specs.Asks.{Ask}
 use Rattle.bank_core.specs.BankView.{BankView}
-use Rattle.bank_core.specs.Calls.{Makes}
 use Rattle.bank_core.specs.Disk.{Noted}
 use Rattle.bank_core.specs.Parts.{Part}
 use Rattle.bank_core.specs.Story.{fault_in}

@@ -6,7 +6,7 @@ use Rattle.vdev_tree.specs.declared.vdev.LeafVdev.{LeafVdev}
 use Rattle.txg_engine.specs.declared.seat.Numbers.{Numbers}
 use Rattle.txg_engine.specs.declared.seat.Seat.{Seat}
 use Rattle.txg_engine.specs.Boards.{behind_turn}
-use Rattle.txg_engine.specs.Logs.{AreBehind, Fails}
+use Rattle.txg_engine.specs.Logs.{AreBehind}
 
 turn_first : (m : Member) (d : Bool) (ms : List Member) (done : List Bool) (seats : List Seat)
     → behind_turn (m ∷ ms) (d ∷ done) seats ≡ behind_turn ms done (behind_turn (m ∷ []) (d ∷ []) seats)

@@ -1,18 +1,18 @@
 -- Leaves that have the room for a group's numbers.
-use Rattle.std.proofs.Common.{◌≡◌, ◌≢◌, ℕ, zero, suc, ◌+◌, ◌<◌, ◌≤◌, ◌==◌, ◌&&◌, ◌||◌, not, min, cond, Bool, true, false, List, [], ◌∷◌, ◌++◌, map, refl, sym, ap, ◌∙◌, subst, arith}
+use Rattle.std.proofs.Common.{◌≡◌, ℕ, ◌+◌, ◌≤◌, ◌==◌, ◌&&◌, ◌||◌, not, cond, Bool, true, false, List, [], ◌∷◌, ◌++◌, map, refl, sym, ap, ◌∙◌, subst, arith}
 use Rattle.std.specs.Prelude.{All}
-use Rattle.std.specs.List.{AllZip, list_any}
+use Rattle.std.specs.List.{AllZip}
 use Rattle.std.proofs.lemmas.Bool.{true≢false}
 use Rattle.std.proofs.lemmas.Bool.Decides.{nat_tests}
 use Rattle.std.proofs.lemmas.List.Elements.{All-nil, All-cons, All-head, All-tail}
 use Rattle.mp_base.specs.declared.number.Guid.{Guid}
-use Rattle.group_set.specs.Groups.{Groups, holds, run_count}
+use Rattle.group_set.specs.Groups.{Groups, holds}
 use Rattle.group_set.specs.Runs.{between}
 use Rattle.vdev_tree.specs.declared.vdev.LeafVdev.{LeafVdev}
-use Rattle.dtl_rules.specs.Widening.{Widenings, none, more, WidensFirst, WidensLeaf}
+use Rattle.dtl_rules.specs.Widening.{Widenings, none, more, WidensLeaf}
 use Rattle.txg_engine.specs.declared.seat.Seat.{Seat}
 use Rattle.txg_engine.specs.Boards.{count_on, on_board, is_on_as, without, failed, count_up}
-use Rattle.txg_engine.specs.Logs.{AreGrown, Grows, is_off, is_leaf, IsReady, count_write, Counted, has_spare}
+use Rattle.txg_engine.specs.Logs.{AreGrown, Grows, is_off, is_leaf, IsReady, Counted, has_spare}
 
 -- a set that has no group, to compare leaves apart from their logs
 pub nothing : Groups

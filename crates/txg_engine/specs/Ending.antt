@@ -1,5 +1,5 @@
 -- How a group ends: it becomes open again, or the map becomes that of its record.
-use Rattle.std.specs.Prelude.{◌≡◌, ℕ, ◌+◌, ◌≤◌, ◌&&◌, ◌||◌, not, Bool, true, false, List, [], ◌∷◌, ◌++◌, length, map, Contains, Option, Some, None, if◌then◌else◌}
+use Rattle.std.specs.Prelude.{◌≡◌, ℕ, ◌||◌, Bool, true, false, List, ◌++◌, Contains, Option, Some, None}
 use Rattle.mp_base.specs.declared.place.Key.{Key}
 use Rattle.mp_base.specs.declared.place.Place.{Place}
 use Rattle.mp_base.specs.declared.place.Pointer.{Pointer}
@@ -8,7 +8,6 @@ use Rattle.block_map.specs.Pointers.{written}
 use Rattle.txg_engine.specs.declared.item.Item.{Item}
 use Rattle.txg_engine.specs.declared.write.Write.{Write}
 use Rattle.txg_engine.specs.Items.{put, laid, frozen_block}
-use Rattle.txg_engine.specs.Pins.{PinsSeen}
 use Rattle.txg_engine.specs.Writes.{block_at}
 
 abbrev pub or_else : {A : Type 0} → Option A → Option A → Option A

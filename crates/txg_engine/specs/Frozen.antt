@@ -1,7 +1,6 @@
 -- A frozen group as its callers see it.
-use Rattle.std.specs.Prelude.{◌≡◌, ◌≢◌, ℕ, ◌+◌, ◌^◌, ◌<◌, ◌≤◌, ◌==◌, Bool, true, false, List, [], ◌∷◌, length, map, slice_index, All, AllPairs}
+use Rattle.std.specs.Prelude.{◌≡◌, ◌≢◌, ℕ, ◌+◌, ◌^◌, ◌≤◌, ◌==◌, Bool, List, [], ◌∷◌, length, slice_index, All, AllPairs}
 use Rattle.mp_base.specs.declared.number.Group.{Group}
-use Rattle.mp_base.specs.declared.place.Key.{Key}
 use Rattle.block_map.specs.Keys.{IsBefore}
 use Rattle.block_map.specs.Places.{IsPlace, AreTops}
 use Rattle.txg_engine.specs.declared.item.Item.{Item}

@@ -1,5 +1,5 @@
 -- What a freeze has taken before anything changes.
-use Rattle.std.specs.Prelude.{◌≡◌, ℕ, ◌+◌, ◌≤◌, None, List, [], ◌++◌, length, map, All}
+use Rattle.std.specs.Prelude.{◌≡◌, ◌+◌, ◌≤◌, None, List, [], length, map, All}
 use Rattle.std.specs.Vec.{vec_capacity}
 use Rattle.block_map.specs.Map.{Map}
 use Rattle.vdev_tree.specs.declared.top.Top.{Top}

@@ -1,7 +1,6 @@
 -- Why a group isn't frozen.
-use Rattle.std.specs.Prelude.{◌≡◌, ℕ, ◌+◌, ◌<◌, ◌≤◌, false, List, length, map, Option, Some, None, slice_get}
+use Rattle.std.specs.Prelude.{◌≡◌, ℕ, ◌<◌, false, List, length, Option, Some, None, slice_get}
 use Rattle.mp_base.specs.declared.number.Group.{Group}
-use Rattle.mp_base.specs.declared.number.Guid.{Guid}
 use Rattle.block_map.specs.Map.{Map}
 use Rattle.vdev_tree.specs.declared.top.Top.{Top}
 use Rattle.txg_engine.specs.declared.freezing.FreezeFault.{FreezeFault}

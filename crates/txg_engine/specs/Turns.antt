@@ -1,5 +1,5 @@
 -- The turns of a frozen group.
-use Rattle.std.specs.Prelude.{◌≡◌, ℕ, ◌+◌, ◌-◌, ◌^◌, min, Bool, true, false, List, [], ◌∷◌, length, map, Option, Some, None, Result, Ok, Err, IsOk, IsErrAnd, IsOkAnd, slice_get}
+use Rattle.std.specs.Prelude.{◌≡◌, ℕ, ◌+◌, ◌-◌, ◌^◌, min, Bool, true, false, List, length, map, Option, Some, None, Result, Ok, IsOk, IsErrAnd, slice_get}
 use Rattle.std.specs.List.{list_all, AllZip}
 use Rattle.mp_base.specs.declared.number.Group.{Group}
 use Rattle.mp_base.specs.declared.number.Guid.{Guid}
@@ -22,7 +22,7 @@ use Rattle.txg_engine.specs.declared.item.Item.{Item}
 use Rattle.txg_engine.specs.declared.seat.Numbers.{Numbers}
 use Rattle.txg_engine.specs.declared.seat.Seat.{Seat}
 use Rattle.txg_engine.specs.declared.seat.Suspended.{Suspended}
-use Rattle.txg_engine.specs.Boards.{board_of, board_under, behind_turn, emptied, faults_under, is_on}
+use Rattle.txg_engine.specs.Boards.{board_of, board_under, behind_turn, emptied, faults_under}
 use Rattle.txg_engine.specs.Frozen.{FrozenGroup}
 use Rattle.txg_engine.specs.Items.{cell_of}
 use Rattle.txg_engine.specs.Logs.{AreBehind, AreGrown, is_off, IsSettled}

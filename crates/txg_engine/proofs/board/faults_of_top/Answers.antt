@@ -1,4 +1,4 @@
-use Rattle.std.proofs.Common.{◌∙◌, arith}
+use Rattle.std.proofs.Common.{◌∙◌}
 use Rattle.txg_engine.proofs.Seating.{faults_more}
 use Rattle.txg_engine.proofs.board.faults_of_top.Goals as goal
 

@@ -1,5 +1,5 @@
 use Rattle.std.proofs.Common.{◌≡◌, ◌≤◌, length, take}
-use Rattle.txg_engine.specs.Boards.{board_of, board_under}
+use Rattle.txg_engine.specs.Boards.{board_of}
 use Rattle.txg_engine.proofs.board.members_of.Given as goal
 
 abbrev pub invariant-loop-seat : goal.invariant-loop-seat

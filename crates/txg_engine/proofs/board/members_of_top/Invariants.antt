@@ -1,5 +1,5 @@
 use Rattle.std.proofs.Common.{◌≡◌, ◌≤◌, length, take}
-use Rattle.txg_engine.specs.Boards.{board_of, board_under}
+use Rattle.txg_engine.specs.Boards.{board_under}
 use Rattle.txg_engine.proofs.board.members_of_top.Given as goal
 
 abbrev pub invariant-loop-seat : goal.invariant-loop-seat

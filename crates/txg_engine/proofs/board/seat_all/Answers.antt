@@ -1,9 +1,6 @@
-use Rattle.std.proofs.Common.{◌≡◌, sym, ap, ◌∙◌, arith, take, length}
-use Rattle.std.proofs.lemmas.List.{take_all}
-use Rattle.std.specs.List.{filter_map}
+use Rattle.std.proofs.Common.{sym, arith}
 use Rattle.vdev_tree.specs.Tree.{leaves}
-use Rattle.txg_engine.specs.Boards.{seat_of}
-use Rattle.txg_engine.proofs.Seating.{seat_more, got_inside, got_none}
+use Rattle.txg_engine.proofs.Seating.{seat_more, got_inside}
 use Rattle.txg_engine.proofs.board.seat_all.Goals as goal
 
 pub loop-place-preserved : goal.loop-place-preserved

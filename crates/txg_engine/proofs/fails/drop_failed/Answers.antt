@@ -1,9 +1,7 @@
-use Rattle.std.proofs.Common.{◌≡◌, ◌<◌, false, [], length, drop, sym, ap, subst, ◌∙◌, arith}
-use Rattle.std.proofs.lemmas.List.{drop_all}
+use Rattle.std.proofs.Common.{◌<◌, false, length, ◌∙◌, arith}
 use Rattle.label_store.specs.declared.member.Member.{Member}
 use Rattle.dtl_rules.specs.Widening.{leaves_of}
 use Rattle.txg_engine.specs.Boards.{behind_turn}
-use Rattle.txg_engine.specs.Logs.{AreBehind}
 use Rattle.txg_engine.proofs.Failing.{turn_more, leaves_more}
 use Rattle.txg_engine.proofs.fails.drop_failed.Goals as goal
 

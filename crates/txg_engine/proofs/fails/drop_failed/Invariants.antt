@@ -1,4 +1,4 @@
-use Rattle.std.proofs.Common.{◌≡◌, ◌∷◌, List, Bool, take, drop}
+use Rattle.std.proofs.Common.{◌≡◌, List, drop}
 use Rattle.std.specs.Prelude.{All}
 use Rattle.dtl_rules.specs.Widening.{leaves_of, marks_of, sectors_of}
 use Rattle.vdev_tree.specs.declared.vdev.LeafVdev.{LeafVdev}

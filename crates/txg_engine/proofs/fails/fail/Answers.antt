@@ -1,8 +1,8 @@
-use Rattle.std.proofs.Common.{◌≡◌, List, map, sym, ap, subst, ◌∙◌, arith}
+use Rattle.std.proofs.Common.{List, map, sym, subst}
 use Rattle.std.specs.Prelude.{All}
 use Rattle.dtl_rules.specs.Widening.{leaves_of}
 use Rattle.txg_engine.specs.declared.seat.Seat.{Seat}
-use Rattle.txg_engine.specs.Boards.{on_board, failed}
+use Rattle.txg_engine.specs.Boards.{failed}
 use Rattle.txg_engine.specs.Logs.{IsReady}
 use Rattle.txg_engine.proofs.Ready.{counted_ready, board_ready, same_board}
 use Rattle.txg_engine.proofs.fails.fail.Goals as goal

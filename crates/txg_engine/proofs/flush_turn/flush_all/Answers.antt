@@ -1,4 +1,4 @@
-use Rattle.std.proofs.Common.{◌≡◌, ◌<◌, ◌∙◌, sym, subst, get_or, arith}
+use Rattle.std.proofs.Common.{◌<◌, sym, subst, get_or, arith}
 use Rattle.bank_core.proofs.Framing.{part_call}
 use Rattle.label_store.specs.declared.member.Member.{Member}
 use Rattle.label_store.proofs.Phasing.{got_there}

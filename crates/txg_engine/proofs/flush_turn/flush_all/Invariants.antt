@@ -1,4 +1,4 @@
-use Rattle.std.proofs.Common.{◌≡◌, take}
+use Rattle.std.proofs.Common.{take}
 use Rattle.txg_history.specs.Turns.{flush_plan}
 use Rattle.txg_engine.proofs.Calling.{CallsSo}
 use Rattle.txg_engine.proofs.flush_turn.flush_all.Given as goal

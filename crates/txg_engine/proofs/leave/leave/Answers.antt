@@ -1,4 +1,4 @@
-use Rattle.std.proofs.Common.{◌≡◌, sym, subst}
+use Rattle.std.proofs.Common.{sym, subst}
 use Rattle.std.specs.Prelude.{All}
 use Rattle.dtl_rules.specs.Widening.{leaves_of}
 use Rattle.txg_engine.specs.Logs.{IsReady}

@@ -1,4 +1,4 @@
-use Rattle.std.proofs.Common.{◌≡◌, ◌++◌, ◌∷◌, [], take, ap, sym, ◌∙◌, arith}
+use Rattle.std.proofs.Common.{take, ap, sym, ◌∙◌}
 use Rattle.std.proofs.lemmas.List.{take_more}
 use Rattle.block_map.specs.Map.{pointer_at, children}
 use Rattle.txg_engine.specs.Items.{laid, put}

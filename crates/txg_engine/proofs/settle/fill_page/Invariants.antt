@@ -1,4 +1,4 @@
-use Rattle.std.proofs.Common.{◌≡◌, take, length}
+use Rattle.std.proofs.Common.{◌≡◌, take}
 use Rattle.block_map.specs.Map.{pointer_at, children}
 use Rattle.txg_engine.specs.Items.{laid}
 use Rattle.txg_engine.proofs.settle.fill_page.Given as goal

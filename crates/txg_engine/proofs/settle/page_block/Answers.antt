@@ -1,4 +1,4 @@
-use Rattle.std.proofs.Common.{◌≡◌, ◌∙◌, sym, arith, length, drop}
+use Rattle.std.proofs.Common.{◌≡◌, ◌∙◌, arith, length, drop}
 use Rattle.std.proofs.lemmas.List.{take_at}
 use Rattle.txg_engine.proofs.settle.page_block.Goals as goal
 

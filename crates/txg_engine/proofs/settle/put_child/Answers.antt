@@ -1,6 +1,5 @@
-use Rattle.std.proofs.Common.{◌≡◌, List, set, sym, ap, ◌∙◌, ◌%◌, arith}
+use Rattle.std.proofs.Common.{List, set, sym, ap, ◌∙◌, ◌%◌}
 use Rattle.mp_base.specs.declared.place.Pointer.{Pointer}
-use Rattle.block_map.specs.Map.{children}
 use Rattle.txg_engine.proofs.Pages.{children_put, children_same}
 use Rattle.txg_engine.proofs.settle.put_child.Goals as goal
 

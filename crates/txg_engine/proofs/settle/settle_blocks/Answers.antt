@@ -1,5 +1,4 @@
-use Rattle.std.proofs.Common.{◌≡◌, ◌++◌, ◌∷◌, [], List, ap, sym, ◌∙◌, arith, append_assoc, length, length-append}
-use Rattle.mp_base.specs.declared.place.Key.{Key}
+use Rattle.std.proofs.Common.{◌++◌, ◌∷◌, [], List, ap, sym, ◌∙◌, arith, append_assoc, length}
 use Rattle.txg_engine.specs.Freezing.{block_keys}
 use Rattle.txg_engine.specs.Items.{keys_of, frozen_block}
 use Rattle.txg_engine.specs.Writes.{block_at}

@@ -1,6 +1,5 @@
 use mathlib.Core.Path.{fun_ext}
-use Rattle.std.proofs.Common.{Vec, Global, length-append, ◌≡◌, ◌≤◌, ◌<◌, ℕ, ◌++◌, ◌∷◌, [], List, get_or, ap, sym, subst, ◌∙◌, arith, append_assoc, length, take}
-use Rattle.std.specs.Prelude.{All}
+use Rattle.std.proofs.Common.{Vec, Global, length-append, ◌≡◌, ℕ, ◌++◌, ◌∷◌, [], List, get_or, ap, sym, ◌∙◌, arith, append_assoc, length, take}
 use Rattle.std.specs.Option.{option_to_list}
 use Rattle.std.proofs.lemmas.List.{take_more}
 use Rattle.std.proofs.lemmas.List.Elements.{All-pop}
@@ -9,7 +8,7 @@ use Rattle.txg_engine.specs.declared.item.Item.{Item}
 use Rattle.mp_base.specs.declared.place.Key.{Key}
 use Rattle.block_map.specs.Map.{pointer_at, children}
 use Rattle.block_map.specs.Pages.{page_bytes}
-use Rattle.txg_engine.specs.Items.{keys_of, frozen_block, laid}
+use Rattle.txg_engine.specs.Items.{keys_of, laid}
 use Rattle.txg_engine.proofs.Settling.{settled_next, keys_next, page_next, length_next, one_place_less}
 use Rattle.txg_engine.proofs.settle.settle_pages.Goals as goal
 

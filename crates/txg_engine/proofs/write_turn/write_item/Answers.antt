@@ -1,6 +1,5 @@
-use Rattle.std.proofs.Common.{◌≡◌, ◌<◌, ◌+◌, ℕ, length, map, take, get_or, sym, subst, arith}
+use Rattle.std.proofs.Common.{◌<◌, ◌+◌, sym, subst}
 use Rattle.std.specs.Prelude.{All}
-use Rattle.txg_engine.specs.Boards.{dev_of}
 use Rattle.txg_engine.specs.Items.{cell_of}
 use Rattle.txg_engine.proofs.Calling.{writes_on, all_devs}
 use Rattle.txg_engine.proofs.write_turn.write_item.Goals as goal

@@ -1,4 +1,4 @@
-use Rattle.std.proofs.Common.{◌∙◌, sym, arith}
+use Rattle.std.proofs.Common.{◌∙◌, sym}
 use Rattle.txg_engine.proofs.Seating.{emptied_on}
 use Rattle.txg_engine.proofs.board.Board.emptied.Goals as goal
 

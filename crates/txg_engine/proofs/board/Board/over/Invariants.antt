@@ -1,4 +1,4 @@
-use Rattle.std.proofs.Common.{◌≡◌, ◌≤◌, ◌++◌, length, take, drop}
+use Rattle.std.proofs.Common.{◌≡◌, ◌++◌, drop}
 use Rattle.txg_engine.specs.Boards.{seats_of}
 use Rattle.txg_engine.proofs.board.Board.over.Given as goal
 

@@ -1,4 +1,4 @@
-use Rattle.std.proofs.Common.{◌≡◌, ◌+◌, ◌≤◌, List, sym, ap, ◌∙◌, arith}
+use Rattle.std.proofs.Common.{ap, arith}
 use Rattle.txg_engine.specs.Boards.{count_on}
 use Rattle.txg_engine.proofs.Ready.{same_on}
 use Rattle.txg_engine.proofs.frozen.Frozen.count_fault.Goals as goal

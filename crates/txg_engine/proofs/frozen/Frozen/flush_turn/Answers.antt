@@ -1,4 +1,4 @@
-use Rattle.std.proofs.Common.{◌≡◌, ◌<◌, true, List, Bool, sym, ap, subst, ◌∙◌, arith}
+use Rattle.std.proofs.Common.{◌≡◌, ◌<◌, true, List, sym, ap, subst, ◌∙◌, arith}
 use Rattle.std.specs.Prelude.{All}
 use Rattle.std.specs.Vec.{vec_capacity}
 use Rattle.label_store.specs.declared.member.Member.{Member}
@@ -8,7 +8,7 @@ use Rattle.txg_engine.specs.declared.seat.Seat.{Seat}
 use Rattle.txg_engine.specs.Boards.{board_of, behind_turn, is_on, count_on}
 use Rattle.txg_engine.specs.Frozen.{FrozenGroup}
 use Rattle.txg_engine.specs.Logs.{AreBehind}
-use Rattle.txg_engine.specs.Turns.{Scene, IsFlushTurn, MakesCalls, numbers_of, Answers, emptied_top}
+use Rattle.txg_engine.specs.Turns.{IsFlushTurn, MakesCalls, numbers_of, Answers, emptied_top}
 use Rattle.txg_engine.proofs.TurnEnds.{turn_goes, as_many, some_members, fewer_behind}
 use Rattle.txg_engine.proofs.frozen.Frozen.flush_turn.Goals as goal
 

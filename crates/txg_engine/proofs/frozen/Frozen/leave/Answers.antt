@@ -1,4 +1,4 @@
-use Rattle.std.proofs.Common.{◌≡◌, ◌+◌, ◌≤◌, List, sym, ap, ◌∙◌, arith}
+use Rattle.std.proofs.Common.{List, sym, ap, ◌∙◌, arith}
 use Rattle.txg_engine.specs.declared.seat.Seat.{Seat}
 use Rattle.txg_engine.specs.Boards.{count_on, on_board}
 use Rattle.txg_engine.specs.Frozen.{FrozenGroup}

@@ -1,4 +1,4 @@
-use Rattle.std.proofs.Common.{◌≡◌, ◌<◌, ◌+◌, ◌^◌, Some, List, Bool, sym, ap, subst, ◌∙◌, arith}
+use Rattle.std.proofs.Common.{◌≡◌, ◌<◌, ◌+◌, Some, List, sym, ap, subst, ◌∙◌, arith}
 use Rattle.std.specs.Prelude.{All, slice_get}
 use Rattle.std.specs.Vec.{vec_capacity}
 use Rattle.mp_base.specs.declared.place.Place.{Place}
@@ -12,7 +12,7 @@ use Rattle.txg_engine.specs.Boards.{board_under, behind_turn, is_on_under, count
 use Rattle.txg_engine.specs.Frozen.{FrozenGroup, IsSeated}
 use Rattle.txg_engine.specs.Items.{cell_of}
 use Rattle.txg_engine.specs.Logs.{AreBehind}
-use Rattle.txg_engine.specs.Turns.{Scene, IsWriteTurn, MakesCalls, numbers_of, Answers, emptied_top}
+use Rattle.txg_engine.specs.Turns.{IsWriteTurn, MakesCalls, numbers_of, Answers, emptied_top}
 use Rattle.label_store.proofs.Phasing.{got_there as any_default}
 use Rattle.txg_engine.proofs.Seating.{got_there}
 use Rattle.txg_engine.proofs.TurnEnds.{turn_goes, as_many, members_if, has_sector, small_sector, fewer_behind}
