@@ -16,6 +16,7 @@ pub mod Importing
 pub mod ImportsLoseATop
 pub mod Knowing
 pub mod Known
+pub mod LabelsKeepUp
 pub mod LineMoves
 pub mod Lists
 pub mod Losing
@@ -28,12 +29,14 @@ pub mod Numbers
 pub mod OnlyFailedLeave
 pub mod OpeningActs
 pub mod Pasting
+pub mod PlainPremises
 pub mod ReadsBehind
 pub mod Running
 pub mod Seating
 pub mod SmallRuns
 pub mod Sparing
 pub mod Stamps
+pub mod StraysOverRuns
 pub mod Suspending
 pub mod SyncsLoseATop
 pub mod Writing

@@ -12,6 +12,7 @@ pub mod Knowing
 pub mod Lines
 pub mod Moments
 pub mod Pasts
+pub mod PlainPremises
 pub mod SmallRuns
 pub mod Taking
 pub mod Writing

@@ -2,5 +2,7 @@
 #![tactic(auto)]
 
 mod laws;
+mod premises;
 
 pub use laws::{runs_keep_each_pool, small_runs_are_runs};
+pub use premises::premises_in_plain_words;

@@ -28,29 +28,29 @@ slots_differ n a b la ha lb hb lt = λ e. omega (arith, la, ha, lb, hb, lt, e)
 
 -- the record that the labels hold: a live one in which the member takes part, whose number was drawn, and which is below a
 -- number that no round has taken yet
-abbrev Holds : Pool → (m : Guid) → Rec → Type 0
+abbrev pub Holds : Pool → (m : Guid) → Rec → Type 0
 Holds p m r = IsIn r p.live × (takes_part r m ≡ true) × (number_of r ≤ p.highest) × (p.group.frozen ≡ true → p.group.fresh ≡ true → number_of r < p.highest)
 
-abbrev HoldsSome : Pool → (m : Guid) → Status → Type 0
+abbrev pub HoldsSome : Pool → (m : Guid) → Status → Type 0
 HoldsSome p m (Odd r) = Holds p m r
 HoldsSome p m (Even r) = Holds p m r
 HoldsSome p m Lost = ⊥
 
-record IsNear (p : Pool) (d : ℕ) (m : Guid) (acked : Rec) (status : Status) : Type 0 where
-  member : p.member d ≡ true
-  number : p.guid d ≡ m
-  acked_is : p.acked ≡ acked
-  status_is : p.status d ≡ status
-  holds : HoldsSome p m status
-  near : (r : Rec) → IsIn r p.live → takes_part r m ≡ true → number_of r < number_of acked + 32
+pub record IsNear (p : Pool) (d : ℕ) (m : Guid) (acked : Rec) (status : Status) : Type 0 where
+  pub member : p.member d ≡ true
+  pub number : p.guid d ≡ m
+  pub acked_is : p.acked ≡ acked
+  pub status_is : p.status d ≡ status
+  pub holds : HoldsSome p m status
+  pub near : (r : Rec) → IsIn r p.live → takes_part r m ≡ true → number_of r < number_of acked + 32
 
-map_holds : (p q : Pool) (m : Guid) (status : Status) → ((r : Rec) → Holds p m r → Holds q m r) → HoldsSome p m status → HoldsSome q m status
+pub map_holds : (p q : Pool) (m : Guid) (status : Status) → ((r : Rec) → Holds p m r → Holds q m r) → HoldsSome p m status → HoldsSome q m status
 map_holds p q m (Odd r) f h = f r h
 map_holds p q m (Even r) f h = f r h
 map_holds p q m Lost f h = absurd h
 
 -- where nothing of this changes
-same_near : (p q : Pool) (d : ℕ) (m : Guid) (acked : Rec) (status : Status) → q.member d ≡ p.member d
+pub same_near : (p q : Pool) (d : ℕ) (m : Guid) (acked : Rec) (status : Status) → q.member d ≡ p.member d
     → q.guid d ≡ p.guid d → q.acked ≡ p.acked → q.status d ≡ p.status d
     → q.live ≡ p.live → ((r : Rec) → Holds p m r → Holds q m r) → IsNear p d m acked status → IsNear q d m acked status
 same_near p q d m acked status a b e s l f t = record {
@@ -63,7 +63,7 @@ same_near p q d m acked status a b e s l f t = record {
 }
 
 -- a further number is above it
-drawn_holds : (p q : Pool) (m : Guid) (r : Rec) → q.live ≡ p.live → q.highest ≡ p.highest + 1 → Holds p m r → Holds q m r
+pub drawn_holds : (p q : Pool) (m : Guid) (r : Rec) → q.live ≡ p.live → q.highest ≡ p.highest + 1 → Holds p m r → Holds q m r
 drawn_holds p q m r l h holds = (
   subst (IsIn r) (sym l) holds.0,
   holds.1,
@@ -72,7 +72,7 @@ drawn_holds p q m r l h holds = (
 )
 
 -- no group is frozen any more
-thawed_holds : (p q : Pool) (m : Guid) (r : Rec) → q.live ≡ p.live → q.highest ≡ p.highest → q.group.frozen ≡ false → Holds p m r → Holds q m r
+pub thawed_holds : (p q : Pool) (m : Guid) (r : Rec) → q.live ≡ p.live → q.highest ≡ p.highest → q.group.frozen ≡ false → Holds p m r → Holds q m r
 thawed_holds p q m r l h f holds = (
   subst (IsIn r) (sym l) holds.0,
   holds.1,
@@ -116,7 +116,7 @@ begun_same (Odd r) q may = ap (λ t. cond t Lost (Odd r)) (off (slot_of (number_
 begun_same (Even r) q may = absurd may
 begun_same Lost q may = absurd may
 
-begins_near : (c : Codec) (p : Pool) (d : ℕ) (m : Guid) (acked : Rec) (status : Status) (q : Rec) → Survives c p → IsDrawnUp c p q → IsNear p d m acked status
+pub begins_near : (c : Codec) (p : Pool) (d : ℕ) (m : Guid) (acked : Rec) (status : Status) (q : Rec) → Survives c p → IsDrawnUp c p q → IsNear p d m acked status
     → (takes_part q m ≡ true → MayBeginNear acked status q) → IsNear (after (Begins q) p) d m acked status
 begins_near c p d m acked status q sv drawn t may = record {
   member = t.member;
@@ -135,7 +135,7 @@ holds_if p m true new old a h = a refl
 holds_if p m false new old a h = h
 
 -- a third phase begins or ends
-stands_near : (p : Pool) (d e : ℕ) (m : Guid) (acked : Rec) (status new : Status) → IsNear p d m acked status → ((e == d) ≡ true → HoldsSome p m new)
+pub stands_near : (p : Pool) (d e : ℕ) (m : Guid) (acked : Rec) (status new : Status) → IsNear p d m acked status → ((e == d) ≡ true → HoldsSome p m new)
     → IsNear (record p { status = at_device e new p.status }) d m acked (cond (e == d) new status)
 stands_near p d e m acked status new t is = record {
   member = t.member;
@@ -148,7 +148,7 @@ stands_near p d e m acked status new t is = record {
   near = t.near;
 }
 
-third_holds : (p : Pool) (d e : ℕ) (m : Guid) (acked : Rec) (status : Status) (q : Rec) → IsNear p d m acked status → (p.member e ≡ true → MayStand p q e)
+pub third_holds : (p : Pool) (d e : ℕ) (m : Guid) (acked : Rec) (status : Status) (q : Rec) → IsNear p d m acked status → (p.member e ≡ true → MayStand p q e)
     → (e == d) ≡ true → HoldsSome p m (Even q)
 third_holds p d e m acked status q t may here =
     let same = same_device e d here in
@@ -159,7 +159,7 @@ third_holds p d e m acked status q t may here =
       λ f n. true_not_false p.group.fresh n stand.taken,
     )
 
-ends_holds : (p : Pool) (d e : ℕ) (m : Guid) (acked : Rec) (status : Status) (q : Rec) → IsNear p d m acked status → (p.member e ≡ true → MayEnd p q e)
+pub ends_holds : (p : Pool) (d e : ℕ) (m : Guid) (acked : Rec) (status : Status) (q : Rec) → IsNear p d m acked status → (p.member e ≡ true → MayEnd p q e)
     → (e == d) ≡ true → HoldsSome p m (Odd q)
 ends_holds p d e m acked status q t may here =
     let same = same_device e d here in
@@ -169,23 +169,28 @@ ends_holds p d e m acked status q t may here =
     map_even : status ≡ Even q → HoldsSome p m (Odd q)
     map_even e = subst (HoldsSome p m) e t.holds
 
+-- the rule begins with a round that is acknowledged, in which the member takes part
+pub acked_near : (p : Pool) (d : ℕ) (q : Rec) → p.member d ≡ true → takes_part q (p.guid d) ≡ true → MayAck p q
+    → IsNear (after (Acks q) p) d (p.guid d) q (Odd q)
+acked_near p d q member takes may = record {
+  member = member;
+  number = refl;
+  acked_is = refl;
+  status_is = ap (λ b. cond b (p.status d) Lost) takes ∙ may.all d member takes;
+  holds = (inl refl, takes, (let e = may.number_is in omega (arith, e)), λ f n. true_not_false false f refl);
+  near = λ r i takes. only_one (λ r. number_of r < number_of q + 32) q r (omega arith) i;
+}
+
 acks_near : (p : Pool) (d : ℕ) (m : Guid) (acked : Rec) (status : Status) (q : Rec) → IsNear p d m acked status
     → MayAck p q → takes_part q m ≡ true → IsNear (after (Acks q) p) d m q (Odd q)
 acks_near p d m acked status q t may takes =
-    let part : takes_part q (p.guid d) ≡ true = subst (λ g. takes_part q g ≡ true) (sym t.number) takes in
-    record {
-      member = t.member;
-      number = t.number;
-      acked_is = refl;
-      status_is = ap (λ b. cond b (p.status d) Lost) part ∙ may.all d t.member part;
-      holds = (inl refl, takes, (let e = may.number_is in omega (arith, e)), λ f n. true_not_false false f refl);
-      near = λ r i takes. only_one (λ r. number_of r < number_of q + 32) q r (omega arith) i;
-    }
+    subst (λ g. IsNear (after (Acks q) p) d g q (Odd q)) t.number
+    (acked_near p d q t.member (subst (λ g. takes_part q g ≡ true) (sym t.number) takes) may)
 
 other_device : (e d : ℕ) → e ≢ d → (e == d) ≡ false
 other_device e d ne = grind (arith, nat_tests)
 
-loses_near : (p : Pool) (d e : ℕ) (m : Guid) (acked : Rec) (status : Status) → IsNear p d m acked status → e ≢ d → IsNear (after (Loses e) p) d m acked status
+pub loses_near : (p : Pool) (d e : ℕ) (m : Guid) (acked : Rec) (status : Status) → IsNear p d m acked status → e ≢ d → IsNear (after (Loses e) p) d m acked status
 loses_near p d e m acked status t ne = record {
   member = at_away e d false p.member (other_device e d ne) ∙ t.member;
   number = t.number;
@@ -195,7 +200,7 @@ loses_near p d e m acked status t ne = record {
   near = t.near;
 }
 
-joins_near : (p : Pool) (d e : ℕ) (m n : Guid) (top : ℕ) (acked : Rec) (status : Status) → IsNear p d m acked status
+pub joins_near : (p : Pool) (d e : ℕ) (m n : Guid) (top : ℕ) (acked : Rec) (status : Status) → IsNear p d m acked status
     → e ≢ d → m.0 ≢ n.0 → IsNear (after (Joins e n top) p) d m acked status
 joins_near p d e m n top acked status t ne other = record {
   member = at_away e d true (other_than n p.guid p.member) away
@@ -210,7 +215,7 @@ joins_near p d e m n top acked status t ne other = record {
     away : (e == d) ≡ false
     away = other_device e d ne
 
-opens_near : (p : Pool) (d : ℕ) (m : Guid) (acked : Rec) (status : Status) (r : Rec) → IsNear p d m acked status
+pub opens_near : (p : Pool) (d : ℕ) (m : Guid) (acked : Rec) (status : Status) (r : Rec) → IsNear p d m acked status
     → IsNotBelow status r → IsNear (after (Opens r) p) d m acked status
 opens_near p d m acked status r t low = record {
   member = t.member;
@@ -279,18 +284,11 @@ pub near_labels : (c : Codec) (p : Pool) (d : ℕ) (q : Rec) (vs : List Event) �
     → takes_part q (p.guid d) ≡ true → Mays c p (Acks q ∷ vs)
     → KeepsNear d (p.guid d) q (Odd q) vs → KeepsLabels (after (Acks q) p) d vs
 near_labels c p d q vs sv member takes mays near =
-    subst (λ status. Keeps d (p.guid d) status vs) (sym odd)
-    (near_keeps c vs (after (Acks q) p) d (p.guid d) q (Odd q) (event_survives c p (Acks q) sv mays.0) (record {
-      member = member;
-      number = refl;
-      acked_is = refl;
-      status_is = odd;
-      holds = (inl refl, takes, (let e = mays.0.number_is in omega (arith, e)), λ f n. true_not_false false f refl);
-      near = λ r i takes. only_one (λ r. number_of r < number_of q + 32) q r (omega arith) i;
-    }) mays.1 near)
+    subst (λ status. Keeps d (p.guid d) status vs) (sym start.status_is)
+    (near_keeps c vs (after (Acks q) p) d (p.guid d) q (Odd q) (event_survives c p (Acks q) sv mays.0) start mays.1 near)
   where
-    odd : (after (Acks q) p).status d ≡ Odd q
-    odd = ap (λ b. cond b (p.status d) Lost) takes ∙ mays.0.all d member takes
+    start : IsNear (after (Acks q) p) d (p.guid d) q (Odd q)
+    start = acked_near p d q member takes mays.0
 
 -- So it does from a third phase on, whatever the labels held before.
 pub near_again : (c : Codec) (p : Pool) (d : ℕ) (q : Rec) (vs : List Event) → Survives c p → p.member d ≡ true → Mays c p (Third q d ∷ vs)

@@ -26,7 +26,7 @@ acked_below c p r sv w = of (sv.order.acks_below w.twin w.acked)
 pub drawn_again : (p : Pool) (q r : Rec) → AreTwins r q → HasTwin (after (Begins q) p) r × HasTwin (after (Acks q) p) r
 drawn_again p q r are = (record { twin = q; is_live = inl refl; are = are }, record { twin = q; is_live = inl refl; are = are })
 
-above_in : (n : ℕ) (r : Rec) (rs : List Rec) → IsIn r (above n rs) → IsIn r rs × (n < number_of r)
+pub above_in : (n : ℕ) (r : Rec) (rs : List Rec) → IsIn r (above n rs) → IsIn r rs × (n < number_of r)
 above_in n r [] i = absurd i
 above_in n r (q ∷ rs) i = by_test (nat_lt n (number_of q)) refl (λ j. above_in n r rs j) i
   where

@@ -1,0 +1,18 @@
+-- The premises of an opening, from what a user can check.
+use Rattle.txg_history.specs.Events.{Known}
+use Rattle.txg_history.specs.Pages.{Codec}
+use Rattle.txg_history.specs.Premises.{Premises}
+use Rattle.txg_history.proofs.Calming.{no_clash}
+use Rattle.pool_runs.specs.Pasts.{Past, pool_of, IsAllowed}
+use Rattle.pool_runs.specs.PlainPremises.{MeetsPremises}
+use Rattle.pool_runs.proofs.LabelsKeepUp.{labels_keep_up}
+use Rattle.pool_runs.proofs.StraysOverRuns.{none_passed}
+
+pub premises_met : (c : Codec) (past : Past) (known : Known) → IsAllowed c past → MeetsPremises c past known
+    → Premises c.head_of (pool_of past) known
+premises_met c past known ok meets = record {
+  no_clash = no_clash c.head_of (pool_of past) known meets.strings meets.sums meets.there meets.rings;
+  no_stray = none_passed c past known ok meets.ours meets.passed;
+  good = meets.good;
+  sound_labels = labels_keep_up c past known meets.good ok meets.is_member meets.keeps_up meets.unhurt meets.is_read;
+}
