@@ -13,7 +13,9 @@ use Rattle.txg_history.specs.Premises.{HasSoundLabels}
 use Rattle.txg_history.specs.Records.{Rec}
 use Rattle.txg_history.specs.Tracking.{HasPromise}
 use Rattle.txg_history.proofs.Logging.{by_bool, true_not_false, at_here, at_away}
-use Rattle.txg_history.proofs.Nearing.{IsNear, map_holds, same_near, drawn_holds, thawed_holds, begins_near, stands_near, third_holds, ends_holds, acked_near, opens_near, joins_near, loses_near}
+use Rattle.txg_history.proofs.Nearing.{IsNear, map_holds, same_near, drawn_holds, thawed_holds, begins_near}
+use Rattle.txg_history.proofs.Nearing.{stands_near, third_holds, ends_holds, acked_near, opens_near, joins_near}
+use Rattle.txg_history.proofs.Nearing.{loses_near}
 use Rattle.txg_history.proofs.Tracked.{promise_holds}
 use Rattle.txg_history.proofs.Verified.{labels_sound}
 use Rattle.pool_runs.specs.Pasts.{Past, Born, Then, Numbered, pool_of, IsAllowed}

@@ -34,6 +34,7 @@ pub mod ReadsBehind
 pub mod Running
 pub mod Seating
 pub mod SmallRuns
+pub mod SmallRunsMeetPremises
 pub mod Sparing
 pub mod Stamps
 pub mod StraysOverRuns

@@ -51,10 +51,10 @@ use Rattle.pool_runs.specs.Fairness.{AreFair}
 use Rattle.pool_runs.specs.Headline.{Headline}
 use Rattle.pool_runs.specs.HostRows.{AreMade, WriteLine, ReadLine, SyncLine, OnPool, HostRow, acts_of, acts_in, IsRun}
 use Rattle.pool_runs.specs.Hosts.{Host, named, moved, host_by, host_along}
-use Rattle.pool_runs.specs.Pasts.{pool_of, then_all, Left, BeginsRun, in_size, next_past}
+use Rattle.pool_runs.specs.Pasts.{pool_of, then_all, Left, BeginsRun, in_size}
 use Rattle.pool_runs.specs.Knowing.{IsOwnCall, IsOwnMove, AreOwnActs}
 use Rattle.pool_runs.specs.Lines.{To_write, To_read, To_sync}
-use Rattle.pool_runs.specs.SmallRuns.{small_table, small_host, small_name, small_pool, small_tops, small_birth, small_state, small_member, small_stamp, small_head, small_pointer, small_codec, small_commit, small_draft, small_first, small_thirds, small_round, small_founding, small_made, small_written, small_freeze, small_turn, small_flush, small_last, small_turns, small_sync, small_bytes, small_branch, answered, all_answered, small_device, small_create, small_later, small_born, small_rest, small_past, small_images, small_next}
+use Rattle.pool_runs.specs.SmallRuns.{small_table, small_host, small_name, small_pool, small_tops, small_birth, small_state, small_member, small_stamp, small_head, small_pointer, small_codec, small_commit, small_draft, small_first, small_thirds, small_round, small_founding, small_made, small_written, small_freeze, small_turn, small_flush, small_last, small_turns, small_sync, small_bytes, small_branch, answered, all_answered, small_device, small_create, small_later, small_born, small_rest, small_past, small_images, small_next, small_again}
 use Rattle.pool_runs.proofs.Acting.{same_number}
 use Rattle.pool_runs.proofs.Bearing.{born_headline}
 use Rattle.pool_runs.proofs.Knowing.{acts_number, moved_own, moved_number}
@@ -155,29 +155,29 @@ open_along (v ∷ vs) h s number has = open_along vs (host_by (Does small_pool.0
     })
 
 -- The record of a number is one.
-small_blob : length (small_commit 0).blob ≡ 4096
-small_blob = let zero : ℕ = 0 in ap (λ n. suc (suc n)) (length-replicate 4094 zero)
+small_blob : (n : ℕ) → length (small_commit n).blob ≡ 4096
+small_blob n = let none : ℕ = 0 in ap suc (length-replicate 4095 none)
 
-small_is : (block : List ℕ) (n : ℕ) (m : Member) → 1 ≤ n → n ≤ 2 → length (config_of (small_commit n)) ≡ n → m.guid.0 < 2 ^ 64
+small_is : (block : List ℕ) (n : ℕ) (m : Member) → 1 ≤ n → n ≤ 2 → m.guid.0 < 2 ^ 64
     → IsRecord (small_codec block).head_of (uberblock_of (small_commit n) m) (small_commit n).blob (config_of (small_commit n))
 unfolding sector_size
-small_is block n m one two long low = record {
+small_is block n m one two low = record {
   in_range = record {
     pool = number_fits small_name 1;
     member = low;
     number = omega (arith, two);
-    config = omega (arith, two);
+    config = omega arith;
     sum = length-sha256 (config_of (small_commit n));
-    no_config = λ none. none;
+    no_config = λ none. absurd (omega (arith, one, none));
     no_sum = λ none. absurd (omega (arith, one, none));
   };
   some = one;
-  whole = ap (λ n. n % sector_size) small_blob;
-  most = subst (λ n. n / sector_size ≤ config_sectors) (sym small_blob) (omega arith);
-  within = subst (λ k. n ≤ k) (sym small_blob) (omega (arith, two));
+  whole = ap (λ n. n % sector_size) (small_blob n);
+  most = subst (λ n. n / sector_size ≤ config_sectors) (sym (small_blob n)) (omega arith);
+  within = subst (λ k. 1 ≤ k) (sym (small_blob n)) (omega arith);
   config_is = refl;
   sum = refl;
-  headed = record { head = small_head (config_of (small_commit n)); reads = refl; pool_is = refl; number_is = ap (λ k. record { 0 = k }) long };
+  headed = record { head = small_head n; reads = refl; pool_is = refl; number_is = refl };
 }
 
 no_sums : (k : Key) (sum : Sum) → sums_over (λ j. None) (λ j. None) k ≡ Some sum → IsOfVolume 1 k
@@ -187,8 +187,8 @@ fits_first : (block : List ℕ) → FitsState (small_codec block) (steps small_f
 fits_first block = record {
   pool_is = refl;
   number_is = refl;
-  is_record = λ m low. small_is block 1 m (omega arith) (omega arith) refl low;
-  name_is = λ head is. ap (λ h. h.name) (same_head (small_head (config_of (small_commit 1))) head is);
+  is_record = λ m low. small_is block 1 m (omega arith) (omega arith) low;
+  name_is = λ head is. ap (λ h. h.name) (same_head (small_head 1) head is);
   room_is = refl;
   inside = no_sums;
   root = refl;
@@ -583,8 +583,8 @@ small_fits : (block : List ℕ) → FitsState (small_codec block) (steps small_f
 small_fits block = record {
   pool_is = refl;
   number_is = refl;
-  is_record = λ m low. small_is block 2 m (omega arith) (omega arith) refl low;
-  name_is = λ head is. ap (λ h. h.name) (same_head (small_head (config_of (small_commit 2))) head is);
+  is_record = λ m low. small_is block 2 m (omega arith) (omega arith) low;
+  name_is = λ head is. ap (λ h. h.name) (same_head (small_head 2) head is);
   room_is = refl;
   inside = volume_keys block;
   root = refl;
@@ -776,7 +776,7 @@ take_all : {A : Type 0} (xs : List A) → take (length xs) xs ≡ xs
 take_all [] = refl
 take_all (x ∷ xs) = ap (λ more. x ∷ more) (take_all xs)
 
-small_left : (block : List ℕ) → length block ≡ 4096 → Left (small_codec block) (small_past block)
+pub small_left : (block : List ℕ) → length block ≡ 4096 → Left (small_codec block) (small_past block)
     (host_along (small_rest block) (host_by (Bears small_birth) (host_stamped (host_by (Hears 1) small_host) small_pool.0 (small_stamp ∷ []))))
 small_left block long = subst (λ acts. Left (small_codec block) (then_all small_born (history acts (pool_of small_born)))
     (host_along acts (host_by (Bears small_birth) (host_stamped (host_by (Hears 1) small_host) small_pool.0 (small_stamp ∷ []))))) (take_all (small_rest block))
@@ -786,8 +786,7 @@ small_left block long = subst (λ acts. Left (small_codec block) (then_all small
     }))
 
 pub small_stops : (block : List ℕ) (other : ℕ) → length block ≡ 4096 → (pool_of (small_past block)).member other ≡ false
-    → BeginsRun (small_codec block) (next_past (small_past block) (in_size (small_past block) (λ d. d) other (small_next block)) (name_in small_table)
-    (small_images block) (small_next block)) (small_next block)
+    → BeginsRun (small_codec block) (small_again block other) (small_next block)
 small_stops block other long none = let left = small_left block long in
     next_begins (small_codec block) (small_past block) (λ d. d) (name_in small_table) (small_images block) (small_next block) other left.allowed
     (record {

@@ -1,5 +1,5 @@
 -- A small run: a pool is made on one device, a block is written, read and synced.
-use Rattle.std.specs.Prelude.{ℕ, zero, suc, ◌==◌, true, false, cond, List, [], ◌∷◌, ◌++◌, map, replicate, length, Option, Some, None}
+use Rattle.std.specs.Prelude.{ℕ, zero, suc, ◌==◌, true, false, cond, List, [], ◌∷◌, ◌++◌, map, replicate, Option, Some, None}
 use Rattle.bank_core.specs.Asks.{Ask, Writes}
 use Rattle.bank_core.specs.Disk.{Write, Flush, Noted, Nothing, sector_size, after_crash}
 use Rattle.label_store.specs.declared.member.Member.{Member}
@@ -24,11 +24,11 @@ use Rattle.pool_moves.specs.TurnRows.{round_moves}
 use Rattle.pool_moves.specs.Walking.{as_moves}
 use Rattle.pool_runs.specs.Acts.{Act, Birth, Gives_for, Marks, Hears, Names, Bears, does, history}
 use Rattle.pool_runs.specs.Creating.{tops_of, leaves_of, new_birth, stamp_acts, pool_number, host_stamped, commit_acts}
-use Rattle.pool_runs.specs.Devices.{Device, size_in}
+use Rattle.pool_runs.specs.Devices.{Device, name_in, size_in}
 use Rattle.pool_runs.specs.Hosts.{Host, host_by}
 use Rattle.pool_runs.specs.HostRows.{acts_in}
 use Rattle.pool_runs.specs.Lines.{Asks_write, Asks_read, Asks_sync, Asks_create, To_write, To_read, To_sync, To_create, Entry}
-use Rattle.pool_runs.specs.Pasts.{Past, Born, pool_of, then_all}
+use Rattle.pool_runs.specs.Pasts.{Past, Born, pool_of, then_all, in_size, next_past}
 
 -- One device, of 320 sectors, and a host that begins with it: no pool is open, and nothing was ever written.
 abbrev pub small_device : List ℕ
@@ -67,21 +67,25 @@ small_bytes block (suc level) = suc level ∷ replicate 4095 0
 abbrev pub small_branch : (block : List ℕ) → Branch
 small_branch block = record { birth = 2; top = 1; bytes = small_bytes block }
 
--- A configuration is told by its length, and a page by its first byte.
+-- A configuration is its record's number alone, and a page is told by its first byte.
 abbrev pub small_root : (block : List ℕ) → (config : List ℕ) → Option Sum
-small_root block (a ∷ (b ∷ config)) = sum_of (Some (cell_on (small_branch block) 3))
-small_root block config = None
+small_root block [] = None
+small_root block (n ∷ config) = cond (n == 2) (sum_of (Some (cell_on (small_branch block) 3))) None
 
 abbrev pub small_pointer : (block page : List ℕ) → (j : ℕ) → Option Sum
 small_pointer block (suc level ∷ page) j = cond (j == 0) (sum_of (Some (cell_on (small_branch block) level))) None
 small_pointer block page j = None
 
-abbrev pub small_head : (config : List ℕ) → Head
-small_head config = record { pool = small_pool; name = small_name; number = record { 0 = length config } }
+abbrev pub small_head : (number : ℕ) → Head
+small_head number = record { pool = small_pool; name = small_name; number = record { 0 = number } }
+
+abbrev pub small_head_of : (config : List ℕ) → Option Head
+small_head_of (n ∷ []) = Some (small_head n)
+small_head_of config = None
 
 abbrev pub small_codec : (block : List ℕ) → Codec
 small_codec block = record {
-  head_of = λ config. Some (small_head config);
+  head_of = small_head_of;
   blocks = λ config. 1;
   room = λ config. new_room (size_in small_table) (leaves_of small_table small_tops);
   top_number = λ config. new_top_number (tops_of small_table small_tops);
@@ -104,7 +108,7 @@ all_answered asks = map answered asks
 
 -- The record of this number.
 abbrev pub small_commit : (number : ℕ) → Commit
-small_commit number = record { pool = small_pool; number = record { 0 = number }; blob = 0 ∷ (0 ∷ replicate 4094 0); length = number }
+small_commit number = record { pool = small_pool; number = record { 0 = number }; blob = number ∷ replicate 4095 0; length = 1 }
 
 -- A round in which each call answers Ok, and its third phase.
 abbrev pub small_thirds : (draft : Draft) → List Move
@@ -186,3 +190,8 @@ small_images block d s = ((pool_of (small_past block)).sectors d s).stable
 
 abbrev pub small_next : (block : List ℕ) → Host
 small_next block = record small_host { disk = after_crash (pool_of (small_past block)).sectors (small_images block) }
+
+-- The pool's past as that run finds it; the other number is no member's.
+abbrev pub small_again : (block : List ℕ) → (other : ℕ) → Past
+small_again block other = next_past (small_past block) (in_size (small_past block) (λ d. d) other (small_next block)) (name_in small_table)
+    (small_images block) (small_next block)

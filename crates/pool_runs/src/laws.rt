@@ -1,19 +1,23 @@
 //! The laws of a host's runs (docs/MODEL.md, "The host and its runs").
-ghost use Rattle.std.specs.Prelude.{◌≡◌, ℕ, false, List, [], ◌∷◌, length};
+ghost use Rattle.std.specs.Prelude.{◌≡◌, ◌≢◌, ℕ, false, List, [], ◌∷◌, length, None};
+ghost use Rattle.txg_history.specs.Events.{Known};
+ghost use Rattle.txg_history.specs.Moves.{ReadsTrue};
 ghost use Rattle.txg_history.specs.Numbering.{renumbered};
+ghost use Rattle.txg_history.specs.Openings.{IsReadWhole};
 ghost use Rattle.txg_history.specs.Pages.{Codec};
+ghost use Rattle.txg_history.specs.Premises.{Premises};
 ghost use Rattle.pool_moves.specs.StampRow.{Created};
 ghost use Rattle.pool_runs.specs.Acts.{Act, Bears, pool_along, born};
 ghost use Rattle.pool_runs.specs.Committing.{FoundsPool};
 ghost use Rattle.pool_runs.specs.Creating.{Creates, IsNew, new_birth, host_stamped, commit_acts};
-ghost use Rattle.pool_runs.specs.Devices.{name_in};
 ghost use Rattle.pool_runs.specs.Fairness.{AreFair};
 ghost use Rattle.pool_runs.specs.Headline.{Headline};
 ghost use Rattle.pool_runs.specs.HostRows.{IsRun};
 ghost use Rattle.pool_runs.specs.Hosts.{Host, host_by, host_along};
 ghost use Rattle.pool_runs.specs.Lines.{Reply, To_create, Entry};
 ghost use Rattle.pool_runs.specs.Pasts.{Past, Born, pool_of, IsAllowed, BeginsRun, IsNext, AreNamed, in_size, next_past};
-ghost use Rattle.pool_runs.specs.SmallRuns.{small_table, small_host, small_codec, small_create, small_later, small_born, small_rest, small_past, small_images, small_next};
+ghost use Rattle.pool_runs.specs.PlainPremises.{KeepsUp};
+ghost use Rattle.pool_runs.specs.SmallRuns.{small_host, small_codec, small_create, small_later, small_born, small_rest, small_past, small_next, small_again};
 
 /// A run keeps each pool that its devices had, and a stop at any moment of it leaves what a further run may begin with. It
 /// computes nothing: its clauses are the law.
@@ -43,10 +47,15 @@ pub fn runs_keep_each_pool()
 ///
 /// `run`: its four lines are rows. `fair`: nothing that is assumed of its acts fails, for the pool that it makes; so all that
 /// `runs_keep_each_pool` says of that pool holds at each of its moments. `stops`: the machine stops behind it, and a further run may begin.
+/// `keeps_up`: by the rule by numbers its device keeps up into that run. `premises`: those of an opening hold there, for whoever reads the
+/// labels of this one device whole, and nothing of another.
 pub fn small_runs_are_runs()
     ensures run { (block : List ℕ) → length block ≡ 4096 → IsRun (small_codec block) small_host (small_create ∷ small_later block) }
     ensures fair { (block : List ℕ) → AreFair (small_codec block) (pool_of small_born) (small_rest block) }
     ensures stops { (block : List ℕ) (other : ℕ) → length block ≡ 4096 → (pool_of (small_past block)).member other ≡ false
-        → BeginsRun (small_codec block) (next_past (small_past block) (in_size (small_past block) (λ d. d) other (small_next block)) (name_in small_table)
-        (small_images block) (small_next block)) (small_next block) }
+        → BeginsRun (small_codec block) (small_again block other) (small_next block) }
+    ensures keeps_up { (block : List ℕ) (other : ℕ) → KeepsUp (small_again block other) 0 }
+    ensures premises { (block : List ℕ) (other : ℕ) (known : Known) → length block ≡ 4096 → (pool_of (small_past block)).member other ≡ false
+        → ReadsTrue (pool_of (small_again block other)).sectors known → IsReadWhole 320 (known 0) → ((d s : ℕ) → d ≢ 0 → known d s ≡ None)
+        → Premises (small_codec block).head_of (pool_of (small_again block other)) known }
 {}

@@ -116,8 +116,8 @@ begun_same (Odd r) q may = ap (λ t. cond t Lost (Odd r)) (off (slot_of (number_
 begun_same (Even r) q may = absurd may
 begun_same Lost q may = absurd may
 
-pub begins_near : (c : Codec) (p : Pool) (d : ℕ) (m : Guid) (acked : Rec) (status : Status) (q : Rec) → Survives c p → IsDrawnUp c p q → IsNear p d m acked status
-    → (takes_part q m ≡ true → MayBeginNear acked status q) → IsNear (after (Begins q) p) d m acked status
+pub begins_near : (c : Codec) (p : Pool) (d : ℕ) (m : Guid) (acked : Rec) (status : Status) (q : Rec) → Survives c p → IsDrawnUp c p q
+    → IsNear p d m acked status → (takes_part q m ≡ true → MayBeginNear acked status q) → IsNear (after (Begins q) p) d m acked status
 begins_near c p d m acked status q sv drawn t may = record {
   member = t.member;
   number = t.number;
@@ -190,7 +190,8 @@ acks_near p d m acked status q t may takes =
 other_device : (e d : ℕ) → e ≢ d → (e == d) ≡ false
 other_device e d ne = grind (arith, nat_tests)
 
-pub loses_near : (p : Pool) (d e : ℕ) (m : Guid) (acked : Rec) (status : Status) → IsNear p d m acked status → e ≢ d → IsNear (after (Loses e) p) d m acked status
+pub loses_near : (p : Pool) (d e : ℕ) (m : Guid) (acked : Rec) (status : Status) → IsNear p d m acked status → e ≢ d
+    → IsNear (after (Loses e) p) d m acked status
 loses_near p d e m acked status t ne = record {
   member = at_away e d false p.member (other_device e d ne) ∙ t.member;
   number = t.number;
