@@ -289,11 +289,11 @@ sync_all c size s t vs n begun kept row =
     }
 
 -- A turn acknowledges what was written before its group's freeze.
-abbrev KeepsContent : Move → Type 0
+abbrev pub KeepsContent : Move → Type 0
 KeepsContent (Freeze cells board) = ⊥
 KeepsContent v = Unit {0}
 
-content_kind : IsKind KeepsContent
+pub content_kind : IsKind KeepsContent
 content_kind = record {
   calls = λ noted. tt;
   leave = λ d. tt;
@@ -317,11 +317,11 @@ content_along : (vs more : List Move) (t : Side) → AllByRecursion KeepsContent
 content_along [] more t all = refl
 content_along (v ∷ vs) more t all = content_along vs more (after_move v t) all.1 ∙ move_content v t.pool all.0
 
-walk_first : (c : Codec) (vs ws : List Move) (t : Side) → Walks c t (vs ++ ws) → Walks c t vs
+pub walk_first : (c : Codec) (vs ws : List Move) (t : Side) → Walks c t (vs ++ ws) → Walks c t vs
 walk_first c [] ws t walks = tt
 walk_first c (v ∷ vs) ws t walks = (walks.0, walk_first c vs ws (after_move v t) walks.1)
 
-walk_second : (c : Codec) (vs ws : List Move) (t : Side) → Walks c t (vs ++ ws) → Walks c (after_moves vs t) ws
+pub walk_second : (c : Codec) (vs ws : List Move) (t : Side) → Walks c t (vs ++ ws) → Walks c (after_moves vs t) ws
 walk_second c [] ws t walks = walks
 walk_second c (v ∷ vs) ws t walks = walk_second c vs ws (after_move v t) walks.1
 

@@ -1,7 +1,7 @@
 -- The headline, from what a host knows of a pool and from the rows of a run.
 use Rattle.bank_core.specs.Disk.{run}
 use Rattle.txg_history.specs.Records.{Rec, IsIn, key}
-use Rattle.std.proofs.Common.{◌≡◌, ◌⊎◌, inl, inr, ℕ, ◌<◌, ◌≤◌, Bool, true, false, List, [], ◌∷◌, ◌++◌, take, map, remove, Some, refl, sym, ap, ◌∙◌, subst, arith, Option, None}
+use Rattle.std.proofs.Common.{◌≡◌, ◌≢◌, ◌⊎◌, inl, inr, ℕ, ◌<◌, ◌≤◌, Bool, true, false, List, [], ◌∷◌, ◌++◌, take, map, remove, Some, refl, sym, ap, ◌∙◌, subst, arith, Option, None}
 use Rattle.mp_base.specs.Outside.{Rose}
 use Rattle.mp_base.specs.declared.number.Guid.{Guid}
 use Rattle.bank_core.specs.Calls.{AllCaused}
@@ -47,6 +47,7 @@ use Rattle.pool_runs.specs.Pasts.{Past, pool_of, Left, BeginsRun, HasFrozen}
 use Rattle.pool_runs.proofs.Acting.{history_pool}
 use Rattle.pool_runs.proofs.Answering.{all_answer, does_calls, marked_calls}
 use Rattle.pool_runs.proofs.Committing.{sync_all, first_all, does_pool, turn_all, detach_all}
+use Rattle.pool_runs.proofs.SuspendedAckNothing.{first_of_two}
 use Rattle.pool_runs.proofs.Suspending.{turn_counts, sync_counts}
 use Rattle.pool_runs.proofs.GraftsNameTheFailed.{graft_counts}
 use Rattle.pool_runs.proofs.Finding.{import_finds}
@@ -257,6 +258,26 @@ line_first c h p e name s reply met asked at frozen none is = of met.row
         let done : RowSync c (size_in h.table) s vs reply = subst (RowSync c (size_in h.table) s vs) (sync_reply line.0 reply (sym line.1 ∙ is)) line.2.row in
         let all = first_all c (size_in h.table) s t vs reply has.1 (sync_walks c (size_in h.table) s t vs reply has.1 met.knows.sizes done) none
         (subst (λ f. SyncBy f c (size_in h.table) s vs reply) frozen done) in
+        (all.0, subst (λ q. CommitsGroup p q all.0) (sym (ap (λ a. pool_along a p) line.2.are ∙ does_pool s.core.pool.0 vs t (sym at.ours))) all.1)
+    of (inr out) = sync_not_memory reply (sym is ∙ out.says)
+
+-- A sync that tells another group than the one which was frozen acknowledged that one.
+line_second : (c : Codec) (h : Host) (p : Pool) (e : Entry) (name : List ℕ) (s : PoolState) (group : ℕ) (top : Guid) (faults : ℕ) → Meets c h p e
+    → e.asked ≡ Asks_sync name → IsOpenAs p h name s → s.core.group.frozen ≡ true → s.core.group.first ≢ group
+    → e.reply ≡ To_sync (Ended (Suspended group top faults)) → (n : ℕ) × CommitsGroup p (pool_along e.acts p) n
+line_second c h p e name s group top faults met asked at frozen other is = of met.row
+  where
+    reply : SyncReply
+    reply = Ended (Suspended group top faults)
+
+    of : HostRow c h e → (n : ℕ) × CommitsGroup p (pool_along e.acts p) n
+    of (inl row) = let line = on_open h name s (SyncLine c h) e.acts e.reply at.named (subst (λ x. RowOf c h x e.acts e.reply) asked row.0) in
+        let has = met.knows.stands s (named_open name s h.pools at.named) at.ours in
+        let t : Side = record { pool = p; seats = has.0 } in
+        let vs = line.2.moves in
+        let done : RowSync c (size_in h.table) s vs reply = subst (RowSync c (size_in h.table) s vs) (sync_reply line.0 reply (sym line.1 ∙ is)) line.2.row in
+        let all = first_of_two c (size_in h.table) s t vs group top faults has.1 (sync_walks c (size_in h.table) s t vs reply has.1 met.knows.sizes done)
+        frozen other (subst (λ f. SyncBy f c (size_in h.table) s vs reply) frozen done) in
         (all.0, subst (λ q. CommitsGroup p q all.0) (sym (ap (λ a. pool_along a p) line.2.are ∙ does_pool s.core.pool.0 vs t (sym at.ours))) all.1)
     of (inr out) = sync_not_memory reply (sym is ∙ out.says)
 
@@ -493,6 +514,8 @@ headline_from c past h acts entries f = record {
   commits = λ l. record {
     syncs = λ name s n asked at is. line_syncs c (host_before h l) (pool_before l) l.entry name s n (meets c past h acts entries f l) asked at is;
     first = λ name s reply asked at frozen none is. line_first c (host_before h l) (pool_before l) l.entry name s reply (meets c past h acts entries f l) asked at frozen none is;
+    second = λ name s group top faults asked at frozen other is. line_second c (host_before h l) (pool_before l) l.entry name s group top faults
+        (meets c past h acts entries f l) asked at frozen other is;
     turns = λ name s n asked at is. line_turns c (host_before h l) (pool_before l) l.entry name s n (meets c past h acts entries f l) asked at is;
     detaches = λ name leaf s n asked at is. line_detaches c (host_before h l) (pool_before l) l.entry name leaf s n (meets c past h acts entries f l) asked at is;
   };

@@ -38,6 +38,7 @@ pub mod SmallRunsMeetPremises
 pub mod Sparing
 pub mod Stamps
 pub mod StraysOverRuns
+pub mod SuspendedAckNothing
 pub mod Suspending
 pub mod SyncsLoseATop
 pub mod Writing

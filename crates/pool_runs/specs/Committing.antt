@@ -1,12 +1,13 @@
 -- What an acknowledged sync or turn, and an opening, come to.
-use Rattle.std.specs.Prelude.{◌≡◌, ℕ, ◌+◌, ◌<◌, ◌≤◌, true, List, [], ◌∷◌, length, Option, Some, None}
+use Rattle.std.specs.Prelude.{◌≡◌, ◌≢◌, ℕ, ◌+◌, ◌<◌, ◌≤◌, true, List, [], ◌∷◌, length, Option, Some, None}
 use Rattle.label_store.specs.Rounds.{config_of}
 use Rattle.mp_base.specs.Block.{zero_block}
+use Rattle.mp_base.specs.declared.number.Guid.{Guid}
 use Rattle.mp_base.specs.declared.place.Key.{Key}
 use Rattle.txg_history.specs.Pages.{Codec}
 use Rattle.txg_history.specs.Pools.{Pool}
 use Rattle.txg_history.specs.Records.{Rec, IsIn, number_of, block_at}
-use Rattle.pool_moves.specs.LineRows.{Committed, SyncReply, Ended}
+use Rattle.pool_moves.specs.LineRows.{Committed, Suspended, SyncReply, Ended}
 use Rattle.pool_moves.specs.Opened.{opened_leaves}
 use Rattle.pool_moves.specs.OpeningRow.{last_numbers, IsLostPage}
 use Rattle.pool_moves.specs.PageReads.{LeafShown, answers_in}
@@ -43,12 +44,15 @@ FreezesNone (Ended turn) = ⊥
 FreezesNone reply = Unit {0}
 
 -- A sync, a turn or a detach of the open pool that answers a number acknowledged that record. And where a group was frozen, a sync whose own freeze
--- was refused, or found no memory, acknowledged the frozen one before.
+-- was refused, or found no memory, acknowledged the frozen one before; and so did one that tells another group than that as suspended.
 pub record Acknowledges (h : Host) (before behind : Pool) (e : Entry) : Type 0 where
   pub syncs : (name : List ℕ) (s : PoolState) (n : ℕ) → e.asked ≡ Asks_sync name → IsOpenAs before h name s → e.reply ≡ To_sync (Ended (Committed n))
       → CommitsAll before behind n
   pub first : (name : List ℕ) (s : PoolState) (reply : SyncReply) → e.asked ≡ Asks_sync name → IsOpenAs before h name s → s.core.group.frozen ≡ true
       → FreezesNone reply → e.reply ≡ To_sync reply → (n : ℕ) × CommitsGroup before behind n
+  pub second : (name : List ℕ) (s : PoolState) (group : ℕ) (top : Guid) (faults : ℕ) → e.asked ≡ Asks_sync name → IsOpenAs before h name s
+      → s.core.group.frozen ≡ true → s.core.group.first ≢ group → e.reply ≡ To_sync (Ended (Suspended group top faults))
+      → (n : ℕ) × CommitsGroup before behind n
   pub turns : (name : List ℕ) (s : PoolState) (n : ℕ) → e.asked ≡ Asks_turn name → IsOpenAs before h name s → e.reply ≡ To_turn (Committed n)
       → CommitsGroup before behind n
   pub detaches : (name leaf : List ℕ) (s : PoolState) (n : ℕ) → e.asked ≡ Asks_detach name leaf → IsOpenAs before h name s → e.reply ≡ To_detach (Detached n)

@@ -66,7 +66,7 @@ pub record Headline (c : Codec) (past : Past) (h : Host) (acts : List Act) (entr
       → AreFairLooks c (pool_before l) l.entry.acts
       → FindsPool c (host_before h l) (pool_before l) (pool_behind l) (host_after h l) l.entry.acts l.entry.reply
   -- a sync, a turn or a detach that answers a number acknowledged that record; a sync's and a detach's has each block as it was written last, and a turn's
-  -- as it was before the group was frozen; and a sync that freezes none acknowledged the group that was frozen before
+  -- as it was before the group was frozen; and a sync that freezes none, or tells a later group as suspended, acknowledged the group that was frozen before
   pub commits : (l : LineOf c past acts entries) → Acknowledges (host_before h l) (pool_before l) (pool_behind l) l.entry
   -- a write that is taken puts its block where it says, and nothing else but an import of the pool changes what was written last
   pub writes : (l : LineOf c past acts entries) → KeepsWrites c (host_before h l) (pool_before l) (pool_behind l) l.entry
