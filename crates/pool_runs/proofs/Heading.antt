@@ -519,7 +519,7 @@ headline_from c past h acts entries f = record {
     turns = λ name s n asked at is. line_turns c (host_before h l) (pool_before l) l.entry name s n (meets c past h acts entries f l) asked at is;
     detaches = λ name leaf s n asked at is. line_detaches c (host_before h l) (pool_before l) l.entry name leaf s n (meets c past h acts entries f l) asked at is;
   };
-  writes = λ l. entry_writes c (host_before h l) (pool_before l) l.entry (meets c past h acts entries f l).row;
+  writes = λ l. let met = meets c past h acts entries f l in entry_writes c (host_before h l) (pool_before l) l.entry met.knows met.row;
   reads = λ l name a s asked at. record {
     gives = λ bytes is. line_reads c (host_before h l) (pool_before l) l.entry name a s bytes (meets c past h acts entries f l) asked at is;
     loses = λ shown is. line_loses c (host_before h l) (pool_before l) l.entry name a s shown (meets c past h acts entries f l) asked at is;

@@ -86,7 +86,7 @@ record_found found (q ∷ live) other r is same = by_bool (is_record_of found q)
     later off (inl e) = true_not_false (is_record_of found q) (sym (ap (is_record_of found) e) ∙ same) off
     later off (inr more) = more
 
-record_live : (p : Pool) (found : Found) (r : Rec) → IsLiveOne p found r → IsLiveOne p found (record_of found p.live p.reads)
+pub record_live : (p : Pool) (found : Found) (r : Rec) → IsLiveOne p found r → IsLiveOne p found (record_of found p.live p.reads)
 record_live p found r is =
     let config : bytes_eq found.blob.items (config_of r.commit) ≡ true = (bytes_eq-Decides found.blob.items (config_of r.commit)).1 is.config_is in
     let number : (found.number.0 == number_of r) ≡ true = same_number found.number.0 (number_of r) (ap (λ n. n.0) is.number_is) in
@@ -534,6 +534,16 @@ taken_live c p made known seek found seeks is =
     let one : found ≡ seeks.found = taken_same (nat_le last_numbers seeks.found.number.0) found seeks.found (sym is ∙ seeks.says) in
     (seeks.r, subst (λ f. IsLiveOne (pool_after (as_events made) p) f seeks.r) (sym one) seeks.is, seeks.not_below)
 
+-- so the record that they found is a live one, where it was asked for by the pool's name and has the premises
+pub import_live : (c : Codec) (h : Host) (p : Pool) (name : List ℕ) (acts : List Act) (reply : Reply) → Knows c h p → AreMade h (calls_along acts)
+    → (row : Imports c h name acts reply) (found : Found) → row.seek ≡ TakesRecord found → (pool_after (as_events row.made) p).name ≡ name
+    → Premises c.head_of (pool_after (as_events row.made) p) (known_by (size_in h.table) (handed h.table) row.row.looks)
+    → (r : Rec) × IsLiveOne (pool_after (as_events row.made) p) found r
+import_live c h p name acts reply knows made row found is same premises =
+    let taken = taken_live c p row.made (known_by (size_in h.table) (handed h.table) row.row.looks) row.seek found
+    ((look_facts c h p name acts reply knows made row).seeks (sym (ap (λ x. x.name) (calls_after row.made p)) ∙ same) premises) is in
+    (taken.0, taken.1)
+
 imports_may : (c : Codec) (h : Host) (p : Pool) (name : List ℕ) (acts : List Act) (reply : Reply) → Knows c h p → AreMade h (calls_along acts) → Imports c h name acts reply → MayActs c h p acts
 imports_may c h p name acts reply knows made row = subst (MayActs c h p) (sym row.are)
     (bare_then c row.made (Looked name known ∷ row.rest) h p (reads_may c p row.made (look_reads (size_in h.table) (handed h.table) row.row.looks row.made row.row.look)) knows
@@ -541,7 +551,7 @@ imports_may c h p name acts reply knows made row = subst (MayActs c h p) (sym ro
       looked.0,
       looked.1,
       subst (λ x. MayActs c h1 x row.rest) (sym (looks_along (bytes_eq p1.name name) known p1))
-          (found_may row.seek c h1 p1 name known row.rest reply known1 row.free live facts.made row.follows),
+          (found_may row.seek c h1 p1 name known row.rest reply known1 row.free (import_live c h p name acts reply knows made row) facts.made row.follows),
     )))
   where
     known : Known
@@ -555,10 +565,6 @@ imports_may c h p name acts reply knows made row = subst (MayActs c h p) (sym ro
 
     facts : LookFacts c h p name acts reply row
     facts = look_facts c h p name acts reply knows made row
-
-    live : (found : Found) → row.seek ≡ TakesRecord found → p1.name ≡ name → Premises c.head_of p1 known → (r : Rec) × IsLiveOne p1 found r
-    live found is same premises = let taken = taken_live c p row.made known row.seek found
-        (facts.seeks (sym (ap (λ x. x.name) (calls_after row.made p)) ∙ same) premises) is in (taken.0, taken.1)
 
 import_for : (full : Bool) (c : Codec) (h : Host) (p : Pool) (name : List ℕ) (acts : List Act) (reply : Reply) → Knows c h p → AreMade h (calls_along acts) → ImportFor full c h name acts reply → MayActs c h p acts
 import_for true c h p name acts reply knows made row = subst (MayActs c h p) (sym row.0) tt

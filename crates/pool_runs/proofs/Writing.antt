@@ -1,37 +1,39 @@
 -- Which lines leave what was written last.
-use Rattle.pool_runs.specs.Acts.{Opening, Act, Bare, Does, Looked, Reads_as, Takes, Bears, Closes, Seeks_by, Reads_pages, Marks, does, bare, calls_along, pool_by, pool_along, read_by, events_for}
+use Rattle.pool_runs.specs.Acts.{Opening, Act, Bare, Does, Looked, Reads_as, Takes, Bears, Closes, Seeks_by, Reads_pages, Marks, does, bare, calls_along, pool_by, pool_along, read_by}
 use Rattle.pool_runs.specs.Writing.{HasOpening, IsTakenWrite, IsImport, KeepsWrites}
-use Rattle.pool_runs.proofs.Knowing.{acts_number}
 use Rattle.std.proofs.Common.{◌≡◌, ◌⊎◌, inl, inr, ⊎_elim, ℕ, ◌==◌, Bool, true, false, cond, List, [], ◌∷◌, ◌++◌, Option, Some, None, refl, sym, ap, ◌∙◌, subst, nat_le, length, ◌+◌, nat_lt}
 use Rattle.std.specs.List.{AllByRecursion}
 use Rattle.std.specs.Str.{bytes_eq}
 use Rattle.bank_core.specs.Disk.{Noted}
 use Rattle.label_store.specs.Newest.{AreReads}
+use Rattle.label_store.specs.declared.found.Found.{Found}
 use Rattle.mp_base.specs.declared.place.Key.{Key}
 use Rattle.txg_history.specs.Events.{Calls, Looks, Loses, as_events, Known, Opens}
 use Rattle.txg_history.specs.Pages.{Codec}
 use Rattle.txg_history.specs.Pools.{Pool, after, pool_after}
-use Rattle.txg_history.proofs.Folding.{name_kept}
+use Rattle.txg_history.specs.Records.{Rec, block_at}
 use Rattle.txg_history.proofs.Logging.{by_bool}
 use Rattle.txg_history.specs.Premises.{Premises}
 use Rattle.pool_moves.specs.AwayRows.{WriteReply, Taken, BadAddress, Full, NoSpace, WriteFits, WriteBy, RowWrite, is_spare, leaf_named}
 use Rattle.pool_moves.specs.LineRows.{TurnReply, Idle, Write, Flush, Round, Committed, Suspended}
 use Rattle.pool_moves.specs.Moves.{Move, Makes, Puts, events_of, Widen, step, steps}
-use Rattle.pool_moves.specs.OpeningRow.{SeekReply, NoRecord, NumbersEnd, TakesRecord, OpenReply, Opens_state, NoPage, lacking_of}
+use Rattle.pool_moves.specs.OpeningRow.{SeekReply, NoRecord, NumbersEnd, TakesRecord, OpenReply, Opens_state, NoPage, lacking_of, IsLiveOne}
 use Rattle.pool_moves.specs.ReadRow.{made_in}
 use Rattle.pool_moves.specs.StampRow.{Stamp, CreateReply, Created, FaultOn, new_state}
 use Rattle.pool_moves.specs.PageReads.{PageTurn, page_of, up_to}
 use Rattle.pool_moves.specs.States.{PoolState, PoolSeen}
 use Rattle.pool_runs.specs.Creating.{tops_of, stamp_acts, new_birth, commit_acts, RowCreate}
 use Rattle.pool_runs.specs.Devices.{size_in, number_in}
-use Rattle.pool_runs.specs.HostRows.{WriteLine, OnPool, RowOf, ChangesNone, MayRewrite, HostRow, graft_acts, GraftUnless, GraftOnto, GraftIf, GraftLine, DetachLine}
-use Rattle.pool_runs.specs.Fairness.{IsFair, AreFair}
+use Rattle.pool_runs.specs.HostRows.{AreMade, WriteLine, OnPool, RowOf, ChangesNone, MayRewrite, HostRow, graft_acts, GraftUnless, GraftOnto, GraftIf, GraftLine, DetachLine}
+use Rattle.pool_runs.specs.Fairness.{AreFair}
 use Rattle.pool_runs.specs.Hosts.{Host, named, holder}
 use Rattle.pool_runs.specs.Importing.{read_in, all_shown, map_acts, OpensBy, FollowsMap, ImportBy, host_behind, ImportFor, ImportUnless}
 use Rattle.pool_runs.specs.Lines.{Asked, Asks_write, Asks_import, Asks_create, Reply, To_write, No_memory, Entry, Asks_graft, Asks_detach}
 use Rattle.pool_runs.proofs.Acting.{number_of_test, own_events}
 use Rattle.pool_runs.proofs.Committing.{KeepsWritten, written_kind, move_written}
 use Rattle.pool_runs.proofs.GroupMoves.{all_found, more, all_calls, all_commits}
+use Rattle.pool_runs.proofs.Importing.{looks_along, record_live, import_live}
+use Rattle.pool_runs.proofs.Known.{Knows}
 use Rattle.pool_runs.proofs.LineMoves.{IsLineKind, IsActKind, line_resume, line_does, both_acts, plain_line}
 use Rattle.bank_core.specs.declared.bank.Fault.{Fault}
 use Rattle.pool_moves.specs.Leaves.{LeafSeen, Seat}
@@ -279,7 +281,8 @@ write_puts c h p e a block (inl row) w x =
 
 -- what each line leaves
 abbrev Leaves : Codec → Host → Pool → Entry → Type 0
-Leaves c h p e = (((a : ℕ) × (block : List ℕ) × IsTakenWrite h p e a block) ⊎ IsImport c p e) ⊎ ((x : ℕ) → (pool_along e.acts p).written x ≡ p.written x)
+Leaves c h p e = (((a : ℕ) × (block : List ℕ) × IsTakenWrite h p e a block) ⊎ IsImport c p (pool_along e.acts p) e)
+    ⊎ ((x : ℕ) → (pool_along e.acts p).written x ≡ p.written x)
 
 leaves_still : (c : Codec) (h : Host) (p : Pool) (e : Entry) → AllStill e.acts → Leaves c h p e
 leaves_still c h p e all = inr (λ x. ap (λ f. f x) (acts_still e.acts p all))
@@ -308,68 +311,73 @@ write_leaves c h p e name a block (Some s) at asked line = ⊎_elim
     (λ none. leaves_still c h p e (subst AllStill (sym (line.2.are ∙ ap (does s.core.pool.0) none)) tt))
     (puts_or s a block line.2.moves line.0 line.2.row)
 
--- An import: it changes what was written of the pool of its name alone, as far as it is fair.
-abbrev NamedAt : (name : List ℕ) → Act → Type 0
-NamedAt name (Does g v) = KeepsWritten v
-NamedAt name (Reads_as opening) = opening.name ≡ name
-NamedAt name act = Unit {0}
+-- An import: it reads one record, and leaves what this one has.
+still_shown : (g : ℕ) (known : Known) (devs : List (Option ℕ)) (rest : List Act) → AllStill rest → AllStill (all_shown g known devs ++ rest)
+still_shown g known [] rest all = all
+still_shown g known (None ∷ devs) rest all = still_shown g known devs rest all
+still_shown g known (Some e ∷ devs) rest all = (tt, still_shown g known devs rest all)
 
-abbrev AllNamed : (name : List ℕ) → List Act → Type 0
-AllNamed name acts = AllByRecursion (NamedAt name) acts
+still_opens : (turn : TurnReply) (g : ℕ) (s : PoolState) (vs : List Move) (acts : List Act) (reply : Reply) → AllWritten vs
+    → OpensBy turn g s vs acts reply → AllStill acts
+still_opens (Committed number) g s vs acts reply all by = subst AllStill (sym by.0) (tt, still_does g vs all)
+still_opens (Suspended group top faults) g s vs acts reply all by = subst AllStill (sym by.0)
+    (tt, both_acts KeepsWritten written_line StillAt still_acts (does g vs) (Closes g ∷ []) (still_does g vs all) (tt, tt))
+still_opens Idle g s vs acts reply all by = absurd by
+still_opens Write g s vs acts reply all by = absurd by
+still_opens Flush g s vs acts reply all by = absurd by
+still_opens (Round number) g s vs acts reply all by = absurd by
 
-named_front : (name : List ℕ) (first second : List Act) → AllNamed name (first ++ second) → AllNamed name first
-named_front name [] second all = tt
-named_front name (act ∷ first) second all = (all.0, named_front name first second all.1)
-
-named_acts : (name : List ℕ) → IsActKind KeepsWritten (NamedAt name)
-named_acts name = record { does = λ g v is. is; marks = λ g mark. tt; shows = λ g e known. tt }
-
-named_bare : (name : List ℕ) (made : List Noted) (rest : List Act) → AllNamed name rest → AllNamed name (bare made ++ rest)
-named_bare name [] rest all = all
-named_bare name (noted ∷ made) rest all = (tt, named_bare name made rest all)
-
-named_shown : (name : List ℕ) (g : ℕ) (known : Known) (devs : List (Option ℕ)) (rest : List Act) → AllNamed name rest → AllNamed name (all_shown g known devs ++ rest)
-named_shown name g known [] rest all = all
-named_shown name g known (None ∷ devs) rest all = named_shown name g known devs rest all
-named_shown name g known (Some e ∷ devs) rest all = (tt, named_shown name g known devs rest all)
-
-named_does : (name : List ℕ) (g : ℕ) (vs : List Move) → AllByRecursion KeepsWritten vs → AllNamed name (does g vs)
-named_does name g vs all = line_does KeepsWritten written_line (NamedAt name) (named_acts name) g vs all
-
-named_opens : (turn : TurnReply) (name : List ℕ) (g : ℕ) (s : PoolState) (vs : List Move) (acts : List Act) (reply : Reply) → AllByRecursion KeepsWritten vs
-    → OpensBy turn g s vs acts reply → AllNamed name acts
-named_opens (Committed number) name g s vs acts reply all by = subst (AllNamed name) (sym by.0) (tt, named_does name g vs all)
-named_opens (Suspended group top faults) name g s vs acts reply all by = subst (AllNamed name) (sym by.0)
-    (tt, both_acts KeepsWritten written_line (NamedAt name) (named_acts name) (does g vs) (Closes g ∷ []) (named_does name g vs all) (tt, tt))
-named_opens Idle name g s vs acts reply all by = absurd by
-named_opens Write name g s vs acts reply all by = absurd by
-named_opens Flush name g s vs acts reply all by = absurd by
-named_opens (Round number) name g s vs acts reply all by = absurd by
-
-named_follows : (outcome : OpenReply) (c : Codec) (size : ℕ → ℕ) (name : List ℕ) (g : ℕ) (acts : List Act) (reply : Reply) → FollowsMap outcome c size g acts reply
-    → AllNamed name acts
-named_follows (NoPage page shown) c size name g acts reply row = subst (AllNamed name) (sym row.0) tt
-named_follows (Opens_state s) c size name g acts reply row = named_opens row.1 name g s row.0 acts reply
+still_follows : (outcome : OpenReply) (c : Codec) (size : ℕ → ℕ) (g : ℕ) (acts : List Act) (reply : Reply) → FollowsMap outcome c size g acts reply
+    → AllStill acts
+still_follows (NoPage page shown) c size g acts reply row = subst AllStill (sym row.0) tt
+still_follows (Opens_state s) c size g acts reply row = still_opens row.1 g s row.0 acts reply
     (line_resume KeepsWritten written_line (lacking_of s.core.leaves s.core.leaves) c size s row.0 row.1 row.2) row.3
 
-named_map : (name : List ℕ) (g : ℕ) (bytes : Key → Option (List ℕ)) (turns : List PageTurn) (last : List Noted) (rest : List Act) → AllNamed name rest
-    → AllNamed name (map_acts g bytes turns last rest)
-named_map name g bytes [] last rest all = named_bare name last (Marks g (Reads_pages bytes) ∷ rest) (tt, all)
-named_map name g bytes (turn ∷ turns) last rest all =
-    named_bare name turn.reads (Marks g (Reads_pages (up_to (page_of turn) bytes)) ∷ (bare turn.rewrites ++ map_acts g bytes turns last rest))
-    (tt, named_bare name turn.rewrites (map_acts g bytes turns last rest) (named_map name g bytes turns last rest all))
+still_map : (g : ℕ) (bytes : Key → Option (List ℕ)) (turns : List PageTurn) (last : List Noted) (rest : List Act) → AllStill rest
+    → AllStill (map_acts g bytes turns last rest)
+still_map g bytes [] last rest all = still_bare last (Marks g (Reads_pages bytes) ∷ rest) (tt, all)
+still_map g bytes (turn ∷ turns) last rest all =
+    still_bare turn.reads (Marks g (Reads_pages (up_to (page_of turn) bytes)) ∷ (bare turn.rewrites ++ map_acts g bytes turns last rest))
+    (tt, still_bare turn.rewrites (map_acts g bytes turns last rest) (still_map g bytes turns last rest all))
 
-named_import_by : (seek : SeekReply) (c : Codec) (h : Host) (name : List ℕ) (known : Known) (acts : List Act) (reply : Reply) → ImportBy seek c h name known acts reply → AllNamed name acts
-named_import_by NoRecord c h name known acts reply row = subst (AllNamed name) (sym row.0) tt
-named_import_by (NumbersEnd limit count) c h name known acts reply row = subst (AllNamed name) (sym row.0) tt
-named_import_by (TakesRecord found) c h name known acts reply row = subst (AllNamed name) (sym row.are) (
+-- Only calls and looks come before the record that is read, which is the live one that was found where the opening is fair; and nothing behind it changes
+-- what was written.
+abbrev IsLiveAs : Codec → Pool → Opening → Type 0
+IsLiveAs c p opening = p.name ≡ opening.name → Premises c.head_of p opening.known → IsLiveOne p opening.found (read_by opening p)
+
+abbrev ReadsOnce : Codec → (name : List ℕ) → Pool → List Act → Type 0
+ReadsOnce c name p [] = Unit {0}
+ReadsOnce c name p (Bare noted ∷ acts) = ReadsOnce c name (after (Calls noted) p) acts
+ReadsOnce c name p (Looked other known ∷ acts) = ReadsOnce c name p acts
+ReadsOnce c name p (Reads_as opening ∷ acts) = (opening.name ≡ name) × AllStill acts × IsLiveAs c p opening
+ReadsOnce c name p (act ∷ acts) = ⊥
+
+once_front : (c : Codec) (name : List ℕ) (p : Pool) (first second : List Act) → ReadsOnce c name p (first ++ second) → ReadsOnce c name p first
+once_front c name p [] second once = tt
+once_front c name p (Bare noted ∷ first) second once = once_front c name (after (Calls noted) p) first second once
+once_front c name p (Looked other known ∷ first) second once = once_front c name p first second once
+once_front c name p (Reads_as opening ∷ first) second once = (once.0, still_front first second once.1, once.2)
+once_front c name p (act ∷ first) second once = absurd once
+
+once_bare : (c : Codec) (name : List ℕ) (p : Pool) (made : List Noted) (rest : List Act) → ReadsOnce c name (pool_after (as_events made) p) rest
+    → ReadsOnce c name p (bare made ++ rest)
+once_bare c name p [] rest once = once
+once_bare c name p (noted ∷ made) rest once = once_bare c name (after (Calls noted) p) made rest once
+
+once_by : (seek : SeekReply) (c : Codec) (h : Host) (p : Pool) (name : List ℕ) (known : Known) (acts : List Act) (reply : Reply)
+    → ((found : Found) → seek ≡ TakesRecord found → p.name ≡ name → Premises c.head_of p known → (r : Rec) × IsLiveOne p found r)
+    → ImportBy seek c h name known acts reply → ReadsOnce c name p acts
+once_by NoRecord c h p name known acts reply live row = subst (ReadsOnce c name p) (sym row.0) tt
+once_by (NumbersEnd limit count) c h p name known acts reply live row = subst (ReadsOnce c name p) (sym row.0) tt
+once_by (TakesRecord found) c h p name known acts reply live row = subst (ReadsOnce c name p) (sym row.are) (
   refl,
-  named_bare name row.row.ids (all_shown found.pool.0 (read_in row.row.ids) row.row.devs ++ (mark ∷ turned))
-      (named_shown name found.pool.0 (read_in row.row.ids) row.row.devs (mark ∷ turned) (
+  still_bare row.row.ids (all_shown found.pool.0 (read_in row.row.ids) row.row.devs ++ (mark ∷ turned))
+      (still_shown found.pool.0 (read_in row.row.ids) row.row.devs (mark ∷ turned) (
         tt,
-        named_map name found.pool.0 row.row.bytes row.row.turns row.row.last row.rest
-            (named_follows row.outcome c (size_in h.table) name found.pool.0 row.rest reply row.follows),
+        still_map found.pool.0 row.row.bytes row.row.turns row.row.last row.rest
+            (still_follows row.outcome c (size_in h.table) found.pool.0 row.rest reply row.follows),
       )),
+  λ same premises. let one = live found refl same premises in record_live p found one.0 one.1,
 )
   where
     mark : Act
@@ -378,57 +386,95 @@ named_import_by (TakesRecord found) c h name known acts reply row = subst (AllNa
     turned : List Act
     turned = map_acts found.pool.0 row.row.bytes row.row.turns row.row.last row.rest
 
-named_for : (full : Bool) (c : Codec) (h : Host) (name : List ℕ) (acts : List Act) (reply : Reply) → ImportFor full c h name acts reply → AllNamed name acts
-named_for true c h name acts reply row = subst (AllNamed name) (sym row.0) tt
-named_for false c h name acts reply row = subst (AllNamed name) (sym row.are)
-    (named_bare name row.made (Looked name _ ∷ row.rest) (tt, named_import_by row.seek c (host_behind row.made h) name _ row.rest reply row.follows))
+once_for : (full : Bool) (c : Codec) (h : Host) (p : Pool) (name : List ℕ) (acts : List Act) (reply : Reply) → Knows c h p → AreMade h (calls_along acts)
+    → ImportFor full c h name acts reply → ReadsOnce c name p acts
+once_for true c h p name acts reply knows made row = subst (ReadsOnce c name p) (sym row.0) tt
+once_for false c h p name acts reply knows made row = subst (ReadsOnce c name p) (sym row.are)
+    (once_bare c name p row.made (Looked name _ ∷ row.rest)
+    (once_by row.seek c (host_behind row.made h) (pool_after (as_events row.made) p) name _ row.rest reply
+    (import_live c h p name acts reply knows made row) row.follows))
 
-named_import : (found : Option PoolState) (c : Codec) (h : Host) (name : List ℕ) (acts : List Act) (reply : Reply) → ImportUnless found c h name acts reply → AllNamed name acts
-named_import (Some s) c h name acts reply row = subst (AllNamed name) (sym row.0) tt
-named_import None c h name acts reply row = named_for (nat_le 16 (length h.pools)) c h name acts reply row
-
-act_named : (c : Codec) (name : List ℕ) (act : Act) (p : Pool) → NamedAt name act
-    → ((opening : Opening) × (act ≡ Reads_as opening) × (opening.found.pool.0 ≡ p.pool.0) × (IsFair c p act → p.name ≡ name)) ⊎ ((pool_by act p).written ≡ p.written)
-act_named c name (Reads_as opening) p is = by (p.pool.0 == opening.found.pool.0) refl
-  where
-    by : (t : Bool) → (p.pool.0 == opening.found.pool.0) ≡ t
-        → ((o : Opening) × (Reads_as opening ≡ Reads_as o) × (o.found.pool.0 ≡ p.pool.0) × ((p.pool.0 ≡ opening.found.pool.0 → (p.name ≡ opening.name) × Premises c.head_of p opening.known) → p.name ≡ name)) ⊎ ((pool_after (cond t (Opens (read_by opening p) ∷ []) []) p).written ≡ p.written)
-    by true same = inl (opening, refl, sym (number_of_test p.pool.0 opening.found.pool.0 same), λ fair. (fair (number_of_test p.pool.0 opening.found.pool.0 same)).0 ∙ is)
-    by false off = inr refl
-act_named c name (Does g v) p is = inr (act_still (Does g v) p is)
-act_named c name act p is = inr (act_still act p tt)
+once_import : (found : Option PoolState) (c : Codec) (h : Host) (p : Pool) (name : List ℕ) (acts : List Act) (reply : Reply) → Knows c h p
+    → AreMade h (calls_along acts) → ImportUnless found c h name acts reply → ReadsOnce c name p acts
+once_import (Some s) c h p name acts reply knows made row = subst (ReadsOnce c name p) (sym row.0) tt
+once_import None c h p name acts reply knows made row = once_for (nat_le 16 (length h.pools)) c h p name acts reply knows made row
 
 -- acts that read a record of the pool's number
 record ReadsOurs (c : Codec) (name : List ℕ) (acts : List Act) (p : Pool) : Type 0 where
   opening : Opening
   reads : HasOpening opening acts
   number : opening.found.pool.0 ≡ p.pool.0
+  blocks : (pool_along acts p).written ≡ block_at (read_by opening p)
   ours : AreFair c p acts → p.name ≡ name
+  live : AreFair c p acts → IsLiveOne p opening.found (read_by opening p)
 
-acts_named : (c : Codec) (name : List ℕ) (acts : List Act) (p : Pool) → AllNamed name acts → ReadsOurs c name acts p ⊎ ((pool_along acts p).written ≡ p.written)
-acts_named c name [] p all = inr refl
-acts_named c name (act ∷ acts) p all = ⊎_elim
-    (λ here. inl (record { opening = here.0; reads = inl here.1; number = here.2; ours = λ fair. here.3 fair.0 }))
-    (λ one. ⊎_elim (λ later. inl (record {
-      opening = later.opening;
-      reads = inr later.reads;
-      number = later.number ∙ ap (λ n. n.0) (acts_number (act ∷ []) p);
-      ours = λ fair. sym (name_kept (events_for act p) p) ∙ later.ours fair.1;
-    })) (λ rest. inr (rest ∙ one)) (acts_named c name acts (pool_by act p) all.1))
-    (act_named c name act p all.0)
+-- a call leaves the records
+called_live : (noted : Noted) (p : Pool) (found : Found) (r : Rec) → IsLiveOne (after (Calls noted) p) found r → IsLiveOne p found r
+called_live noted p found r is = record {
+  is_live = is.is_live;
+  config_is = is.config_is;
+  number_is = is.number_is;
+  pool_is = is.pool_is;
+  some = is.some;
+}
 
-import_leaves : (c : Codec) (h : Host) (p : Pool) (e : Entry) (name : List ℕ) → e.asked ≡ Asks_import name → AllNamed name e.acts → Leaves c h p e
-import_leaves c h p e name is all = ⊎_elim
-    (λ ours. inl (inr (record { name = name; asked = is; opening = ours.opening; reads = ours.reads; number = ours.number; ours = ours.ours })))
-    (λ same. inr (λ x. ap (λ f. f x) same)) (acts_named c name e.acts p all)
+acts_read : (c : Codec) (name : List ℕ) (acts : List Act) (p : Pool) → ReadsOnce c name p acts
+    → ReadsOurs c name acts p ⊎ ((pool_along acts p).written ≡ p.written)
+acts_read c name [] p once = inr refl
+acts_read c name (Bare noted ∷ acts) p once = ⊎_elim (λ later. inl (record {
+  opening = later.opening;
+  reads = inr later.reads;
+  number = later.number;
+  blocks = later.blocks;
+  ours = λ fair. later.ours fair.1;
+  live = λ fair. called_live noted p later.opening.found (read_by later.opening p) (later.live fair.1);
+})) inr (acts_read c name acts (after (Calls noted) p) once)
+acts_read c name (Looked other known ∷ acts) p once = let same = looks_along (bytes_eq p.name other) known p in ⊎_elim (λ later. inl (record {
+  opening = later.opening;
+  reads = inr later.reads;
+  number = later.number;
+  blocks = ap (λ q. (pool_along acts q).written) same ∙ later.blocks;
+  ours = λ fair. later.ours (subst (λ q. AreFair c q acts) same fair.1);
+  live = λ fair. later.live (subst (λ q. AreFair c q acts) same fair.1);
+})) (λ rest. inr (ap (λ q. (pool_along acts q).written) same ∙ rest)) (acts_read c name acts p once)
+acts_read c name (Reads_as opening ∷ acts) p once = by_bool (p.pool.0 == opening.found.pool.0)
+    (λ same. let number : p.pool.0 ≡ opening.found.pool.0 = number_of_test p.pool.0 opening.found.pool.0 same in inl (record {
+      opening = opening;
+      reads = inl refl;
+      number = sym number;
+      blocks = acts_still acts (pool_by (Reads_as opening) p) once.1
+          ∙ ap (λ t. (pool_after (cond t (Opens (read_by opening p) ∷ []) []) p).written) same;
+      ours = λ fair. (fair.0 number).0 ∙ once.0;
+      live = λ fair. once.2 (fair.0 number).0 (fair.0 number).1;
+    }))
+    (λ off. inr (acts_still acts (pool_by (Reads_as opening) p) once.1
+    ∙ ap (λ t. (pool_after (cond t (Opens (read_by opening p) ∷ []) []) p).written) off))
+acts_read c name (act ∷ acts) p once = absurd once
 
-row_leaves : (c : Codec) (h : Host) (p : Pool) (e : Entry) (asked : Asked) → e.asked ≡ asked → RowOf c h asked e.acts e.reply → Leaves c h p e
-row_leaves c h p e (Asks_write name a block) is row = write_leaves c h p e name a block (named name h.pools) refl is row
-row_leaves c h p e (Asks_import name) is row = import_leaves c h p e name is (named_import (named name h.pools) c h name e.acts e.reply row)
-row_leaves c h p e (Asks_create name blocks tops) is row = leaves_still c h p e (still_create c h name blocks tops e.acts e.reply row)
-row_leaves c h p e (Asks_graft graft name leaf new) is row = leaves_still c h p e (still_graft (named name h.pools) h graft leaf new e.acts e.reply row)
-row_leaves c h p e (Asks_detach name leaf) is row = leaves_still c h p e (still_detach (named name h.pools) c h leaf e.acts e.reply row)
-row_leaves c h p e asked is row = leaves_still c h p e (plain_line KeepsWritten written_line StillAt still_acts c h asked e.acts e.reply tt row)
+import_leaves : (c : Codec) (h : Host) (p : Pool) (e : Entry) (name : List ℕ) → e.asked ≡ Asks_import name → ReadsOnce c name p e.acts → Leaves c h p e
+import_leaves c h p e name is once = ⊎_elim
+    (λ ours. inl (inr (record {
+      name = name;
+      asked = is;
+      opening = ours.opening;
+      reads = ours.reads;
+      number = ours.number;
+      blocks = λ x. ap (λ f. f x) ours.blocks;
+      ours = ours.ours;
+      live = ours.live;
+    })))
+    (λ same. inr (λ x. ap (λ f. f x) same)) (acts_read c name e.acts p once)
+
+row_leaves : (c : Codec) (h : Host) (p : Pool) (e : Entry) (asked : Asked) → Knows c h p → AreMade h (calls_along e.acts) → e.asked ≡ asked
+    → RowOf c h asked e.acts e.reply → Leaves c h p e
+row_leaves c h p e (Asks_write name a block) knows made is row = write_leaves c h p e name a block (named name h.pools) refl is row
+row_leaves c h p e (Asks_import name) knows made is row =
+    import_leaves c h p e name is (once_import (named name h.pools) c h p name e.acts e.reply knows made row)
+row_leaves c h p e (Asks_create name blocks tops) knows made is row = leaves_still c h p e (still_create c h name blocks tops e.acts e.reply row)
+row_leaves c h p e (Asks_graft graft name leaf new) knows made is row =
+    leaves_still c h p e (still_graft (named name h.pools) h graft leaf new e.acts e.reply row)
+row_leaves c h p e (Asks_detach name leaf) knows made is row = leaves_still c h p e (still_detach (named name h.pools) c h leaf e.acts e.reply row)
+row_leaves c h p e asked knows made is row = leaves_still c h p e (plain_line KeepsWritten written_line StillAt still_acts c h asked e.acts e.reply tt row)
 
 -- Where there was no memory.
 abbrev NoReading : Act → Type 0
@@ -458,24 +504,27 @@ write_none : (h : Host) (a : ℕ) (block : List ℕ) (found : Option PoolState) 
 write_none h a block None acts reply row = subst (AllByRecursion NoReading) (sym row.0) tt
 write_none h a block (Some s) acts reply row = subst (AllByRecursion NoReading) (sym row.2.are) (moves_none s.core.pool.0 row.2.moves)
 
-short_leaves : (c : Codec) (h : Host) (p : Pool) (e : Entry) (rest : List Act) (reply : Reply) (asked : Asked) → e.asked ≡ asked
+short_leaves : (c : Codec) (h : Host) (p : Pool) (e : Entry) (rest : List Act) (reply : Reply) (asked : Asked) → Knows c h p
+    → AreMade h (calls_along (e.acts ++ rest)) → e.asked ≡ asked
     → RowOf c h asked (e.acts ++ rest) reply
     → (AllByRecursion ChangesNone e.acts × AreReads (calls_along e.acts)) ⊎ MayRewrite asked e.acts → Leaves c h p e
-short_leaves c h p e rest reply (Asks_write name a block) is row (inl early) =
+short_leaves c h p e rest reply (Asks_write name a block) knows made is row (inl early) =
     leaves_still c h p e (all_still e.acts early.0 (none_front e.acts rest (write_none h a block (named name h.pools) (e.acts ++ rest) reply row)))
-short_leaves c h p e rest reply (Asks_write name a block) is row (inr none) = absurd none
-short_leaves c h p e rest reply (Asks_import name) is row early =
-    import_leaves c h p e name is (named_front name e.acts rest (named_import (named name h.pools) c h name (e.acts ++ rest) reply row))
-short_leaves c h p e rest reply (Asks_create name blocks tops) is row early = leaves_still c h p e (still_front e.acts rest (still_create c h name blocks tops (e.acts ++ rest) reply row))
-short_leaves c h p e rest reply (Asks_graft graft name leaf new) is row early =
+short_leaves c h p e rest reply (Asks_write name a block) knows made is row (inr none) = absurd none
+short_leaves c h p e rest reply (Asks_import name) knows made is row early =
+    import_leaves c h p e name is (once_front c name p e.acts rest (once_import (named name h.pools) c h p name (e.acts ++ rest) reply knows made row))
+short_leaves c h p e rest reply (Asks_create name blocks tops) knows made is row early =
+    leaves_still c h p e (still_front e.acts rest (still_create c h name blocks tops (e.acts ++ rest) reply row))
+short_leaves c h p e rest reply (Asks_graft graft name leaf new) knows made is row early =
     leaves_still c h p e (still_front e.acts rest (still_graft (named name h.pools) h graft leaf new (e.acts ++ rest) reply row))
-short_leaves c h p e rest reply (Asks_detach name leaf) is row early =
+short_leaves c h p e rest reply (Asks_detach name leaf) knows made is row early =
     leaves_still c h p e (still_front e.acts rest (still_detach (named name h.pools) c h leaf (e.acts ++ rest) reply row))
-short_leaves c h p e rest reply asked is row early = leaves_still c h p e (still_front e.acts rest (plain_line KeepsWritten written_line StillAt still_acts c h asked (e.acts ++ rest) reply tt row))
+short_leaves c h p e rest reply asked knows made is row early = leaves_still c h p e (still_front e.acts rest
+    (plain_line KeepsWritten written_line StillAt still_acts c h asked (e.acts ++ rest) reply tt row))
 
-entry_leaves : (c : Codec) (h : Host) (p : Pool) (e : Entry) → HostRow c h e → Leaves c h p e
-entry_leaves c h p e (inl row) = row_leaves c h p e e.asked refl row.0
-entry_leaves c h p e (inr out) = short_leaves c h p e out.rest out.reply e.asked refl out.goes_on out.early
+entry_leaves : (c : Codec) (h : Host) (p : Pool) (e : Entry) → Knows c h p → HostRow c h e → Leaves c h p e
+entry_leaves c h p e knows (inl row) = row_leaves c h p e e.asked knows row.1 refl row.0
+entry_leaves c h p e knows (inr out) = short_leaves c h p e out.rest out.reply e.asked knows out.made refl out.goes_on out.early
 
-pub entry_writes : (c : Codec) (h : Host) (p : Pool) (e : Entry) → HostRow c h e → KeepsWrites c h p (pool_along e.acts p) e
-entry_writes c h p e row = record { puts = λ a block w x. write_puts c h p e a block row w x; leaves = entry_leaves c h p e row }
+pub entry_writes : (c : Codec) (h : Host) (p : Pool) (e : Entry) → Knows c h p → HostRow c h e → KeepsWrites c h p (pool_along e.acts p) e
+entry_writes c h p e knows row = record { puts = λ a block w x. write_puts c h p e a block row w x; leaves = entry_leaves c h p e knows row }

@@ -68,7 +68,8 @@ pub record Headline (c : Codec) (past : Past) (h : Host) (acts : List Act) (entr
   -- a sync, a turn or a detach that answers a number acknowledged that record; a sync's and a detach's has each block as it was written last, and a turn's
   -- as it was before the group was frozen; and a sync that freezes none, or tells a later group as suspended, acknowledged the group that was frozen before
   pub commits : (l : LineOf c past acts entries) → Acknowledges (host_before h l) (pool_before l) (pool_behind l) l.entry
-  -- a write that is taken puts its block where it says, and nothing else but an import of the pool changes what was written last
+  -- a write that is taken puts its block where it says, and nothing else changes what was written last but an import, which leaves the blocks of the record
+  -- that it reads
   pub writes : (l : LineOf c past acts entries) → KeepsWrites c (host_before h l) (pool_before l) (pool_behind l) l.entry
   -- a read gives the block that was written last, up to a clash, and none only where each readable leaf of the block's top missed it in this line
   pub reads : (l : LineOf c past acts entries) (name : List ℕ) (a : ℕ) (s : PoolState) → l.entry.asked ≡ Asks_read name a
