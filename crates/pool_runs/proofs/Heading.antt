@@ -85,7 +85,7 @@ at_mays : (c : Codec) (past : Past) (h : Host) (acts : List Act) (entries : List
 at_mays c past h acts entries f m = acts_mays c h (pool_of past) (take m.count (acts ++ acts_in entries))
     (may_take c h (pool_of past) (acts ++ acts_in entries) m.count (all_may c past h acts entries f)) m.fair
 
-at_pool : (c : Codec) (past : Past) (acts : List Act) (entries : List Entry) (m : Moment c past acts entries) → pool_of (past_at m) ≡ pool_at m
+pub at_pool : (c : Codec) (past : Past) (acts : List Act) (entries : List Entry) (m : Moment c past acts entries) → pool_of (past_at m) ≡ pool_at m
 at_pool c past acts entries m = then_pool past (events_at m) ∙ sym (history_pool (take m.count (acts ++ acts_in entries)) (pool_of past))
 
 at_left : (c : Codec) (past : Past) (h : Host) (acts : List Act) (entries : List Entry) → Follows c past h acts entries → (m : Moment c past acts entries) → Left c (past_at m) (host_at h m)

@@ -48,7 +48,7 @@ pub fn runs_keep_each_pool()
 /// `run`: its four lines are rows. `fair`: nothing that is assumed of its acts fails, for the pool that it makes; so all that
 /// `runs_keep_each_pool` says of that pool holds at each of its moments. `stops`: the machine stops behind it, and a further run may begin.
 /// `keeps_up`: by the rule by numbers its device keeps up into that run. `premises`: those of an opening hold there, for whoever reads the
-/// labels of this one device whole, and nothing of another.
+/// labels of this one device whole, as they stand, and nothing of another.
 pub fn small_runs_are_runs()
     ensures run { (block : List ℕ) → length block ≡ 4096 → IsRun (small_codec block) small_host (small_create ∷ small_later block) }
     ensures fair { (block : List ℕ) → AreFair (small_codec block) (pool_of small_born) (small_rest block) }
