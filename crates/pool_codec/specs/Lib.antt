@@ -1,0 +1,4 @@
+pub mod Codecs
+pub mod Pointers
+pub mod Tops
+pub mod Vdevs
