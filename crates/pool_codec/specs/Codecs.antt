@@ -1,5 +1,5 @@
 -- How the history reads the bytes of configurations and of map pages: the codec of its laws.
-use Rattle.std.specs.Prelude.{ℕ, ◌&&◌, ◌||◌, Bool, List, nat_lt, map, Option, slice_index_or}
+use Rattle.std.specs.Prelude.{ℕ, ◌&&◌, ◌||◌, Bool, nat_lt, List, map, Option, slice_index_or}
 use Rattle.std.specs.List.{list_any, list_all}
 use Rattle.std.specs.Option.{option_map}
 use Rattle.std.specs.Str.{bytes_eq}

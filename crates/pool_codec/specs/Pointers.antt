@@ -1,5 +1,5 @@
 -- Pointers as the history has them: tops count from 1, and a hole is none.
-use Rattle.std.specs.Prelude.{ℕ, ◌+◌, ◌==◌, List, Option, Some, None, if◌then◌else◌}
+use Rattle.std.specs.Prelude.{◌+◌, ◌==◌, Option, Some, None, if◌then◌else◌}
 use Rattle.mp_base.specs.declared.place.Pointer.{Pointer}
 use Rattle.txg_history.specs.Pages.{Sum}
 

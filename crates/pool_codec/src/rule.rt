@@ -28,7 +28,10 @@ fn head_from(config: Config) -> Head
     ensures { result ≡ head_of_seen (config_seen config) }
 {
     let Config {
-        pool, name, number, ..
+        pool,
+        name,
+        number,
+        ..
     } = config;
     Head { pool, name, number }
 }
