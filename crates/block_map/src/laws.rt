@@ -14,11 +14,16 @@ pub fn pages_above_are_exact()
     ensures keys { (blocks level addr : ℕ) → level ≤ 3 → addr < blocks → IsKey blocks (page_above level addr) }
 {}
 
-/// Two lists of pointers with one page's bytes are one, and its pointers are those that stand at their offsets.
+/// Two lists of pointers with one page's bytes are one, and its pointers are those that stand at their offsets. A page
+/// has 4,096 bytes, and 4,096 bytes that are spelled by the pointers which stand in them are a page of pointers in
+/// their form.
 pub fn pages_are_spelled_once()
     ensures once { (one other : List Pointer) → AreInForm one → AreInForm other
         → page_bytes one ≡ page_bytes other → one ≡ other }
     ensures back { (pointers : List Pointer) → AreInForm pointers → pointers_in (page_bytes pointers) ≡ pointers }
+    ensures long { (pointers : List Pointer) → AreInForm pointers → length (page_bytes pointers) ≡ 4096 }
+    ensures form { (bytes : List ℕ) → length bytes ≡ 4096 → page_bytes (pointers_in bytes) ≡ bytes
+        → AreInForm (pointers_in bytes) }
 {}
 
 /// A page's pointers are those of its 64 keys, which come before the page. So what is put at other keys, as at all that
