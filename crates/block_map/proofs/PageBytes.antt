@@ -1,5 +1,6 @@
 -- A page's bytes say its pointers.
-use Rattle.std.proofs.Common.{◌≡◌, ℕ, suc, zero, ◌+◌, ◌-◌, ◌*◌, ◌%◌, ◌^◌, ◌<◌, ◌≤◌, List, [], ◌∷◌, replicate, ◌++◌, length, get_or, take, drop, refl, sym, ap, ◌∙◌, subst, arith, append_assoc, length-append}
+use Rattle.std.proofs.Common.{◌≡◌, ℕ, suc, zero, ◌+◌, ◌-◌, ◌*◌, ◌%◌, ◌^◌, ◌<◌, ◌≤◌}
+use Rattle.std.proofs.Common.{List, [], ◌∷◌, replicate, ◌++◌, length, get_or, take, drop, refl, sym, ap, ◌∙◌, subst, arith, append_assoc, length-append}
 use Rattle.std.specs.List.{flat_map, All}
 use Rattle.std.specs.Int.{from_be_bytes, w32, w64}
 use Rattle.std.proofs.lemmas.List.{take_more, take_at, take_all, length-take-le, length-drop, length-replicate, drop_at, drop-drop, append-nil}
@@ -104,7 +105,8 @@ module _ (at : ℕ) (bytes rest : List ℕ) (p : Pointer) (is : drop at bytes �
   top_there : short_in (at + 8) bytes ≡ from_be_bytes w32 (be4 p.place.top)
   unfolding short_in
   top_there = ap (λ l. from_be_bytes w32 (take 4 l)) (behind 8)
-      ∙ ap (from_be_bytes w32) (piece_at (be8 p.birth.0) (be4 p.place.top) (be8 p.place.sector ++ (p.sum ++ rest)) 8 4 (length-be8 p.birth.0) (length-be4 p.place.top))
+      ∙ ap (from_be_bytes w32) (piece_at (be8 p.birth.0) (be4 p.place.top) (be8 p.place.sector ++ (p.sum ++ rest)) 8 4
+      (length-be8 p.birth.0) (length-be4 p.place.top))
 
   sector_there : long_in (at + 12) bytes ≡ from_be_bytes w64 (be8 p.place.sector)
   unfolding long_in
@@ -119,7 +121,8 @@ module _ (at : ℕ) (bytes rest : List ℕ) (p : Pointer) (is : drop at bytes �
   sum_there : length p.sum ≡ 32 → take 32 (drop (at + 20) bytes) ≡ p.sum
   unfolding front
   sum_there sum = ap (take 32) (behind 20)
-      ∙ ap (λ l. take 32 (drop 20 l)) (let is : be8 p.birth.0 ++ (be4 p.place.top ++ (be8 p.place.sector ++ (p.sum ++ rest))) ≡ front ++ (p.sum ++ rest) = simp append_assoc in is)
+      ∙ ap (λ l. take 32 (drop 20 l)) (let is : be8 p.birth.0 ++ (be4 p.place.top ++ (be8 p.place.sector ++ (p.sum ++ rest)))
+      ≡ front ++ (p.sum ++ rest) = simp append_assoc in is)
       ∙ piece_at front p.sum rest 20 32
       (omega (
         arith,
