@@ -27,7 +27,7 @@ abbrev pub RiseFromKey : ℕ → ℕ → List Key → Type 0
 RiseFromKey level index [] = Unit {0}
 RiseFromKey level index (k ∷ ks) = IsFrom level index k × RiseFromKey k.level (k.index + 1) ks
 
-level_from : (level index : ℕ) (k : Key) → IsFrom level index k → level ≤ k.level
+pub level_from : (level index : ℕ) (k : Key) → IsFrom level index k → level ≤ k.level
 level_from level index k from =
     ⊎_elim {A = level < k.level} {B = (level ≡ k.level) × (index ≤ k.index)} (λ less. omega arith)
     (λ same. omega (arith, same.0)) from
@@ -85,14 +85,16 @@ above_rise : (level : ℕ) (addrs : List ℕ) (rest : List Key) → RiseFromKey 
 unfolding pages_above
 above_rise level addrs rest behind = pages_rise level 0 addrs rest behind
 
--- the keys of a group rise
-pub dirty_rise : (writes : List Write) → RiseFrom 0 writes → RiseFromKey 0 0 (dirty_keys writes)
-dirty_rise writes rise =
-    let addrs = map addr_of writes in
+-- the pages of a group rise
+pub pages_rise_all : (addrs : List ℕ) → RiseFromKey 1 0 (page_keys addrs)
+pages_rise_all addrs =
     let last : RiseFromKey 3 0 (pages_above 3 addrs) = subst (RiseFromKey 3 0) (append-nil (pages_above 3 addrs))
     (above_rise 3 addrs [] tt) in
-    blocks_rise 0 writes (page_keys addrs) rise (above_rise 1 addrs (pages_above 2 addrs ++ pages_above 3 addrs)
-    (above_rise 2 addrs (pages_above 3 addrs) last))
+    above_rise 1 addrs (pages_above 2 addrs ++ pages_above 3 addrs) (above_rise 2 addrs (pages_above 3 addrs) last)
+
+-- the keys of a group rise
+pub dirty_rise : (writes : List Write) → RiseFrom 0 writes → RiseFromKey 0 0 (dirty_keys writes)
+dirty_rise writes rise = blocks_rise 0 writes (page_keys (map addr_of writes)) rise (pages_rise_all (map addr_of writes))
 
 -- pages of a volume
 
@@ -149,17 +151,18 @@ low_pages blocks (page ∷ pages) all =
     All-cons IsLow page pages (All-head (IsPage blocks) page pages all).key.level
     (low_pages blocks pages (All-tail (IsPage blocks) page pages all))
 
-low_items : (items : List Item) → All IsLow (keys_of items) → All (λ item. item.key.level ≤ 3) items
-low_items [] all = All-nil (λ (item : Item). item.key.level ≤ 3)
-low_items (item ∷ items) all =
-    All-cons (λ (i : Item). i.key.level ≤ 3) item items (All-head IsLow item.key (keys_of items) all)
-    (low_items items (All-tail IsLow item.key (keys_of items) all))
+-- what holds of all keys holds of the key of each item
+pub of_items : (P : Key → Type 0) (items : List Item) → All P (keys_of items) → All (λ item. P item.key) items
+of_items P [] all = All-nil (λ (item : Item). P item.key)
+of_items P (item ∷ items) all =
+    All-cons (λ (i : Item). P i.key) item items (All-head P item.key (keys_of items) all)
+    (of_items P items (All-tail P item.key (keys_of items) all))
 
 pub levels_low : (blocks : ℕ) (writes : List Write) (items : List Item) → All (λ write. write.addr < blocks) writes
     → keys_of items ≡ dirty_keys writes
     → All (λ item. item.key.level ≤ 3) items
 levels_low blocks writes items all is =
-    low_items items (subst (All IsLow) (sym is)
+    of_items IsLow items (subst (All IsLow) (sym is)
     (All-append IsLow (block_keys writes) (page_keys (map addr_of writes)) (low_blocks writes)
     (low_pages blocks (page_keys (map addr_of writes)) (pages_are_pages blocks writes all))))
 

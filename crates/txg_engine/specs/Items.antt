@@ -51,8 +51,3 @@ cell_of item = record {
   sector = item.pointer.place.sector;
   block = item.block;
 }
-
--- the group's keys as the history has them
-abbrev pub cells_of : List Item → Key → Option Cell
-cells_of [] k = None
-cells_of (item ∷ items) k = if same_key item.key k then Some (cell_of item) else cells_of items k

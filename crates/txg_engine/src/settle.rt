@@ -27,9 +27,11 @@ pub(crate) fn settle_blocks(
     requires places { length writes.items ≤ map.old.count }
     requires room { length items.old.items + length writes.items ≤ vec_capacity items.old }
     requires none { length items.old.items ≡ 0 }
+    requires long { All (λ write. length write.block ≡ 4096) writes.items }
     ensures settled { AreSettled number.0 map.old map.new items.new.items }
     ensures keys { keys_of items.new.items ≡ block_keys writes.items }
     ensures blocks { (a : ℕ) → frozen_block items.new.items a ≡ block_at writes.items a }
+    ensures long { All (λ item. length item.block ≡ 4096) items.new.items }
     ensures room { vec_capacity items.old ≤ vec_capacity items.new }
 {
     let mut writes = VecDeque::from_vec(writes);
@@ -59,9 +61,11 @@ pub(crate) fn settle_pages(
     requires buffers { length buffers.items ≡ length pages.now }
     requires sizes { All (λ buffer. length buffer.items ≡ 4096) buffers.items }
     requires before { AreSettled number.0 first map.old items.old.items }
+    requires long { All (λ item. length item.block ≡ 4096) items.old.items }
     ensures settled { AreSettled number.0 first map.new items.new.items }
     ensures keys { keys_of items.new.items ≡ keys_of items.old.items ++ pages.now }
     ensures blocks { (a : ℕ) → frozen_block items.new.items a ≡ frozen_block items.old.items a }
+    ensures long { All (λ item. length item.block ≡ 4096) items.new.items }
 {
     for page in pages {
         let bytes = buffers.pop().unwrap();
@@ -93,7 +97,8 @@ fn settle(map: &mut BlockMap, items: &mut Vec<Item>, key: Key, block: Block, num
 fn page_block(map: &BlockMap, items: &[Item], page: Key, mut bytes: Vec<u8>) -> Block
     requires page { IsPage map.now.blocks page }
     requires room { length bytes.items ≡ 4096 }
-    ensures { result ≡ page_bytes (children (laid items.now (pointer_at map.now)) page) }
+    ensures long { length result ≡ 4096 }
+    ensures page { result ≡ page_bytes (children (laid items.now (pointer_at map.now)) page) }
 {
     fill_page(map, items, page, &mut bytes);
     Block::new(bytes)

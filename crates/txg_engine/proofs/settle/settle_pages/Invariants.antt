@@ -10,6 +10,7 @@ invariant-loop-page g l = record {
   settled : AreSettled l.number.0 g.first l.map l.items.items;
   keys : keys_of l.items.items ≡ keys_of l.initial.items.items ++ take l.page-index l.pages;
   blocks : (a : ℕ) → frozen_block l.items.items a ≡ frozen_block l.initial.items.items a;
+  long : All (λ item. length item.block ≡ 4096) l.items.items;
   places : length l.pages ≤ l.page-index + l.map.count;
   room : length l.items.items + length l.pages ≤ vec_capacity l.items + l.page-index;
   buffers : l.page-index + length l.buffers.items ≡ length l.pages;
