@@ -15,6 +15,7 @@ pub mod LeftByCauses
 pub mod Merged
 pub mod Owing
 pub mod Pages
+pub mod PagesFilled
 pub mod Places
 pub mod Ready
 pub mod Rising

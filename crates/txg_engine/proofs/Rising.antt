@@ -1,6 +1,8 @@
 -- Keys of a freeze rise, so no page is filled before its children.
 use Rattle.std.proofs.Common.{◌≡◌, ◌⊎◌, ⊎_elim, ℕ, ◌+◌, ◌-◌, ◌/◌, ◌<◌, ◌≤◌, ◌==◌, ◌&&◌, nat_lt, cond, Bool, true, false, List, [], ◌∷◌, ◌++◌, All, length, map, refl, sym, ap, ◌∙◌, subst, arith, inl, inr, append_assoc, append-nil}
 use Rattle.std.proofs.lemmas.Bool.Decides.{nat_tests}
+use Rattle.std.specs.Prelude.{AllPairs}
+use Rattle.std.proofs.lemmas.List.Kept.{AllPairs-cons}
 use Rattle.std.proofs.lemmas.List.Elements.{All-nil, All-cons, All-head, All-tail, All-append}
 use Rattle.mp_base.specs.declared.place.Key.{Key}
 use Rattle.mp_base.specs.declared.place.Pointer.{Pointer}
@@ -168,7 +170,7 @@ levels_low blocks writes items all is =
 
 -- pages are filled
 
-laid_append : (before items : List Item) (at : Key → Pointer)
+pub laid_append : (before items : List Item) (at : Key → Pointer)
     → laid (before ++ items) at ≡ laid items (laid before at)
 laid_append [] items at = refl
 laid_append (x ∷ before) items at = laid_append before items (put x at)
@@ -202,6 +204,29 @@ all_filled level index at before (item ∷ items) rise are =
     ∙ ap (λ (f : Key → Pointer). children f item.key) (sym (laid_append before (item ∷ items) at))) in
     All-cons P item items here (subst (λ l. All (IsFilled (laid l at)) items) (append_assoc before (item ∷ []) items)
     (all_filled item.key.level (item.key.index + 1) at (before ++ item ∷ []) items rise.1 are.1))
+
+-- keys that rise one by one rise altogether
+far_from : (level index : ℕ) (a : Key) (ks : List Key) → IsBefore a (record { level = level; index = index })
+    → RiseFromKey level (index + 1) ks → All (IsBefore a) ks
+far_from level index a [] before rise = All-nil (IsBefore a)
+far_from level index a (k ∷ ks) before rise =
+    let next : IsBefore a k = later_from a (record { level = level; index = index }) k before rise.0 in
+    All-cons (IsBefore a) k ks next (far_from k.level k.index a ks next rise.1)
+  where
+    later_from : (a b c : Key) → IsBefore a b → IsFrom b.level (b.index + 1) c → IsBefore a c
+    later_from a b c (inl x) (inl y) = inl (omega arith)
+    later_from a b c (inl x) (inr y) = inl (let same = y.0 in omega arith)
+    later_from a b c (inr x) (inl y) = inl (let same = x.0 in omega arith)
+    later_from a b c (inr x) (inr y) = inr (x.0 ∙ y.0, let one = x.1 in let two = y.1 in omega arith)
+
+pub pairs_rise : (level index : ℕ) (ks : List Key) → RiseFromKey level index ks → AllPairs IsBefore ks
+pairs_rise level index [] rise = λ i j d before inside. absurd (omega arith)
+pairs_rise level index (k ∷ []) rise = λ i j d before inside. absurd (omega arith)
+pairs_rise level index (k ∷ (next ∷ ks)) rise =
+    let first : IsBefore k next = before_next k next rise.1.0 in
+    AllPairs-cons IsBefore k (next ∷ ks)
+    (All-cons (IsBefore k) next ks first (far_from next.level next.index k ks first rise.1.1))
+    (pairs_rise k.level (k.index + 1) (next ∷ ks) rise.1)
 
 one_or_less : (b : Bool) → cond b 1 0 ≤ 1
 one_or_less true = omega arith
