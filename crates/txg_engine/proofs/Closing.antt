@@ -6,7 +6,7 @@ use Rattle.std.specs.Prelude.{All, AllPairs, filter, slice_get, IsErrAnd}
 use Rattle.std.specs.List.{AllZip}
 use Rattle.std.proofs.lemmas.Bool.{true≢false}
 use Rattle.std.proofs.lemmas.Bool.Decides.{nat_tests}
-use Rattle.std.proofs.lemmas.List.Elements.{All-nil, All-cons, All-head, All-tail}
+use Rattle.std.proofs.lemmas.List.Elements.{All-nil, All-cons, All-head, All-tail, filter_passes}
 use Rattle.std.proofs.lemmas.List.Kept.{AllPairs-filter}
 use Rattle.std.proofs.lemmas.Option.{none-some, same_Some}
 use Rattle.mp_base.specs.declared.number.Guid.{Guid}
@@ -30,15 +30,16 @@ use Rattle.txg_engine.specs.Turns.{Scene, Answers, IsSuspended, emptied_top, all
 use Rattle.txg_engine.specs.Turns.{MakesRound, IsCloseTurn, IsCloseTurnBy}
 use Rattle.txg_engine.proofs.Ready.{fewer_on, same_on, same_board, alike, nothing}
 use Rattle.txg_engine.proofs.Seating.{got_inside, got_there}
-use Rattle.txg_engine.proofs.TurnEnds.{none_told, fewer_behind, some_members}
+use Rattle.txg_engine.proofs.TurnEnds.{none_told, fewer_behind, members_if}
 
 -- the device of each leaf on the board has its labels
 pub seated_members : (size : ℕ → ℕ) (sectors : List ℕ) (seats : List Seat) (ms : List Member)
-    → ms ≡ board_of seats → All (IsSeated size sectors) seats → AreSeated size ms
+    → ms ≡ board_of seats → All (λ seat. seat.on ≡ true → IsSeated size sectors seat) seats → AreSeated size ms
 seated_members size sectors seats ms is seated = λ i m at.
     let all : All (λ (n : Member). 320 ≤ size n.dev) ms =
     subst (All (λ (n : Member). 320 ≤ size n.dev)) (sym is)
-    (some_members (λ (n : Member). 320 ≤ size n.dev) is_on seats (λ k d lt. (seated k d lt).labels)) in
+    (members_if (λ (n : Member). 320 ≤ size n.dev) (λ (seat : Seat). seat.on ≡ true → IsSeated size sectors seat) is_on
+    (λ seat on seated. (seated on).labels) seats seated) in
     subst (λ (n : Member). 320 ≤ size n.dev) (got_there ms i m m at) (all i m (got_inside ms i m at))
 
 seat_there : (seats : List Seat) (i : ℕ) (d : Seat) (m : Member) → slice_get (map member_of seats) i ≡ Some m
@@ -47,20 +48,23 @@ seat_there [] i d m at = absurd (none-some m at)
 seat_there (seat ∷ seats) zero d m at = (omega arith, same_Some seat.member m at)
 seat_there (seat ∷ seats) (suc i) d m at = let rest = seat_there seats i d m at in (omega (arith, rest.0), rest.1)
 
-seats_apart : (seats : List Seat) → AllPairs (λ one other. one.member.dev ≢ other.member.dev) seats
-    → AreApart (map member_of seats)
-seats_apart seats pairs = λ i j m n at at' before same.
-    let d : Seat = record { member = m; top = 0; on = false; faults = 0 } in
+-- two that are on the board have two devices
+abbrev pub HaveTwoDevices : Seat → Seat → Type 0
+HaveTwoDevices one other = one.on ≡ true → other.on ≡ true → one.member.dev ≢ other.member.dev
+
+seats_apart : (seats : List Seat) → All (λ seat. is_on seat ≡ true) seats → AllPairs HaveTwoDevices seats → AreApart (map member_of seats)
+seats_apart seats on pairs = λ i j m n at at' before same.
+    let d : Seat = record { member = m; top = 0; on = false; taken = false; faults = 0 } in
     let one = seat_there seats i d m at in
     let other = seat_there seats j d n at' in
-    pairs i j d before other.0 (ap (λ (x : Member). x.dev) one.1 ∙ same ∙ sym (ap (λ (x : Member). x.dev) other.1))
+    pairs i j d before other.0 (on i d one.0) (on j d other.0) (ap (λ (x : Member). x.dev) one.1 ∙ same ∙ sym (ap (λ (x : Member). x.dev) other.1))
 
 -- no two members of the board have one device
 pub apart_members : (seats : List Seat) (ms : List Member)
-    → ms ≡ board_of seats → AllPairs (λ one other. one.member.dev ≢ other.member.dev) seats → AreApart ms
+    → ms ≡ board_of seats → AllPairs HaveTwoDevices seats → AreApart ms
 apart_members seats ms is pairs =
-    let some = AllPairs-filter (λ (one other : Seat). one.member.dev ≢ other.member.dev) is_on seats pairs in
-    subst AreApart (sym is) (seats_apart (filter is_on seats) some)
+    subst AreApart (sym is)
+    (seats_apart (filter is_on seats) (filter_passes is_on seats) (AllPairs-filter HaveTwoDevices is_on seats pairs))
 
 -- who is on the board leaves it
 drops : (m : Guid) (seats : List Seat) → on_board seats m ≡ true → count_on (map (without m) seats) + 1 ≤ count_on seats
@@ -150,7 +154,7 @@ settled_ready seats last (x ∷ old) [] are all = absurd are
 settled_ready seats last (x ∷ old) (y ∷ new) are all =
     let guid : y.guid ≡ x.guid = ap (λ (leaf : LeafVdev). leaf.guid) (are.0.rest nothing) in
     let log : y.log ≡ x.log = ap (λ (leaf : LeafVdev). leaf.log) (are.0.rest nothing) in
-    All-cons (IsReady seats last) y new (alike seats last x y guid log (All-head (IsReady seats last) x old all))
+    All-cons (IsReady seats last) y new (alike seats last x y guid log are.0.room (All-head (IsReady seats last) x old all))
     (settled_ready seats last old new are.1 (All-tail (IsReady seats last) x old all))
 
 -- a close turn before which no top was told makes its round

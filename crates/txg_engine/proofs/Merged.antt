@@ -84,13 +84,13 @@ or_else_assoc : {A : Type 0} (x y z : Option A) → or_else (or_else x y) z ≡ 
 or_else_assoc (Some x) y z = refl
 or_else_assoc None y z = refl
 
-none_below : (low a : ℕ) (ws : List Write) → RiseFrom low ws → a < low → block_at ws a ≡ None
+pub none_below : (low a : ℕ) (ws : List Write) → RiseFrom low ws → a < low → block_at ws a ≡ None
 none_below low a [] rise below = refl
 none_below low a (w ∷ ws) rise below =
     cond-false (eqb w.addr a) _ _ (ne_eqb _ _ (λ e. omega (arith, rise.0)))
     ∙ none_below (w.addr + 1) a ws rise.1 (omega (arith, rise.0))
 
-rise_tail : (low : ℕ) (out : List Write) (w : Write) (ws : List Write) → RiseFrom low (out ++ w ∷ ws)
+pub rise_tail : (low : ℕ) (out : List Write) (w : Write) (ws : List Write) → RiseFrom low (out ++ w ∷ ws)
     → RiseFrom (w.addr + 1) ws
 rise_tail low [] w ws rise = rise.1
 rise_tail low (o ∷ out) w ws rise = rise_tail (o.addr + 1) out w ws rise.1

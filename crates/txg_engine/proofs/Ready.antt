@@ -6,13 +6,13 @@ use Rattle.std.proofs.lemmas.Bool.{true≢false}
 use Rattle.std.proofs.lemmas.Bool.Decides.{nat_tests}
 use Rattle.std.proofs.lemmas.List.Elements.{All-nil, All-cons, All-head, All-tail}
 use Rattle.mp_base.specs.declared.number.Guid.{Guid}
-use Rattle.group_set.specs.Groups.{Groups, holds}
+use Rattle.group_set.specs.Groups.{Groups, holds, run_count, KeepsRoom}
 use Rattle.group_set.specs.Runs.{between}
 use Rattle.vdev_tree.specs.declared.vdev.LeafVdev.{LeafVdev}
 use Rattle.dtl_rules.specs.Widening.{Widenings, none, more, WidensLeaf}
 use Rattle.txg_engine.specs.declared.seat.Seat.{Seat}
-use Rattle.txg_engine.specs.Boards.{count_on, on_board, is_on_as, without, failed, count_up}
-use Rattle.txg_engine.specs.Logs.{AreGrown, Grows, is_off, is_leaf, IsReady, Counted, has_spare}
+use Rattle.txg_engine.specs.Boards.{count_on, on_board, is_on_as, without, as_taken, failed, count_up}
+use Rattle.txg_engine.specs.Logs.{AreGrown, Grows, is_off, is_leaf, IsReady, HasCommitRoom, Counted, has_spare, room_to_settle}
 
 -- a set that has no group, to compare leaves apart from their logs
 pub nothing : Groups
@@ -20,6 +20,10 @@ nothing = record { runs = []; spare = 0 }
 
 pub same_guid : (old new : LeafVdev) → ((log : Groups) → record new { log = log } ≡ record old { log = log }) → new.guid ≡ old.guid
 same_guid old new rest = ap (λ (leaf : LeafVdev). leaf.guid) (rest nothing)
+
+-- a leaf of another log has the same room to settle it
+pub same_room : (old new : LeafVdev) → ((log : Groups) → record new { log = log } ≡ record old { log = log }) → room_to_settle new ≡ room_to_settle old
+same_room old new rest = ap room_to_settle (rest nothing)
 
 same_numbers : (n : ℕ) → (n == n) ≡ true
 same_numbers n = grind (arith, nat_tests)
@@ -77,23 +81,48 @@ same_board m x (seat ∷ seats) = ap (λ b. is_on_as x (failed m seat) || b) (sa
     one true = refl
     one false = refl
 
+-- nor does a mark that its pool takes it off
+pub taken_board : (m x : Guid) (seats : List Seat) → on_board (map (as_taken m) seats) x ≡ on_board seats x
+taken_board m x [] = refl
+taken_board m x (seat ∷ seats) = ap (λ b. is_on_as x (as_taken m seat) || b) (taken_board m x seats) ∙ ap (λ b. b || on_board seats x) (one (is_on_as m seat))
+  where
+    one : (b : Bool) → is_on_as x (cond b (record seat { taken = true }) seat) ≡ is_on_as x seat
+    one true = refl
+    one false = refl
+
 module _ (seats : List Seat) (last : ℕ) where
-  -- a leaf that differs in other things
-  pub alike : (old new : LeafVdev) → new.guid ≡ old.guid → new.log ≡ old.log → IsReady seats last old → IsReady seats last new
-  alike old new guid log ready = record {
-    spare = rw log ready.spare;
-    on = λ e. rw log (ready.on (ap (on_board seats) (sym guid) ∙ e));
-    off = λ e. ap (λ l. holds l last) log ∙ ready.off (ap (on_board seats) (sym guid) ∙ e);
-  }
+  -- a leaf that differs in other things, and has no less room to settle its log
+  pub alike : (old new : LeafVdev) → new.guid ≡ old.guid → new.log ≡ old.log → KeepsRoom old.settled new.settled → IsReady seats last old
+      → IsReady seats last new
+  alike old new guid log room ready =
+      let ranges = ap run_count log in
+      let spare = ap (λ (groups : Groups). groups.spare) log in
+      let first = ready.spare in
+      let fits = ready.settled in
+      record {
+        on = λ e. let both = ready.on (ap (on_board seats) (sym guid) ∙ e) in record {
+          log = let two = both.log in omega arith;
+          settled = let fit = both.settled in omega arith;
+        };
+        off = λ e. ap (λ l. holds l last) log ∙ ready.off (ap (on_board seats) (sym guid) ∙ e);
+        spare = omega arith;
+        settled = omega arith;
+      }
 
   widened_leaf : (old new : LeafVdev) → WidensLeaf old new → IsReady seats last old → IsReady seats last new
   widened_leaf old new w ready =
       let guid = sym (ap (λ (leaf : LeafVdev). leaf.guid) (w.rest nothing)) in
+      let same = ap room_to_settle (w.rest nothing) in
       let first = ready.spare in
+      let fits = ready.settled in
       record {
-        spare = omega (arith, w.room, w.ranges);
-        on = λ e. let two = ready.on (ap (on_board seats) (sym guid) ∙ e) in omega (arith, w.room, w.ranges);
+        on = λ e. let both = ready.on (ap (on_board seats) (sym guid) ∙ e) in record {
+          log = let two = both.log in omega (arith, w.room, w.ranges);
+          settled = let fit = both.settled in omega (arith, w.ranges);
+        };
         off = λ e. let there = ready.off (ap (on_board seats) (sym guid) ∙ e) in w.groups.between last last last there there (omega arith) (omega arith);
+        spare = omega (arith, w.room, w.ranges);
+        settled = omega (arith, w.ranges);
       }
 
   widened_first : (before behind : List LeafVdev) (old new : LeafVdev) → WidensLeaf old new → All (IsReady seats last) (before ++ old ∷ behind) → All (IsReady seats last) (before ++ new ∷ behind)
@@ -116,7 +145,8 @@ module _ (seats : List Seat) (last : ℕ) where
   counted_ready m (x ∷ old) [] are all = absurd are
   counted_ready m (x ∷ old) (y ∷ new) are all =
       All-cons (IsReady seats last) y new
-      (alike x y (ap (λ (leaf : LeafVdev). leaf.guid) are.0 ∙ guid (x.guid.0 == m.0)) (ap (λ (leaf : LeafVdev). leaf.log) are.0 ∙ log (x.guid.0 == m.0)) (All-head (IsReady seats last) x old all))
+      (alike x y (ap (λ (leaf : LeafVdev). leaf.guid) are.0 ∙ guid (x.guid.0 == m.0)) (ap (λ (leaf : LeafVdev). leaf.log) are.0 ∙ log (x.guid.0 == m.0))
+      (let same = ap room_to_settle are.0 ∙ room (x.guid.0 == m.0) in omega arith) (All-head (IsReady seats last) x old all))
       (counted_ready m old new are.1 (All-tail (IsReady seats last) x old all))
     where
       counted : Bool → LeafVdev
@@ -130,6 +160,10 @@ module _ (seats : List Seat) (last : ℕ) where
       log true = refl
       log false = refl
 
+      room : (b : Bool) → room_to_settle (cond b (record x { counts = record (x.counts) { writes = count_up x.counts.writes } }) x) ≡ room_to_settle x
+      room true = refl
+      room false = refl
+
   pub all_spare : (leaves : List LeafVdev) → All (IsReady seats last) leaves → All has_spare leaves
   all_spare leaves all = λ k d lt. (all k d lt).spare
 
@@ -138,7 +172,7 @@ pub board_ready : (seats seats' : List Seat) (last : ℕ) (leaves : List LeafVde
     → All (IsReady seats' last) leaves
 board_ready seats seats' last leaves same all = λ k d lt.
     let ready = all k d lt in
-    record { spare = ready.spare; on = λ e. ready.on (sym (same _) ∙ e); off = λ e. ready.off (sym (same _) ∙ e) }
+    record { on = λ e. ready.on (sym (same _) ∙ e); off = λ e. ready.off (sym (same _) ∙ e); spare = ready.spare; settled = ready.settled }
 
 pub grown_all : {which : LeafVdev → Bool} {low high : ℕ} (P Q : LeafVdev → Type 0) → ((old new : LeafVdev) → Grows which low high old new → P old → Q new)
     → (old new : List LeafVdev) → AllZip (Grows which low high) old new → All P old → All Q new
@@ -152,12 +186,17 @@ left_leaf : (m : Guid) (seats : List Seat) (first last : ℕ) → first ≤ last
     → IsReady (map (without m) seats) last new
 left_leaf m seats first last le old new g ready =
     let guid = same_guid old new g.rest in
+    let same = same_room old new g.rest in
     let one = ready.spare in
+    let fits = ready.settled in
     let now = still_on m old.guid seats in
     record {
-      spare = by_board (on_board seats old.guid) (λ e. let two = ready.on e in omega (arith, g.spare)) (λ e. omega (arith, g.lengthens last (omega arith) (omega arith) (ready.off e)));
       on = λ e. let parts = both_are (on_board seats old.guid) (old.guid.0 == m.0) (sym now ∙ ap (on_board (map (without m) seats)) (sym guid) ∙ e) in
-          let two = ready.on parts.0 in omega (arith, g.kept parts.1);
+          subst HasCommitRoom (sym (g.kept parts.1)) (ready.on parts.0);
+      spare = by_board (on_board seats old.guid) (λ e. let two = (ready.on e).log in omega (arith, g.room, g.ranges))
+          (λ e. omega (arith, g.room, g.lengthens last (omega arith) (omega arith) (ready.off e)));
+      settled = by_board (on_board seats old.guid) (λ e. let fit = (ready.on e).settled in omega (arith, g.ranges))
+          (λ e. omega (arith, g.lengthens last (omega arith) (omega arith) (ready.off e)));
       off = λ e. g.groups last ∙ by_board (on_board seats old.guid)
           (λ was. or_right (holds old.log last) _ (rw (one_left (on_board seats old.guid) (old.guid.0 == m.0) was (sym now ∙ ap (on_board (map (without m) seats)) (sym guid) ∙ e)) (in_between first last last le (omega arith))))
           (λ was. or_left (holds old.log last) _ (ready.off was));
@@ -183,10 +222,15 @@ left_ready m seats first last le old new g all =
 drawn_leaf : (seats : List Seat) (last : ℕ) (old new : LeafVdev) → Grows (is_off seats) (last + 1) (last + 1) old new → IsReady seats last old → IsReady seats (last + 1) new
 drawn_leaf seats last old new g ready =
     let guid = same_guid old new g.rest in
+    let same = same_room old new g.rest in
     let one = ready.spare in
+    let fits = ready.settled in
     record {
-      spare = by_board (on_board seats old.guid) (λ e. omega (arith, g.kept (ap not e))) (λ e. omega (arith, g.lengthens last (omega arith) (omega arith) (ready.off e)));
-      on = λ e. let was = ap (on_board seats) (sym guid) ∙ e in let two = ready.on was in omega (arith, g.kept (ap not was));
+      on = λ e. let was = ap (on_board seats) (sym guid) ∙ e in subst HasCommitRoom (sym (g.kept (ap not was))) (ready.on was);
+      spare = by_board (on_board seats old.guid) (λ e. subst (λ (leaf : LeafVdev). 1 ≤ leaf.log.spare) (sym (g.kept (ap not e))) ready.spare)
+          (λ e. omega (arith, g.room, g.lengthens last (omega arith) (omega arith) (ready.off e)));
+      settled = by_board (on_board seats old.guid) (λ e. subst (λ (leaf : LeafVdev). run_count leaf.log ≤ room_to_settle leaf) (sym (g.kept (ap not e))) ready.settled)
+          (λ e. omega (arith, g.lengthens last (omega arith) (omega arith) (ready.off e)));
       off = λ e. g.groups (last + 1) ∙ or_right (holds old.log (last + 1)) _ (rw (ap not (ap (on_board seats) (sym guid) ∙ e)) (in_between (last + 1) (last + 1) (last + 1) (omega arith) (omega arith)));
     }
 
@@ -196,6 +240,14 @@ drawn_ready seats last old new g all =
     widened_ready seats (last + 1) g.grown new g.widened
     (grown_all (IsReady seats last) (IsReady seats (last + 1)) (drawn_leaf seats last) old g.grown g.grow all)
 
+first_off : (a b : Bool) → (a || b) ≡ false → a ≡ false
+first_off true b e = e
+first_off false b e = refl
+
+rest_off : (a b : Bool) → (a || b) ≡ false → b ≡ false
+rest_off true b e = absurd (true≢false e)
+rest_off false b e = e
+
 -- one that isn't on the board
 pub off_already : (m : Guid) (seats : List Seat) → on_board seats m ≡ false → map (without m) seats ≡ seats
 off_already m [] off = refl
@@ -203,14 +255,6 @@ off_already m (seat ∷ seats) off =
     ap (λ s. s ∷ map (without m) seats) (one seat.on (seat.member.guid.0 == m.0) (first_off (is_on_as m seat) (on_board seats m) off))
     ∙ ap (λ l. seat ∷ l) (off_already m seats (rest_off (is_on_as m seat) (on_board seats m) off))
   where
-    first_off : (a b : Bool) → (a || b) ≡ false → a ≡ false
-    first_off true b e = e
-    first_off false b e = refl
-
-    rest_off : (a b : Bool) → (a || b) ≡ false → b ≡ false
-    rest_off true b e = absurd (true≢false e)
-    rest_off false b e = e
-
     on_is : (on t : Bool) → (on && t) ≡ false → (on && not t) ≡ on
     on_is true true e = absurd (true≢false e)
     on_is true false e = refl
@@ -218,6 +262,13 @@ off_already m (seat ∷ seats) off =
 
     one : (on t : Bool) → (seat.on && (seat.member.guid.0 == m.0)) ≡ false → without m seat ≡ seat
     one on t e = ap (λ b. record seat { on = b }) (on_is seat.on (seat.member.guid.0 == m.0) e)
+
+-- a leaf that isn't on the board isn't taken off it
+pub not_taken : (m : Guid) (seats : List Seat) → on_board seats m ≡ false → map (as_taken m) seats ≡ seats
+not_taken m [] off = refl
+not_taken m (seat ∷ seats) off =
+    ap (λ b. cond b (record seat { taken = true }) seat ∷ map (as_taken m) seats) (first_off (is_on_as m seat) (on_board seats m) off)
+    ∙ ap (λ l. seat ∷ l) (not_taken m seats (rest_off (is_on_as m seat) (on_board seats m) off))
 
 -- nobody comes onto the board
 pub fewer_on : (m : Guid) (seats : List Seat) → count_on (map (without m) seats) ≤ count_on seats
@@ -245,5 +296,17 @@ same_on m (seat ∷ seats) =
     let old : count_on (seat ∷ seats) ≡ if_on seat + count_on seats = refl in omega arith
   where
     one : (b : Bool) → if_on (cond b (record seat { faults = count_up seat.faults }) seat) ≡ if_on seat
+    one true = refl
+    one false = refl
+
+pub taken_on : (m : Guid) (seats : List Seat) → count_on (map (as_taken m) seats) ≡ count_on seats
+taken_on m [] = refl
+taken_on m (seat ∷ seats) =
+    let rest = taken_on m seats in
+    let this = one (is_on_as m seat) in
+    let new : count_on (map (as_taken m) (seat ∷ seats)) ≡ if_on (as_taken m seat) + count_on (map (as_taken m) seats) = refl in
+    let old : count_on (seat ∷ seats) ≡ if_on seat + count_on seats = refl in omega arith
+  where
+    one : (b : Bool) → if_on (cond b (record seat { taken = true }) seat) ≡ if_on seat
     one true = refl
     one false = refl

@@ -1,6 +1,8 @@
 -- Keys of a freeze rise, so no page is filled before its children.
 use Rattle.std.proofs.Common.{◌≡◌, ◌⊎◌, ⊎_elim, ℕ, ◌+◌, ◌-◌, ◌/◌, ◌<◌, ◌≤◌, ◌==◌, ◌&&◌, nat_lt, cond, Bool, true, false, List, [], ◌∷◌, ◌++◌, All, length, map, refl, sym, ap, ◌∙◌, subst, arith, inl, inr, append_assoc, append-nil}
 use Rattle.std.proofs.lemmas.Bool.Decides.{nat_tests}
+use Rattle.std.specs.Prelude.{AllPairs}
+use Rattle.std.proofs.lemmas.List.Kept.{AllPairs-cons}
 use Rattle.std.proofs.lemmas.List.Elements.{All-nil, All-cons, All-head, All-tail, All-append}
 use Rattle.mp_base.specs.declared.place.Key.{Key}
 use Rattle.mp_base.specs.declared.place.Pointer.{Pointer}
@@ -27,7 +29,7 @@ abbrev pub RiseFromKey : ℕ → ℕ → List Key → Type 0
 RiseFromKey level index [] = Unit {0}
 RiseFromKey level index (k ∷ ks) = IsFrom level index k × RiseFromKey k.level (k.index + 1) ks
 
-level_from : (level index : ℕ) (k : Key) → IsFrom level index k → level ≤ k.level
+pub level_from : (level index : ℕ) (k : Key) → IsFrom level index k → level ≤ k.level
 level_from level index k from =
     ⊎_elim {A = level < k.level} {B = (level ≡ k.level) × (index ≤ k.index)} (λ less. omega arith)
     (λ same. omega (arith, same.0)) from
@@ -85,14 +87,16 @@ above_rise : (level : ℕ) (addrs : List ℕ) (rest : List Key) → RiseFromKey 
 unfolding pages_above
 above_rise level addrs rest behind = pages_rise level 0 addrs rest behind
 
--- the keys of a group rise
-pub dirty_rise : (writes : List Write) → RiseFrom 0 writes → RiseFromKey 0 0 (dirty_keys writes)
-dirty_rise writes rise =
-    let addrs = map addr_of writes in
+-- the pages of a group rise
+pub pages_rise_all : (addrs : List ℕ) → RiseFromKey 1 0 (page_keys addrs)
+pages_rise_all addrs =
     let last : RiseFromKey 3 0 (pages_above 3 addrs) = subst (RiseFromKey 3 0) (append-nil (pages_above 3 addrs))
     (above_rise 3 addrs [] tt) in
-    blocks_rise 0 writes (page_keys addrs) rise (above_rise 1 addrs (pages_above 2 addrs ++ pages_above 3 addrs)
-    (above_rise 2 addrs (pages_above 3 addrs) last))
+    above_rise 1 addrs (pages_above 2 addrs ++ pages_above 3 addrs) (above_rise 2 addrs (pages_above 3 addrs) last)
+
+-- the keys of a group rise
+pub dirty_rise : (writes : List Write) → RiseFrom 0 writes → RiseFromKey 0 0 (dirty_keys writes)
+dirty_rise writes rise = blocks_rise 0 writes (page_keys (map addr_of writes)) rise (pages_rise_all (map addr_of writes))
 
 -- pages of a volume
 
@@ -149,23 +153,24 @@ low_pages blocks (page ∷ pages) all =
     All-cons IsLow page pages (All-head (IsPage blocks) page pages all).key.level
     (low_pages blocks pages (All-tail (IsPage blocks) page pages all))
 
-low_items : (items : List Item) → All IsLow (keys_of items) → All (λ item. item.key.level ≤ 3) items
-low_items [] all = All-nil (λ (item : Item). item.key.level ≤ 3)
-low_items (item ∷ items) all =
-    All-cons (λ (i : Item). i.key.level ≤ 3) item items (All-head IsLow item.key (keys_of items) all)
-    (low_items items (All-tail IsLow item.key (keys_of items) all))
+-- what holds of all keys holds of the key of each item
+pub of_items : (P : Key → Type 0) (items : List Item) → All P (keys_of items) → All (λ item. P item.key) items
+of_items P [] all = All-nil (λ (item : Item). P item.key)
+of_items P (item ∷ items) all =
+    All-cons (λ (i : Item). P i.key) item items (All-head P item.key (keys_of items) all)
+    (of_items P items (All-tail P item.key (keys_of items) all))
 
 pub levels_low : (blocks : ℕ) (writes : List Write) (items : List Item) → All (λ write. write.addr < blocks) writes
     → keys_of items ≡ dirty_keys writes
     → All (λ item. item.key.level ≤ 3) items
 levels_low blocks writes items all is =
-    low_items items (subst (All IsLow) (sym is)
+    of_items IsLow items (subst (All IsLow) (sym is)
     (All-append IsLow (block_keys writes) (page_keys (map addr_of writes)) (low_blocks writes)
     (low_pages blocks (page_keys (map addr_of writes)) (pages_are_pages blocks writes all))))
 
 -- pages are filled
 
-laid_append : (before items : List Item) (at : Key → Pointer)
+pub laid_append : (before items : List Item) (at : Key → Pointer)
     → laid (before ++ items) at ≡ laid items (laid before at)
 laid_append [] items at = refl
 laid_append (x ∷ before) items at = laid_append before items (put x at)
@@ -199,6 +204,29 @@ all_filled level index at before (item ∷ items) rise are =
     ∙ ap (λ (f : Key → Pointer). children f item.key) (sym (laid_append before (item ∷ items) at))) in
     All-cons P item items here (subst (λ l. All (IsFilled (laid l at)) items) (append_assoc before (item ∷ []) items)
     (all_filled item.key.level (item.key.index + 1) at (before ++ item ∷ []) items rise.1 are.1))
+
+-- keys that rise one by one rise altogether
+far_from : (level index : ℕ) (a : Key) (ks : List Key) → IsBefore a (record { level = level; index = index })
+    → RiseFromKey level (index + 1) ks → All (IsBefore a) ks
+far_from level index a [] before rise = All-nil (IsBefore a)
+far_from level index a (k ∷ ks) before rise =
+    let next : IsBefore a k = later_from a (record { level = level; index = index }) k before rise.0 in
+    All-cons (IsBefore a) k ks next (far_from k.level k.index a ks next rise.1)
+  where
+    later_from : (a b c : Key) → IsBefore a b → IsFrom b.level (b.index + 1) c → IsBefore a c
+    later_from a b c (inl x) (inl y) = inl (omega arith)
+    later_from a b c (inl x) (inr y) = inl (let same = y.0 in omega arith)
+    later_from a b c (inr x) (inl y) = inl (let same = x.0 in omega arith)
+    later_from a b c (inr x) (inr y) = inr (x.0 ∙ y.0, let one = x.1 in let two = y.1 in omega arith)
+
+pub pairs_rise : (level index : ℕ) (ks : List Key) → RiseFromKey level index ks → AllPairs IsBefore ks
+pairs_rise level index [] rise = λ i j d before inside. absurd (omega arith)
+pairs_rise level index (k ∷ []) rise = λ i j d before inside. absurd (omega arith)
+pairs_rise level index (k ∷ (next ∷ ks)) rise =
+    let first : IsBefore k next = before_next k next rise.1.0 in
+    AllPairs-cons IsBefore k (next ∷ ks)
+    (All-cons (IsBefore k) next ks first (far_from next.level next.index k ks first rise.1.1))
+    (pairs_rise k.level (k.index + 1) (next ∷ ks) rise.1)
 
 one_or_less : (b : Bool) → cond b 1 0 ≤ 1
 one_or_less true = omega arith

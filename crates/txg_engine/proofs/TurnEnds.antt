@@ -1,6 +1,6 @@
 -- How turns end.
-use Rattle.std.proofs.Common.{◌≡◌, ◌≤◌, ◌<◌, ◌+◌, ◌^◌, ◌==◌, ◌&&◌, ℕ, Bool, true, false, cond, List, [], ◌∷◌, arith, length, map, Option, Some, None, Result, Ok, refl, sym, ap, ◌∙◌, subst}
-use Rattle.std.specs.Prelude.{All, filter, slice_index}
+use Rattle.std.proofs.Common.{◌≡◌, ◌≤◌, ◌<◌, ◌+◌, ◌^◌, ◌==◌, ◌&&◌, ℕ, Bool, true, false, cond, List, [], ◌∷◌, arith, length, map, Option, Some, None, Result, Ok, Err, OnErr, refl, sym, ap, ◌∙◌, subst}
+use Rattle.std.specs.Prelude.{All, filter, slice_index, is_some}
 use Rattle.std.proofs.lemmas.Bool.{true≢false}
 use Rattle.std.proofs.lemmas.Bool.Decides.{nat_tests}
 use Rattle.mp_base.specs.declared.place.Place.{Place}
@@ -26,6 +26,14 @@ pub none_told : {A : Type 0} (tops : List Guid) (first : Group) (seats : List Se
 none_told tops first seats None r x told e = refl
 none_told tops first seats (Some top) r x told e = absurd (subst (IsChecked tops first seats (Some top)) e told)
 
+-- where a top was told, it has nobody on the board
+pub told_suspended : {A : Type 0} (tops : List Guid) (first : Group) (seats : List Seat) (top : Option ℕ) (r : Result A Suspended)
+    → IsChecked tops first seats top r → OnErr r (is_some top ≡ true)
+told_suspended tops first seats None (Ok x) told = tt
+told_suspended tops first seats None (Err e) told = absurd (true≢false (sym told))
+told_suspended tops first seats (Some top) (Ok x) told = tt
+told_suspended tops first seats (Some top) (Err e) told = refl
+
 pub as_many : (old new : List Top) → marks_of new ≡ marks_of old → length (numbers_of new) ≡ length (numbers_of old)
 as_many old new built =
     length-map new (λ (top : Top). guid_of top.mirror) ∙ sym (length-map new (λ (top : Top). marks top.mirror)) ∙ ap length built
@@ -39,16 +47,6 @@ turn_goes tops tops' plan members noted old new checked r same told ok works ans
     subst (λ o. IsTurnBy o tops' plan members noted old new r)
     (sym (ap (λ n. emptied n old.group.board) same ∙ none_told tops old.group.numbers.first old.group.board (emptied_top tops old.group) checked tt told ok))
     (works, answers)
-
--- what holds of each leaf's member holds of those of some
-pub some_members : (P : Member → Type 0) (which : Seat → Bool) (seats : List Seat) → All (λ seat. P seat.member) seats → All P (map member_of (filter which seats))
-some_members P which [] all = All-nil P
-some_members P which (seat ∷ seats) all =
-    one (which seat) (some_members P which seats (All-tail (λ s. P s.member) seat seats all))
-  where
-    one : (b : Bool) → All P (map member_of (filter which seats)) → All P (map member_of (cond b (seat ∷ filter which seats) (filter which seats)))
-    one true rest = All-cons P seat.member (map member_of (filter which seats)) (All-head (λ s. P s.member) seat seats all) rest
-    one false rest = rest
 
 -- no turn brings anybody onto the board
 pub fewer_behind : (ms : List Member) (done : List Bool) (seats : List Seat) → count_on (behind_turn ms done seats) ≤ count_on seats
@@ -69,15 +67,19 @@ members_if P Q which f (seat ∷ seats) all =
     one true is rest = All-cons P seat.member (map member_of (filter which seats)) (f seat is (All-head Q seat seats all)) rest
     one false is rest = rest
 
--- the devices of a top's leaves have the sector of a place there
-pub has_sector : (size : ℕ → ℕ) (sectors : List ℕ) (place : Place) → IsPlace sectors place → (seat : Seat) → is_on_under place.top seat ≡ true → IsSeated size sectors seat
-    → 128 + place.sector < size seat.member.dev
+-- the devices of a top's leaves that are on the board have the sector of a place there
+pub has_sector : (size : ℕ → ℕ) (sectors : List ℕ) (place : Place) → IsPlace sectors place → (seat : Seat) → is_on_under place.top seat ≡ true
+    → (seat.on ≡ true → IsSeated size sectors seat) → 128 + place.sector < size seat.member.dev
 has_sector size sectors place inside seat on seated =
     let top : seat.top ≡ place.top = one seat.on seat.top place.top on in
-    let rows = seated.data_sectors in
+    let rows = (seated (is_on seat.on (seat.top == place.top) on)).data_sectors in
     let here = inside.sector in
     let same : slice_index sectors seat.top ≡ slice_index sectors place.top = ap (slice_index sectors) top in omega arith
   where
+    is_on : (a b : Bool) → (a && b) ≡ true → a ≡ true
+    is_on true b e = refl
+    is_on false b e = e
+
     is_top : (a b : ℕ) → (a == b) ≡ true → a ≡ b
     is_top a b e = grind (arith, nat_tests)
 

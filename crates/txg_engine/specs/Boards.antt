@@ -1,5 +1,6 @@
 -- The leaves that were on the board at a freeze, in tree order, and which of them are on it still.
-use Rattle.std.specs.Prelude.{ℕ, zero, suc, ◌+◌, ◌-◌, ◌^◌, ◌==◌, ◌&&◌, min, not, Bool, true, false, List, [], ◌∷◌, ◌++◌, map, filter, Option, Some, None, if◌then◌else◌}
+use Rattle.std.specs.Prelude.{◌≡◌, ◌⊎◌, ℕ, zero, suc, ◌+◌, ◌-◌, ◌^◌, ◌≤◌, ◌==◌, ◌&&◌, min, not, Bool, true, false}
+use Rattle.std.specs.Prelude.{List, [], ◌∷◌, ◌++◌, map, filter, Option, Some, None, if◌then◌else◌}
 use Rattle.std.specs.List.{list_any, filter_map}
 use Rattle.std.specs.Option.{option_map}
 use Rattle.mp_base.specs.declared.number.Guid.{Guid}
@@ -14,7 +15,8 @@ use Rattle.txg_engine.specs.declared.seat.Seat.{Seat}
 abbrev pub seat_of : (top : ℕ) → LeafVdev → Option Seat
 seat_of top leaf =
     if is_readable leaf
-    then option_map (λ dev. record { member = record { dev = dev; guid = leaf.guid }; top = top; on = true; faults = 0 }) leaf.dev
+    then option_map (λ dev. record { member = record { dev = dev; guid = leaf.guid }; top = top; on = true; taken = false; faults = 0 })
+    leaf.dev
     else None
 
 -- the seats of the leaves of tops, which count from this number
@@ -73,12 +75,22 @@ faults_under top (seat ∷ seats) = (if seat.top == top then seat.faults else 0)
 abbrev pub count_up : ℕ → ℕ
 count_up n = min (n + 1) (2 ^ 64 - 1)
 
--- the leaf of this number is off the board; a call on it failed
+-- the leaf of this number is off the board; its pool takes it off; a call on it failed
 abbrev pub without : Guid → Seat → Seat
 without m seat = record seat { on = seat.on && not (seat.member.guid.0 == m.0) }
 
+abbrev pub as_taken : Guid → Seat → Seat
+as_taken m seat = if is_on_as m seat then record seat { taken = true } else seat
+
 abbrev pub failed : Guid → Seat → Seat
 failed m seat = if seat.member.guid.0 == m.0 then record seat { faults = count_up seat.faults } else seat
+
+-- Why a leaf left the board: a call on it failed since the freeze, or its pool took it off.
+abbrev pub HasCause : Seat → Type 0
+HasCause seat = (1 ≤ seat.faults) ⊎ (seat.taken ≡ true)
+
+abbrev pub LeftByCause : Seat → Type 0
+LeftByCause seat = seat.on ≡ false → HasCause seat
 
 -- The board behind a turn: each of these members whose call failed is counted, and off it.
 abbrev pub behind_turn : List Member → (done : List Bool) → List Seat → List Seat

@@ -1,5 +1,6 @@
 -- How a group ends: it becomes open again, or the map becomes that of its record.
-use Rattle.std.specs.Prelude.{◌≡◌, ℕ, ◌||◌, Bool, true, false, List, ◌++◌, Contains, Option, Some, None}
+use Rattle.std.specs.Prelude.{◌≡◌, ℕ, ◌+◌, ◌==◌, ◌&&◌, ◌||◌, not, Bool, true, false, List, [], ◌∷◌, ◌++◌, Contains}
+use Rattle.std.specs.Prelude.{Option, Some, None, if◌then◌else◌}
 use Rattle.mp_base.specs.declared.place.Key.{Key}
 use Rattle.mp_base.specs.declared.place.Place.{Place}
 use Rattle.mp_base.specs.declared.place.Pointer.{Pointer}
@@ -8,7 +9,7 @@ use Rattle.block_map.specs.Pointers.{written}
 use Rattle.txg_engine.specs.declared.item.Item.{Item}
 use Rattle.txg_engine.specs.declared.write.Write.{Write}
 use Rattle.txg_engine.specs.Items.{put, laid, frozen_block}
-use Rattle.txg_engine.specs.Writes.{block_at}
+use Rattle.txg_engine.specs.Writes.{block_at, is_written}
 
 abbrev pub or_else : {A : Type 0} → Option A → Option A → Option A
 or_else (Some x) other = Some x
@@ -17,6 +18,15 @@ or_else None other = other
 -- The open writes behind a burned group: its blocks, where newer ones win.
 abbrev pub AreMerged : (items : List Item) → (newer all : List Write) → Type 0
 AreMerged items newer all = (a : ℕ) → block_at all a ≡ or_else (block_at newer a) (frozen_block items a)
+
+-- the key is a block at an address that these writes lack
+abbrev pub is_fresh : List Write → Item → Bool
+is_fresh newer item = (item.key.level == 0) && not (is_written newer item.key.index)
+
+-- how many keys of a group are
+abbrev pub fresh_count : List Write → List Item → ℕ
+fresh_count newer [] = 0
+fresh_count newer (item ∷ items) = (if is_fresh newer item then 1 else 0) + fresh_count newer items
 
 abbrev pub pins_after : (begun : Bool) → List Place → List Place → List Place
 pins_after true places pins = pins ++ places

@@ -5,9 +5,11 @@ use Rattle.mp_base.specs.declared.place.Key.{Key}
 use Rattle.mp_base.specs.declared.place.Place.{Place}
 use Rattle.mp_base.specs.declared.place.Pointer.{Pointer}
 use Rattle.block_map.specs.Dirty.{pages_above}
+use Rattle.block_map.specs.Keys.{IsKey}
 use Rattle.block_map.specs.Map.{Map, pointer_at, is_free, is_pinned, is_open, IsLeastOpen, FreeIs, SameVolume, children}
 use Rattle.block_map.specs.Pages.{page_bytes}
 use Rattle.block_map.specs.Places.{IsPlace, IsPlaceBefore}
+use Rattle.block_map.specs.Pointers.{IsPointer}
 use Rattle.txg_history.specs.Records.{key}
 use Rattle.txg_engine.specs.declared.item.Item.{Item}
 use Rattle.txg_engine.specs.declared.write.Write.{Write}
@@ -81,8 +83,9 @@ pub record SettlesNext (number : ℕ) (old new : Map) (before after : List Item)
   pub least : IsLeastOpen old item.pointer.place
   pub taken : FreeIs false old new item.pointer.place
 
--- The keys of a freeze: the group's blocks and the pages above them, and no other. Each gets the least place that is open, in the
--- order of keys, and each page has the pointers that are below it once the group is acknowledged.
+-- The keys of a freeze: the group's blocks and the pages above them, and no other, each of them of the volume. Each gets the
+-- least place that is open, in the order of keys, and each page has the pointers that are below it once the group is
+-- acknowledged. So the map may get each of these pointers.
 pub record IsFreeze (number : ℕ) (old new : Map) (writes : List Write) (items : List Item) : Type 0 where
   pub keys : keys_of items ≡ dirty_keys writes
   pub blocks : (a : ℕ) → frozen_block items a ≡ block_at writes a
@@ -90,3 +93,5 @@ pub record IsFreeze (number : ℕ) (old new : Map) (writes : List Write) (items 
   pub takes : Takes old new (places_of items)
   pub signed : All (IsSigned number) items
   pub filled : All (IsFilled (laid items (pointer_at old))) items
+  pub inside : All (λ item. IsKey old.blocks item.key) items
+  pub pointers : All (λ item. IsPointer old.sectors item.pointer) items

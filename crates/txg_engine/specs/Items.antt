@@ -1,6 +1,6 @@
 -- The keys of a frozen group, and the pointers that a map has with them.
-use Rattle.std.specs.Prelude.{◌≡◌, ℕ, ◌+◌, ◌-◌, ◌/◌, ◌==◌, ◌&&◌, ◌<◌, Bool, if◌then◌else◌}
-use Rattle.std.specs.Prelude.{List, [], ◌∷◌, length, slice_index_or, map, Option, Some, None}
+use Rattle.std.specs.Prelude.{◌≡◌, ℕ, ◌+◌, ◌-◌, ◌/◌, ◌==◌, ◌&&◌, ◌||◌, ◌<◌, nat_le, nat_lt, Bool, true, false, if◌then◌else◌}
+use Rattle.std.specs.Prelude.{List, [], ◌∷◌, length, slice_get, slice_index_or, map, Option, Some, None}
 use Rattle.mp_base.specs.declared.place.Key.{Key}
 use Rattle.mp_base.specs.declared.place.Place.{Place}
 use Rattle.mp_base.specs.declared.place.Pointer.{Pointer}
@@ -11,6 +11,13 @@ use Rattle.txg_engine.specs.declared.item.Item.{Item}
 -- the key's pointer stands in this page
 abbrev pub is_child : (page : Key) → Key → Bool
 is_child page k = (k.level == page.level - 1) && (k.index / 64 == page.index)
+
+-- the key comes before those whose pointers stand in this page; it doesn't come behind them
+abbrev pub is_before_page : (page : Key) → Key → Bool
+is_before_page page k = nat_lt k.level (page.level - 1) || ((k.level == page.level - 1) && nat_lt (k.index / 64) page.index)
+
+abbrev pub is_up_to_page : (page : Key) → Key → Bool
+is_up_to_page page k = nat_lt k.level (page.level - 1) || ((k.level == page.level - 1) && nat_le (k.index / 64) page.index)
 
 abbrev pub key_of : Item → Key
 key_of item = item.key
@@ -38,6 +45,11 @@ pub record IsItemAt (items : List Item) (k : Key) (at : ℕ) : Type 0 where
   pub inside : at < length items
   pub here : (d : Item) → (slice_index_or items at d).key ≡ k
 
+-- the item at a place, where it doesn't come behind a page's keys
+abbrev pub IsNextUpTo : List Item → (page : Key) (at : ℕ) → Option Item → Type 0
+IsNextUpTo items page at (Some item) = (slice_get items at ≡ Some item) × (is_up_to_page page item.key ≡ true)
+IsNextUpTo items page at None = (item : Item) → slice_get items at ≡ Some item → is_up_to_page page item.key ≡ false
+
 -- the block of an address among these keys
 abbrev pub frozen_block : List Item → ℕ → Option (List ℕ)
 frozen_block [] a = None
@@ -51,8 +63,3 @@ cell_of item = record {
   sector = item.pointer.place.sector;
   block = item.block;
 }
-
--- the group's keys as the history has them
-abbrev pub cells_of : List Item → Key → Option Cell
-cells_of [] k = None
-cells_of (item ∷ items) k = if same_key item.key k then Some (cell_of item) else cells_of items k

@@ -33,6 +33,7 @@ pub record BeginsGroup (number : Group) (writes : List Write) (old new : Map) (t
   pub unwritten : group.written ≡ 0
   pub unflushed : group.flushed ≡ false
   pub unbegun : group.begun ≡ false
+  pub unacked : group.acked ≡ false
   pub board : group.board ≡ seats_of 0 tops
   pub everywhere : unwritable tops ≡ None
   pub freeze : IsFreeze number.0 old new writes group.items

@@ -1,5 +1,6 @@
 -- The turns of a frozen group.
-use Rattle.std.specs.Prelude.{◌≡◌, ℕ, ◌+◌, ◌-◌, ◌^◌, min, Bool, true, false, List, length, map, Option, Some, None, Result, Ok, IsOk, IsErrAnd, slice_get}
+use Rattle.std.specs.Prelude.{◌≡◌, ℕ, ◌+◌, ◌-◌, ◌^◌, min, Bool, true, false, List, length, map, All}
+use Rattle.std.specs.Prelude.{Option, Some, None, is_some, Result, Ok, Err, IsOk, IsErrAnd, slice_get}
 use Rattle.std.specs.List.{list_all, AllZip}
 use Rattle.mp_base.specs.declared.number.Group.{Group}
 use Rattle.mp_base.specs.declared.number.Guid.{Guid}
@@ -22,7 +23,7 @@ use Rattle.txg_engine.specs.declared.item.Item.{Item}
 use Rattle.txg_engine.specs.declared.seat.Numbers.{Numbers}
 use Rattle.txg_engine.specs.declared.seat.Seat.{Seat}
 use Rattle.txg_engine.specs.declared.seat.Suspended.{Suspended}
-use Rattle.txg_engine.specs.Boards.{board_of, board_under, behind_turn, emptied, faults_under}
+use Rattle.txg_engine.specs.Boards.{board_of, board_under, behind_turn, emptied, faults_under, HasCause}
 use Rattle.txg_engine.specs.Frozen.{FrozenGroup}
 use Rattle.txg_engine.specs.Items.{cell_of}
 use Rattle.txg_engine.specs.Logs.{AreBehind, AreGrown, is_off, IsSettled}
@@ -37,11 +38,18 @@ pub record Scene : Type 0 where
 abbrev pub numbers_of : List Top → List Guid
 numbers_of tops = map (λ top. guid_of top.mirror) tops
 
--- What is told of a top that has nobody left on the board.
+-- a leaf that left the board, by a cause
+pub record HasLeft (seat : Seat) : Type 0 where
+  pub off : seat.on ≡ false
+  pub cause : HasCause seat
+
+-- What is told of a top that has nobody left on the board. Each leaf of it that was on the board at the freeze had a call that
+-- failed since, or was taken off by its pool.
 pub record IsTold (tops : List Guid) (first : Group) (seats : List Seat) (top : ℕ) (told : Suspended) : Type 0 where
   pub number : told.group ≡ first
   pub top_is : slice_get tops top ≡ Some told.top
   pub faults_are : told.faults ≡ min (2 ^ 64 - 1) (faults_under top seats)
+  pub left : All (λ seat. seat.top ≡ top → HasLeft seat) seats
 
 abbrev pub IsChecked : {A : Type 0} → List Guid → Group → List Seat → Option ℕ → Result A Suspended → Type 0
 IsChecked tops number seats None result = IsOk result
@@ -57,6 +65,15 @@ Answers tops group top result = IsChecked tops group.numbers.first group.board t
 
 abbrev pub emptied_top : List Guid → FrozenGroup → Option ℕ
 emptied_top tops group = emptied (length tops) group.board
+
+-- some top has nobody on the board, so that `burn` is due
+abbrev pub is_suspended : List Guid → FrozenGroup → Bool
+is_suspended tops group = is_some (emptied_top tops group)
+
+-- what stays as the freeze made it
+pub record KeepsKeys (old new : FrozenGroup) : Type 0 where
+  pub items : new.items ≡ old.items
+  pub first : new.numbers.first ≡ old.numbers.first
 
 -- The calls of a turn over these members, and who answered.
 pub record MakesCalls (plan : Member → List Ask) (members : List Member) (results : List Bool) (old new : BankView) : Type 0 where
@@ -113,11 +130,12 @@ GoesOn (Some top) tops noted leaves new result =
     (new.group ≡ noted) × (new.leaves ≡ leaves) × IsErrAnd result (IsSuspended tops noted top)
 GoesOn None tops noted leaves new result = Draws noted leaves new × (result ≡ Ok (closed.Round noted.numbers.last))
 
--- The end of a round, by whether no leaf failed in it. Then what each leaf owes is settled.
+-- The end of a round, by whether no leaf failed in it. Then the record is acknowledged, and what each leaf owes is settled.
 abbrev pub EndsRound : (whole : Bool) → List Guid → (results : List Bool) → (noted : FrozenGroup) → (old new : Scene)
     → Result Closed Suspended → Type 0
 EndsRound true tops results noted old new result =
-    (new.group ≡ noted) × AllZip IsSettled old.leaves new.leaves × (result ≡ Ok (closed.Committed noted.numbers.last))
+    (new.group ≡ record noted { acked = true }) × AllZip IsSettled old.leaves new.leaves
+    × (result ≡ Ok (closed.Committed noted.numbers.last))
 EndsRound false tops results noted old new result =
     let members = board_of noted.board in
     let left = record noted { board = behind_turn members results noted.board } in
@@ -136,3 +154,9 @@ IsCloseTurnBy None head_of commit tops old new result = MakesRound head_of commi
 
 abbrev pub IsCloseTurn : (List ℕ → Option Head) → Commit → List Guid → (old new : Scene) → Result Closed Suspended → Type 0
 IsCloseTurn head_of commit tops old new result = IsCloseTurnBy (emptied_top tops old.group) head_of commit tops old new result
+
+-- the record was acknowledged, so that `adopt` is due
+abbrev pub is_committed : Result Closed Suspended → Bool
+is_committed (Ok (closed.Committed number)) = true
+is_committed (Ok (closed.Round number)) = false
+is_committed (Err told) = false

@@ -1,5 +1,6 @@
 -- Writes of a group, each at an address of its own.
-use Rattle.std.specs.Prelude.{◌≡◌, ℕ, ◌+◌, ◌<◌, ◌≤◌, ◌==◌, Bool, List, [], ◌∷◌, length, Option, Some, None, is_some, Result, Ok, Err, slice_get, if◌then◌else◌}
+use Rattle.std.specs.Prelude.{◌≡◌, ℕ, ◌+◌, ◌<◌, ◌≤◌, ◌==◌, Bool, List, [], ◌∷◌, length, All}
+use Rattle.std.specs.Prelude.{Option, Some, None, is_some, Result, Ok, Err, slice_get, if◌then◌else◌}
 use Rattle.txg_engine.specs.declared.write.Write.{Write}
 
 -- the writes, and how many there is room for
@@ -11,6 +12,12 @@ pub record OpenGroup : Type 0 where
 abbrev pub RiseFrom : ℕ → List Write → Type 0
 RiseFrom low [] = Unit {0}
 RiseFrom low (write ∷ writes) = (low ≤ write.addr) × RiseFrom (write.addr + 1) writes
+
+-- What holds of each open group.
+pub record IsOpen (group : OpenGroup) : Type 0 where
+  pub rise : RiseFrom 0 group.writes
+  pub blocks : All (λ write. length write.block ≡ 4096) group.writes
+  pub room : length group.writes ≤ group.room
 
 -- the block of an address, where it was written
 abbrev pub block_at : List Write → ℕ → Option (List ℕ)

@@ -1,5 +1,5 @@
 //! What an acknowledged record does to the map.
-ghost use Rattle.std.specs.Prelude.{◌≡◌, ◌≤◌, [], All};
+ghost use Rattle.std.specs.Prelude.{◌≡◌, ◌≤◌, true, [], All};
 ghost use Rattle.block_map.specs.Keys.{IsKey};
 ghost use Rattle.block_map.specs.Places.{IsPlace};
 ghost use Rattle.block_map.specs.Pointers.{IsPointer};
@@ -15,6 +15,7 @@ impl Frozen {
     /// The map is that of the group's record from now on, which was acknowledged: each key of the group has its new
     /// pointer, the place of its old one is free, and no place is pinned any more.
     pub fn adopt(self, map: &mut BlockMap, pins: &mut Pins)
+        requires acked { self.acked ≡ true }
         requires keys { All (λ item. IsKey map.old.blocks item.key) self.items }
         requires pointers { All (λ item. IsPointer map.old.sectors item.pointer) self.items }
         requires pins { All (IsPlace map.old.sectors) pins.old.places }

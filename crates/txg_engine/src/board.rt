@@ -4,7 +4,7 @@ ghost use Rattle.std.specs.List.{filter_map};
 ghost use Rattle.vdev_tree.specs.Tree.{leaves};
 ghost use Rattle.vdev_tree.specs.declared.vdev.LeafVdev.{LeafVdev};
 ghost use Rattle.dtl_rules.specs.Widening.{leaves_of};
-ghost use Rattle.txg_engine.specs.Boards.{is_on_under, board_of, board_under, has_on, on_board, emptied, faults_under, without, failed, seat_of, seats_of};
+ghost use Rattle.txg_engine.specs.Boards.{is_on_under, board_of, board_under, has_on, on_board, emptied, faults_under, without, as_taken, failed, seat_of, seats_of};
 
 use crate::members::Members;
 use crate::seat::{MOST_LEAVES, Seat};
@@ -110,6 +110,13 @@ impl Board {
         remove_from(&mut self.seats, member);
     }
 
+    /// The leaf of this number, where it is on the board, is taken off by its pool.
+    pub(crate) fn mark_taken(&mut self, member: Guid)
+        ensures { self.new ≡ map (as_taken member) self.old }
+    {
+        mark_taken_in(&mut self.seats, member);
+    }
+
     /// A call on the leaf of this number failed.
     pub(crate) fn count_fault(&mut self, member: Guid)
         ensures { self.new ≡ map (failed member) self.old }
@@ -184,6 +191,27 @@ fn without(seat: Seat, member: Guid) -> Seat
     }
 }
 
+fn mark_taken_in(seats: &mut Vec<Seat>, member: Guid)
+    ensures { seats.new.items ≡ map (as_taken member) seats.old.items }
+{
+    for i in 0..seats.len() {
+        seats[i] = as_taken(seats[i], member);
+    }
+}
+
+fn as_taken(seat: Seat, member: Guid) -> Seat
+    ensures { result ≡ as_taken member seat }
+{
+    if seat.on && seat.member.guid == member {
+        Seat {
+            taken: true,
+            ..seat
+        }
+    } else {
+        seat
+    }
+}
+
 fn count_in(seats: &mut Vec<Seat>, member: Guid)
     ensures { seats.new.items ≡ map (failed member) seats.old.items }
 {
@@ -241,6 +269,7 @@ fn seat_of(leaf: &LeafVdev, top: u32) -> Option<Seat>
         },
         top,
         on: true,
+        taken: false,
         faults: 0,
     })
 }

@@ -1,11 +1,12 @@
 //! Burning: a suspended group becomes open again.
-ghost use Rattle.std.specs.Prelude.{◌≡◌, ◌+◌, ◌<◌, ◌≤◌, ◌∷◌, [], length, All};
+ghost use Rattle.std.specs.Prelude.{◌≡◌, ◌+◌, ◌<◌, ◌≤◌, ◌∷◌, true, false, [], length, All};
 ghost use Rattle.std.specs.List.{AllZip};
 ghost use Rattle.block_map.specs.Places.{IsPlace};
 ghost use Rattle.dtl_rules.specs.Widening.{leaves_of, marks_of, sectors_of};
-ghost use Rattle.txg_engine.specs.Ending.{AreMerged, GivesBack, pins_after};
+ghost use Rattle.txg_engine.specs.Ending.{AreMerged, fresh_count, GivesBack, pins_after};
 ghost use Rattle.txg_engine.specs.Items.{places_of};
 ghost use Rattle.txg_engine.specs.Logs.{IsCut};
+ghost use Rattle.txg_engine.specs.Turns.{is_suspended, numbers_of};
 
 use crate::changes::cut_all;
 use crate::frozen::Frozen;
@@ -23,10 +24,13 @@ impl Frozen {
     /// log and what is settled, and its places are free. Where one of its rounds had begun, a crash may leave that
     /// round's record, so the places stay pinned until the next record is acknowledged. It takes no memory.
     pub fn burn(self, newer: Open, map: &mut BlockMap, tops: &mut [Top], pins: &mut Pins) -> Open
+        requires unacked { self.acked ≡ false }
+        requires suspended { is_suspended (numbers_of tops.old) self ≡ true }
         requires places { All (λ item. IsPlace map.old.sectors item.pointer.place) self.items }
         requires room { length newer.writes ≤ 4096 }
         requires pins_room { length pins.old.places + length self.items ≤ pins.old.room }
         ensures writes { AreMerged self.items newer.writes result.writes }
+        ensures count { length result.writes ≡ length newer.writes + fresh_count newer.writes self.items }
         ensures room { 4096 ≤ result.room }
         ensures places { GivesBack self.begun (places_of self.items) map.old map.new }
         ensures pins { pins.new.places ≡ pins_after self.begun (places_of self.items) pins.old.places }
@@ -41,6 +45,7 @@ impl Frozen {
             back,
             written: _,
             flushed: _,
+            acked: _,
             board: _,
         } = self;
         give_back(map, &items, begun, pins);

@@ -5,11 +5,12 @@ ghost use Rattle.vdev_tree.specs.declared.vdev.LeafVdev.{LeafVdev};
 ghost use Rattle.dtl_rules.specs.Widening.{leaves_of, marks_of, sectors_of};
 ghost use Rattle.txg_engine.specs.declared.seat.Seat.{Seat};
 ghost use Rattle.txg_engine.specs.Boards.{on_board};
-ghost use Rattle.txg_engine.specs.Logs.{is_off, is_leaf, has_spare, Grows, count_write, IsSettled, HasSettledRoom, IsCut};
+ghost use Rattle.txg_engine.specs.Logs.{is_off, is_leaf, has_spare, Grows, ChangeAndFit, AreGrown, count_write, IsSettled, HasSettledRoom, IsCut};
 
 use crate::board::Board;
 use crate::leaves::{LeafChange, change_tops};
 use crate::seat::Numbers;
+use dtl_rules::fit;
 use mp_base::{Group, Guid};
 use vdev_tree::{LeafVdev, Top};
 
@@ -101,29 +102,40 @@ impl LeafChange for CutFrom {
     }
 }
 
-/// Each leaf that isn't on the board owes this number from now on.
+/// Each leaf that isn't on the board owes this number from now on. Logs that have become too large are widened.
 pub(crate) fn owe_off(tops: &mut [Top], board: &Board, number: Group)
     requires low { 1 ≤ number.0 }
     requires high { number.0 ≤ 2 ^ 62 }
     requires room { All has_spare (leaves_of tops.old) }
-    ensures leaves { AllZip (Grows (is_off board.now) number.0 number.0) (leaves_of tops.old) (leaves_of tops.new) }
+    ensures leaves { AreGrown (is_off board.now) number.0 number.0 (leaves_of tops.old) (leaves_of tops.new) }
     ensures built { marks_of tops.new ≡ marks_of tops.old }
     ensures sectors { sectors_of tops.new ≡ sectors_of tops.old }
 {
-    change_tops(tops, &OweOff { board, number });
+    change_and_fit(tops, &OweOff { board, number });
 }
 
-/// The leaf of this number owes each number of the group from now on.
+/// The leaf of this number owes each number of the group from now on. Logs that have become too large are widened.
 pub(crate) fn owe_all(tops: &mut [Top], member: Guid, numbers: Numbers)
     requires low { 1 ≤ numbers.first.0 }
     requires order { numbers.first.0 ≤ numbers.last.0 }
     requires high { numbers.last.0 ≤ 2 ^ 62 }
     requires room { All has_spare (leaves_of tops.old) }
-    ensures leaves { AllZip (Grows (is_leaf member) numbers.first.0 numbers.last.0) (leaves_of tops.old) (leaves_of tops.new) }
+    ensures leaves { AreGrown (is_leaf member) numbers.first.0 numbers.last.0 (leaves_of tops.old) (leaves_of tops.new) }
     ensures built { marks_of tops.new ≡ marks_of tops.old }
     ensures sectors { sectors_of tops.new ≡ sectors_of tops.old }
 {
-    change_tops(tops, &OweAll { member, numbers });
+    change_and_fit(tops, &OweAll { member, numbers });
+}
+
+// Does this to each leaf, and widens logs that have become too large.
+fn change_and_fit<C: LeafChange>(tops: &mut [Top], change: &C)
+    requires { All (C.may change.now) (leaves_of tops.old) }
+    ensures leaves { ChangeAndFit (C.changes change.now) (leaves_of tops.old) (leaves_of tops.new) }
+    ensures built { marks_of tops.new ≡ marks_of tops.old }
+    ensures sectors { sectors_of tops.new ≡ sectors_of tops.old }
+{
+    change_tops(tops, change);
+    fit(tops);
 }
 
 /// Counts a failed write or flush of the leaf of this number.

@@ -1,10 +1,9 @@
 //! A round: the record of the group goes onto the labels of each leaf that is on the board.
-ghost use Rattle.std.specs.Prelude.{◌≡◌, ℕ, ◌<◌, ◌≤◌, true, false, length, take, All};
+ghost use Rattle.std.specs.Prelude.{◌≡◌, ℕ, ◌<◌, ◌≤◌, true, false, length, take, All, OnErr};
 ghost use Rattle.label_store.specs.Committing.{IsSealed};
 ghost use Rattle.label_store.specs.Records.{IsHeaded};
 ghost use Rattle.dtl_rules.specs.Widening.{leaves_of, marks_of, sectors_of};
 ghost use Rattle.txg_engine.specs.Logs.{IsReady};
-ghost use Rattle.txg_engine.specs.Logs.{HasSettledRoom};
 ghost use Rattle.txg_engine.specs.Turns.{all_done};
 
 use crate::changes::settle_all;
@@ -28,7 +27,7 @@ pub enum Closed {
 
 impl Frozen {
     ghost use Rattle.txg_engine.specs.Frozen.{FrozenGroup, AreSeated};
-    ghost use Rattle.txg_engine.specs.Turns.{Scene, IsCloseTurn, numbers_of};
+    ghost use Rattle.txg_engine.specs.Turns.{Scene, IsCloseTurn, KeepsKeys, is_committed, is_suspended, numbers_of};
 
     /// Makes one round over the board, of the configuration with the group's last number that is the first `config_bytes` of
     /// `blob`. Where no leaf failed, the record is acknowledged, and what each leaf owes is settled. A leaf that failed leaves
@@ -44,9 +43,9 @@ impl Frozen {
         config_bytes: usize,
     ) -> Result<Closed, Suspended>
         requires flushed { self.old.flushed ≡ true }
+        requires unacked { self.old.acked ≡ false }
         requires sealed { IsSealed blob.now config_bytes }
         requires headed { IsHeaded R.head_of pool self.old.numbers.last (take config_bytes blob.now) }
-        requires settled { All HasSettledRoom (leaves_of tops.old) }
         requires seated { AreSeated (B.view bank.old).size (sectors_of tops.old) self.old }
         requires tops { length tops.old ≤ 8 }
         requires ready { All (IsReady self.old.board self.old.numbers.last.0) (leaves_of tops.old) }
@@ -54,6 +53,10 @@ impl Frozen {
             (numbers_of tops.new) (record { group = self.old; leaves = leaves_of tops.old; bank = B.view bank.old })
             (record { group = self.new; leaves = leaves_of tops.new; bank = B.view bank.new }) result }
         ensures ready { All (IsReady self.new.board self.new.numbers.last.0) (leaves_of tops.new) }
+        ensures seated { AreSeated (B.view bank.new).size (sectors_of tops.new) self.new }
+        ensures keys { KeepsKeys self.old self.new }
+        ensures acked { self.new.acked ≡ is_committed result }
+        ensures suspended { OnErr result (is_suspended (numbers_of tops.new) self.new ≡ true) }
         ensures built { marks_of tops.new ≡ marks_of tops.old }
         ensures sectors { sectors_of tops.new ≡ sectors_of tops.old }
     {
@@ -74,6 +77,7 @@ impl Frozen {
         );
         if all_done(done) {
             settle_all(tops);
+            self.acked = true;
             return Ok(Closed::Committed(number));
         }
         drop_failed(

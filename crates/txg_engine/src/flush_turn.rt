@@ -1,5 +1,5 @@
 //! The flush turn: each leaf that is on the board is flushed.
-ghost use Rattle.std.specs.Prelude.{◌≡◌, ℕ, ◌<◌, ◌≤◌, false, length, map, All};
+ghost use Rattle.std.specs.Prelude.{◌≡◌, ℕ, ◌<◌, ◌≤◌, true, false, length, map, All, OnErr};
 ghost use Rattle.dtl_rules.specs.Widening.{leaves_of, marks_of, sectors_of};
 ghost use Rattle.txg_engine.specs.Logs.{IsReady};
 ghost use Rattle.txg_engine.specs.Turns.{FlushesAll};
@@ -12,8 +12,8 @@ use label_store::Member;
 use vdev_tree::Top;
 
 impl Frozen {
-    ghost use Rattle.txg_engine.specs.Frozen.{FrozenGroup, AreSeated, is_written_out};
-    ghost use Rattle.txg_engine.specs.Turns.{Scene, IsFlushTurn, numbers_of};
+    ghost use Rattle.txg_engine.specs.Frozen.{FrozenGroup, AreSeated};
+    ghost use Rattle.txg_engine.specs.Turns.{Scene, IsFlushTurn, KeepsKeys, is_suspended, numbers_of};
 
     /// Flushes each leaf that is on the board, in tree order, once each key was written. A leaf whose flush failed leaves the
     /// board, and the others go on. Behind it each key is safe on each leaf of its top that is still on the board.
@@ -22,6 +22,7 @@ impl Frozen {
     pub fn flush_turn<B: Bank>(&mut self, bank: &mut B, tops: &mut [Top]) -> Result<(), Suspended>
         requires written { self.old.written ≡ length self.old.items }
         requires unflushed { self.old.flushed ≡ false }
+        requires unacked { self.old.acked ≡ false }
         requires seated { AreSeated (B.view bank.old).size (sectors_of tops.old) self.old }
         requires tops { length tops.old ≤ 8 }
         requires ready { All (IsReady self.old.board self.old.numbers.last.0) (leaves_of tops.old) }
@@ -29,6 +30,10 @@ impl Frozen {
             (record { group = self.old; leaves = leaves_of tops.old; bank = B.view bank.old })
             (record { group = self.new; leaves = leaves_of tops.new; bank = B.view bank.new }) result }
         ensures ready { All (IsReady self.new.board self.new.numbers.last.0) (leaves_of tops.new) }
+        ensures seated { AreSeated (B.view bank.new).size (sectors_of tops.new) self.new }
+        ensures keys { KeepsKeys self.old self.new }
+        ensures unacked { self.new.acked ≡ false }
+        ensures suspended { OnErr result (is_suspended (numbers_of tops.new) self.new ≡ true) }
         ensures built { marks_of tops.new ≡ marks_of tops.old }
         ensures sectors { sectors_of tops.new ≡ sectors_of tops.old }
     {

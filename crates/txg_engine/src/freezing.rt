@@ -3,10 +3,9 @@ ghost use Rattle.std.specs.Prelude.{◌≡◌, ◌+◌, ◌^◌, ◌<◌, ◌≤
 ghost use Rattle.block_map.specs.Map.{Map};
 ghost use Rattle.vdev_tree.specs.declared.top.Top.{Top};
 ghost use Rattle.std.specs.List.{AllZip};
-ghost use Rattle.vdev_tree.specs.Changes.{KeepsLog};
 ghost use Rattle.dtl_rules.specs.Widening.{leaves_of, marks_of, sectors_of};
 ghost use Rattle.txg_engine.specs.Boards.{seats_of};
-ghost use Rattle.txg_engine.specs.Logs.{AreGrown, is_off, IsReady};
+ghost use Rattle.txg_engine.specs.Logs.{AreOwing, KeepsSets, is_off, IsReady};
 ghost use Rattle.txg_engine.specs.Preparing.{IsPrepared};
 ghost use Rattle.txg_engine.specs.Refusing.{BeginsGroup, IsCause};
 
@@ -18,7 +17,6 @@ use crate::prepare::{Prepared, prepare};
 use crate::seat::Numbers;
 use crate::settle::{settle_blocks, settle_pages};
 use block_map::BlockMap;
-use dtl_rules::fit;
 use mp_base::{Group, Guid, MemFault};
 use std::alloc::{AllocError, Global};
 use vdev_tree::Top;
@@ -67,8 +65,8 @@ pub struct Unfrozen {
 /// places that are free and not pinned, in the order of their keys, and their sums; the board is the leaves that may be
 /// written, and every other leaf owes the number. The map keeps the pointers of the record that the pool reads.
 ///
-/// It takes all memory of the commit, before anything changes. At `Err` nothing has changed but the room in logs: a top
-/// has no leaf that may be written, else there are too few places, or there was no memory.
+/// It takes all memory of the commit, before anything changes. At `Err` nothing has changed but the room in the sets of
+/// leaves: a top has no leaf that may be written, else there are too few places, or there was no memory.
 pub fn freeze(
     alloc: Global,
     group: Open,
@@ -83,8 +81,7 @@ pub fn freeze(
     requires low { 1 ≤ number.0 }
     requires high { number.0 + 64 ≤ 2 ^ 62 }
     ensures group { IfOk result (BeginsGroup number group.writes map.old map.new tops.old) }
-    ensures logs { OnOk result (AreGrown (is_off (seats_of 0 tops.old)) number.0 number.0
-        (leaves_of tops.old) (leaves_of tops.new)) }
+    ensures logs { OnOk result (AreOwing (is_off (seats_of 0 tops.old)) number.0 (leaves_of tops.old) (leaves_of tops.new)) }
     ensures ready { IfOk result (λ frozen. All (IsReady frozen.board number.0) (leaves_of tops.new)) }
     ensures pins_room { IfOk result (λ frozen. length pins.new.places + length frozen.items ≤ pins.new.room) }
     ensures pins { pins.new.places ≡ pins.old.places }
@@ -93,7 +90,7 @@ pub fn freeze(
     ensures cause { IfErr result (λ unfrozen. IsCause group.writes map.old tops.old unfrozen.why) }
     ensures back { IfErr result (λ unfrozen. unfrozen.group ≡ group) }
     ensures map { OnErr result (map.new ≡ map.old) }
-    ensures leaves { OnErr result (AllZip KeepsLog (leaves_of tops.old) (leaves_of tops.new)) }
+    ensures leaves { OnErr result (AllZip KeepsSets (leaves_of tops.old) (leaves_of tops.new)) }
 {
     let prepared = match prepare(alloc, &group, map, tops, pins) {
         Ok(prepared) => prepared,
@@ -101,7 +98,6 @@ pub fn freeze(
     };
     let frozen = settle_group(prepared, group, map, number);
     owe_off(tops, &frozen.board, number);
-    fit(tops);
     Ok(frozen)
 }
 
@@ -135,6 +131,7 @@ fn settle_group(prepared: Prepared, group: Open, map: &mut BlockMap, number: Gro
         written: 0,
         flushed: false,
         begun: false,
+        acked: false,
         board,
         back,
     }

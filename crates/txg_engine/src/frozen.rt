@@ -5,7 +5,7 @@ ghost use Rattle.block_map.specs.Map.{pointer_at};
 ghost use Rattle.block_map.specs.Keys.{root};
 ghost use Rattle.mp_base.specs.declared.place.Pointer.{Pointer};
 ghost use Rattle.txg_engine.specs.Items.{laid, frozen_block, IsItemAt};
-ghost use Rattle.txg_engine.specs.Frozen.{is_written_out, KeysRise};
+ghost use Rattle.txg_engine.specs.Frozen.{is_written_out, IsGroup, KeysRise};
 
 use crate::board::Board;
 use crate::item::Item;
@@ -30,12 +30,15 @@ pub struct Frozen {
     pub(crate) flushed: bool,
     /// One of its rounds has begun.
     pub(crate) begun: bool,
+    /// One of its rounds was acknowledged.
+    pub(crate) acked: bool,
     pub(crate) board: Board,
     /// Room for the writes of the open group that it becomes where it is suspended.
     pub(crate) back: Vec<Write>,
 }
 
 impl Model for Frozen {
+    ghost use Rattle.std.specs.Prelude.{◌≡◌, []};
     ghost use Rattle.std.specs.Vec.{vec_capacity};
     ghost use Rattle.txg_engine.specs.Frozen.{FrozenGroup, IsGroup};
 
@@ -47,15 +50,31 @@ impl Model for Frozen {
       written = group.written;
       flushed = group.flushed;
       begun = group.begun;
+      acked = group.acked;
       board = group.board;
       room = vec_capacity group.back;
     } };
 
-    ghost invariant = { λ group. IsGroup group.numbers group.items.items group.written group.board group.back.items
-        (vec_capacity group.back) };
+    ghost invariant = { λ group. IsGroup (record {
+      numbers = group.numbers;
+      items = group.items.items;
+      written = group.written;
+      flushed = group.flushed;
+      begun = group.begun;
+      acked = group.acked;
+      board = group.board;
+      room = vec_capacity group.back;
+    }) × (group.back.items ≡ []) };
 }
 
 impl Frozen {
+    /// What holds of each frozen group, whatever was done with it. It computes nothing: its clause is the law.
+    pub fn keeps_its_form(&self)
+        ensures { IsGroup self.now }
+    {
+        let _ = &self.items;
+    }
+
     /// The numbers that were drawn for it.
     pub fn numbers(&self) -> Numbers
         ensures { result ≡ self.now.numbers }

@@ -1,8 +1,8 @@
 //! Two lists of writes become one.
-ghost use Rattle.std.specs.Prelude.{◌≡◌, ℕ, ◌+◌, ◌<◌, ◌≤◌, []};
+ghost use Rattle.std.specs.Prelude.{◌≡◌, ℕ, ◌+◌, ◌<◌, ◌≤◌, [], length, All};
 ghost use Rattle.std.specs.Vec.{vec_capacity};
 ghost use Rattle.std.specs.VecDeque.{deque_len};
-ghost use Rattle.txg_engine.specs.Ending.{AreMerged};
+ghost use Rattle.txg_engine.specs.Ending.{AreMerged, fresh_count};
 ghost use Rattle.txg_engine.specs.Frozen.{KeysRise};
 ghost use Rattle.txg_engine.specs.Merging.{block_addr, PopsWrite, TakesNext};
 ghost use Rattle.txg_engine.specs.Writes.{RiseFrom};
@@ -18,8 +18,12 @@ pub(crate) fn merge(mut older: VecDeque<Item>, mut newer: VecDeque<Write>, out: 
     requires room { deque_len older + deque_len newer ≤ vec_capacity out.old }
     requires older { KeysRise older.items }
     requires newer { RiseFrom 0 newer.items }
+    requires older_blocks { All (λ item. length item.block ≡ 4096) older.items }
+    requires newer_blocks { All (λ write. length write.block ≡ 4096) newer.items }
     ensures merged { AreMerged older.items newer.items out.new.items }
     ensures rise { RiseFrom 0 out.new.items }
+    ensures count { length out.new.items ≡ length newer.items + fresh_count newer.items older.items }
+    ensures blocks { All (λ write. length write.block ≡ 4096) out.new.items }
     ensures room { vec_capacity out.old ≤ vec_capacity out.new }
 {
     while let Some(write) = next(&mut older, &mut newer) {

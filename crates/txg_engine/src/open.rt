@@ -1,8 +1,8 @@
 //! The open group: what was written since the last freeze.
-ghost use Rattle.std.specs.Prelude.{◌≡◌, ℕ, ◌+◌, ◌<◌, ◌≤◌, ◌==◌, true, false, [], length, Some, IfOk, OnOk, OnErr, if◌then◌else◌};
+ghost use Rattle.std.specs.Prelude.{◌≡◌, ℕ, ◌+◌, ◌<◌, ◌≤◌, ◌==◌, true, false, [], length, All, Some, IfOk, OnOk, OnErr, if◌then◌else◌};
 ghost use Rattle.std.specs.Option.{option_copied};
 ghost use Rattle.std.specs.Vec.{vec_capacity};
-ghost use Rattle.txg_engine.specs.Writes.{block_at, is_written, IsFound, RiseFrom};
+ghost use Rattle.txg_engine.specs.Writes.{block_at, is_written, IsFound, IsOpen, RiseFrom};
 
 use crate::write::Write;
 use mp_base::{Block, MemFault};
@@ -20,13 +20,13 @@ pub struct Open {
 
 impl Model for Open {
     ghost use Rattle.std.specs.Vec.{vec_capacity};
-    ghost use Rattle.txg_engine.specs.Writes.{OpenGroup, RiseFrom};
+    ghost use Rattle.txg_engine.specs.Writes.{OpenGroup, IsOpen};
 
     ghost Value = { OpenGroup };
 
     ghost view = { λ group. record { writes = group.writes.items; room = vec_capacity group.writes } };
 
-    ghost invariant = { λ group. RiseFrom 0 group.writes.items };
+    ghost invariant = { λ group. IsOpen (record { writes = group.writes.items; room = vec_capacity group.writes }) };
 }
 
 impl Open {
@@ -38,6 +38,13 @@ impl Open {
         Ok(Open {
             writes: Vec::with_capacity(alloc, MOST_WRITES)?,
         })
+    }
+
+    /// What holds of each open group, whatever was done with it. It computes nothing: its clause is the law.
+    pub fn keeps_its_form(&self)
+        ensures { IsOpen self.now }
+    {
+        let _ = &self.writes;
     }
 
     /// How many addresses were written.
@@ -91,8 +98,11 @@ impl Open {
 // Takes a write, which takes the place of an earlier one at its address.
 fn put_write(writes: &mut Vec<Write>, addr: u64, block: Block)
     requires rise { RiseFrom 0 writes.old.items }
+    requires block { length block ≡ 4096 }
+    requires long { All (λ write. length write.block ≡ 4096) writes.old.items }
     requires room { is_written writes.old.items addr ≡ false → length writes.old.items < vec_capacity writes.old }
     ensures rise { RiseFrom 0 writes.new.items }
+    ensures long { All (λ write. length write.block ≡ 4096) writes.new.items }
     ensures blocks { (a : ℕ) → block_at writes.new.items a ≡ (if addr == a then Some block
         else block_at writes.old.items a) }
     ensures count { length writes.new.items ≡ (if is_written writes.old.items addr

@@ -2,9 +2,9 @@
 ghost use Rattle.std.specs.Prelude.{◌≡◌, ℕ, ◌+◌, ◌*◌, ◌^◌, ◌<◌, ◌≤◌, ◌++◌, None, [], length, map, vec_len, All, IfOk, IfErr, OnOk, OnErr};
 ghost use Rattle.std.specs.List.{AllZip};
 ghost use Rattle.std.specs.Vec.{vec_capacity};
-ghost use Rattle.vdev_tree.specs.Changes.{has_room, KeepsLog};
 ghost use Rattle.dtl_rules.specs.Widening.{leaves_of, marks_of, sectors_of};
 ghost use Rattle.txg_engine.specs.Freezing.{addr_of, page_keys};
+ghost use Rattle.txg_engine.specs.Logs.{KeepsSets, HasCommitRoom};
 ghost use Rattle.txg_engine.specs.Preparing.{IsPrepared};
 ghost use Rattle.txg_engine.specs.Refusing.{IsCause, need, unwritable};
 
@@ -14,14 +14,12 @@ use crate::item::Item;
 use crate::leave::number_of_top;
 use crate::open::{MOST_WRITES, Open};
 use crate::pins::Pins;
+use crate::room::reserve_sets;
 use crate::write::Write;
 use block_map::{BlockMap, pages_above};
 use mp_base::{BLOCK_BYTES, Key, MemFault};
 use std::alloc::Global;
 use vdev_tree::Top;
-
-/// Runs of groups that a commit adds to a log at most.
-const RUNS: usize = 2;
 
 /// What a freeze needs: the dirty pages with the memory for their bytes, the board, and room for the group's keys and for
 /// the open group that it becomes where it is suspended.
@@ -35,8 +33,8 @@ pub(crate) struct Prepared {
 }
 
 /// Takes all memory of a commit of this group, where it has the places and each top a leaf to be written. Else nothing
-/// has changed but the room in logs.
-#[tactic(auto, using(crate::proofs::Preparing::kept_all))]
+/// has changed but the room in the sets of leaves.
+#[tactic(auto, using(crate::proofs::RoomMade::kept_all))]
 pub(crate) fn prepare(
     alloc: Global,
     group: &Open,
@@ -47,9 +45,9 @@ pub(crate) fn prepare(
     requires tops { length tops.old ≤ 8 }
     requires few { length (leaves_of tops.old) ≤ 32 }
     ensures prepared { IfOk result (IsPrepared group.now.writes map.now tops.old) }
-    ensures room { OnOk result (All (has_room 2) (leaves_of tops.new)) }
+    ensures room { OnOk result (All HasCommitRoom (leaves_of tops.new)) }
     ensures cause { IfErr result (IsCause group.now.writes map.now tops.old) }
-    ensures leaves { AllZip KeepsLog (leaves_of tops.old) (leaves_of tops.new) }
+    ensures leaves { AllZip KeepsSets (leaves_of tops.old) (leaves_of tops.new) }
     ensures built { marks_of tops.new ≡ marks_of tops.old }
     ensures sectors { sectors_of tops.new ≡ sectors_of tops.old }
     ensures pins { pins.new.places ≡ pins.old.places }
@@ -68,7 +66,7 @@ pub(crate) fn prepare(
     let items = Vec::with_capacity(alloc, keys)?;
     let back = Vec::with_capacity(alloc, keys + MOST_WRITES)?;
     pins.reserve(keys)?;
-    reserve_logs(tops)?;
+    reserve_sets(tops)?;
     Ok(Prepared {
         pages,
         buffers,
@@ -124,18 +122,4 @@ fn buffers_for(alloc: Global, count: usize) -> Result<Vec<Vec<u8>>, MemFault>
         buffers.push(vec![in alloc; 0; BLOCK_BYTES]?)?;
     }
     Ok(buffers)
-}
-
-// Makes room for the runs that a commit may add to each log.
-fn reserve_logs(tops: &mut [Top]) -> Result<(), MemFault>
-    ensures room { OnOk result (All (has_room 2) (leaves_of tops.new)) }
-    ensures leaves { AllZip KeepsLog (leaves_of tops.old) (leaves_of tops.new) }
-    ensures built { marks_of tops.new ≡ marks_of tops.old }
-    ensures sectors { sectors_of tops.new ≡ sectors_of tops.old }
-{
-    for i in 0..tops.len() {
-        let top = &mut tops[i];
-        top.reserve(RUNS)?;
-    }
-    Ok(())
 }

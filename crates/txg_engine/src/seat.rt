@@ -6,12 +6,13 @@ use mp_base::{Group, Guid};
 pub const MOST_LEAVES: usize = 32;
 
 /// A leaf that was on the board at the freeze: the place of its top in the pool's list of tops, whether it is on the board
-/// still, and how many calls on its device failed since.
+/// still, whether the pool took it off (`leave`), and how many calls on its device failed since.
 #[derive(Clone, Copy, Debug, PartialEq, Eq)]
 pub struct Seat {
     pub member: Member,
     pub top: u32,
     pub on: bool,
+    pub taken: bool,
     pub faults: u64,
 }
 

@@ -1,5 +1,5 @@
 //! A write turn: one key's bytes go to each leaf of its top that is on the board.
-ghost use Rattle.std.specs.Prelude.{◌≡◌, ℕ, ◌+◌, ◌^◌, ◌<◌, ◌≤◌, Some, length, map, All, slice_get};
+ghost use Rattle.std.specs.Prelude.{◌≡◌, ℕ, ◌+◌, ◌^◌, ◌<◌, ◌≤◌, true, false, Some, length, map, All, OnErr, slice_get};
 ghost use Rattle.dtl_rules.specs.Widening.{leaves_of, marks_of, sectors_of};
 ghost use Rattle.txg_engine.specs.Logs.{IsReady};
 ghost use Rattle.txg_engine.specs.Turns.{WritesItem};
@@ -20,7 +20,7 @@ const DATA_START: u64 = 128;
 impl Frozen {
     ghost use Rattle.txg_engine.specs.declared.item.Item.{Item};
     ghost use Rattle.txg_engine.specs.Frozen.{FrozenGroup, AreSeated};
-    ghost use Rattle.txg_engine.specs.Turns.{Scene, IsWriteTurn, numbers_of};
+    ghost use Rattle.txg_engine.specs.Turns.{Scene, IsWriteTurn, KeepsKeys, is_suspended, numbers_of};
 
     /// Writes the first key that wasn't written yet, on each leaf of its top that is on the board, in tree order. A leaf whose
     /// write failed leaves the board, and the others go on.
@@ -28,6 +28,7 @@ impl Frozen {
     /// At `Err` a top had nobody on the board: before the turn, and then no call was made, or behind it. Then `burn` is due.
     pub fn write_turn<B: Bank>(&mut self, bank: &mut B, tops: &mut [Top]) -> Result<(), Suspended>
         requires left { self.old.written < length self.old.items }
+        requires unacked { self.old.acked ≡ false }
         requires seated { AreSeated (B.view bank.old).size (sectors_of tops.old) self.old }
         requires tops { length tops.old ≤ 8 }
         requires ready { All (IsReady self.old.board self.old.numbers.last.0) (leaves_of tops.old) }
@@ -35,6 +36,10 @@ impl Frozen {
             (record { group = self.old; leaves = leaves_of tops.old; bank = B.view bank.old })
             (record { group = self.new; leaves = leaves_of tops.new; bank = B.view bank.new }) result }
         ensures ready { All (IsReady self.new.board self.new.numbers.last.0) (leaves_of tops.new) }
+        ensures seated { AreSeated (B.view bank.new).size (sectors_of tops.new) self.new }
+        ensures keys { KeepsKeys self.old self.new }
+        ensures unacked { self.new.acked ≡ false }
+        ensures suspended { OnErr result (is_suspended (numbers_of tops.new) self.new ≡ true) }
         ensures built { marks_of tops.new ≡ marks_of tops.old }
         ensures sectors { sectors_of tops.new ≡ sectors_of tops.old }
     {

@@ -121,3 +121,47 @@ fn the_largest_group_has_all_its_pages(rt: HostRuntime) -> Result<(), Fail> {
     assert!(rt; pool.stands(0, &root) && pool.stands(1, &root));
     Ok(())
 }
+
+/// A pool whose leaf on device 1 is offline and owes so many groups, each a range of its own.
+fn pool_that_owes(alloc: Global, ranges: u64) -> Result<Pool, Fail> {
+    let mut pool = Pool::new(alloc, 16, &[1, 2, 8], 320)?;
+    pool.tops[1].set_state(member_on(1), State::Offline, false);
+    pool.tops[1].reserve(ranges as usize)?;
+    for i in 0..ranges {
+        pool.tops[1].owe(Group(2 * i + 1));
+    }
+    pool.number = 2 * ranges;
+    pool.open.put(3, &block_of(1))?;
+    Ok(pool)
+}
+
+#[test]
+fn logs_with_too_many_ranges_become_one(rt: HostRuntime) -> Result<(), Fail> {
+    // The number of the freeze, 2 * ranges + 1, is a range more.
+    for (ranges, left) in [(4095, 4096), (4096, 1)] {
+        let mut pool = pool_that_owes(rt.alloc(), ranges)?;
+        let frozen = pool.freeze()?.ok().ok_or("frozen")?;
+        assert!(rt; pool.leaf(1).is_some_and(|leaf| leaf.log.ranges() == left));
+        assert!(rt; pool.leaf(1).is_some_and(|leaf| leaf.log.least() == Some(Group(1))));
+        assert!(rt; pool.leaf(1).is_some_and(|leaf| leaf.log.contains(Group(2 * ranges + 1))));
+        assert!(rt; pool.leaf(1).is_some_and(|leaf| leaf.log.contains(Group(2)) == (left == 1)));
+        assert_eq!(rt; pool.end(frozen), Ended::Committed(Group(2 * ranges + 1)));
+        assert!(rt; pool.leaf(1).is_some_and(|leaf| leaf.settled.ranges() == left));
+    }
+    Ok(())
+}
+
+#[test]
+fn only_the_log_with_the_most_ranges_becomes_one(rt: HostRuntime) -> Result<(), Fail> {
+    let mut pool = pool_that_owes(rt.alloc(), 4093)?;
+    pool.tops[2].set_state(member_on(3), State::Offline, false);
+    pool.tops[2].reserve(3)?;
+    for group in [1, 3, 5] {
+        pool.tops[2].owe(Group(group));
+    }
+    let frozen = pool.freeze()?.ok().ok_or("frozen")?;
+    assert!(rt; pool.leaf(1).is_some_and(|leaf| leaf.log.ranges() == 1));
+    assert!(rt; pool.leaf(3).is_some_and(|leaf| leaf.log.ranges() == 4));
+    assert_eq!(rt; pool.end(frozen), Ended::Committed(Group(8187)));
+    Ok(())
+}

@@ -27,18 +27,16 @@ impl BlobRule for AnyRule {
     }
 }
 
-/// A leaf on this device, with room in its sets.
+/// A leaf on this device, with room for nothing in its sets.
 fn leaf(alloc: Global, number: u64, dev: u32) -> Result<Vdev, Fail> {
     let text = [b'a' + (dev / 10) as u8, b'0' + (dev % 10) as u8];
-    let mut settled = GroupSet::new(alloc);
-    settled.reserve(4096)?;
     Ok(Vdev::Leaf(LeafVdev {
         guid: Guid(number),
         name: Name::new(alloc, &text).ok().ok_or("a name")?,
         dev: Some(dev),
         state: State::Online,
         log: GroupSet::new(alloc),
-        settled,
+        settled: GroupSet::new(alloc),
         marked: false,
         temporary: false,
         counts: Counts {
@@ -135,7 +133,7 @@ impl Pool {
             frozen.flush_turn(&mut self.bank, &mut self.tops)?;
             return Ok(Turned::More);
         }
-        let blob = [frozen.numbers().last.0 as u8; 4096];
+        let blob = [(frozen.numbers().last.0 % 251) as u8; 4096];
         let closed = frozen.close_turn::<MemBank, AnyRule>(
             &mut self.bank,
             &mut self.tops,

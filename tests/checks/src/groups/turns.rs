@@ -10,7 +10,7 @@ use txg_engine::Frozen;
 /// The addresses that are written, one to each top and one more.
 const ADDRS: [u64; 4] = [0, 5, 9, 130];
 
-/// Tops of one, two and eight leaves, of which the last has a record before.
+/// A pool over tops of one, two and eight leaves, which has no record yet, with a write to each of these addresses.
 fn pool_of(alloc: Global) -> Result<Pool, Fail> {
     let mut pool = Pool::new(alloc, 256, &[1, 2, 8], 320)?;
     for addr in ADDRS {

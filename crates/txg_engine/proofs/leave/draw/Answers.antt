@@ -4,5 +4,5 @@ use Rattle.txg_engine.proofs.leave.draw.Goals as goal
 
 pub returns-clause-ready : goal.returns-clause-ready
 returns-clause-ready c =
-    drawn_ready c.args.board.now c.args.numbers.now.last.0 (leaves_of c.args.tops.now) (leaves_of c.fit.new.tops)
-    (record { grown = leaves_of c.owe_off.new.tops; grow = c.owe_off.ensures.leaves; widened = c.fit.ensures.widened }) c.requires.ready
+    drawn_ready c.args.board.now c.args.numbers.now.last.0 (leaves_of c.args.tops.now) (leaves_of c.owe_off.new.tops)
+    c.owe_off.ensures.leaves c.requires.ready

@@ -3,7 +3,7 @@ use Rattle.std.proofs.lemmas.List.{take_all}
 use Rattle.block_map.specs.Dirty.{pages_above}
 use Rattle.txg_engine.specs.Freezing.{addr_of, page_keys}
 use Rattle.txg_engine.specs.Writes.{OpenGroup}
-use Rattle.txg_engine.proofs.Preparing.{pages_to, pages_fit, pages_all}
+use Rattle.txg_engine.proofs.FewPages.{pages_to, pages_fit, pages_all}
 use Rattle.txg_engine.proofs.prepare.dirty_pages.Goals as goal
 
 pub pages_above-requires-clause-room : goal.pages_above-requires-clause-room

@@ -1,7 +1,7 @@
 use Rattle.std.proofs.Common.{◌≡◌, ◌-◌, ◌*◌, ◌≤◌, length, map, take}
 use Rattle.std.specs.Vec.{vec_capacity}
 use Rattle.txg_engine.specs.Freezing.{addr_of}
-use Rattle.txg_engine.proofs.Preparing.{pages_to}
+use Rattle.txg_engine.proofs.FewPages.{pages_to}
 use Rattle.txg_engine.proofs.prepare.dirty_pages.Given as goal
 
 abbrev pub invariant-loop-write : goal.invariant-loop-write

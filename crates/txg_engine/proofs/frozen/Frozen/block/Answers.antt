@@ -22,5 +22,5 @@ returns c =
     let there : IsItemAt items (key 0 c.args.addr) c.in_ok-at.at =
     rw c.deref.ensures.value at c.in_ok-at.ensures.found in
     ap Some (c.as_bytes.ensures.bytes ∙ ap (λ (item : Item). item.block) c.index.ensures)
-    ∙ sym (block_there items c.in_ok-at.at c.index.result.now c.args.addr c.self.invariant.rise there)
+    ∙ sym (block_there items c.in_ok-at.at c.index.result.now c.args.addr c.self.invariant.0.rise there)
     ∙ ap (λ (group : FrozenGroup). frozen_block group.items c.args.addr) c.self.view_is

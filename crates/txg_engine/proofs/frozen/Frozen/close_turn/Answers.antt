@@ -1,17 +1,18 @@
-use Rattle.std.proofs.Common.{◌≡◌, ◌≤◌, ◌+◌, ◌^◌, true, Ok, List, refl, sym, ap, subst, ◌∙◌, arith}
-use Rattle.std.specs.Vec.{vec_capacity}
+use Rattle.std.proofs.Common.{◌≡◌, true, Ok, List, [], refl, sym, ap, subst, ◌∙◌, arith}
 use Rattle.label_store.specs.declared.member.Member.{Member}
 use Rattle.label_store.specs.Committing.{Commits}
 use Rattle.label_store.specs.Rounds.{Commit}
 use Rattle.dtl_rules.specs.Widening.{leaves_of, sectors_of}
 use Rattle.txg_engine.specs.declared.close_turn.Closed.TheVariants as closed
 use Rattle.txg_engine.specs.declared.seat.Numbers.{Numbers}
-use Rattle.txg_engine.specs.Boards.{board_of, count_on}
+use Rattle.txg_engine.specs.Boards.{board_of}
 use Rattle.txg_engine.specs.Frozen.{FrozenGroup}
 use Rattle.txg_engine.specs.Turns.{Scene, IsCloseTurn, EndsRound, numbers_of, Answers, emptied_top}
 use Rattle.txg_engine.proofs.Closing.{seated_members, apart_members, falls, settled_ready}
 use Rattle.txg_engine.proofs.Closing.{close_goes, suspends, draws, round_failed}
-use Rattle.txg_engine.proofs.TurnEnds.{as_many, fewer_behind}
+use Rattle.txg_engine.proofs.GroupsKept.{seen, turn_kept, drawn_kept}
+use Rattle.txg_engine.proofs.SeatsKept.{turn_seats}
+use Rattle.txg_engine.proofs.TurnEnds.{as_many}
 use Rattle.txg_engine.proofs.frozen.Frozen.close_turn.Goals as goal
 
 pub commit_record-requires-clause-seated : goal.commit_record-requires-clause-seated
@@ -35,15 +36,7 @@ returns-then-all_done-clause-turn g c =
     let bank' = g.B.Bank.view c.commit_record.new.bank in
     let done = c.commit_record.new.results in
     let head_of = g.R.BlobRule.head_of in
-    let group : FrozenGroup = record {
-      numbers = c.self.inside.numbers;
-      items = c.self.inside.items.items;
-      written = c.self.inside.written;
-      flushed = c.self.inside.flushed;
-      begun = c.self.inside.begun;
-      board = c.self.inside.board;
-      room = vec_capacity c.self.inside.back;
-    } in
+    let group : FrozenGroup = seen c.self.inside in
     let noted : FrozenGroup = record group { begun = true } in
     let is : group ≡ c.args.self.now = c.self.view_is in
     let sent : c.as_slice-2.result.now ≡ board_of group.board =
@@ -56,8 +49,9 @@ returns-then-all_done-clause-turn g c =
     } in
     let scene : Scene = record { group = group; leaves = old; bank = bank } in
     let told : Answers tops group (emptied_top tops group) c.check.result =
-    subst (λ (was : FrozenGroup). Answers tops was (emptied_top tops was) c.check.result) (sym is) c.check.ensures in
-    let new : Scene = record { group = noted; leaves = leaves_of c.settle_all.new.tops; bank = bank' } in
+    subst (λ (was : FrozenGroup). Answers tops was (emptied_top tops was) c.check.result) (sym is) c.check.ensures.told in
+    let acked : FrozenGroup = record noted { acked = true } in
+    let new : Scene = record { group = acked; leaves = leaves_of c.settle_all.new.tops; bank = bank' } in
     subst (λ (was : FrozenGroup). IsCloseTurn head_of (record commit { number = was.numbers.last }) tops'
     (record scene { group = was }) new (Ok (closed.Committed group.numbers.last))) is
     (close_goes head_of commit tops tops' scene new c.check.result (Ok (closed.Committed group.numbers.last))
@@ -76,38 +70,22 @@ returns-then-all_done-clause-ready g c =
     (leaves_of c.settle_all.new.tops) c.settle_all.ensures.leaves (rw (← c.self.view_is) at c.requires.ready)
 
 pub invariant_of-self-2 : goal.invariant_of-self-2
-invariant_of-self-2 g c = record {
-  low = c.self.invariant.low;
-  order = c.self.invariant.order;
-  high = omega (
-    arith,
-    c.self.invariant.high,
-    ap count_on c.drop_failed.ensures.board,
-    fewer_behind c.as_slice-3.result.now c.commit_record.new.results c.self.inside.board,
-  );
-  rise = c.self.invariant.rise;
-  levels = c.self.invariant.levels;
-  within = c.self.invariant.within;
-  empty = c.self.invariant.empty;
-  roomy = c.self.invariant.roomy;
-}
+invariant_of-self-2 g c =
+    let group = seen c.self.inside in (
+      turn_kept group c.self.invariant.0 group.written group.flushed true group.acked c.self.invariant.0.within
+          c.self.invariant.0.flushed
+          c.drop_failed.new.board c.as_slice-3.result.now c.commit_record.new.results c.drop_failed.ensures.board,
+      c.self.invariant.1,
+    )
 
 pub invariant_of-self-in_err-check-2 : goal.invariant_of-self-in_err-check-2
-invariant_of-self-in_err-check-2 g c = record {
-  low = c.self.invariant.low;
-  order = c.self.invariant.order;
-  high = omega (
-    arith,
-    c.self.invariant.high,
-    ap count_on c.drop_failed.ensures.board,
-    fewer_behind c.as_slice-3.result.now c.commit_record.new.results c.self.inside.board,
-  );
-  rise = c.self.invariant.rise;
-  levels = c.self.invariant.levels;
-  within = c.self.invariant.within;
-  empty = c.self.invariant.empty;
-  roomy = c.self.invariant.roomy;
-}
+invariant_of-self-in_err-check-2 g c =
+    let group = seen c.self.inside in (
+      turn_kept group c.self.invariant.0 group.written group.flushed true group.acked c.self.invariant.0.within
+          c.self.invariant.0.flushed
+          c.drop_failed.new.board c.as_slice-3.result.now c.commit_record.new.results c.drop_failed.ensures.board,
+      c.self.invariant.1,
+    )
 
 pub returns-in_err-check-2-clause-turn : goal.returns-in_err-check-2-clause-turn
 returns-in_err-check-2-clause-turn g c =
@@ -118,15 +96,7 @@ returns-in_err-check-2-clause-turn g c =
     let bank' = g.B.Bank.view c.commit_record.new.bank in
     let done = c.commit_record.new.results in
     let head_of = g.R.BlobRule.head_of in
-    let group : FrozenGroup = record {
-      numbers = c.self.inside.numbers;
-      items = c.self.inside.items.items;
-      written = c.self.inside.written;
-      flushed = c.self.inside.flushed;
-      begun = c.self.inside.begun;
-      board = c.self.inside.board;
-      room = vec_capacity c.self.inside.back;
-    } in
+    let group : FrozenGroup = seen c.self.inside in
     let noted : FrozenGroup = record group { begun = true } in
     let left : FrozenGroup = record noted { board = c.drop_failed.new.board } in
     let dropped = c.as_slice-3.ensures.members ∙ c.members-members.ensures.members in
@@ -142,7 +112,7 @@ returns-in_err-check-2-clause-turn g c =
     } in
     let scene : Scene = record { group = group; leaves = old; bank = bank } in
     let told : Answers tops group (emptied_top tops group) c.check.result =
-    subst (λ (was : FrozenGroup). Answers tops was (emptied_top tops was) c.check.result) (sym is) c.check.ensures in
+    subst (λ (was : FrozenGroup). Answers tops was (emptied_top tops was) c.check.result) (sym is) c.check.ensures.told in
     let new : Scene = record { group = left; leaves = leaves_of c.drop_failed.new.tops; bank = bank' } in
     subst (λ (was : FrozenGroup). IsCloseTurn head_of (record commit { number = was.numbers.last }) tops'
     (record scene { group = was }) new c.from_residual-in_err-check-2.result) is
@@ -157,7 +127,7 @@ returns-in_err-check-2-clause-turn g c =
           (sym c.all_done.ensures ∙ c.if-all_done.false)
           dropped c.drop_failed.ensures.board c.drop_failed.ensures.leaves
           (suspends tops' left new (emptied_top tops' left) c.check-2.result c.in_err-check-2.field-0.0
-          c.from_residual-in_err-check-2.result refl c.check-2.ensures c.in_err-check-2.was same);
+          c.from_residual-in_err-check-2.result refl c.check-2.ensures.told c.in_err-check-2.was same);
     }))
 
 pub draw-requires-clause-high : goal.draw-requires-clause-high
@@ -167,7 +137,7 @@ draw-requires-clause-high g c =
     let off = sym c.all_done.ensures ∙ c.if-all_done.false in
     let fewer = falls c.as_slice-2.result.now c.as_slice-3.result.now c.commit_record.new.results c.self.inside.board
     c.drop_failed.new.board sent dropped c.commit_record.ensures.round off c.drop_failed.ensures.board in
-    omega (arith, c.self.invariant.high, fewer)
+    omega (arith, c.self.invariant.0.high, fewer)
 
 pub invariant_of-self-3 : goal.invariant_of-self-3
 invariant_of-self-3 g c =
@@ -175,19 +145,11 @@ invariant_of-self-3 g c =
     let dropped = c.as_slice-3.ensures.members ∙ c.members-members.ensures.members in
     let off = sym c.all_done.ensures ∙ c.if-all_done.false in
     let fewer = falls c.as_slice-2.result.now c.as_slice-3.result.now c.commit_record.new.results c.self.inside.board
-    c.drop_failed.new.board sent dropped c.commit_record.ensures.round off c.drop_failed.ensures.board in
-    record {
-      low = subst (λ (n : Numbers). 1 ≤ n.first.0) (sym c.draw.ensures.numbers) c.self.invariant.low;
-      order = subst (λ (n : Numbers). n.first.0 ≤ n.last.0) (sym c.draw.ensures.numbers)
-          (omega (arith, c.self.invariant.order));
-      high = subst (λ (n : Numbers). n.last.0 + count_on c.drop_failed.new.board ≤ 2 ^ 62) (sym c.draw.ensures.numbers)
-          (omega (arith, c.self.invariant.high, fewer));
-      rise = c.self.invariant.rise;
-      levels = c.self.invariant.levels;
-      within = c.self.invariant.within;
-      empty = c.self.invariant.empty;
-      roomy = c.self.invariant.roomy;
-    }
+    c.drop_failed.new.board sent dropped c.commit_record.ensures.round off c.drop_failed.ensures.board in (
+      drawn_kept (seen c.self.inside) c.self.invariant.0 c.draw.new.numbers c.drop_failed.new.board
+          c.as_slice-3.result.now c.commit_record.new.results c.draw.ensures.numbers c.drop_failed.ensures.board fewer,
+      c.self.invariant.1,
+    )
 
 pub returns-clause-turn : goal.returns-clause-turn
 returns-clause-turn g c =
@@ -198,15 +160,7 @@ returns-clause-turn g c =
     let bank' = g.B.Bank.view c.commit_record.new.bank in
     let done = c.commit_record.new.results in
     let head_of = g.R.BlobRule.head_of in
-    let group : FrozenGroup = record {
-      numbers = c.self.inside.numbers;
-      items = c.self.inside.items.items;
-      written = c.self.inside.written;
-      flushed = c.self.inside.flushed;
-      begun = c.self.inside.begun;
-      board = c.self.inside.board;
-      room = vec_capacity c.self.inside.back;
-    } in
+    let group : FrozenGroup = seen c.self.inside in
     let noted : FrozenGroup = record group { begun = true } in
     let left : FrozenGroup = record noted { board = c.drop_failed.new.board } in
     let dropped = c.as_slice-3.ensures.members ∙ c.members-members.ensures.members in
@@ -221,7 +175,7 @@ returns-clause-turn g c =
     } in
     let scene : Scene = record { group = group; leaves = old; bank = bank } in
     let told : Answers tops group (emptied_top tops group) c.check.result =
-    subst (λ (was : FrozenGroup). Answers tops was (emptied_top tops was) c.check.result) (sym is) c.check.ensures in
+    subst (λ (was : FrozenGroup). Answers tops was (emptied_top tops was) c.check.result) (sym is) c.check.ensures.told in
     let drawn : FrozenGroup = record left { numbers = c.draw.new.numbers } in
     let new : Scene = record { group = drawn; leaves = leaves_of c.draw.new.tops; bank = bank' } in
     subst (λ (was : FrozenGroup). IsCloseTurn head_of (record commit { number = was.numbers.last }) tops'
@@ -238,9 +192,39 @@ returns-clause-turn g c =
           (sym c.all_done.ensures ∙ c.if-all_done.false)
           dropped c.drop_failed.ensures.board c.drop_failed.ensures.leaves
           (draws (numbers_of c.drop_failed.new.tops) tops' left (leaves_of c.drop_failed.new.tops) new c.check-2.result
-          (as_many c.drop_failed.new.tops c.draw.new.tops c.draw.ensures.built) c.check-2.ensures c.in_ok-check-2.was
+          (as_many c.drop_failed.new.tops c.draw.new.tops c.draw.ensures.built) c.check-2.ensures.told c.in_ok-check-2.was
           (record {
             group = ap (λ (n : Numbers). record left { numbers = n }) c.draw.ensures.numbers;
             grown = c.draw.ensures.leaves;
           }));
     }))
+
+pub returns-then-all_done-clause-seated : goal.returns-then-all_done-clause-seated
+returns-then-all_done-clause-seated g c =
+    let size = (g.B.Bank.view c.args.bank.now).size in
+    let size' = (g.B.Bank.view c.commit_record.new.bank).size in
+    let group : FrozenGroup = seen c.self.inside in
+    turn_seats size size' (sectors_of c.args.tops.now) (sectors_of c.settle_all.new.tops) group
+    (record group { begun = true; acked = true }) [] [] c.commit_record.ensures.calls.frame.sizes c.settle_all.ensures.sectors refl
+    refl (rw (← c.self.view_is) at c.requires.seated)
+
+pub returns-in_err-check-2-clause-seated : goal.returns-in_err-check-2-clause-seated
+returns-in_err-check-2-clause-seated g c =
+    let size = (g.B.Bank.view c.args.bank.now).size in
+    let size' = (g.B.Bank.view c.commit_record.new.bank).size in
+    let group : FrozenGroup = seen c.self.inside in
+    turn_seats size size' (sectors_of c.args.tops.now) (sectors_of c.drop_failed.new.tops) group
+    (record group { begun = true; board = c.drop_failed.new.board }) c.as_slice-3.result.now c.commit_record.new.results
+    c.commit_record.ensures.calls.frame.sizes c.drop_failed.ensures.sectors refl c.drop_failed.ensures.board
+    (rw (← c.self.view_is) at c.requires.seated)
+
+pub returns-clause-seated : goal.returns-clause-seated
+returns-clause-seated g c =
+    let size = (g.B.Bank.view c.args.bank.now).size in
+    let size' = (g.B.Bank.view c.commit_record.new.bank).size in
+    let group : FrozenGroup = seen c.self.inside in
+    turn_seats size size' (sectors_of c.args.tops.now) (sectors_of c.draw.new.tops) group
+    (record group { numbers = c.draw.new.numbers; begun = true; board = c.drop_failed.new.board })
+    c.as_slice-3.result.now c.commit_record.new.results c.commit_record.ensures.calls.frame.sizes
+    (c.draw.ensures.sectors ∙ c.drop_failed.ensures.sectors) refl c.drop_failed.ensures.board
+    (rw (← c.self.view_is) at c.requires.seated)

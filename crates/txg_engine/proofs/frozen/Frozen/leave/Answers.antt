@@ -1,23 +1,40 @@
-use Rattle.std.proofs.Common.{List, sym, ap, ◌∙◌, arith}
+use Rattle.std.proofs.Common.{List, map, refl, sym, ap, subst, ◌∙◌}
+use Rattle.std.specs.Prelude.{All}
+use Rattle.dtl_rules.specs.Widening.{leaves_of}
 use Rattle.txg_engine.specs.declared.seat.Seat.{Seat}
-use Rattle.txg_engine.specs.Boards.{count_on, on_board}
+use Rattle.txg_engine.specs.Boards.{on_board, without, as_taken}
 use Rattle.txg_engine.specs.Frozen.{FrozenGroup}
-use Rattle.txg_engine.proofs.Ready.{off_already, fewer_on}
+use Rattle.txg_engine.specs.Logs.{IsReady}
+use Rattle.txg_engine.proofs.GroupsKept.{seen, taken_kept}
+use Rattle.txg_engine.proofs.Ready.{off_already, not_taken, board_ready, taken_board}
+use Rattle.txg_engine.proofs.SeatsKept.{left_seated}
 use Rattle.txg_engine.proofs.frozen.Frozen.leave.Goals as goal
 
+pub leave-requires-clause-ready : goal.leave-requires-clause-ready
+leave-requires-clause-ready c =
+    let seats = c.self.inside.board in
+    let last = c.self.inside.numbers.last.0 in
+    subst (λ (l : List Seat). All (IsReady l last) (leaves_of c.args.tops.now)) (sym c.mark_taken.ensures)
+    (board_ready seats (map (as_taken c.args.member) seats) last (leaves_of c.args.tops.now)
+    (λ x. taken_board c.args.member x seats) (rw (← c.self.view_is) at c.requires.ready))
+
 pub invariant_of-self : goal.invariant_of-self
-invariant_of-self c = record {
-  low = c.self.invariant.low;
-  order = c.self.invariant.order;
-  high = omega (arith, c.self.invariant.high, fewer_on c.args.member c.self.inside.board, ap count_on c.leave.ensures.board);
-  rise = c.self.invariant.rise;
-  levels = c.self.invariant.levels;
-  within = c.self.invariant.within;
-  empty = c.self.invariant.empty;
-  roomy = c.self.invariant.roomy;
-}
+invariant_of-self c = (
+  taken_kept (seen c.self.inside) c.self.invariant.0 c.args.member c.leave.new.board
+      (c.leave.ensures.board ∙ ap (map (without c.args.member)) c.mark_taken.ensures),
+  c.self.invariant.1,
+)
+
+pub returns-then-has-clause-seated : goal.returns-then-has-clause-seated
+returns-then-has-clause-seated c = λ size sectors seated.
+    let group : FrozenGroup = seen c.self.inside in
+    left_seated size sectors group (record group { board = c.leave.new.board }) c.args.member refl
+    (c.leave.ensures.board ∙ ap (map (without c.args.member)) c.mark_taken.ensures) (rw (← c.self.view_is) at seated)
 
 pub returns-else-has-clause-group : goal.returns-else-has-clause-group
 returns-else-has-clause-group c =
-    ap (λ (seats : List Seat). record (c.args.self.now) { board = seats }) (sym (off_already c.args.member c.args.self.now.board
-    (ap (λ (group : FrozenGroup). on_board group.board c.args.member) (sym c.self.view_is) ∙ sym c.has.ensures ∙ c.if-has.false)))
+    let seats = c.args.self.now.board in
+    let off = ap (λ (group : FrozenGroup). on_board group.board c.args.member) (sym c.self.view_is)
+    ∙ sym c.has.ensures ∙ c.if-has.false in
+    ap (λ (l : List Seat). record (c.args.self.now) { board = l })
+    (sym (ap (map (without c.args.member)) (not_taken c.args.member seats off) ∙ off_already c.args.member seats off))

@@ -22,5 +22,5 @@ returns c =
     let at = pointer_at c.args.map.now in
     let there : IsItemAt items root c.in-Some.at = rw c.deref.ensures.value at c.in-Some.ensures.found in
     ap (λ (item : Item). item.pointer) c.index.ensures
-    ∙ sym (laid_there items c.in-Some.at c.index.result.now root at c.self.invariant.rise there)
+    ∙ sym (laid_there items c.in-Some.at c.index.result.now root at c.self.invariant.0.rise there)
     ∙ ap (λ (group : FrozenGroup). laid group.items at root) c.self.view_is

@@ -9,7 +9,7 @@ returns-in-Ok c =
     let ws = c.self.inside.writes.items in
     let there : IsThere ws c.args.addr c.in-Ok.at = rw c.deref.ensures.value at c.in-Ok.ensures in
     ap Some (c.as_bytes.ensures.bytes ∙ ap (λ (w : Write). w.block) c.index.ensures)
-    ∙ sym (there_some 0 ws c.args.addr c.in-Ok.at c.index.result.now c.self.invariant there)
+    ∙ sym (there_some 0 ws c.args.addr c.in-Ok.at c.index.result.now c.self.invariant.rise there)
     ∙ ap (λ (group : OpenGroup). block_at group.writes c.args.addr) c.self.view_is
 
 pub returns-in-Err : goal.returns-in-Err

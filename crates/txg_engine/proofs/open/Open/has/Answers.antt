@@ -10,5 +10,5 @@ returns c =
     let found : IsFound ws c.args.addr c.find.result =
     subst (λ (xs : List Write). IsFound xs c.args.addr c.find.result) c.deref.ensures.value c.find.ensures in
     c.is_ok.ensures.value
-    ∙ found_written ws c.args.addr c.find.result c.self.invariant found
+    ∙ found_written ws c.args.addr c.find.result c.self.invariant.rise found
     ∙ ap (λ (group : OpenGroup). is_written group.writes c.args.addr) c.self.view_is
