@@ -14,9 +14,10 @@ use Rattle.pool_moves.specs.Refusing.{count_below, keys_needed, written_with, di
 use Rattle.pool_moves.specs.States.{PoolState, Side}
 use Rattle.pool_moves.proofs.Boarding.{found_alone}
 use Rattle.pool_moves.proofs.FreeWalks.{walks_more}
-use Rattle.pool_moves.proofs.Keeping.{all_map, seat_cases, walk_keeps}
+use Rattle.pool_moves.proofs.Keeping.{seat_cases, walk_keeps}
 use Rattle.pool_moves.proofs.Widenings.{widened_walk, seen_of}
 use Rattle.pool_moves.proofs.FreezeWalks.{found_elsewhere}
+use Rattle.pool_moves.proofs.Lists.{all_map}
 
 -- A write is taken.
 write_fits : (c : Codec) (short : Bool) (t : Side) (need free a : ℕ) (block : List ℕ) (vs : List Move) (reply : WriteReply)
@@ -112,7 +113,7 @@ drop_frozen true None t = refl
 drop_frozen false dev t = refl
 
 drop_found : (which : ℕ → Bool) (on : Bool) (dev : Option ℕ) (t : Side) → AllByRecursion (IsOfFound which) t.seats → AllByRecursion (IsOfFound which) (after_moves (drop_if on dev) t).seats
-drop_found which true (Some d) t all = all_map (IsOfFound which) (IsOfFound which) (seat_step (Drop d) t.pool)
+drop_found which true (Some d) t all = all_map _ (seat_step (Drop d) t.pool)
     (seat_cases (λ seat. IsOfFound which seat → IsOfFound which (seat_step (Drop d) t.pool seat)) (λ e found own is. is) (λ leaf is. tt)) t.seats all
 drop_found which true None t all = all
 drop_found which false dev t all = all

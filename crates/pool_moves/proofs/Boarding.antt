@@ -15,12 +15,7 @@ use Rattle.pool_moves.specs.Boards.{member_before, members_where, is_on, is_on_u
 use Rattle.pool_moves.specs.Keeping.{IsElsewhere, AreSeatsApart, IsAway, HasFound, IsOfFound, Kept}
 use Rattle.pool_moves.specs.Leaves.{OwnLeaf, LeafSeen, Seat, At, Adrift, told, dev_if, leaf_seen}
 use Rattle.pool_moves.specs.States.{PoolSeen, Side, PoolState, seen_by}
-
--- what is so of each is so of the one at a place
-pub all_at : {A : Type 0} (P : A → Type 0) (xs : List A) (i : ℕ) (x : A) → AllByRecursion P xs → slice_get xs i ≡ Some x → P x
-all_at P [] i x all e = absurd (cc)
-all_at P (y ∷ xs) zero x all e = subst P (let same : y ≡ x = cc in same) all.0
-all_at P (y ∷ xs) (suc i) x all e = all_at P xs i x all.1 e
+use Rattle.pool_moves.proofs.Lists.{all_at}
 
 -- a kind of members, as leaves of seats show it
 abbrev Shows : (which : LeafSeen → Bool) → Pool → (Which : ℕ → Type 0) → Type 0
@@ -103,7 +98,8 @@ others_apart which p d (Adrift leaf ∷ seats) away off =
 
 apart_cons : (m : Member) (ms : List Member) → AllByRecursion (λ n. m.dev ≢ n.dev) ms → AreApart ms → AreApart (m ∷ ms)
 apart_cons m ms others apart zero zero a b ea eb lt = absurd (omega (arith, lt))
-apart_cons m ms others apart zero (suc j) a b ea eb lt = subst (λ x. x.dev ≢ b.dev) (let same : m ≡ a = cc in same) (all_at (λ n. m.dev ≢ n.dev) ms j b others eb)
+apart_cons m ms others apart zero (suc j) a b ea eb lt = subst (λ x. x.dev ≢ b.dev) (let same : m ≡ a = cc in same)
+    (all_at _ ms j b others eb)
 apart_cons m ms others apart (suc i) zero a b ea eb lt = absurd (omega (arith, lt))
 apart_cons m ms others apart (suc i) (suc j) a b ea eb lt = apart i j a b ea eb (omega (arith, lt))
 
@@ -168,7 +164,8 @@ frozen_core t = seen_by true t.pool.scan.running t.seats t.pool
 
 pub board_just : (c : Codec) (s : PoolState) (t : Side) → Kept c s t → t.pool.group.frozen ≡ true → AreJust t.pool (OnBoard t.pool) (board_of (frozen_core t).leaves)
 board_just c s t kept f = record {
-  seated = λ i m e is. all_at (λ m. (m ≡ seat t.pool m.dev) × OnBoard t.pool m.dev) (board_of (leaves_of t.pool t.seats)) i m (members_are is_on t.pool (OnBoard t.pool) (λ d own on. on) t.seats kept.away) e;
+  seated = λ i m e is. all_at _ (board_of (leaves_of t.pool t.seats)) i m
+      (members_are is_on t.pool (OnBoard t.pool) (λ d own on. on) t.seats kept.away) e;
   all = λ d is on. has_member is_on t.pool d (λ own. on) t.seats (kept.boarded f d is on);
 }
 
@@ -189,7 +186,7 @@ under_both p top d on = let a : p.group.board d ≡ true = on.0 in let b : (p.in
 
 pub under_just : (c : Codec) (s : PoolState) (t : Side) (top : ℕ) → Kept c s t → t.pool.group.frozen ≡ true → AreJust t.pool (OnTop t.pool top) (board_under top (frozen_core t).leaves)
 under_just c s t top kept f = record {
-  seated = λ i m e is. all_at (λ m. (m ≡ seat t.pool m.dev) × OnTop t.pool top m.dev) (board_under top (leaves_of t.pool t.seats)) i m
+  seated = λ i m e is. all_at _ (board_under top (leaves_of t.pool t.seats)) i m
       (members_are (is_on_under top) t.pool (OnTop t.pool top) (λ d own on. under_parts t.pool top d on) t.seats kept.away) e;
   all = λ d is on. has_member (is_on_under top) t.pool d (λ own. under_both t.pool top d on) t.seats (kept.boarded f d is on.0);
 }

@@ -20,7 +20,6 @@ use Rattle.pool_moves.specs.Moves.{Move, Freeze, Burn, Lose, steps, after_move, 
 use Rattle.pool_moves.specs.Refusing.{FreezeRefusal}
 use Rattle.pool_moves.specs.States.{PoolSeen, PoolState, Side, seen}
 use Rattle.pool_moves.specs.TreeRows.{place_named, DetachReply, goes_out, is_there, clean_plan, IsCleaned, DetachBehind, CommitsWithout, DetachFor, DetachLeaf, DetachBy, RowDetach, IsSeatOf}
-use Rattle.pool_moves.proofs.Boarding.{all_at}
 use Rattle.pool_moves.proofs.FreeWalks.{walks_more, moves_more}
 use Rattle.pool_moves.proofs.FreezeWalks.{is_idle}
 use Rattle.pool_moves.proofs.Keeping.{walk_keeps}
@@ -29,6 +28,7 @@ use Rattle.pool_moves.proofs.Leaving.{leaf_there, not_required, sibling_left, un
 use Rattle.pool_moves.proofs.ReadWalks.{calls_walk}
 use Rattle.pool_moves.proofs.Shaping.{IsOfCommit, IsFreeze, commit_moves}
 use Rattle.pool_moves.proofs.Widenings.{nothing_more}
+use Rattle.pool_moves.proofs.Lists.{all_at}
 
 -- The leaf of a name, by the history: where it is in the list, and that it has a sibling.
 record IsThere (t : Side) (i : ℕ) (leaf : LeafSeen) (seat : Seat) : Type 0 where
@@ -105,7 +105,8 @@ dev_found f r p seats i (At e found own) d away apart at dev =
     is_at : (found : Bool) → dev_if found e ≡ Some d → e ≡ d
     is_at true is = cc
     is_at false is = absurd (cc)
-dev_found f r p seats i (Adrift leaf) d away apart at dev = absurd (no_device leaf.dev (all_at IsAway seats i (Adrift leaf) away at).0 dev)
+dev_found f r p seats i (Adrift leaf) d away apart at dev = absurd
+    (no_device leaf.dev (all_at _ seats i (Adrift leaf) away at).0 dev)
   where
     no_device : (o : Option ℕ) → o ≡ None → o ≡ Some d → ⊥
     no_device o none is = absurd (cc)
@@ -145,7 +146,7 @@ back_apart (Adrift leaf) seats off apart = apart
 
 back_numbered : (guid : ℕ → Guid) (member : ℕ → Bool) (seats : List Seat) (i : ℕ) (seat : Seat) → slice_get seats i ≡ Some seat
     → ((d : ℕ) → member d ≡ true → AllByRecursion (IsOwnNumber guid d) seats) → (d : ℕ) → member d ≡ true → IsOwnNumber guid d seat
-back_numbered guid member seats i seat at numbered d mine = all_at (IsOwnNumber guid d) seats i seat (numbered d mine) at
+back_numbered guid member seats i seat at numbered d mine = all_at _ seats i seat (numbered d mine) at
 
 may_return : (c : Codec) (s : PoolState) (t behind : Side) (i : ℕ) (leaf : LeafSeen) (seat : Seat) → Kept c s t → t.pool.group.frozen ≡ false
     → IsThere t i leaf seat
@@ -157,12 +158,12 @@ may_return c s t behind i leaf seat kept idle there same over apart off logs = r
   idle = over;
   leaf_is = seat_back c s t i leaf seat behind.pool kept idle there same over logs;
   apart = back_apart seat behind.seats off apart;
-  seated = subst (λ a. IsSeated a.member seat) (sym same) (all_at (IsSeated t.pool.member) t.seats i seat kept.seated there.at);
-  away = all_at IsAway t.seats i seat kept.away there.at;
+  seated = subst (λ a. IsSeated a.member seat) (sym same) (all_at _ t.seats i seat kept.seated there.at);
+  away = all_at _ t.seats i seat kept.away there.at;
   numbered = subst (λ a. (d : ℕ) → a.member d ≡ true → IsOwnNumber a.guid d seat) (sym same)
       (back_numbered t.pool.guid t.pool.member t.seats i seat there.at kept.numbered);
   scanned = subst (λ a. a.scan.running ≡ true → IsOfFound a.scan.eligible seat) (sym same)
-      (λ r. all_at (IsOfFound t.pool.scan.eligible) t.seats i seat (kept.scanned r) there.at);
+      (λ r. all_at _ t.seats i seat (kept.scanned r) there.at);
 }
 
 -- Behind the commit without the leaf.
@@ -286,7 +287,7 @@ commits_walk c size s t name leaf seat vs reply kept sized idle there row =
         (subst (λ core. AllByRecursion (λ leaf. 1 ≤ leaf.top) core.leaves) kept_without.core row.commit.freeze.tops))
 
     mine : (d : ℕ) (found : Bool) (own : OwnLeaf) → seat ≡ At d found own → t.pool.member d ≡ true
-    mine d found own is = subst (IsSeated t.pool.member) is (all_at (IsSeated t.pool.member) t.seats i seat kept.seated there.at)
+    mine d found own is = subst (IsSeated t.pool.member) is (all_at _ t.seats i seat kept.seated there.at)
 
     behind_walk : (turn : TurnReply) → CommitsOpen c size (steps (goes_out s name leaf) s) row.part turn
         → DetachBehind turn size s name leaf seat row.rest reply

@@ -12,7 +12,8 @@ use Rattle.pool_moves.specs.Leaves.{Seat}
 use Rattle.pool_moves.specs.Moves.{Move, Makes, Puts, Wrote_key, Flushed_all, Draw, Leave, Copies, Copied, Sets, seat_step, seats_by, events_of, after_move, after_moves}
 use Rattle.pool_moves.specs.States.{Side}
 use Rattle.pool_moves.specs.Walking.{events_along, AreAdmitted, IsFree, as_moves}
-use Rattle.pool_moves.proofs.Keeping.{all_map, all_same, seat_cases}
+use Rattle.pool_moves.proofs.Keeping.{seat_cases}
+use Rattle.pool_moves.proofs.Lists.{all_map, each}
 
 -- A walk is moves that the history allows and the state admits.
 pub walk_of : (c : Codec) (vs : List Move) (t : Side) → Mays c t.pool (events_along vs t) → AreAdmitted t vs → Walks c t vs
@@ -69,13 +70,13 @@ found_stays which (Makes noted) t free all = all
 found_stays which (Puts a block) t free all = all
 found_stays which (Wrote_key k) t free all = all
 found_stays which Flushed_all t free all = all
-found_stays which Draw t free all = all_map (IsOfFound which) (IsOfFound which) (seat_step Draw t.pool)
+found_stays which Draw t free all = all_map _ (seat_step Draw t.pool)
     (seat_cases (λ seat. IsOfFound which seat → IsOfFound which (seat_step Draw t.pool seat)) (λ d found own is. is) (λ leaf is. tt)) t.seats all
-found_stays which (Leave d) t free all = all_map (IsOfFound which) (IsOfFound which) (seat_step (Leave d) t.pool)
+found_stays which (Leave d) t free all = all_map _ (seat_step (Leave d) t.pool)
     (seat_cases (λ seat. IsOfFound which seat → IsOfFound which (seat_step (Leave d) t.pool seat)) (λ d found own is. is) (λ leaf is. tt)) t.seats all
 found_stays which (Copies draft d) t free all = all
 found_stays which (Copied draft d) t free all = all
-found_stays which (Sets m own) t free all = all_map (IsOfFound which) (IsOfFound which) (seat_step (Sets m own) t.pool)
+found_stays which (Sets m own) t free all = all_map _ (seat_step (Sets m own) t.pool)
     (seat_cases (λ seat. IsOfFound which seat → IsOfFound which (seat_step (Sets m own) t.pool seat)) (λ d found was is. is) (λ leaf is. tt)) t.seats all
 found_stays which v t free all = absurd free
 
@@ -95,30 +96,28 @@ pub free_walk : (vs : List Move) (t : Side) → t.pool.group.frozen ≡ true →
 free_walk [] t f all = tt
 free_walk (v ∷ vs) t f all = (
   free_admitted v t f all.0,
-  free_walk vs (after_move v t) (free_frozen v t all.0 ∙ f) (all_same (IsFree t.seats) (IsFree (seats_by v t)) (λ w is. free_stays v w t all.0 is) vs all.1),
+  free_walk vs (after_move v t) (free_frozen v t all.0 ∙ f) (each (λ w is. free_stays v w t all.0 is) vs all.1),
 )
 
 -- behind free moves a group is still frozen
 pub frozen_along : (vs : List Move) (t : Side) → AllByRecursion (IsFree t.seats) vs → (after_moves vs t).pool.group.frozen ≡ t.pool.group.frozen
 frozen_along [] t all = refl
-frozen_along (v ∷ vs) t all = frozen_along vs (after_move v t) (all_same (IsFree t.seats) (IsFree (seats_by v t)) (λ w is. free_stays v w t all.0 is) vs all.1) ∙ free_frozen v t all.0
+frozen_along (v ∷ vs) t all = frozen_along vs (after_move v t) (each (λ w is. free_stays v w t all.0 is) vs all.1)
+    ∙ free_frozen v t all.0
 
 -- and another free move is still free
 pub free_along : (vs : List Move) (w : Move) (t : Side) → AllByRecursion (IsFree t.seats) vs → IsFree t.seats w → IsFree (after_moves vs t).seats w
 free_along [] w t all is = is
-free_along (v ∷ vs) w t all is = free_along vs w (after_move v t) (all_same (IsFree t.seats) (IsFree (seats_by v t)) (λ x free. free_stays v x t all.0 free) vs all.1) (free_stays v w t all.0 is)
+free_along (v ∷ vs) w t all is = free_along vs w (after_move v t)
+    (each (λ x free. free_stays v x t all.0 free) vs all.1) (free_stays v w t all.0 is)
 
 -- free, and then more
 pub free_then : (vs ws : List Move) (t : Side) → t.pool.group.frozen ≡ true → AllByRecursion (IsFree t.seats) vs → AreAdmitted (after_moves vs t) ws → AreAdmitted t (vs ++ ws)
 free_then [] ws t f all ok = ok
 free_then (v ∷ vs) ws t f all ok = (
   free_admitted v t f all.0,
-  free_then vs ws (after_move v t) (free_frozen v t all.0 ∙ f) (all_same (IsFree t.seats) (IsFree (seats_by v t)) (λ w is. free_stays v w t all.0 is) vs all.1) ok,
+  free_then vs ws (after_move v t) (free_frozen v t all.0 ∙ f) (each (λ w is. free_stays v w t all.0 is) vs all.1) ok,
 )
-
-pub all_append : {A : Type 0} (P : A → Type 0) (xs ys : List A) → AllByRecursion P xs → AllByRecursion P ys → AllByRecursion P (xs ++ ys)
-all_append P [] ys a b = b
-all_append P (x ∷ xs) ys a b = (a.0, all_append P xs ys a.1 b)
 
 -- Calls are free.
 pub calls_free : (seats : List Seat) (made : List Noted) → AllByRecursion (IsFree seats) (as_moves made)

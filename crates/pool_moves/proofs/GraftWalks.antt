@@ -29,10 +29,11 @@ use Rattle.pool_moves.specs.TreeRows.{Graft, Attach, Replace, TreeRefusal, limit
 use Rattle.pool_moves.specs.Walking.{as_moves}
 use Rattle.pool_moves.proofs.FreeWalks.{walks_more, moves_more}
 use Rattle.pool_moves.proofs.Widenings.{widens_walk}
-use Rattle.pool_moves.proofs.Keeping.{all_map, walk_keeps, other_numbers, elsewhere_kept, place_kept, here}
+use Rattle.pool_moves.proofs.Keeping.{walk_keeps, other_numbers, elsewhere_step, here}
 use Rattle.pool_moves.proofs.ReadWalks.{calls_walk}
 use Rattle.pool_moves.proofs.ScanEnds.{start_walk}
 use Rattle.pool_moves.proofs.ScanSteps.{calls_pool}
+use Rattle.pool_moves.proofs.Lists.{all_map}
 
 -- No leaf that was found is on the device.
 not_found_at : (f r : Bool) (p : Pool) (d : ℕ) (seats : List Seat) → AllByRecursion (λ leaf. is_dev d leaf.dev ≡ false) (map (leaf_seen f r (told p)) seats)
@@ -58,7 +59,7 @@ lose_elsewhere p d (Adrift leaf ∷ seats) = (tt, lose_elsewhere p d seats)
 pub step_elsewhere : (v : Move) (p : Pool) (d : ℕ) (seats : List Seat) → AllByRecursion (IsElsewhere d) seats
     → AllByRecursion (IsElsewhere d) (map (seat_step v p) seats)
 step_elsewhere v p d seats all =
-    all_map (IsElsewhere d) (IsElsewhere d) (seat_step v p) (λ seat off. elsewhere_kept d seat (seat_step v p seat) (place_kept v p seat) off) seats all
+    all_map _ (seat_step v p) (elsewhere_step d v p) seats all
 
 -- Behind calls the seats and the state are as they were.
 calls_seats : (made : List Noted) (t : Side) → (after_moves (as_moves made) t).seats ≡ t.seats

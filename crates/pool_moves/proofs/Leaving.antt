@@ -21,9 +21,10 @@ use Rattle.pool_moves.specs.Moves.{Move, Makes, Freeze, Wrote_key, Flushed_all, 
 use Rattle.pool_moves.specs.States.{Side}
 use Rattle.pool_moves.specs.TreeRows.{place_where}
 use Rattle.pool_moves.proofs.GraftWalks.{step_elsewhere}
-use Rattle.pool_moves.proofs.Keeping.{all_map, seat_cases}
+use Rattle.pool_moves.proofs.Keeping.{seat_cases}
 use Rattle.pool_moves.proofs.LineWalks.{IsWithin}
 use Rattle.pool_moves.proofs.Shaping.{IsOfCommit}
+use Rattle.pool_moves.proofs.Lists.{all_map}
 
 abbrev seen_as : Bool → Bool → Pool → List Seat → List LeafSeen
 seen_as f r p seats = map (leaf_seen f r (told p)) seats
@@ -227,7 +228,7 @@ differs guid m n (seat ∷ seats) (inr has) others = differs guid m n seats has 
 pub others_map : (v : Move) (p : Pool) (n : Guid) (seats : List Seat) → ((leaf : LeafSeen) → (leaf_step v p.highest p.group.first p.scan.hi leaf).guid ≡ leaf.guid)
     → ((d : ℕ) (found : Bool) (own : OwnLeaf) → HasOtherNumber p.guid n (At d found own) → HasOtherNumber p.guid n (seat_step v p (At d found own)))
     → AllByRecursion (HasOtherNumber p.guid n) seats → AllByRecursion (HasOtherNumber p.guid n) (map (seat_step v p) seats)
-others_map v p n seats same stays all = all_map (HasOtherNumber p.guid n) (HasOtherNumber p.guid n) (seat_step v p)
+others_map v p n seats same stays all = all_map _ (seat_step v p)
     (seat_cases (λ seat. HasOtherNumber p.guid n seat → HasOtherNumber p.guid n (seat_step v p seat)) stays
     (λ leaf is. subst (λ g. (g.0 == n.0) ≡ false) (sym (same leaf)) is)) seats all
 

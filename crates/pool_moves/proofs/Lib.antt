@@ -9,6 +9,7 @@ pub mod GraftWalks
 pub mod Keeping
 pub mod Leaving
 pub mod LineWalks
+pub mod Lists
 pub mod Making
 pub mod Missing
 pub mod Needing

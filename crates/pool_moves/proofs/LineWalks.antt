@@ -17,12 +17,13 @@ use Rattle.pool_moves.specs.TurnRows.{turn_moves, round_moves, ended, IsThirdMov
 use Rattle.pool_moves.specs.Walking.{as_moves}
 use Rattle.pool_moves.specs.Widening.{AreWidens, AreLeaves, seen_along}
 use Rattle.pool_moves.proofs.Boarding.{is_frozen}
-use Rattle.pool_moves.proofs.FreeWalks.{walks_more, all_append}
+use Rattle.pool_moves.proofs.FreeWalks.{walks_more}
 use Rattle.pool_moves.proofs.FreezeWalks.{freeze_walks}
 use Rattle.pool_moves.proofs.Keeping.{walk_keeps}
 use Rattle.pool_moves.proofs.RoundWalks.{round_walks}
 use Rattle.pool_moves.proofs.Widenings.{widened_walk}
 use Rattle.pool_moves.proofs.TurnWalks.{write_turn_walks, flush_turn_walks}
+use Rattle.pool_moves.proofs.Lists.{all_append}
 
 -- The run has the devices as the history has them, behind moves too.
 size_step : (v : Move) (t : Side) → (after_move v t).pool.size ≡ t.pool.size
@@ -54,7 +55,8 @@ pub counts_set : (leaves : List LeafSeen) (ms : List Member) (results : List Boo
 counts_set leaves [] results = tt
 counts_set leaves (m ∷ ms) [] = tt
 counts_set leaves (m ∷ ms) (true ∷ results) = counts_set leaves ms results
-counts_set leaves (m ∷ ms) (false ∷ results) = all_append IsSet (sets_failed (find (has_number m.guid) leaves)) (count_moves leaves ms results) (failed_sets (find (has_number m.guid) leaves)) (counts_set leaves ms results)
+counts_set leaves (m ∷ ms) (false ∷ results) = all_append _ (sets_failed (find (has_number m.guid) leaves))
+    (count_moves leaves ms results) (failed_sets (find (has_number m.guid) leaves)) (counts_set leaves ms results)
 
 -- a part with its counts
 counted : (c : Codec) (t : Side) (part : List Move) (leaves : List LeafSeen) (ms : List Member) (results : List Bool) → Walks c t part → Walks c t (part ++ count_moves leaves ms results)
@@ -104,7 +106,8 @@ pub leaves_within : (s : PoolSeen) (ms : List Member) (results : List Bool) (vs 
 leaves_within s [] results vs are = subst (AllByRecursion IsWithin) (sym are) tt
 leaves_within s (m ∷ ms) [] vs are = subst (AllByRecursion IsWithin) (sym are) tt
 leaves_within s (m ∷ ms) (true ∷ results) vs are = leaves_within s ms results vs are
-leaves_within s (m ∷ ms) (false ∷ results) vs are = subst (AllByRecursion IsWithin) (sym are.2) (all_append IsWithin are.0 are.1
+leaves_within s (m ∷ ms) (false ∷ results) vs are = subst (AllByRecursion IsWithin) (sym are.2)
+    (all_append _ are.0 are.1
     (subst (AllByRecursion IsWithin) (sym are.3.moves) (tt, widens_within (step (Leave m.dev) s) are.3.widens are.3.are))
     (leaves_within (seen_along are.0 s) ms results are.1 are.4))
 
@@ -121,8 +124,9 @@ pub thirds_within : (plan : Member → List Ask) (draft : Draft) (ms : List Memb
 thirds_within plan draft [] [] [] vs r = subst (AllByRecursion IsWithin) (sym r) tt
 thirds_within plan draft (m ∷ ms) (true ∷ was) (c ∷ is) vs r = subst (AllByRecursion IsWithin) (sym r.2) (
   tt,
-  all_append IsWithin (as_moves r.0) (ended c draft m.dev ++ r.1) (calls_within r.0)
-      (all_append IsWithin (ended c draft m.dev) r.1 (ended_within c draft m.dev) (thirds_within plan draft ms was is r.1 r.4)),
+  all_append _ (as_moves r.0) (ended c draft m.dev ++ r.1) (calls_within r.0)
+      (all_append _ (ended c draft m.dev) r.1 (ended_within c draft m.dev)
+      (thirds_within plan draft ms was is r.1 r.4)),
 )
 thirds_within plan draft (m ∷ ms) (false ∷ was) (c ∷ is) vs r = thirds_within plan draft ms was is vs r.1
 thirds_within plan draft [] [] (c ∷ is) vs r = absurd r
@@ -132,21 +136,23 @@ thirds_within plan draft (m ∷ ms) (b ∷ was) [] vs r = absurd r
 
 pub turn_within : (s : PoolSeen) (made : List Noted) (ms : List Member) (results : List Bool) (leaving : List Move) (mark : Move) → AreLeaves s ms results leaving → IsWithin mark
     → AllByRecursion IsWithin (turn_moves made leaving mark)
-turn_within s made ms results leaving mark are is = all_append IsWithin (as_moves made) (leaving ++ (mark ∷ [])) (calls_within made)
-    (all_append IsWithin leaving (mark ∷ []) (leaves_within s ms results leaving are) (is, tt))
+turn_within s made ms results leaving mark are is = all_append _ (as_moves made) (leaving ++ (mark ∷ []))
+    (calls_within made)
+    (all_append _ leaving (mark ∷ []) (leaves_within s ms results leaving are) (is, tt))
 
 pub round_within : (c : Codec) (size : ℕ → ℕ) (s : PoolSeen) (vs : List Move) → RowRound c size s vs false → AllByRecursion IsWithin vs
 round_within c size s vs row = subst (AllByRecursion IsWithin) (sym row.moves)
-    (all_append IsWithin (round_moves row.draft row.first row.second row.thirds) row.ending (
+    (all_append _ (round_moves row.draft row.first row.second row.thirds) row.ending (
       tt,
-      all_append IsWithin (as_moves row.first) (as_moves row.second ++ row.thirds) (calls_within row.first)
-          (all_append IsWithin (as_moves row.second) row.thirds (calls_within row.second)
+      all_append _ (as_moves row.first) (as_moves row.second ++ row.thirds) (calls_within row.first)
+          (all_append _ (as_moves row.second) row.thirds (calls_within row.second)
           (thirds_within (third_plan size row.draft.commit) row.draft (board_of s.leaves) row.in_second row.results row.thirds row.copies)),
     )
     (leaves_within (seen_along (round_moves row.draft row.first row.second row.thirds) s) (board_of s.leaves) row.results row.ending row.ends))
 
 pub counted_within : (part : List Move) (leaves : List LeafSeen) (ms : List Member) (results : List Bool) → AllByRecursion IsWithin part → AllByRecursion IsWithin (part ++ count_moves leaves ms results)
-counted_within part leaves ms results all = all_append IsWithin part (count_moves leaves ms results) all (sets_within (count_moves leaves ms results) (counts_set leaves ms results))
+counted_within part leaves ms results all = all_append _ part (count_moves leaves ms results) all
+    (sets_within (count_moves leaves ms results) (counts_set leaves ms results))
 
 -- How a turn ends.
 burn_walk : (c : Codec) (t : Side) → t.pool.group.frozen ≡ true → Walks c t (Burn ∷ [])

@@ -25,8 +25,8 @@ use Rattle.pool_moves.specs.Moves.{Move}
 use Rattle.pool_moves.specs.ReadRow.{copy_at, copy_of, stands_under, copies_of, count_reads, RowCopies, Gives, Exhausted, NoAddress, reply_by, ReadRecord, ReadGroup, ReadOpen, RowRead, made_in}
 use Rattle.pool_moves.specs.Showing.{LeafShown, leaf_shown}
 use Rattle.pool_moves.specs.States.{PoolState, Side, seen}
-use Rattle.pool_moves.proofs.Keeping.{all_same}
 use Rattle.pool_moves.proofs.ReadWalks.{IsCopy, IsReadOrWrite, none_heals, read_one, plain_one, hurt_one, copies_on, tried_all, made_calls, sum_of_cell}
+use Rattle.pool_moves.proofs.Lists.{all_front, each}
 
 -- What a copy's device shows behind the reads of a list: it lacked the block where its leaf doesn't owe it.
 abbrev IsLacked : (sectors : Sectors) → (at : ℕ) → List Noted → CopyOf → Type 0
@@ -58,8 +58,7 @@ none_served c p k cell (copy ∷ more) (noted ∷ made) wrong sv at are answers 
       only = (plain_one noted copy.dev (data_start + cell.sector) fails.bytes (Some fails.fault) call, later.only);
       each = (
         (λ lacks. inl (inl (fails.bytes, fails.fault, call))),
-        all_same (IsLacked (run made (after (Calls noted) p).sectors) (data_start + cell.sector) made)
-            (IsLacked (run made (after (Calls noted) p).sectors) (data_start + cell.sector) (noted ∷ made))
+        each
             (λ x is. lacked_more (run made (after (Calls noted) p).sectors) (data_start + cell.sector) noted made x is) more later.each,
       );
     }
@@ -73,18 +72,13 @@ none_served c p k cell (copy ∷ more) (noted ∷ made) wrong sv at are answers 
       each = (
         (λ lacks. inr (stays_damaged made copy.dev (data_start + cell.sector) (after (Calls noted) p).sectors (none_heals made copy.dev later.only)
             (hurt lacks))),
-        all_same (IsLacked (run made (after (Calls noted) p).sectors) (data_start + cell.sector) made)
-            (IsLacked (run made (after (Calls noted) p).sectors) (data_start + cell.sector) (noted ∷ made))
+        each
             (λ x is. lacked_more (run made (after (Calls noted) p).sectors) (data_start + cell.sector) noted made x is) more later.each,
       );
     }
 none_served c p k cell (copy ∷ more) (noted ∷ made) wrong sv at are answers (inr (inr (bytes, serves, made_is, wrong_is, outcome_is))) = absurd (cc)
 
 -- From the copies that were tried to the leaves.
-all_front : {A : Type 0} (P : A → Type 0) (xs ys : List A) → AllByRecursion P (xs ++ ys) → AllByRecursion P xs
-all_front P [] ys all = tt
-all_front P (x ∷ xs) ys all = (all.0, all_front P xs ys all.1)
-
 unfiltered : {A : Type 0} (P : A → Type 0) (test : A → Bool) (xs : List A) → AllByRecursion P (filter test xs) → AllByRecursion (λ x. test x ≡ true → P x) xs
 unfiltered P test [] all = tt
 unfiltered P test (x ∷ xs) all = by_bool (test x)
@@ -117,16 +111,13 @@ missed_leaf sum made sectors leaf one top up d dev = by_bool (leaf.owes sum.birt
 
 missed_leaves : (sum : Sum) (made : List Noted) (sectors : Sectors) (leaves : List LeafSeen)
     → AllByRecursion (IsLacked sectors (data_start + sum.sector) made) (tries (copies_of sum leaves)) → AllByRecursion (Missed sum made sectors) leaves
-missed_leaves sum made sectors leaves all = all_same
-    (λ leaf. stands_under sum.top leaf ≡ true → is_due false (copy_of sum.birth leaf) ≡ true
-    → IsLacked sectors (data_start + sum.sector) made (copy_of sum.birth leaf))
-    (Missed sum made sectors) (λ leaf one. missed_leaf sum made sectors leaf one) leaves
+missed_leaves sum made sectors leaves all = each (λ leaf one. missed_leaf sum made sectors leaf one) leaves
     (unfiltered (λ leaf. is_due false (copy_of sum.birth leaf) ≡ true → IsLacked sectors (data_start + sum.sector) made (copy_of sum.birth leaf))
     (stands_under sum.top) leaves
     (unmapped (λ copy. is_due false copy ≡ true → IsLacked sectors (data_start + sum.sector) made copy) (copy_of sum.birth)
     (filter (stands_under sum.top) leaves)
     (unfiltered (IsLacked sectors (data_start + sum.sector) made) (is_due false) (copies_of sum leaves)
-    (all_front (IsLacked sectors (data_start + sum.sector) made) (filter (is_due false) (copies_of sum leaves))
+    (all_front _ (filter (is_due false) (copies_of sum leaves))
     (filter (is_due true) (copies_of sum leaves)) all))))
 
 -- The calls of an exhausted read are its reads alone.

@@ -29,9 +29,9 @@ use Rattle.txg_history.specs.Groups.{Logs}
 use Rattle.pool_moves.specs.FreezeRow.{is_dev, up_devs}
 use Rattle.pool_moves.specs.Leaves.{LeafSeen}
 use Rattle.pool_moves.specs.ReadRow.{copy_at, copy_of, stands_under, copies_of}
-use Rattle.pool_moves.proofs.FreeWalks.{all_append}
 use Rattle.pool_moves.proofs.PagesBack.{same_bytes_or, IsReadOf, page_here}
-use Rattle.pool_moves.proofs.ReadWalks.{IsCopy, IsHurt, IsReadOrWrite, none_heals, AreRead, read_one, plain_one, heals_may, all_filter, answers_front, sum_of_cell}
+use Rattle.pool_moves.proofs.ReadWalks.{IsCopy, IsHurt, IsReadOrWrite, none_heals, AreRead, read_one, plain_one, heals_may, answers_front, sum_of_cell}
+use Rattle.pool_moves.proofs.Lists.{all_append, all_filter}
 
 -- Reads of copies, by what bytes are good: the record's own block always is.
 hurt_by : (c : Codec) (p : Pool) (k : Key) (cell : Cell) (copy : CopyOf) (noted : Noted) (bytes : List ℕ) → Survives c p
@@ -187,10 +187,10 @@ tried_copies : (member : ℕ → Bool) (in_top : ℕ → ℕ) (owes : Logs) (cel
 tried_copies member in_top owes cell leaves all =
     let copies = copies_of (sum_of_cell cell) leaves in
     let are = copies_are member in_top owes cell leaves all in
-    all_append (IsCopy member in_top owes cell) (filter (is_due false) copies) (filter (is_due true) copies)
-    (all_filter (CopyIs member in_top owes cell) (IsCopy member in_top owes cell) (is_due false)
+    all_append _ (filter (is_due false) copies) (filter (is_due true) copies)
+    (all_filter (is_due false)
     (λ copy is due. is (and_parts copy.readable (not copy.lacks) due).0) copies are)
-    (all_filter (CopyIs member in_top owes cell) (IsCopy member in_top owes cell) (is_due true)
+    (all_filter (is_due true)
     (λ copy is due. is (and_parts copy.readable copy.lacks due).0) copies are)
 
 -- The pointer of a page, and what is known before it is read, are right.

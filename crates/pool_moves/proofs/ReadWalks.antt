@@ -36,8 +36,9 @@ use Rattle.pool_moves.specs.ReadRow.{copy_at, copy_of, stands_under, copies_of, 
 use Rattle.pool_moves.specs.Showing.{LeafShown, leaf_shown}
 use Rattle.pool_moves.specs.States.{group_seen, PoolState, Side, seen}
 use Rattle.pool_moves.specs.Walking.{as_moves}
-use Rattle.pool_moves.proofs.FreeWalks.{walks_more, all_append}
+use Rattle.pool_moves.proofs.FreeWalks.{walks_more}
 use Rattle.pool_moves.proofs.LineWalks.{IsSet, sets_walk}
+use Rattle.pool_moves.proofs.Lists.{all_append, all_filter}
 
 -- A read is always allowed.
 pub read_sparing : (p : Pool) (d at : ℕ) (bytes : List ℕ) (fault : Option Fault) → IsSparing p (Read d at bytes fault)
@@ -175,14 +176,6 @@ heals_may c p k cell (copy ∷ wrong) made sv at are hurt asks = by_bool copy.la
     (λ noted made plain sv asks. heals_may c (after (Calls noted) p) k cell wrong made sv at are.1 (healed_rest cell p noted plain wrong hurt.1) asks))
 
 -- The copies on the leaves of a top.
-pub all_filter : {A : Type 0} (P Q : A → Type 0) (test : A → Bool) → ((x : A) → P x → test x ≡ true → Q x) → (xs : List A) → AllByRecursion P xs → AllByRecursion Q (filter test xs)
-all_filter P Q test one [] all = tt
-all_filter P Q test one (x ∷ xs) all = step (all_filter P Q test one xs all.1) (test x) refl
-  where
-    step : AllByRecursion Q (filter test xs) → (t : Bool) → test x ≡ t → AllByRecursion Q (cond t (x ∷ filter test xs) (filter test xs))
-    step rest true is = (one x all.0 is, rest)
-    step rest false is = rest
-
 abbrev pub IsReadable : Pool → Cell → CopyOf → Type 0
 IsReadable p cell copy = copy.readable ≡ true → IsCopy p.member p.in_top p.owes cell copy
 
@@ -205,9 +198,9 @@ copies_on p cell f r (seat ∷ seats) away seated = step (copies_on p cell f r s
     step rest false is = rest
 
 pub tried_all : (p : Pool) (cell : Cell) (copies : List CopyOf) → AllByRecursion (IsReadable p cell) copies → AllByRecursion (IsCopy p.member p.in_top p.owes cell) (tries copies)
-tried_all p cell copies all = all_append (IsCopy p.member p.in_top p.owes cell) (filter (is_due false) copies) (filter (is_due true) copies)
-    (all_filter (IsReadable p cell) (IsCopy p.member p.in_top p.owes cell) (is_due false) (λ copy is due. is (and_parts copy.readable (not copy.lacks) due).0) copies all)
-    (all_filter (IsReadable p cell) (IsCopy p.member p.in_top p.owes cell) (is_due true) (λ copy is due. is (and_parts copy.readable copy.lacks due).0) copies all)
+tried_all p cell copies all = all_append _ (filter (is_due false) copies) (filter (is_due true) copies)
+    (all_filter (is_due false) (λ copy is due. is (and_parts copy.readable (not copy.lacks) due).0) copies all)
+    (all_filter (is_due true) (λ copy is due. is (and_parts copy.readable copy.lacks due).0) copies all)
 
 -- what a read's outcome is worth
 pub outcome_sum : (at : ℕ) (sum : List ℕ) (copies : List CopyOf) (made : List Noted) (wrong : List CopyOf) (bytes : List ℕ) → IsReads at sum copies made wrong (Some bytes) → sha256 bytes ≡ sum

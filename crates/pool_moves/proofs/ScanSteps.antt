@@ -34,8 +34,9 @@ use Rattle.pool_moves.specs.States.{PoolSeen, PoolState, Side, seen_by}
 use Rattle.pool_moves.specs.Walking.{as_moves}
 use Rattle.pool_moves.proofs.FreeWalks.{walks_more}
 use Rattle.pool_moves.proofs.LineWalks.{sets_walk}
-use Rattle.pool_moves.proofs.ReadWalks.{IsCopy, AreRead, copies_read, heals_may, copies_on, tried_all, all_filter, calls_walk, read_sets, outcome_sum, made_calls, answers_front, sum_of_cell}
+use Rattle.pool_moves.proofs.ReadWalks.{IsCopy, AreRead, copies_read, heals_may, copies_on, tried_all, calls_walk, read_sets, outcome_sum, made_calls, answers_front, sum_of_cell}
 use Rattle.pool_moves.proofs.ScanCalls.{outcome_first, first_longer, copies_may, looks_may, AreOthers, looks_untouched, copied_at, targets_are, targets_apart}
+use Rattle.pool_moves.proofs.Lists.{all_filter}
 
 -- The state while a scan runs.
 running_of : (r : Bool) (s : PoolSeen) (t : Side) → s ≡ seen_by t.pool.group.frozen r t.seats t.pool → s.scan.running ≡ true → r ≡ true
@@ -214,7 +215,7 @@ not_lacks false is = refl
 untried_are : (p : Pool) (cell : Cell) (copies : List CopyOf) (reads : List Noted) → AllByRecursion (IsCopy p.member p.in_top p.owes cell) (tries copies)
     → AllByRecursion (IsCopy p.member p.in_top p.owes cell) (untried copies reads)
 untried_are p cell copies reads all =
-    all_filter (IsCopy p.member p.in_top p.owes cell) (IsCopy p.member p.in_top p.owes cell) (λ copy. not copy.lacks) (λ copy is has. is)
+    all_filter (λ copy. not copy.lacks) (λ copy is has. is)
     (drop (length reads) (tries copies)) (all_drop (IsCopy p.member p.in_top p.owes cell) (length reads) (tries copies) all)
 
 all_any : {A : Type 0} (xs : List A) → AllByRecursion (λ x. Unit {0}) xs
@@ -222,7 +223,7 @@ all_any [] = tt
 all_any (x ∷ xs) = (tt, all_any xs)
 
 untried_have : (copies : List CopyOf) (reads : List Noted) → AllByRecursion (λ copy. copy.lacks ≡ false) (untried copies reads)
-untried_have copies reads = all_filter (λ copy. Unit {0}) (λ copy. copy.lacks ≡ false) (λ copy. not copy.lacks) (λ copy is has. not_lacks copy.lacks has)
+untried_have copies reads = all_filter (λ copy. not copy.lacks) (λ copy is has. not_lacks copy.lacks has)
     (drop (length reads) (tries copies)) (all_any (drop (length reads) (tries copies)))
 
 -- a leaf that owes the key has none of these copies

@@ -1,7 +1,6 @@
 -- What an opening's looks come to: of a pool of the name, a live record.
 use Rattle.std.proofs.Common.{◌≡◌, inl, inr, ℕ, ◌+◌, ◌-◌, ◌*◌, ◌/◌, ◌%◌, ◌≤◌, ◌<◌, ◌==◌, ◌&&◌, ◌||◌, nat_le, nat_lt, zero, suc, Bool, true, false, cond, Option, Some, None, List, [], ◌∷◌, ◌++◌, length, take, Result, Ok, Err, refl, sym, ap, ◌∙◌, subst, arith}
 use Rattle.std.specs.Prelude.{slice_index}
-use Rattle.std.specs.List.{AllByRecursion}
 use Rattle.std.proofs.lemmas.Bool.{and_parts}
 use Rattle.std.proofs.lemmas.Bool.Decides.{nat_tests}
 use Rattle.mp_base.specs.declared.number.Guid.{Guid}
@@ -36,6 +35,7 @@ use Rattle.pool_moves.specs.Opened.{claims_of}
 use Rattle.pool_moves.specs.OpeningRow.{SeekReply, seek_reply, RowSeek, HasSizes, IsLiveOne, SeeksLive, read_of, AreWholeReads, IsSoughtOn, IsSought, AreSought, OpenReply, RowOpen}
 use Rattle.pool_moves.proofs.OpenedSeats.{ArePaired}
 use Rattle.pool_moves.proofs.ReadWalks.{read_sparing}
+use Rattle.pool_moves.proofs.Lists.{all_front, all_rest}
 
 -- Reads are always allowed.
 pub reads_may : (c : Codec) (p : Pool) (made : List Noted) → AreReads made → Mays c p (as_events made)
@@ -181,14 +181,6 @@ search_home c p m d made sv mine s whole = given_home c p m d s.before s.hit.cal
 abbrev IsClaimed : Pool → (size : ℕ → ℕ) → List Noted → ℕ → Guid → Type 0
 IsClaimed p size made d m = (mine : List Noted) × IsSearch p.pool m d (size d) mine (Ok true) × (1 ≤ size d) × (AreWholeReads p made → AreWholeReads p mine)
 
-pub all_first : {A : Type 0} (P : A → Type 0) (xs ys : List A) → AllByRecursion P (xs ++ ys) → AllByRecursion P xs
-all_first P [] ys all = tt
-all_first P (x ∷ xs) ys all = (all.0, all_first P xs ys all.1)
-
-all_second : {A : Type 0} (P : A → Type 0) (xs ys : List A) → AllByRecursion P (xs ++ ys) → AllByRecursion P ys
-all_second P [] ys all = all
-all_second P (x ∷ xs) ys all = all_second P xs ys all.1
-
 on_claimed : (p : Pool) (size : ℕ → ℕ) (room : ℕ) (m : Guid) (e d : ℕ) (mine made : List Noted) (roomy : Bool) → nat_le (room + 256) (size e) ≡ roomy
     → IsSoughtOn roomy p.pool (size e) m e mine (Some d)
     → (AreWholeReads p made → AreWholeReads p mine) → IsClaimed p size made d m
@@ -215,10 +207,10 @@ claimed p size room handed (leaf ∷ leaves) made (dev ∷ devs) d m is claim = 
     (λ here. let parts = and_parts (is_dev d dev) (leaf.guid.0 == m.0) here in
     let mine : IsClaimed p size made d leaf.guid = one_claimed p size (room leaf.top) leaf.guid (handed leaf.name) d is.0 made
     (subst (λ x. IsSought p.pool size (room leaf.top) leaf.guid (handed leaf.name) is.0 x) (dev_of dev parts.0) is.3)
-    (λ whole. all_first (λ noted. AreNotTorn p (read_of noted.call)) is.0 is.1 (subst (AreWholeReads p) is.2 whole)) in
+    (λ whole. all_front _ is.0 is.1 (subst (AreWholeReads p) is.2 whole)) in
     subst (IsClaimed p size made d) (same_guid leaf.guid m parts.1) mine)
     (λ off. let later = claimed p size room handed leaves is.1 devs d m is.4 (sym (ap (λ t. t || claims_of leaves devs d m) off) ∙ claim) in
-    (later.0, later.1, later.2, λ whole. later.3 (all_second (λ noted. AreNotTorn p (read_of noted.call)) is.0 is.1 (subst (AreWholeReads p) is.2 whole))))
+    (later.0, later.1, later.2, λ whole. later.3 (all_rest _ is.0 is.1 (subst (AreWholeReads p) is.2 whole))))
   where
     dev_of : (dev : Option ℕ) → is_dev d dev ≡ true → dev ≡ Some d
     dev_of None is = absurd (let no : false ≡ true = is in cc)

@@ -11,9 +11,8 @@ use Rattle.pool_moves.specs.Moves.{Move, Makes, Freeze, Wrote_key, Flushed_all, 
 use Rattle.pool_moves.specs.States.{PoolSeen, PoolState}
 use Rattle.pool_moves.specs.TurnRows.{round_moves, RowRound}
 use Rattle.pool_moves.specs.Walking.{as_moves}
-use Rattle.pool_moves.proofs.FreeWalks.{all_append}
-use Rattle.pool_moves.proofs.Keeping.{all_same}
 use Rattle.pool_moves.proofs.LineWalks.{IsWithin, calls_within, widens_within, sets_within, thirds_within, turn_within, round_within, counted_within, counts_set}
+use Rattle.pool_moves.proofs.Lists.{all_append, each}
 
 -- The moves of a commit: those within a group, its freeze, its acknowledgement and its end.
 abbrev pub IsOfCommit : Move → Type 0
@@ -46,7 +45,7 @@ one_of (Sets m own) is = tt
 one_of v is = absurd is
 
 of_within : (vs : List Move) → AllByRecursion IsWithin vs → AllByRecursion IsOfCommit vs
-of_within vs all = all_same IsWithin IsOfCommit one_of vs all
+of_within vs all = each one_of vs all
 
 -- a suspended group is burned by the last move
 pub record BurnsLast (vs : List Move) : Type 0 where
@@ -66,7 +65,7 @@ record AreTurnMoves (vs : List Move) (reply : TurnReply) : Type 0 where
 -- moves within the group, and then its end or more
 burnt : (body : List Move) (reply : TurnReply) → AllByRecursion IsWithin body → Ends reply ≡ true → AreTurnMoves (body ++ (Burn ∷ [])) reply
 burnt body reply all ends = record {
-  of_commit = all_append IsOfCommit body (Burn ∷ []) (of_within body all) (tt, tt);
+  of_commit = all_append _ body (Burn ∷ []) (of_within body all) (tt, tt);
   burns = λ is. record { body = body; within = all; moves = refl };
   within = λ off. absurd (let never : true ≡ false = sym ends ∙ off in cc);
 }
@@ -87,7 +86,8 @@ ended_by : (top : Option ℕ) (s : PoolState) (body : List Move) (draws : Bool) 
 ended_by (Some top) s body draws going ending reply all off ends =
     subst (λ e. AreTurnMoves (body ++ e) reply) (sym ends.0) (burnt body reply all (ap Ends ends.1))
 ended_by None s body draws going ending reply all off ends =
-    subst (AreTurnMoves (body ++ ending)) (sym ends.1) (going_on (body ++ ending) going (all_append IsWithin body ending all (draws_within draws s.core ending ends.0)) off)
+    subst (AreTurnMoves (body ++ ending)) (sym ends.1)
+    (going_on (body ++ ending) going (all_append _ body ending all (draws_within draws s.core ending ends.0)) off)
 
 part_moves : (s : PoolState) (part : List Move) (ms : List Member) (results : List Bool) (going : TurnReply) (vs : List Move) (reply : TurnReply) → AllByRecursion IsWithin part → is_suspended going ≡ false
     → IsTurnOf s part ms results going vs reply → AreTurnMoves vs reply
@@ -98,10 +98,11 @@ part_moves s part ms results going vs reply all off turn = subst (λ l. AreTurnM
 -- a round that was acknowledged
 whole_moves : (c : Codec) (size : ℕ → ℕ) (s : PoolSeen) (vs : List Move) → RowRound c size s vs true → AllByRecursion IsOfCommit vs
 whole_moves c size s vs row = subst (AllByRecursion IsOfCommit) (sym row.moves)
-    (all_append IsOfCommit (round_moves row.draft row.first row.second row.thirds) row.ending (
+    (all_append _ (round_moves row.draft row.first row.second row.thirds) row.ending (
       tt,
-      all_append IsOfCommit (as_moves row.first) (as_moves row.second ++ row.thirds) (of_within (as_moves row.first) (calls_within row.first))
-          (all_append IsOfCommit (as_moves row.second) row.thirds (of_within (as_moves row.second) (calls_within row.second))
+      all_append _ (as_moves row.first) (as_moves row.second ++ row.thirds)
+          (of_within (as_moves row.first) (calls_within row.first))
+          (all_append _ (as_moves row.second) row.thirds (of_within (as_moves row.second) (calls_within row.second))
           (of_within row.thirds (thirds_within (third_plan size row.draft.commit) row.draft (board_of s.leaves) row.in_second row.results row.thirds row.copies))),
     )
     (subst (AllByRecursion IsOfCommit) (sym row.ends) (tt, tt)))
@@ -120,13 +121,15 @@ round_part_moves c size s vs reply is = subst (λ l. AreTurnMoves l reply) (sym 
     by_whole true row ends = record {
       of_commit = subst (λ l. AllByRecursion IsOfCommit (l ++ is.ending)) (sym is.counted)
           (subst (λ l. AllByRecursion IsOfCommit ((is.part ++ counts) ++ l)) (sym ends.0)
-          (all_append IsOfCommit (is.part ++ counts) [] (all_append IsOfCommit is.part counts (whole_moves c size s.core is.part row) (of_within counts sets))
+          (all_append _ (is.part ++ counts) []
+          (all_append _ is.part counts (whole_moves c size s.core is.part row) (of_within counts sets))
           tt));
       burns = λ on. absurd (let never : true ≡ false = sym on ∙ ap is_suspended ends.1 in cc);
       within = λ off. absurd (let never : false ≡ true = sym off ∙ ap Ends ends.1 in cc);
     }
     by_whole false row ends = ended_by (emptied (steps is.behind s).core.leaves) (steps is.behind s) is.behind true (Round s.core.number) is.ending reply
-        (subst (AllByRecursion IsWithin) (sym is.counted) (all_append IsWithin is.part counts (round_within c size s.core is.part row) sets)) refl ends
+        (subst (AllByRecursion IsWithin) (sym is.counted)
+        (all_append _ is.part counts (round_within c size s.core is.part row) sets)) refl ends
 
 -- A turn.
 starts_moves : (c : Codec) (size : ℕ → ℕ) (top : Option ℕ) (s : PoolState) (vs : List Move) (reply : TurnReply) → StartsBy top c size s vs reply
@@ -162,10 +165,10 @@ turns_moves c size s (turn ∷ (next ∷ turns)) reply are =
   where
     first : AreTurnMoves turn.0 turn.1 → AreGroupMoves (moves_in (next ∷ turns)) reply → AreGroupMoves (turn.0 ++ moves_in (next ∷ turns)) reply
     first is more = record {
-      of_commit = all_append IsOfCommit turn.0 (moves_in (next ∷ turns)) is.of_commit more.of_commit;
+      of_commit = all_append _ turn.0 (moves_in (next ∷ turns)) is.of_commit more.of_commit;
       burns = λ on. let rest = more.burns on in record {
         body = turn.0 ++ rest.body;
-        within = all_append IsWithin turn.0 rest.body (is.within are.1) rest.within;
+        within = all_append _ turn.0 rest.body (is.within are.1) rest.within;
         moves = ap (λ l. turn.0 ++ l) rest.moves ∙ sym (append_assoc turn.0 rest.body (Burn ∷ []));
       };
     }
@@ -192,10 +195,11 @@ commit_moves c size s vs reply row = record {
   is_freeze = tt;
   rest = widens ++ row.rest;
   moves = row.moves ∙ ap (λ l. l ++ row.rest) row.freeze.moves.moves;
-  of_commit = all_append IsOfCommit widens row.rest (of_within widens set) (group_moves c size (steps row.first s) row.rest reply row.ends).of_commit;
+  of_commit = all_append _ widens row.rest (of_within widens set)
+      (group_moves c size (steps row.first s) row.rest reply row.ends).of_commit;
   burns = λ on. let rest = (group_moves c size (steps row.first s) row.rest reply row.ends).burns on in record {
     body = widens ++ rest.body;
-    within = all_append IsWithin widens rest.body set rest.within;
+    within = all_append _ widens rest.body set rest.within;
     moves = ap (λ l. widens ++ l) rest.moves ∙ sym (append_assoc widens rest.body (Burn ∷ []));
   };
 }

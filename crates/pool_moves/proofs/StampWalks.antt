@@ -31,6 +31,7 @@ use Rattle.pool_moves.specs.StampRow.{NewMember, NewLeaf, top_leaves, leaves_fro
 use Rattle.pool_moves.specs.States.{PoolState, Side}
 use Rattle.pool_moves.proofs.CommitWalks.{found_walks}
 use Rattle.pool_moves.proofs.Making.{made_kept}
+use Rattle.pool_moves.proofs.Lists.{all_append, each}
 
 -- Lists of leaves.
 abbrev pub IsOneOf : NewLeaf → List NewLeaf → Type 0
@@ -41,14 +42,6 @@ pub all_of : (P : NewLeaf → Type 0) (leaves : List NewLeaf) (leaf : NewLeaf) �
 all_of P [] leaf all is = absurd is
 all_of P (first ∷ leaves) leaf all (inl same) = subst P (sym same) all.0
 all_of P (first ∷ leaves) leaf all (inr more) = all_of P leaves leaf all.1 more
-
-both_all : {A : Type 0} (P : A → Type 0) (xs ys : List A) → AllByRecursion P xs → AllByRecursion P ys → AllByRecursion P (xs ++ ys)
-both_all P [] ys a b = b
-both_all P (x ∷ xs) ys a b = (a.0, both_all P xs ys a.1 b)
-
-each_all : {A : Type 0} (P Q : A → Type 0) → ((x : A) → P x → Q x) → (xs : List A) → AllByRecursion P xs → AllByRecursion Q xs
-each_all P Q one [] all = tt
-each_all P Q one (x ∷ xs) all = (one x all.0, each_all P Q one xs all.1)
 
 -- The leaf on a device.
 pub leaf_found : (d : ℕ) (leaves : List NewLeaf) (leaf : NewLeaf) → leaf_at d leaves ≡ Some leaf → IsOneOf leaf leaves × (leaf.dev ≡ d)
@@ -92,8 +85,8 @@ rising_more : (mid low high : ℕ) (first second : List NewLeaf) → AreRising f
     → AllByRecursion (IsNumbered mid high) second → AreRising (first ++ second)
 rising_more mid low high [] second a below b above = b
 rising_more mid low high (leaf ∷ first) second a below b above = (
-  both_all (λ other. leaf.guid.0 < other.guid.0) first second a.0
-      (each_all (IsNumbered mid high) (λ other. leaf.guid.0 < other.guid.0) (λ other is. let x = below.0.1 in let y = is.0 in omega (arith, x, y))
+  all_append _ first second a.0
+      (each (λ other is. let x = below.0.1 in let y = is.0 in omega (arith, x, y))
       second above),
   rising_more mid low high first second a.1 below.1 b above,
 )
@@ -102,7 +95,7 @@ top_numbered : (next top : ℕ) (ms : List NewMember) → AllByRecursion (IsNumb
 top_numbered next top [] = tt
 top_numbered next top (m ∷ ms) = (
   (omega arith, omega arith),
-  each_all (IsNumbered (suc next) (suc next + length ms)) (IsNumbered next (next + suc (length ms)))
+  each
       (λ leaf is. let x = is.0 in let y = is.1 in (omega (arith, x), omega (arith, y)))
       (top_leaves (suc next) top ms) (top_numbered (suc next) top ms),
 )
@@ -110,7 +103,7 @@ top_numbered next top (m ∷ ms) = (
 top_rising : (next top : ℕ) (ms : List NewMember) → AreRising (top_leaves next top ms)
 top_rising next top [] = tt
 top_rising next top (m ∷ ms) = (
-  each_all (IsNumbered (suc next) (suc next + length ms)) (λ other. next < other.guid.0) (λ leaf is. let x = is.0 in omega (arith, x))
+  each (λ leaf is. let x = is.0 in omega (arith, x))
       (top_leaves (suc next) top ms) (top_numbered (suc next) top ms),
   top_rising (suc next) top ms,
 )
@@ -121,13 +114,12 @@ next_up next (members ∷ tops) = let up = next_up (suc next + length members) t
 
 from_numbered : (next top : ℕ) (tops : List (List NewMember)) → AllByRecursion (IsNumbered (suc next) (next_from next tops)) (leaves_from next top tops)
 from_numbered next top [] = tt
-from_numbered next top (members ∷ tops) = both_all (IsNumbered (suc next) (next_from (suc next + length members) tops))
+from_numbered next top (members ∷ tops) = all_append _
     (top_leaves (suc next) top members) (leaves_from (suc next + length members) (suc top) tops)
-    (each_all (IsNumbered (suc next) (suc next + length members)) (IsNumbered (suc next) (next_from (suc next + length members) tops))
+    (each
     (λ leaf is. let x = is.0 in let y = is.1 in let up = next_up (suc next + length members) tops in (x, omega (arith, y, up)))
     (top_leaves (suc next) top members) (top_numbered (suc next) top members))
-    (each_all (IsNumbered (suc (suc next + length members)) (next_from (suc next + length members) tops))
-    (IsNumbered (suc next) (next_from (suc next + length members) tops))
+    (each
     (λ leaf is. let x = is.0 in (omega (arith, x), is.1)) (leaves_from (suc next + length members) (suc top) tops)
     (from_numbered (suc next + length members) (suc top) tops))
 
@@ -137,8 +129,7 @@ from_rising next top (members ∷ tops) = rising_more (suc next + length members
     (top_leaves (suc next) top members)
     (leaves_from (suc next + length members) (suc top) tops) (top_rising (suc next) top members) (top_numbered (suc next) top members)
     (from_rising (suc next + length members) (suc top) tops)
-    (each_all (IsNumbered (suc (suc next + length members)) (next_from (suc next + length members) tops))
-    (IsNumbered (suc next + length members) (next_from (suc next + length members) tops))
+    (each
     (λ leaf is. let x = is.0 in (omega (arith, x), is.1)) (leaves_from (suc next + length members) (suc top) tops)
     (from_numbered (suc next + length members) (suc top) tops))
 
@@ -164,11 +155,11 @@ top_is next top (m ∷ ms) = (refl, top_is (suc next) top ms)
 
 from_tops : (next top : ℕ) (tops : List (List NewMember)) → AllByRecursion (λ leaf. top ≤ leaf.top) (leaves_from next top tops)
 from_tops next top [] = tt
-from_tops next top (members ∷ tops) = both_all (λ leaf. top ≤ leaf.top) (top_leaves (suc next) top members)
+from_tops next top (members ∷ tops) = all_append _ (top_leaves (suc next) top members)
     (leaves_from (suc next + length members) (suc top) tops)
-    (each_all (λ leaf. leaf.top ≡ top) (λ leaf. top ≤ leaf.top) (λ leaf is. omega (arith, is)) (top_leaves (suc next) top members)
+    (each (λ leaf is. omega (arith, is)) (top_leaves (suc next) top members)
     (top_is (suc next) top members))
-    (each_all (λ leaf. suc top ≤ leaf.top) (λ leaf. top ≤ leaf.top) (λ leaf is. omega (arith, is))
+    (each (λ leaf is. omega (arith, is))
     (leaves_from (suc next + length members) (suc top) tops) (from_tops (suc next + length members) (suc top) tops))
 
 -- Rooms.
@@ -347,7 +338,7 @@ stamps_make size name pool blocks tops stamps sectors new range are = record {
   seated = seats_seated leaves leaves new.apart (ones leaves leaves (λ leaf is. is));
   here = seats_here leaves;
   below = seats_below leaves (next_from 1 tops) leaves new.apart (ones leaves leaves (λ leaf is. is))
-      (each_all (IsNumbered 2 (next_from 1 tops)) (λ leaf. leaf.guid.0 < next_from 1 tops) (λ leaf is. is.1) leaves (from_numbered 1 1 tops));
+      (each (λ leaf is. is.1) leaves (from_numbered 1 1 tops));
   each = λ d is. let leaf = leaf_of d leaves is in let one = leaf_found d leaves leaf.0 leaf.1 in subst (λ n. HasSeat n (map new_seat leaves)) one.1 (seats_has leaves leaf.0 one.0);
   core = ap (λ l. record (new_state size name pool blocks tops).core { leaves = l }) (leaves_seen size name pool leaves leaves (run (calls_of_stamps stamps) sectors) new.apart (ones leaves leaves (λ leaf is. is)));
   unwritten = λ a. refl;

@@ -24,9 +24,10 @@ use Rattle.pool_moves.specs.Walking.{as_moves}
 use Rattle.pool_moves.specs.Widening.{AreWidens}
 use Rattle.pool_moves.proofs.DetachWalks.{commit_of}
 use Rattle.pool_moves.proofs.GraftWalks.{steps_more, new_above}
-use Rattle.pool_moves.proofs.Keeping.{number_stays, top_stays, all_same}
+use Rattle.pool_moves.proofs.Keeping.{leaf_stays}
 use Rattle.pool_moves.proofs.Shaping.{IsOfCommit}
 use Rattle.pool_moves.proofs.TreeEdits.{put_behind, taken_out, HasNot, attached_leaves, replaced_leaves, pruned_leaves}
+use Rattle.pool_moves.proofs.Lists.{each}
 
 -- A leaf by its number and its top, and a state by these and its trees.
 abbrev Face : Type 0
@@ -73,8 +74,10 @@ of_shape s is = record { tree = λ top. is.tree top ∙ under_is top s.core.leav
 faces_map : (v : Move) (number first hi : ℕ) (leaves : List LeafSeen) → map face (map (leaf_step v number first hi) leaves) ≡ map face leaves
 faces_map v number first hi [] = refl
 faces_map v number first hi (leaf ∷ leaves) =
-    ap (λ g. (g, (leaf_step v number first hi leaf).top) ∷ map face (map (leaf_step v number first hi) leaves)) (number_stays v number first hi leaf)
-    ∙ (ap (λ t. (leaf.guid, t) ∷ map face (map (leaf_step v number first hi) leaves)) (top_stays v number first hi leaf)
+    ap (λ g. (g, (leaf_step v number first hi leaf).top) ∷ map face (map (leaf_step v number first hi) leaves))
+    (leaf_stays v number first hi leaf).0
+    ∙ (ap (λ t. (leaf.guid, t) ∷ map face (map (leaf_step v number first hi) leaves))
+    (leaf_stays v number first hi leaf).1
     ∙ ap (λ l. face leaf ∷ l) (faces_map v number first hi leaves))
 
 abbrev with_faces : PoolState → List Face → Shape
@@ -508,7 +511,8 @@ commit_tree c size s name leaf seat vs reply is named row = subst (λ l. IsTree 
     committed : shape_of (steps row.part (steps (goes_out s name leaf) s))
         ≡ without_leaf (place_named name s.core.leaves) leaf.top (pruned leaf.guid (s.own.children leaf.top)) (shape_of s)
     committed =
-        shape_along row.part gone (all_same IsOfCommit IsCalm calm_of row.part (commit_of c size gone row.part row.turn row.commit)) ∙ out_shape s name leaf
+        shape_along row.part gone (each calm_of row.part (commit_of c size gone row.part row.turn row.commit))
+        ∙ out_shape s name leaf
 
     behind : (turn : TurnReply) → DetachBehind turn size s name leaf seat row.rest reply
         → IsTree (shape_of (steps row.rest (steps row.part (steps (goes_out s name leaf) s))))
