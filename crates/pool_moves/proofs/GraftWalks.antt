@@ -1,5 +1,5 @@
 -- A leaf may be brought in: the walk of `attach` and of `replace` from its row.
-use Rattle.std.proofs.Common.{◌≡◌, ℕ, ◌+◌, ◌<◌, ◌≤◌, ◌^◌, ◌==◌, nat_le, nat_lt, Bool, true, false, cond, Option, Some, None, List, [], ◌∷◌, ◌++◌, map, length, refl, sym, ap, ◌∙◌, subst, arith}
+use Rattle.std.proofs.Common.{◌≡◌, ℕ, ◌+◌, ◌<◌, ◌≤◌, ◌^◌, ◌==◌, nat_le, nat_lt, Bool, true, false, cond, Option, Some, None, List, [], ◌∷◌, map, length, refl, sym, ap, ◌∙◌, subst, arith}
 use Rattle.std.specs.List.{AllByRecursion}
 use Rattle.std.proofs.lemmas.Bool.Decides.{nat_tests}
 use Rattle.mp_base.specs.declared.number.Guid.{Guid}
@@ -29,11 +29,10 @@ use Rattle.pool_moves.specs.TreeRows.{Graft, Attach, Replace, TreeRefusal, limit
 use Rattle.pool_moves.specs.Walking.{as_moves}
 use Rattle.pool_moves.proofs.FreeWalks.{walks_more, moves_more}
 use Rattle.pool_moves.proofs.Widenings.{widens_walk}
-use Rattle.pool_moves.proofs.Keeping.{walk_keeps, other_numbers, elsewhere_step, here}
+use Rattle.pool_moves.proofs.Keeping.{walk_keeps, other_numbers, elsewhere_still, here}
 use Rattle.pool_moves.proofs.ReadWalks.{calls_walk}
 use Rattle.pool_moves.proofs.ScanEnds.{start_walk}
 use Rattle.pool_moves.proofs.ScanSteps.{calls_pool}
-use Rattle.pool_moves.proofs.Lists.{all_map}
 
 -- No leaf that was found is on the device.
 not_found_at : (f r : Bool) (p : Pool) (d : ℕ) (seats : List Seat) → AllByRecursion (λ leaf. is_dev d leaf.dev ≡ false) (map (leaf_seen f r (told p)) seats)
@@ -56,11 +55,6 @@ lose_elsewhere p d (At e found own ∷ seats) = (by (d == e) refl, lose_elsewher
     by false off = off
 lose_elsewhere p d (Adrift leaf ∷ seats) = (tt, lose_elsewhere p d seats)
 
-pub step_elsewhere : (v : Move) (p : Pool) (d : ℕ) (seats : List Seat) → AllByRecursion (IsElsewhere d) seats
-    → AllByRecursion (IsElsewhere d) (map (seat_step v p) seats)
-step_elsewhere v p d seats all =
-    all_map _ (seat_step v p) (elsewhere_step d v p) seats all
-
 -- Behind calls the seats and the state are as they were.
 calls_seats : (made : List Noted) (t : Side) → (after_moves (as_moves made) t).seats ≡ t.seats
 calls_seats [] t = refl
@@ -69,10 +63,6 @@ calls_seats (noted ∷ made) t = calls_seats made (after_move (Makes noted) t)
 calls_state : (made : List Noted) (s : PoolState) → steps (as_moves made) s ≡ s
 calls_state [] s = refl
 calls_state (noted ∷ made) s = calls_state made (state_step (Makes noted) s)
-
-pub steps_more : (vs ws : List Move) (s : PoolState) → steps (vs ++ ws) s ≡ steps ws (steps vs s)
-steps_more [] ws s = refl
-steps_more (v ∷ vs) ws s = steps_more vs ws (state_step v s)
 
 -- The stamp of a new leaf's device, whichever call fails.
 stamp_walk : (c : Codec) (s : PoolState) (t : Side) (d size : ℕ) (pool m : Guid) (made : List Noted) (outcome : Option Fault) → Kept c s t
@@ -158,7 +148,7 @@ comes_walk c s t i d m top own children made kept may above walks = (
     (
       (subst (λ p. MayJoin (after Rests p) d m top) (sym (calls_pool made (after_move (Lose d) t))) may, tt),
       record {
-        elsewhere = step_elsewhere Rest stamped.pool d stamped.seats
+        elsewhere = elsewhere_still d Rest stamped tt
             (subst (AllByRecursion (IsElsewhere d)) (sym (calls_seats made (after_move (Lose d) t))) (lose_elsewhere t.pool d t.seats));
         others =
             other_numbers (after_move Rest stamped).pool.guid rested.own.next_member m (subst (λ n. n ≤ m.0) (sym same_next) above)

@@ -83,7 +83,7 @@ module _ (v : Move) (t : Side) (is : IsStill v) (P Q : Seat → Type 0)
       (one_map _ (seat_step v t.pool) (seat_cases (λ seat. P seat → Q (seat_step v t.pool seat)) at adrift) t.seats has)
 
 -- a seat whose device may be lost
-lose_step : (Q : Seat → Type 0) (p : Pool) (e d : ℕ) (found : Bool) (own : OwnLeaf)
+pub lose_step : (Q : Seat → Type 0) (p : Pool) (e d : ℕ) (found : Bool) (own : OwnLeaf)
     → ((e == d) ≡ true → Q (Adrift (leaf_seen p.group.frozen p.scan.running (told p) (At d found own))))
     → ((e == d) ≡ false → Q (At d found own)) → Q (seat_step (Lose e) p (At d found own))
 lose_step Q p e d found own lost there = cond_both (e == d) _ _ Q lost there
@@ -94,6 +94,11 @@ pub elsewhere_step : (d : ℕ) (v : Move) (p : Pool) (seat : Seat) → IsElsewhe
 elsewhere_step d (Lose e) p (At x found own) off = lose_step (IsElsewhere d) p e x found own (λ lost. tt) (λ there. off)
 elsewhere_step d v p (Adrift leaf) off = tt
 elsewhere_step d v p (At x found own) off = off
+
+pub elsewhere_still : (d : ℕ) (v : Move) (t : Side) → IsStill v → AllByRecursion (IsElsewhere d) t.seats
+    → AllByRecursion (IsElsewhere d) (seats_by v t)
+elsewhere_still d v t is all = subst (AllByRecursion (IsElsewhere d)) (sym (still_seats v t is))
+    (all_map _ (seat_step v t.pool) (elsewhere_step d v t.pool) t.seats all)
 
 apart_map : (v : Move) (p : Pool) (seats : List Seat) → AreSeatsApart seats → AreSeatsApart (map (seat_step v p) seats)
 apart_map v p [] apart = tt
@@ -295,6 +300,22 @@ numbered_kept v t ok numbered d is =
     all_still v t tt (IsOwnNumber t.pool.guid d) (IsOwnNumber (after_move v t).pool.guid d) (λ e found own same. same)
     (λ leaf is. subst (λ n. (n.0 == (t.pool.guid d).0) ≡ false)
     (sym (leaf_stays v t.pool.highest t.pool.group.first t.pool.scan.hi leaf).0) is) (numbered d is)
+
+-- So it is with the number of any device.
+pub others_still : (d : ℕ) (v : Move) (t : Side) → IsStill v
+    → AllByRecursion (HasOtherNumber t.pool.guid (t.pool.guid d)) t.seats
+    → AllByRecursion (HasOtherNumber (after_move v t).pool.guid ((after_move v t).pool.guid d)) (seats_by v t)
+others_still d (Comes i e m top own) t is all = absurd is
+others_still d (Goes i) t is all = absurd is
+others_still d (Returns i seat leaf) t is all = absurd is
+others_still d (Lose e) t is all = all_still (Lose e) t tt (HasOtherNumber t.pool.guid (t.pool.guid d))
+    (HasOtherNumber t.pool.guid (t.pool.guid d)) (λ x found own is.
+    lose_step (HasOtherNumber t.pool.guid (t.pool.guid d)) t.pool e x found own (λ lost. is) (λ there. is))
+    (λ leaf is. is) all
+others_still d v t is all = all_still v t tt (HasOtherNumber t.pool.guid (t.pool.guid d))
+    (HasOtherNumber (after_move v t).pool.guid ((after_move v t).pool.guid d)) (λ x found own is. is)
+    (λ leaf is. subst (λ n. (n.0 == (t.pool.guid d).0) ≡ false)
+    (sym (leaf_stays v t.pool.highest t.pool.group.first t.pool.scan.hi leaf).0) is) all
 
 -- Members on the board are leaves that the run has found.
 pub never_both : {A : Type 0} (t : Bool) → t ≡ false → t ≡ true → A

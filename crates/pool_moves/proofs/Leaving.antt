@@ -17,14 +17,12 @@ use Rattle.txg_history.proofs.Logging.{by_bool, same_device, true_not_false, is_
 use Rattle.pool_moves.specs.AwayRows.{all_out, is_sibling, siblings, IsRequired}
 use Rattle.pool_moves.specs.Keeping.{IsElsewhere, AreSeatsApart, IsUnder, HasUnder, HasNumbered, HasOtherNumber, Admits, Walks}
 use Rattle.pool_moves.specs.Leaves.{OwnLeaf, LeafSeen, Seat, At, Adrift, told, leaf_seen}
-use Rattle.pool_moves.specs.Moves.{Move, Makes, Freeze, Wrote_key, Flushed_all, Draw, Leave, Widen, Burn, Starts, Copies, Copied, Commits, Sets, leaf_step, seat_step, seats_by, after_move, after_moves}
+use Rattle.pool_moves.specs.Moves.{Move, Makes, Wrote_key, Flushed_all, Draw, Leave, Widen, Burn, Starts, Copies, Copied, Sets, Comes, Goes, Returns, after_move, after_moves}
 use Rattle.pool_moves.specs.States.{Side}
+use Rattle.pool_moves.specs.TreeLeaves.{IsCalm}
 use Rattle.pool_moves.specs.TreeRows.{place_where}
-use Rattle.pool_moves.proofs.GraftWalks.{step_elsewhere}
-use Rattle.pool_moves.proofs.Keeping.{seat_cases}
-use Rattle.pool_moves.proofs.LineWalks.{IsWithin}
-use Rattle.pool_moves.proofs.Shaping.{IsOfCommit}
-use Rattle.pool_moves.proofs.Lists.{all_map}
+use Rattle.pool_moves.proofs.Keeping.{IsStill, elsewhere_still, others_still}
+use Rattle.pool_moves.proofs.KindsOfMoves.{IsWithin}
 
 abbrev seen_as : Bool → Bool → Pool → List Seat → List LeafSeen
 seen_as f r p seats = map (leaf_seen f r (told p)) seats
@@ -138,26 +136,19 @@ apart_others (At e was is ∷ seats) (suc i) d found own apart at =
 apart_others (Adrift leaf ∷ seats) zero d found own apart at = absurd (cc)
 apart_others (Adrift leaf ∷ seats) (suc i) d found own apart at = (tt, apart_others seats i d found own apart at)
 
-elsewhere_step : (v : Move) (t : Side) (d : ℕ) → IsOfCommit v → AllByRecursion (IsElsewhere d) t.seats → AllByRecursion (IsElsewhere d) (seats_by v t)
-elsewhere_step (Makes noted) t d is all = all
-elsewhere_step (Wrote_key k) t d is all = all
-elsewhere_step Flushed_all t d is all = all
-elsewhere_step (Starts draft) t d is all = all
-elsewhere_step (Copies draft e) t d is all = all
-elsewhere_step (Copied draft e) t d is all = all
-elsewhere_step (Freeze cells board) t d is all = step_elsewhere (Freeze cells board) t.pool d t.seats all
-elsewhere_step Draw t d is all = step_elsewhere Draw t.pool d t.seats all
-elsewhere_step (Widen m low high) t d is all = step_elsewhere (Widen m low high) t.pool d t.seats all
-elsewhere_step (Leave e) t d is all = step_elsewhere (Leave e) t.pool d t.seats all
-elsewhere_step Burn t d is all = step_elsewhere Burn t.pool d t.seats all
-elsewhere_step (Commits draft) t d is all = step_elsewhere (Commits draft) t.pool d t.seats all
-elsewhere_step (Sets m own) t d is all = step_elsewhere (Sets m own) t.pool d t.seats all
-elsewhere_step v t d is all = absurd is
+-- moves that bring no leaf and take none
+pub calm_still : (v : Move) → IsCalm v → IsStill v
+calm_still (Comes i d m top own) is = is
+calm_still (Goes i) is = is
+calm_still (Returns i seat leaf) is = is
+calm_still v is = tt
 
-pub elsewhere_along : (vs : List Move) (t : Side) (d : ℕ) → AllByRecursion IsOfCommit vs → AllByRecursion (IsElsewhere d) t.seats
+pub elsewhere_along : (vs : List Move) (t : Side) (d : ℕ) → AllByRecursion IsCalm vs
+    → AllByRecursion (IsElsewhere d) t.seats
     → AllByRecursion (IsElsewhere d) (after_moves vs t).seats
 elsewhere_along [] t d are all = all
-elsewhere_along (v ∷ vs) t d are all = elsewhere_along vs (after_move v t) d are.1 (elsewhere_step v t d are.0 all)
+elsewhere_along (v ∷ vs) t d are all =
+    elsewhere_along vs (after_move v t) d are.1 (elsewhere_still d v t (calm_still v are.0) all)
 
 -- What the history has of a device, apart from its logs and boards, stays while a group is frozen, and through its end.
 pub record Aside : Type 0 where
@@ -225,30 +216,11 @@ differs guid m n (Adrift leaf ∷ seats) (inl is) others = by_bool (n.0 == m.0)
     (λ same. absurd (let other : (leaf.guid.0 == n.0) ≡ false = others.0 in let yes : (leaf.guid.0 == n.0) ≡ true = grind (arith, nat_tests) in cc)) (λ off. off)
 differs guid m n (seat ∷ seats) (inr has) others = differs guid m n seats has others.1
 
-pub others_map : (v : Move) (p : Pool) (n : Guid) (seats : List Seat) → ((leaf : LeafSeen) → (leaf_step v p.highest p.group.first p.scan.hi leaf).guid ≡ leaf.guid)
-    → ((d : ℕ) (found : Bool) (own : OwnLeaf) → HasOtherNumber p.guid n (At d found own) → HasOtherNumber p.guid n (seat_step v p (At d found own)))
-    → AllByRecursion (HasOtherNumber p.guid n) seats → AllByRecursion (HasOtherNumber p.guid n) (map (seat_step v p) seats)
-others_map v p n seats same stays all = all_map _ (seat_step v p)
-    (seat_cases (λ seat. HasOtherNumber p.guid n seat → HasOtherNumber p.guid n (seat_step v p seat)) stays
-    (λ leaf is. subst (λ g. (g.0 == n.0) ≡ false) (sym (same leaf)) is)) seats all
-
-set_guid : (m : Guid) (own : OwnLeaf) (t : Bool) (leaf : LeafSeen) → (cond t (record leaf { own = own }) leaf).guid ≡ leaf.guid
-set_guid m own true leaf = refl
-set_guid m own false leaf = refl
-
-others_within : (v : Move) (t : Side) (d : ℕ) → IsWithin v → AllByRecursion (HasOtherNumber t.pool.guid (t.pool.guid d)) t.seats
-    → AllByRecursion (HasOtherNumber (after_move v t).pool.guid ((after_move v t).pool.guid d)) (seats_by v t)
-others_within (Makes noted) t d is all = all
-others_within (Wrote_key k) t d is all = all
-others_within Flushed_all t d is all = all
-others_within (Starts draft) t d is all = all
-others_within (Copies draft e) t d is all = all
-others_within (Copied draft e) t d is all = all
-others_within Draw t d is all = others_map Draw t.pool (t.pool.guid d) t.seats (λ leaf. refl) (λ e found own is. is) all
-others_within (Leave e) t d is all = others_map (Leave e) t.pool (t.pool.guid d) t.seats (λ leaf. refl) (λ x found own is. is) all
-others_within (Widen m low high) t d is all = others_map (Widen m low high) t.pool (t.pool.guid d) t.seats (λ leaf. refl) (λ x found own is. is) all
-others_within (Sets m own) t d is all = others_map (Sets m own) t.pool (t.pool.guid d) t.seats (λ leaf. set_guid m own (leaf.guid.0 == m.0) leaf) (λ x found was is. is) all
-others_within v t d is all = absurd is
+within_still : (v : Move) → IsWithin v → IsStill v
+within_still (Comes i d m top own) is = is
+within_still (Goes i) is = is
+within_still (Returns i seat leaf) is = is
+within_still v is = tt
 
 aside_within : (log settled : ℕ → Bool) (d : ℕ) (v : Move) (t : Side) → IsWithin v → Admits t v
     → AllByRecursion (HasOtherNumber t.pool.guid (t.pool.guid d)) t.seats → AsideIn log settled d t.pool → AsideIn log settled d (after_move v t).pool
@@ -286,7 +258,8 @@ aside_within log settled d v t is ok others a = absurd is
 pub aside_stays : (c : Codec) (log settled : ℕ → Bool) (d : ℕ) (vs : List Move) (t : Side) → Walks c t vs → AllByRecursion IsWithin vs
     → AllByRecursion (HasOtherNumber t.pool.guid (t.pool.guid d)) t.seats → AsideIn log settled d t.pool → AsideIn log settled d (after_moves vs t).pool
 aside_stays c log settled d [] t walks all others a = a
-aside_stays c log settled d (v ∷ vs) t walks all others a = aside_stays c log settled d vs (after_move v t) walks.1 all.1 (others_within v t d all.0 others)
+aside_stays c log settled d (v ∷ vs) t walks all others a = aside_stays c log settled d vs (after_move v t) walks.1
+    all.1 (others_still d v t (within_still v all.0) others)
     (aside_within log settled d v t all.0 walks.0.1 others a)
 
 -- at the freeze

@@ -6,7 +6,9 @@ pub mod Drafting
 pub mod FreeWalks
 pub mod FreezeWalks
 pub mod GraftWalks
+pub mod GroupTurns
 pub mod Keeping
+pub mod KindsOfMoves
 pub mod Leaving
 pub mod LineWalks
 pub mod Lists
@@ -27,7 +29,6 @@ pub mod ScanEnds
 pub mod ScanSteps
 pub mod Seeing
 pub mod Seeking
-pub mod Shaping
 pub mod StampWalks
 pub mod TreeEdits
 pub mod TreeLeaves

@@ -13,7 +13,7 @@ use Rattle.pool_moves.specs.Moves.{Move, Scan_from, Rest, seat_step, steps, afte
 use Rattle.pool_moves.specs.OpeningRow.{ResumesBy, ResumesUnless, RowResume, lacking_of}
 use Rattle.pool_moves.specs.Resilvers.{rest_if, StartsResilver, Resilvers}
 use Rattle.pool_moves.specs.States.{scan_seen, PoolState, Side, seen}
-use Rattle.pool_moves.proofs.CommitWalks.{reopen_walks}
+use Rattle.pool_moves.proofs.LineWalks.{reopen_walks}
 use Rattle.pool_moves.proofs.FreeWalks.{walks_more}
 use Rattle.pool_moves.proofs.FreezeWalks.{up_of_found}
 use Rattle.pool_moves.proofs.Keeping.{seat_cases, walk_keeps}

@@ -13,7 +13,7 @@ use Rattle.pool_moves.specs.AwayRows.{leaf_named, is_spare}
 use Rattle.pool_moves.specs.Keeping.{HasNumberBelow, Kept}
 use Rattle.pool_moves.specs.Leaves.{OwnLeaf, LeafSeen, Seat, At, Adrift, told, leaf_seen}
 use Rattle.pool_moves.specs.LineRows.{TurnReply, Idle, Write, Flush, Round, Committed, Suspended}
-use Rattle.pool_moves.specs.Moves.{Move, Makes, Puts, Freeze, Wrote_key, Flushed_all, Draw, Leave, Widen, Burn, Starts, Copies, Copied, Commits, Sets, Lose, Comes, Goes, Returns, Rest, Scrubs, Shapes, leaf_step, step, state_step, steps}
+use Rattle.pool_moves.specs.Moves.{Move, Makes, Puts, Wrote_key, Flushed_all, Widen, Starts, Copies, Copied, Lose, Comes, Goes, Returns, Rest, Scrubs, Shapes, leaf_step, step, state_step, steps}
 use Rattle.pool_moves.specs.Refusing.{FreezeRefusal}
 use Rattle.pool_moves.specs.ScanRows.{starts_scan}
 use Rattle.pool_moves.specs.States.{PoolSeen, PoolState, Side}
@@ -22,12 +22,11 @@ use Rattle.pool_moves.specs.TreeRows.{Graft, Attach, Replace, graft_moves, TreeR
 use Rattle.pool_moves.specs.Trees.{Child, same_number, tree_leaves, pruned}
 use Rattle.pool_moves.specs.Walking.{as_moves}
 use Rattle.pool_moves.specs.Widening.{AreWidens}
-use Rattle.pool_moves.proofs.DetachWalks.{commit_of}
-use Rattle.pool_moves.proofs.GraftWalks.{steps_more, new_above}
+use Rattle.pool_moves.proofs.DetachWalks.{commit_calm}
+use Rattle.pool_moves.proofs.FreeWalks.{steps_more}
+use Rattle.pool_moves.proofs.GraftWalks.{new_above}
 use Rattle.pool_moves.proofs.Keeping.{leaf_stays}
-use Rattle.pool_moves.proofs.Shaping.{IsOfCommit}
 use Rattle.pool_moves.proofs.TreeEdits.{put_behind, taken_out, HasNot, attached_leaves, replaced_leaves, pruned_leaves}
-use Rattle.pool_moves.proofs.Lists.{each}
 
 -- A leaf by its number and its top, and a state by these and its trees.
 abbrev Face : Type 0
@@ -108,22 +107,6 @@ calm_leaves vs s all are = of_shape (steps vs s) (subst IsTree (sym (shape_along
 calls_calm : (made : List Noted) → AllByRecursion IsCalm (as_moves made)
 calls_calm [] = tt
 calls_calm (noted ∷ made) = (tt, calls_calm made)
-
-calm_of : (v : Move) → IsOfCommit v → IsCalm v
-calm_of (Makes noted) is = tt
-calm_of (Freeze cells board) is = tt
-calm_of (Wrote_key k) is = tt
-calm_of Flushed_all is = tt
-calm_of Draw is = tt
-calm_of (Leave d) is = tt
-calm_of (Widen m low high) is = tt
-calm_of Burn is = tt
-calm_of (Starts draft) is = tt
-calm_of (Copies draft d) is = tt
-calm_of (Copied draft d) is = tt
-calm_of (Commits draft) is = tt
-calm_of (Sets m own) is = tt
-calm_of v is = absurd is
 
 -- Faces put in and taken out.
 faces_insert : (leaves : List LeafSeen) (i : ℕ) (leaf : LeafSeen) → map face (insert leaves i leaf) ≡ insert (map face leaves) i (face leaf)
@@ -511,7 +494,7 @@ commit_tree c size s name leaf seat vs reply is named row = subst (λ l. IsTree 
     committed : shape_of (steps row.part (steps (goes_out s name leaf) s))
         ≡ without_leaf (place_named name s.core.leaves) leaf.top (pruned leaf.guid (s.own.children leaf.top)) (shape_of s)
     committed =
-        shape_along row.part gone (each calm_of row.part (commit_of c size gone row.part row.turn row.commit))
+        shape_along row.part gone (commit_calm c size gone row.part row.turn row.commit)
         ∙ out_shape s name leaf
 
     behind : (turn : TurnReply) → DetachBehind turn size s name leaf seat row.rest reply
