@@ -339,10 +339,7 @@ commits_walk c size s t name leaf seat vs reply kept sized idle there row =
           ),
           ((tt, tt), tt),
         )
-    behind_walk Idle commit ends = absurd ends
-    behind_walk Write commit ends = absurd ends
-    behind_walk Flush commit ends = absurd ends
-    behind_walk (Round number) commit ends = absurd ends
+    behind_walk turn commit ends = absurd ends
 
 -- `detach`
 detach_for : (c : Codec) (size : ℕ → ℕ) (refusal : Option FreezeRefusal) (s : PoolState) (t : Side) (name : List ℕ) (leaf : LeafSeen) (seat : Seat)

@@ -114,10 +114,9 @@ online_away c true size s t leaf d vs reply kept same row whole members =
 online_on : (c : Codec) (device : HostDevice) (size : ℕ → ℕ) (s : PoolState) (t : Side) (leaf : LeafSeen) (vs : List Move) (reply : OnlineReply)
     → Kept c s t → IsSized size t
     → OnlineOn device size s leaf vs reply → AreWholeReads t.pool (made_in vs) → FindMembers t.pool vs → Walks c t vs
-online_on c NoneFound size s t leaf vs reply kept same row whole members = subst (Walks c t) (sym row.0) tt
-online_on c (HeldBy by) size s t leaf vs reply kept same row whole members = subst (Walks c t) (sym row.0) tt
 online_on c (Handed d) size s t leaf vs reply kept same row whole members = online_away c (is_away leaf.own.mode) size s t leaf d vs reply kept same
     row whole members
+online_on c device size s t leaf vs reply kept same row whole members = subst (Walks c t) (sym row.0) tt
 
 online_by : (c : Codec) (found : Option LeafSeen) (size : ℕ → ℕ) (s : PoolState) (t : Side) (listed : Bool) (device : HostDevice) (vs : List Move)
     (reply : OnlineReply) → Kept c s t → IsSized size t

@@ -75,9 +75,7 @@ none_heals (noted ∷ made) d all = (one noted.call all.0, none_heals made d all
     one : (call : Call) → IsReadOrWrite call → heals call d ≡ false
     one (Read e at bytes fault) is = refl
     one (Write e at bytes fault) is = refl
-    one (Flush e fault) is = absurd is
-    one (Admit e holds) is = absurd is
-    one (Eject e) is = absurd is
+    one call is = absurd is
 
 -- what the reads of some copies may do and leave
 pub record AreRead (c : Codec) (p : Pool) (cell : Cell) (made : List Noted) (wrong : List CopyOf) : Type 0 where
@@ -137,11 +135,8 @@ copies_read c p k cell (copy ∷ more) (noted ∷ made) wrong outcome sv at are 
 
 -- a call that asked for a write is one
 pub write_call : (call : Call) (d at : ℕ) (bytes : List ℕ) → ask_of call ≡ Writes d at bytes → (fault : Option Fault) × (call ≡ Write d at bytes fault)
-write_call (Read e from found fault) d at bytes is = absurd (cc)
 write_call (Write e from found fault) d at bytes is = (fault, let a : e ≡ d = cc in let b : from ≡ at = cc in let c : found ≡ bytes = cc in ap (λ x. Write x from found fault) a ∙ (ap (λ x. Write d x found fault) b ∙ ap (λ x. Write d at x fault) c))
-write_call (Flush e fault) d at bytes is = absurd (cc)
-write_call (Admit e holds) d at bytes is = absurd (cc)
-write_call (Eject e) d at bytes is = absurd (cc)
+write_call call d at bytes is = absurd (cc)
 
 -- The rewriting of the wrong ones.
 healed_rest : (cell : Cell) (p : Pool) (noted : Noted) → IsReadOrWrite noted.call → (wrong : List CopyOf) → AllByRecursion (IsHurt cell p.sectors) wrong

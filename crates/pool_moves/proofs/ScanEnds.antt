@@ -96,11 +96,8 @@ record AreLeft (c : Codec) (s : PoolState) (t : Side) (ms : List Member) : Type 
   pub found : AllByRecursion (λ m. AllByRecursion (IsOfFound (λ e. m.dev == e)) t.seats) ms
 
 flush_call : (call : Call) (d : ℕ) → ask_of call ≡ Flushes d → call ≡ Flush d (fault_of call)
-flush_call (Read e at bytes fault) d ask = absurd (cc)
-flush_call (Write e at bytes fault) d ask = absurd (cc)
 flush_call (Flush e fault) d ask = let same : e ≡ d = cc in ap (λ n. Flush n fault) same
-flush_call (Admit e holds) d ask = absurd (cc)
-flush_call (Eject e) d ask = absurd (cc)
+flush_call call d ask = absurd (cc)
 
 -- another member's device is no unfound leaf's, behind a move that leaves each where it was
 found_mapped : (v : Move) (t : Side) (ms : List Member) (seats : List Seat)

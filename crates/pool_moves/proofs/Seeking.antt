@@ -44,10 +44,7 @@ reads_may c p (noted ∷ made) reads = (one noted.call reads.0, reads_may c (aft
   where
     one : (call : Call) → IsRead call → IsSparing p call
     one (Read dev at bytes fault) is = read_sparing p dev at bytes fault
-    one (Write dev at bytes fault) is = absurd is
-    one (Flush dev fault) is = absurd is
-    one (Admit dev holds) is = absurd is
-    one (Eject dev) is = absurd is
+    one call is = absurd is
 
 -- A search for an identity only reads.
 asked_read : (call : Call) (dev at n : ℕ) → ask_of call ≡ Reads dev at n → IsRead call
@@ -63,8 +60,7 @@ pub search_reads : (pool member : Guid) (dev size : ℕ) (made : List Noted) (re
 search_reads pool member dev size made (Ok true) s =
     subst AreReads (sym s.all) (are_reads_more s.misses (s.hit ∷ [])
     (misses_read pool member dev (take s.before (rings_of size)) s.misses s.are_misses) (asked_read s.hit.call dev _ _ s.ask, tt))
-search_reads pool member dev size made (Ok false) s = misses_read pool member dev (rings_of size) made s.0
-search_reads pool member dev size made (Err fault) s = misses_read pool member dev (rings_of size) made s.0
+search_reads pool member dev size made result s = misses_read pool member dev (rings_of size) made s.0
 
 sought_on_reads : (roomy : Bool) (pool : Guid) (size : ℕ) (m : Guid) (d : ℕ) (made : List Noted) (found : Option ℕ)
     → IsSoughtOn roomy pool size m d made found → AreReads made
@@ -161,11 +157,7 @@ given_home c p m d before (Read dev at bytes None) sv mine lt ask gives whole =
     long_in : Ask → ℕ
     long_in (Reads dev at n) = n
     long_in ask = 0
-given_home c p m d before (Read dev at bytes (Some fault)) sv mine lt ask gives whole = absurd gives
-given_home c p m d before (Write dev at bytes fault) sv mine lt ask gives whole = absurd gives
-given_home c p m d before (Flush dev fault) sv mine lt ask gives whole = absurd gives
-given_home c p m d before (Admit dev holds) sv mine lt ask gives whole = absurd gives
-given_home c p m d before (Eject dev) sv mine lt ask gives whole = absurd gives
+given_home c p m d before call sv mine lt ask gives whole = absurd gives
 
 whole_last : (p : Pool) (first : List Noted) (noted : Noted) → AreWholeReads p (first ++ (noted ∷ [])) → AreNotTorn p (read_of noted.call)
 whole_last p [] noted all = all.0

@@ -504,10 +504,7 @@ commit_tree c size s name leaf seat vs reply is named row = subst (λ l. IsTree 
     behind (Suspended group top faults) ends = subst (λ l. IsTree (shape_of (steps l (steps row.part gone)))) (sym ends.0)
         (subst IsTree (sym (back_shape (steps row.part gone) (place_named name s.core.leaves) seat leaf leaf.top (s.own.children leaf.top)
         ∙ ap (back_leaf (place_named name s.core.leaves) (face leaf) leaf.top (s.own.children leaf.top)) committed)) (back_tree s name leaf is named))
-    behind Idle ends = absurd ends
-    behind Write ends = absurd ends
-    behind Flush ends = absurd ends
-    behind (Round number) ends = absurd ends
+    behind turn ends = absurd ends
 
 detach_for_tree : (c : Codec) (size : ℕ → ℕ) (refusal : Option FreezeRefusal) (s : PoolState) (name : List ℕ) (leaf : LeafSeen) (seat : Seat) (vs : List Move)
     (reply : DetachReply) → IsTree (shape_of s)

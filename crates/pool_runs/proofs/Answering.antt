@@ -15,11 +15,7 @@ answers_same (Read dev at bytes None) a b same is = (
   λ i inside clean. let e = same (at + i) in
       is.1 i inside (subst (λ x. IsClean x) (sym e) clean) ∙ ap (λ x. x.stable) e,
 )
-answers_same (Read dev at bytes (Some fault)) a b same is = tt
-answers_same (Write dev at bytes fault) a b same is = tt
-answers_same (Flush dev fault) a b same is = tt
-answers_same (Admit dev holds) a b same is = tt
-answers_same (Eject dev) a b same is = tt
+answers_same call a b same is = tt
 
 pub all_answer : (table : List Device) (made : List Noted) (a b : Sectors) → AllByRecursion (λ noted. 1 ≤ size_in table (device_of noted.call)) made
     → ((d s : ℕ) → 1 ≤ size_in table d → a d s ≡ b d s) → AllAnswer a made → AllAnswer b made

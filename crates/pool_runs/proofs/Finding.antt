@@ -42,7 +42,7 @@ use Rattle.pool_runs.proofs.Knowing.{step_number, step_name, moved_own}
 use Rattle.pool_runs.proofs.Moments.{host_more, bare_host}
 use Rattle.std.proofs.lemmas.Slice.Eq.{bytes_eq-Decides}
 use Rattle.pool_runs.proofs.GroupMoves.{more, all_group, all_uncounts, all_reopen}
-use Rattle.pool_moves.proofs.CommitWalks.{uncounts_set}
+use Rattle.pool_moves.proofs.KindsOfMoves.{uncounts_set}
 use Rattle.pool_runs.proofs.Importing.{looks_along, opening_of, opening_front, OpeningFacts, opening_calls, opening_facts, opening_fair, look_facts, taken_live}
 use Rattle.pool_runs.proofs.OpeningActs.{bare_calls, bare_more, bare_fair, shown_more, map_more}
 
@@ -242,10 +242,7 @@ opens_live c h p before name known found acts reply n knows live titled made fai
         → OpensBy turn g s vs opens.rest reply → OpensAs before (pool_along acts p) (host_along acts h) name n
     by_turn (Committed m) s vs out row by = committed s vs m out row by.0 by.1
     by_turn (Suspended group top faults) s vs out row by = absurd (let no = sym by.1 ∙ says in cc)
-    by_turn Idle s vs out row by = absurd by
-    by_turn Write s vs out row by = absurd by
-    by_turn Flush s vs out row by = absurd by
-    by_turn (Round m) s vs out row by = absurd by
+    by_turn turn s vs out row by = absurd by
 
     follow : (outcome : OpenReply) → opens.outcome ≡ outcome → FollowsMap outcome c (size_in h.table) g opens.rest reply
         → OpensAs before (pool_along acts p) (host_along acts h) name n
@@ -344,10 +341,7 @@ opens_loses c h p before name known found acts reply page shown knows live made 
     by_turn : (turn : TurnReply) (s : PoolState) (vs : List Move) → OpensBy turn found.pool.0 s vs opens.rest reply → LosesPage c before (pool_along acts p) acts page
     by_turn (Committed m) s vs by = absurd (let no = sym by.1 ∙ says in cc)
     by_turn (Suspended group top faults) s vs by = absurd (let no = sym by.1 ∙ says in cc)
-    by_turn Idle s vs by = absurd by
-    by_turn Write s vs by = absurd by
-    by_turn Flush s vs by = absurd by
-    by_turn (Round m) s vs by = absurd by
+    by_turn turn s vs by = absurd by
 
     follow : (outcome : OpenReply) → opens.outcome ≡ outcome → FollowsMap outcome c (size_in h.table) found.pool.0 opens.rest reply → LosesPage c before (pool_along acts p) acts page
     follow (Opens_state s) out row = by_turn row.1 s row.0 row.3
@@ -395,10 +389,7 @@ opens_some c h name known found acts reply other opens says is = follow opens.ou
     by_turn : (turn : TurnReply) (s : PoolState) (vs : List Move) → OpensBy turn found.pool.0 s vs opens.rest reply → ⊥
     by_turn (Committed m) s vs by = subst IsUnread (same other (Opened m) (sym says ∙ by.1)) is
     by_turn (Suspended group top faults) s vs by = subst IsUnread (same other (Unopened group top faults) (sym says ∙ by.1)) is
-    by_turn Idle s vs by = by
-    by_turn Write s vs by = by
-    by_turn Flush s vs by = by
-    by_turn (Round m) s vs by = by
+    by_turn turn s vs by = by
 
     follow : (outcome : OpenReply) → FollowsMap outcome c (size_in h.table) found.pool.0 opens.rest reply → ⊥
     follow (Opens_state s) row = by_turn row.1 s row.0 row.3

@@ -206,10 +206,7 @@ behind_keeps : (turn : TurnReply) (size : ℕ → ℕ) (s : PoolState) (name : L
 behind_keeps (Committed number) size s name at seat x g vs reply row = ⊎_elim (λ keeps. inl keeps) (λ goes. inr (record { here = goes.0; n = number; says = row.1; wrote = goes.1 }))
     (cleans (is_there at.own.mode) at.dev (is_spare s at) size x g vs row.0)
 behind_keeps (Suspended group top faults) size s name at seat x g vs reply row = inl (subst (KeepAll x g) (sym row.0) ((λ mine. tt), ((λ mine. tt), tt)))
-behind_keeps Idle size s name at seat x g vs reply row = absurd row
-behind_keeps Write size s name at seat x g vs reply row = absurd row
-behind_keeps Flush size s name at seat x g vs reply row = absurd row
-behind_keeps (Round number) size s name at seat x g vs reply row = absurd row
+behind_keeps turn size s name at seat x g vs reply row = absurd row
 
 without_keeps : (c : Codec) (size : ℕ → ℕ) (s : PoolState) (name : List ℕ) (at : LeafSeen) (seat : Seat) (x : Held) (g : ℕ) (vs : List Move) (reply : DetachReply)
     → CommitsWithout c size s name at seat vs reply → KeepAll x g vs ⊎ GoesAway x at vs reply

@@ -348,10 +348,7 @@ for_not_required None c size s name leaf seat vs r group row is = absurd (by row
     by : (turn : TurnReply) → DetachBehind turn size s name leaf seat row.rest r → ⊥
     by (Committed number) behind = let no = sym behind.1 ∙ is in cc
     by (Suspended g top faults) behind = let no = sym behind.1 ∙ is in cc
-    by Idle behind = behind
-    by Write behind = behind
-    by Flush behind = behind
-    by (Round n) behind = behind
+    by turn behind = behind
 
 required_out : (c : Codec) (size : ℕ → ℕ) (s : PoolState) (name : List ℕ) (leaf : LeafSeen) (seat : Seat) (vs : List Move) (r : DetachReply) (reply : Reply) (group : ℕ) → reply ≡ To_detach r
     → DetachLeaf false c size s name leaf seat vs r → IsRequiredFor leaf s.core.leaves group reply (To_detach (DetachRequired group))

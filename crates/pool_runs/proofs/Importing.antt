@@ -170,10 +170,7 @@ commit_may (Suspended group top faults) c h t s g vs acts reply knows is kept no
           (own_first g (record h { pools = s ∷ h.pools }) (does g vs) (Closes g ∷ []) rest))
           (λ fair known. closes_may c (host_along (does g vs) (record h { pools = s ∷ h.pools })) (pool_along (does g vs) t.pool) g known) behind,
     ))
-commit_may Idle c h t s g vs acts reply knows is kept none row own by = absurd by
-commit_may Write c h t s g vs acts reply knows is kept none row own by = absurd by
-commit_may Flush c h t s g vs acts reply knows is kept none row own by = absurd by
-commit_may (Round number) c h t s g vs acts reply knows is kept none row own by = absurd by
+commit_may turn c h t s g vs acts reply knows is kept none row own by = absurd by
 
 -- What an opening may do of a pool of the number that it found.
 record Own (c : Codec) (h : Host) (p : Pool) (name : List ℕ) (known : Known) (found : Found) : Type 0 where
@@ -484,14 +481,13 @@ true_look c h name made seek row answers = record {
 found_may : (seek : SeekReply) (c : Codec) (h : Host) (p : Pool) (name : List ℕ) (known : Known) (acts : List Act) (reply : Reply) → Knows c h p → named name h.pools ≡ None
     → ((found : Found) → seek ≡ TakesRecord found → p.name ≡ name → Premises c.head_of p known → (r : Rec) × IsLiveOne p found r) → AreMade h (calls_along acts)
     → ImportBy seek c h name known acts reply → MayActs c h p acts
-found_may NoRecord c h p name known acts reply knows free live made row = subst (MayActs c h p) (sym row.0) tt
-found_may (NumbersEnd limit count) c h p name known acts reply knows free live made row = subst (MayActs c h p) (sym row.0) tt
 found_may (TakesRecord found) c h p name known acts reply knows free live made row = by_bool (p.pool.0 == found.pool.0)
     (λ mine. own_opens c h p name known found acts reply (record { knows = knows; number = number_of_test p.pool.0 found.pool.0 mine; free = free; live = live found refl }) made row)
     (λ off. other_may c h p found.pool.0 acts knows (λ e. other p.pool.0 found.pool.0 off (sym e)) row.own)
   where
     other : (m n : ℕ) → (m == n) ≡ false → m ≢ n
     other m n off is = let yes : (m == n) ≡ true = same_number m n is in true_not_false (m == n) yes off
+found_may seek c h p name known acts reply knows free live made row = subst (MayActs c h p) (sym row.0) tt
 
 taken_same : (ended : Bool) (a b : Found) → TakesRecord a ≡ taken_by ended b → a ≡ b
 taken_same true a b e = absurd (cc)

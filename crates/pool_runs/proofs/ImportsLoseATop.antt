@@ -139,10 +139,7 @@ opens_unopened c h name known found acts reply group top faults opens says = fol
           numbers = is.1;
           row = subst (RowResume c (size_in h.table) s vs) (unopened_same n group t top k faults (sym by.1 ∙ says)) row;
         }
-    by_turn Idle s vs out row by = absurd by
-    by_turn Write s vs out row by = absurd by
-    by_turn Flush s vs out row by = absurd by
-    by_turn (Round m) s vs out row by = absurd by
+    by_turn turn s vs out row by = absurd by
 
     follow : (outcome : OpenReply) → opens.outcome ≡ outcome
         → FollowsMap outcome c (size_in h.table) found.pool.0 opens.rest reply → A
@@ -181,15 +178,13 @@ seek_unopened : (seek : SeekReply) (c : Codec) (h : Host) (name : List ℕ) (kno
     → ImportBy seek c h name known acts reply → reply ≡ To_import (Unopened group top faults)
     → (opening : Opening) × (opening_in acts ≡ Some opening)
     × EndsUnopened c (size_in h.table) opening acts group top faults
-seek_unopened NoRecord c h name known acts reply group top faults row says = absurd (let no = sym row.1 ∙ says in cc)
-seek_unopened (NumbersEnd limit count) c h name known acts reply group top faults row says =
-    absurd (let no = sym row.1 ∙ says in cc)
 seek_unopened (TakesRecord found) c h name known acts reply group top faults row says = (
   opening_of c h name known found acts reply row,
   ap opening_in row.are,
   opens_unopened c h name known found acts reply group
       top faults row says,
 )
+seek_unopened seek c h name known acts reply group top faults row says = absurd (let no = sym row.1 ∙ says in cc)
 
 pub import_loses : (c : Codec) (h : Host) (name : List ℕ) (acts : List Act) (reply : Reply) (group : ℕ) (top : Guid)
     (faults : ℕ) (from to : ℕ → ℕ) → RowImport c h name acts reply

@@ -292,7 +292,6 @@ other_act c h p g (Hears second) off own fair knows = (
 )
 other_act c h p g (Bare noted) off own fair knows = let may = other_call c g h.owner p noted knows.apart off own in (may, call_known c h p noted may knows)
 other_act c h p g (Does k v) off own fair knows = does_acted c h p k v (λ e. off (sym own.0 ∙ e)) (subst (λ n. IsOwnMove n h.owner v) (sym own.0) own.1) knows
-other_act c h p g (Marks k mark) off own fair knows = (tt, knows)
 other_act c h p g (Looked name known) off own fair knows = looked_acted c h p known (bytes_eq p.name name) own knows
 other_act c h p g (Shows k d known) off own fair knows = (tt, owned_known c h p k d (shown_other c h p g d known knows fair own.1 off) knows)
 other_act c h p g (Reads_as opening) off own fair knows =
@@ -300,7 +299,6 @@ other_act c h p g (Reads_as opening) off own fair knows =
     let events : events_for (Reads_as opening) p ≡ [] = ap (λ t. cond t (Opens (read_by opening p) ∷ []) []) away in
     (subst (Mays c p) (sym events) tt, subst (λ vs. Knows c h (pool_after vs p)) (sym events) knows)
 other_act c h p g (Enters s) off own fair knows = (tt, pools_known c h p (s ∷ h.pools) (other_first p.pool.0 g s h.pools own off) knows)
-other_act c h p g (Names k) off own fair knows = (tt, knows)
 other_act c h p g (Takes k d) off own fair knows =
     let away : (p.pool.0 == k) ≡ false = other_number p.pool.0 k (λ e. off (sym own.0 ∙ sym e)) in
     let events : events_for (Takes k d) p ≡ Loses d ∷ [] = ap (λ t. cond t [] (Loses d ∷ [])) away in (
@@ -310,6 +308,7 @@ other_act c h p g (Takes k d) off own fair knows =
     )
 other_act c h p g (Bears birth) off own fair knows = (tt, pools_known c h p (birth.state ∷ h.pools) (other_first p.pool.0 g birth.state h.pools own off) knows)
 other_act c h p g (Closes k) off own fair knows = (tt, pools_known c h p (filter (λ s. not (is_of k s)) h.pools) (λ s is number. open_kept (λ s. not (is_of k s)) s h.pools is) knows)
+other_act c h p g act off own fair knows = (tt, knows)
 
 -- Acts of another pool.
 pub other_may : (c : Codec) (h : Host) (p : Pool) (g : ℕ) (acts : List Act) → Knows c h p → g ≢ p.pool.0 → AreOwnActs g h acts → MayActs c h p acts

@@ -76,11 +76,7 @@ module _ (c : Codec) (size : ℕ → ℕ) (s : PoolState) where
   turn_fails : (vs : List Move) (reply : TurnReply) → RowTurn c size s vs reply → IsSuspended reply → FailsIn vs
   turn_fails vs (Suspended group top faults) row bad = board_fails (λ d. FailedOn d (made_in vs)) s group top
       (turn_loses (λ d. FailedOn d (made_in vs)) c size s vs group top faults (λ d failed. failed) row)
-  turn_fails vs Idle row bad = absurd bad
-  turn_fails vs Write row bad = absurd bad
-  turn_fails vs Flush row bad = absurd bad
-  turn_fails vs (Round number) row bad = absurd bad
-  turn_fails vs (Committed number) row bad = absurd bad
+  turn_fails vs reply row bad = absurd bad
 
   -- behind a group each device is still a leaf's
   still_at : (vs : List Move) (number d : ℕ) → EndsGroup c size s vs (Committed number)
@@ -117,10 +113,7 @@ module _ (c : Codec) (size : ℕ → ℕ) (s : PoolState) where
           (group_loses (λ d. FailedOn d (made_in vs)) c size s e.first group top faults frozen
           (caught_first (λ d. FailedOn d (made_in vs)) e.first e.rest parts)
           (subst (EndsGroup c size s e.first) (sym (ended_same (Suspended g t k) group top faults row.1)) ends))
-      by Idle ends row = absurd (let no = row.1 in cc)
-      by Write ends row = absurd (let no = row.1 in cc)
-      by Flush ends row = absurd (let no = row.1 in cc)
-      by (Round number) ends row = absurd (let no = row.1 in cc)
+      by turn ends row = absurd (let no = row.1 in cc)
 
   sync_by_fails : (frozen : Bool) (vs : List Move) (group : ℕ) (top : Guid) (faults : ℕ)
       → s.core.group.frozen ≡ frozen → SyncBy frozen c size s vs (Ended (Suspended group top faults))
@@ -133,13 +126,7 @@ module _ (c : Codec) (size : ℕ → ℕ) (s : PoolState) where
   sync_fails : (vs : List Move) (reply : SyncReply) → RowSync c size s vs reply → SuspendsSync reply → FailsIn vs
   sync_fails vs (Ended (Suspended group top faults)) row bad =
       sync_by_fails s.core.group.frozen vs group top faults refl row
-  sync_fails vs (Ended Idle) row bad = absurd bad
-  sync_fails vs (Ended Write) row bad = absurd bad
-  sync_fails vs (Ended Flush) row bad = absurd bad
-  sync_fails vs (Ended (Round number)) row bad = absurd bad
-  sync_fails vs (Ended (Committed number)) row bad = absurd bad
-  sync_fails vs (Refused refusal) row bad = absurd bad
-  sync_fails vs NoMemory row bad = absurd bad
+  sync_fails vs reply row bad = absurd bad
 
   rose_in : (vs : List Move) (from to : ℕ → ℕ) → AllCaused (made_in vs) from to → FailsIn vs
       → RoseAt (λ d. has_leaf_at d s) from to ⊎ HasLostBoard s

@@ -129,10 +129,7 @@ first_loses c size s t vs group top faults kept frozen e = by e.turn e.ends e.be
     by (Suspended g m k) ends row =
         inl (group_loses (λ d. FailedOn d (made_in vs)) c size s e.first group top faults frozen fails
         (subst (EndsGroup c size s e.first) (sym (ended_same (Suspended g m k) group top faults row.1)) ends))
-    by Idle ends row = absurd (let no = row.1 in cc)
-    by Write ends row = absurd (let no = row.1 in cc)
-    by Flush ends row = absurd (let no = row.1 in cc)
-    by (Round number) ends row = absurd (let no = row.1 in cc)
+    by turn ends row = absurd (let no = row.1 in cc)
 
 still_idle : (c : Codec) (s : PoolState) (t : Side) → Kept c s t → s.core.group.frozen ≡ false
     → t.pool.group.frozen ≡ false
