@@ -15,7 +15,7 @@ use Rattle.txg_history.proofs.Losing.{stamps_may}
 use Rattle.pool_moves.specs.AwayRows.{IsRequired, is_spare, leaf_named}
 use Rattle.pool_moves.specs.Keeping.{IsElsewhere, AreSeatsApart, IsAway, IsSeated, IsOwnNumber, HasOtherNumber, IsUnder, HasUnder, IsOfFound, IsNotFoundAt, MayReturn, MayGo, Kept, Walks}
 use Rattle.pool_moves.specs.Leaves.{OwnLeaf, LeafSeen, Seat, At, Adrift, dev_if, told, leaf_seen}
-use Rattle.pool_moves.specs.LineRows.{IsSized, TurnReply, Idle, Write, Flush, Round, Committed, Suspended, CommitsOpen}
+use Rattle.pool_moves.specs.LineRows.{IsSized, TurnReply, Committed, Suspended, CommitsOpen}
 use Rattle.pool_moves.specs.Moves.{Move, Freeze, Burn, Lose, steps, after_move, after_moves, step}
 use Rattle.pool_moves.specs.Refusing.{FreezeRefusal}
 use Rattle.pool_moves.specs.States.{PoolSeen, PoolState, Side, seen}

@@ -14,7 +14,7 @@ use Rattle.txg_history.proofs.Surviving.{history_survives}
 use Rattle.pool_moves.specs.Keeping.{IsElsewhere, AreSeatsApart, IsAway, IsSeated, IsOwnNumber, IsFoundAt, HasFound, IsUnder, HasUnder, IsDrafted, over, beneath, HasNumberBelow, KnowsBelow, AreNumbered, KnowsJust, Kept, IsOfFound, IsNotFoundAt, HasOtherNumber, MayCome, Admits, Walks}
 use Rattle.pool_moves.specs.Leaves.{OwnLeaf, LeafSeen, Seat, At, Adrift, dev_if, told, leaf_seen}
 use Rattle.pool_moves.specs.Moves.{Draft, Move, Makes, Puts, Freeze, Wrote_key, Flushed_all, Leave, Burn, Starts, Copies, Copied, Commits, Sets, Finds, Lose, Comes, Goes, Returns, Scan_from, Drop, Clear, Rest, Scrubs, Shapes, on_dev, leaf_cleared, leaf_step, step, burned, rec_of, state_step, steps, events_of, seat_step, seats_by, after_move, after_moves}
-use Rattle.pool_moves.specs.States.{group_seen, Side, PoolState}
+use Rattle.pool_moves.specs.States.{group_seen, PoolSeen, Side, PoolState}
 use Rattle.pool_moves.proofs.Lists.{either, AnyOf, each, of_both, all_map, all_insert, all_remove, one_map, one_each, one_insert, one_new, none_of}
 use Rattle.pool_moves.proofs.Seeing.{seen_step}
 
@@ -69,6 +69,30 @@ still_seats (Comes i d m top own) t is = absurd is
 still_seats (Goes i) t is = absurd is
 still_seats (Returns i seat leaf) t is = absurd is
 still_seats v t is = refl
+
+-- so it takes each leaf one, in the state
+pub leaves_still : (v : Move) (s : PoolSeen) → IsStill v
+    → (step v s).leaves ≡ map (leaf_step v s.number s.group.first s.scan.hi) s.leaves
+leaves_still (Makes noted) s is = same_map (leaf_step (Makes noted) s.number s.group.first s.scan.hi) (λ leaf. refl)
+    s.leaves
+leaves_still (Puts a b) s is = same_map (leaf_step (Puts a b) s.number s.group.first s.scan.hi) (λ leaf. refl) s.leaves
+leaves_still (Wrote_key k) s is = same_map (leaf_step (Wrote_key k) s.number s.group.first s.scan.hi) (λ leaf. refl)
+    s.leaves
+leaves_still Flushed_all s is = same_map (leaf_step Flushed_all s.number s.group.first s.scan.hi) (λ leaf. refl)
+    s.leaves
+leaves_still (Starts draft) s is = same_map (leaf_step (Starts draft) s.number s.group.first s.scan.hi) (λ leaf. refl)
+    s.leaves
+leaves_still (Copies q d) s is = same_map (leaf_step (Copies q d) s.number s.group.first s.scan.hi) (λ leaf. refl)
+    s.leaves
+leaves_still (Copied q d) s is = same_map (leaf_step (Copied q d) s.number s.group.first s.scan.hi) (λ leaf. refl)
+    s.leaves
+leaves_still Scrubs s is = same_map (leaf_step Scrubs s.number s.group.first s.scan.hi) (λ leaf. refl) s.leaves
+leaves_still (Shapes top l) s is = same_map (leaf_step (Shapes top l) s.number s.group.first s.scan.hi) (λ leaf. refl)
+    s.leaves
+leaves_still (Comes i d m top own) s is = absurd is
+leaves_still (Goes i) s is = absurd is
+leaves_still (Returns i seat leaf) s is = absurd is
+leaves_still v s is = refl
 
 -- what is so of each seat, and of one of them
 module _ (v : Move) (t : Side) (is : IsStill v) (P Q : Seat → Type 0)

@@ -30,6 +30,7 @@ pub mod ScanSteps
 pub mod Seeing
 pub mod Seeking
 pub mod StampWalks
+pub mod Tests
 pub mod TreeEdits
 pub mod TreeLeaves
 pub mod TurnWalks

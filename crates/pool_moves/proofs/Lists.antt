@@ -32,6 +32,11 @@ pub all_map : {X Y : Type 0} {P : X → Type 0} (Q : Y → Type 0) (f : X → Y)
 all_map Q f more [] all = tt
 all_map Q f more (x ∷ xs) all = (more x all.0, all_map Q f more xs all.1)
 
+pub map_forth : {X Y : Type 0} (P : Y → Type 0) (f : X → Y) (xs : List X) → AllByRecursion (λ x. P (f x)) xs
+    → AllByRecursion P (map f xs)
+map_forth P f [] all = tt
+map_forth P f (x ∷ xs) all = (all.0, map_forth P f xs all.1)
+
 pub map_back : {X Y : Type 0} (P : Y → Type 0) {Q : X → Type 0} (f : X → Y) → ((x : X) → P (f x) → Q x) → (xs : List X)
     → AllByRecursion P (map f xs) → AllByRecursion Q xs
 map_back P f back [] all = tt

@@ -12,7 +12,7 @@ use Rattle.pool_moves.specs.Keeping.{Kept, Walks}
 use Rattle.pool_moves.specs.Leaves.{LeafSeen}
 use Rattle.pool_moves.specs.LineRows.{IsSized}
 use Rattle.pool_moves.specs.Moves.{Move, Makes, Sets, Finds, steps, after_move, after_moves}
-use Rattle.pool_moves.specs.OnlineRow.{HostDevice, NoneFound, HeldBy, Handed, OnlineReply, Stands, is_away, brought_own, searched_own, SearchEnds, ScansBehind, BringsBack, OnlineRoomy, MarksOnly, OnlineAway, OnlineOn, OnlineBy, RowOnline, FindMembers}
+use Rattle.pool_moves.specs.OnlineRow.{HostDevice, Handed, OnlineReply, Stands, is_away, brought_own, searched_own, SearchEnds, ScansBehind, BringsBack, OnlineRoomy, MarksOnly, OnlineAway, OnlineOn, OnlineBy, RowOnline, FindMembers}
 use Rattle.pool_moves.specs.OpeningRow.{AreWholeReads}
 use Rattle.pool_moves.specs.ReadRow.{made_in}
 use Rattle.pool_moves.specs.States.{PoolState, Side}

@@ -6,7 +6,7 @@ use Rattle.mp_base.specs.declared.place.Key.{Key}
 use Rattle.bank_core.specs.declared.bank.Fault.{Fault}
 use Rattle.bank_core.specs.Asks.{Flushes, ask_of}
 use Rattle.bank_core.specs.Calls.{fault_of}
-use Rattle.bank_core.specs.Disk.{Call, Read, Write, Flush, Admit, Eject, Noted, AllAnswer}
+use Rattle.bank_core.specs.Disk.{Call, Flush, Noted, AllAnswer}
 use Rattle.label_store.specs.declared.member.Member.{Member}
 use Rattle.txg_history.specs.Events.{Calls, Clears}
 use Rattle.txg_history.specs.Groups.{at_device}

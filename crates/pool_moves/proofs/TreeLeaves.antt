@@ -12,8 +12,8 @@ use Rattle.txg_history.proofs.Logging.{by_bool, same_device}
 use Rattle.pool_moves.specs.AwayRows.{leaf_named, is_spare}
 use Rattle.pool_moves.specs.Keeping.{HasNumberBelow, Kept}
 use Rattle.pool_moves.specs.Leaves.{OwnLeaf, LeafSeen, Seat, At, Adrift, told, leaf_seen}
-use Rattle.pool_moves.specs.LineRows.{TurnReply, Idle, Write, Flush, Round, Committed, Suspended}
-use Rattle.pool_moves.specs.Moves.{Move, Makes, Puts, Wrote_key, Flushed_all, Widen, Starts, Copies, Copied, Lose, Comes, Goes, Returns, Rest, Scrubs, Shapes, leaf_step, step, state_step, steps}
+use Rattle.pool_moves.specs.LineRows.{TurnReply, Committed, Suspended}
+use Rattle.pool_moves.specs.Moves.{Move, Widen, Lose, Comes, Goes, Returns, Rest, Shapes, leaf_step, step, state_step, steps}
 use Rattle.pool_moves.specs.Refusing.{FreezeRefusal}
 use Rattle.pool_moves.specs.ScanRows.{starts_scan}
 use Rattle.pool_moves.specs.States.{PoolSeen, PoolState, Side}
@@ -25,7 +25,7 @@ use Rattle.pool_moves.specs.Widening.{AreWidens}
 use Rattle.pool_moves.proofs.DetachWalks.{commit_calm}
 use Rattle.pool_moves.proofs.FreeWalks.{steps_more}
 use Rattle.pool_moves.proofs.GraftWalks.{new_above}
-use Rattle.pool_moves.proofs.Keeping.{leaf_stays}
+use Rattle.pool_moves.proofs.Keeping.{leaf_stays, leaves_still}
 use Rattle.pool_moves.proofs.TreeEdits.{put_behind, taken_out, HasNot, attached_leaves, replaced_leaves, pruned_leaves}
 
 -- A leaf by its number and its top, and a state by these and its trees.
@@ -83,19 +83,12 @@ abbrev with_faces : PoolState → List Face → Shape
 with_faces s fs = record { faces = fs; children = s.own.children }
 
 shape_step : (v : Move) (s : PoolState) → IsCalm v → shape_of (state_step v s) ≡ shape_of s
-shape_step (Makes noted) s is = refl
-shape_step (Puts a block) s is = refl
-shape_step (Wrote_key k) s is = refl
-shape_step Flushed_all s is = refl
-shape_step (Starts draft) s is = refl
-shape_step (Copies draft d) s is = refl
-shape_step (Copied draft d) s is = refl
-shape_step Scrubs s is = refl
+shape_step (Shapes top children) s is = absurd is
 shape_step (Comes i d m top own) s is = absurd is
 shape_step (Goes i) s is = absurd is
 shape_step (Returns i seat leaf) s is = absurd is
-shape_step (Shapes top children) s is = absurd is
-shape_step v s is = ap (with_faces s) (faces_map v s.core.number s.core.group.first s.core.scan.hi s.core.leaves)
+shape_step v s is = ap (with_faces s) (ap (map face) (leaves_still v s.core tt)
+    ∙ faces_map v s.core.number s.core.group.first s.core.scan.hi s.core.leaves)
 
 shape_along : (vs : List Move) (s : PoolState) → AllByRecursion IsCalm vs → shape_of (steps vs s) ≡ shape_of s
 shape_along [] s all = refl

@@ -1,8 +1,8 @@
 -- Calls that answer by the disk model of a host do so by a pool's history.
-use Rattle.std.proofs.Common.{◌≡◌, ℕ, ◌+◌, ◌≤◌, Bool, true, false, List, [], ◌∷◌, ◌++◌, Some, None, refl, sym, ap, ◌∙◌, subst}
+use Rattle.std.proofs.Common.{◌≡◌, ℕ, ◌+◌, ◌≤◌, Bool, true, false, List, [], ◌∷◌, ◌++◌, None, refl, sym, ap, ◌∙◌, subst}
 use Rattle.std.specs.List.{AllByRecursion}
 use Rattle.bank_core.specs.Calls.{device_of}
-use Rattle.bank_core.specs.Disk.{Call, Read, Write, Flush, Admit, Eject, Noted, Sectors, IsClean, Answers, AllAnswer, as_found, hurt, replay, run}
+use Rattle.bank_core.specs.Disk.{Call, Read, Noted, Sectors, IsClean, Answers, AllAnswer, as_found, hurt, replay, run}
 use Rattle.pool_moves.specs.Moves.{Move, Makes}
 use Rattle.pool_moves.specs.ReadRow.{made_in}
 use Rattle.pool_runs.specs.Acts.{Act, does, calls_of_act, calls_along}

@@ -24,13 +24,14 @@ use Rattle.pool_runs.specs.Creating.{all_names, tops_of, leaves_of, new_birth, s
 use Rattle.pool_runs.specs.Devices.{Device, number_in, size_in}
 use Rattle.pool_runs.specs.Hosts.{Host}
 use Rattle.pool_runs.specs.Lines.{Reply, To_create}
-use Rattle.pool_runs.proofs.Lists.{same_test, of_both, map_forth}
-use Rattle.pool_runs.proofs.Failing.{FailedOn, failed_rose, failed_left, failed_right, IsAskOn, part_failed, Failing, IsCaught, caught_second, moves_left}
-use Rattle.pool_runs.proofs.Losing.{Anything}
+use Rattle.pool_runs.proofs.Failing.{FailedOn, failed_rose, failed_left, failed_right, IsAskOn, part_failed, IsCaught, caught_second, moves_left}
 use Rattle.pool_runs.proofs.Members.{HasName, all_have}
-use Rattle.pool_runs.proofs.OnlyFailedLeave.{just_more, just_widens, round_failing, steps_places}
+use Rattle.pool_runs.proofs.OnlyFailedLeave.{just_widens, round_failing, steps_places}
 use Rattle.pool_runs.proofs.Stamps.{stamp_calls}
 use Rattle.pool_runs.proofs.Midway.{calls_more, closed_calls}
+use Rattle.pool_moves.proofs.KindsOfMoves.{AnySet, Failing}
+use Rattle.pool_moves.proofs.Lists.{all_append, of_both, map_forth}
+use Rattle.pool_moves.proofs.Tests.{same_test}
 
 fault_same : (a b : List ℕ) → FaultOn a ≡ FaultOn b → a ≡ b
 fault_same a b e = cc
@@ -158,9 +159,9 @@ create_from c h name blocks tops acts reply device row says = by (first_failed m
     at_x : AllByRecursion (λ leaf. Seen leaf.guid leaf.dev) x.core.leaves
     at_x = subst (λ l. AllByRecursion (λ leaf. Seen leaf.guid leaf.dev)
         (steps (l ++ (Flushed_all ∷ [])) s).core.leaves) (sym w.freeze.moves.moves)
-        (steps_places (λ d. ⊥) Anything ⊥ Seen (w.freeze.moves.widens ++ (Flushed_all ∷ [])) (state_step v s)
-        (just_more (λ d. ⊥) Anything ⊥ w.freeze.moves.widens (Flushed_all ∷ [])
-        (just_widens (λ d. ⊥) Anything ⊥ (step v s.core) w.freeze.moves.widens w.freeze.moves.are) (tt, tt))
+        (steps_places (λ d. ⊥) AnySet ⊥ Seen (w.freeze.moves.widens ++ (Flushed_all ∷ [])) (state_step v s)
+        (all_append _ w.freeze.moves.widens (Flushed_all ∷ [])
+        (just_widens (λ d. ⊥) AnySet ⊥ (step v s.core) w.freeze.moves.widens w.freeze.moves.are) (tt, tt))
         (map_forth (λ leaf. Seen leaf.guid leaf.dev)
         (leaf_step v s.core.number s.core.group.first s.core.scan.hi) s.core.leaves at_first))
 

@@ -6,7 +6,7 @@ use Rattle.mp_base.specs.declared.number.Guid.{Guid}
 use Rattle.txg_history.specs.Pages.{Codec}
 use Rattle.pool_moves.specs.AwayRows.{leaf_named}
 use Rattle.pool_moves.specs.Leaves.{LeafSeen, Seat}
-use Rattle.pool_moves.specs.LineRows.{TurnReply, Idle, Write, Flush, Round, Committed, Suspended, CommitsOpen}
+use Rattle.pool_moves.specs.LineRows.{TurnReply, Committed, Suspended, CommitsOpen}
 use Rattle.pool_moves.specs.Moves.{Move, steps}
 use Rattle.pool_moves.specs.Refusing.{FreezeRefusal, last_number, unwritable, IsRefused}
 use Rattle.pool_moves.specs.States.{PoolState}

@@ -13,6 +13,7 @@ use Rattle.pool_moves.specs.ReadRow.{made_in}
 use Rattle.pool_moves.specs.TurnRows.{ended, IsThirdMoves}
 use Rattle.pool_moves.specs.Walking.{as_moves}
 use Rattle.pool_runs.specs.Counting.{HasRisen}
+use Rattle.pool_moves.proofs.KindsOfMoves.{Failing}
 
 -- Counts never fall, and stay risen.
 rose_more : (a b d : ℕ) → Rose a b → b ≤ d → Rose a d
@@ -82,12 +83,6 @@ turn_failed d asks made on (None, part, is) = absurd (let no : false ≡ true = 
 turn_failed d asks made on (Some fault, part, is) = part_failed d asks made fault on part
 
 -- Each member without a good result failed.
-abbrev pub Failing : (Fails : ℕ → Type 0) → List Member → (results : List Bool) → Type 0
-Failing Fails [] results = Unit {0}
-Failing Fails (m ∷ ms) [] = Unit {0}
-Failing Fails (m ∷ ms) (true ∷ results) = Failing Fails ms results
-Failing Fails (m ∷ ms) (false ∷ results) = Fails m.dev × Failing Fails ms results
-
 pub start_failing : (Fails : ℕ → Type 0) (ms : List Member) → Failing Fails ms (map (λ m. true) ms)
 start_failing Fails [] = tt
 start_failing Fails (m ∷ ms) = start_failing Fails ms

@@ -15,7 +15,7 @@ use Rattle.txg_history.proofs.Folding.{calls_after, events_more, pool_more}
 use Rattle.pool_moves.specs.CommitRows.{uncounts}
 use Rattle.pool_moves.specs.Keeping.{Kept}
 use Rattle.pool_moves.specs.Leaves.{LeafSeen}
-use Rattle.pool_moves.specs.LineRows.{TurnReply, Idle, Write, Flush, Round, Committed, Suspended}
+use Rattle.pool_moves.specs.LineRows.{TurnReply, Committed, Suspended}
 use Rattle.pool_moves.specs.Moves.{Move, Freeze, Scan_from, state_step, steps, after_moves}
 use Rattle.pool_moves.specs.OpeningRow.{IsLiveOne, SeekReply, NoRecord, NumbersEnd, TakesRecord, taken_by, last_numbers, SeeksLive, OpenReply, Opens_state, NoPage, page_calls, IsLostPage, lacking_of, Resumes, ResumesUnless, RowResume}
 use Rattle.pool_moves.specs.FreezeRow.{up_devs}

@@ -14,7 +14,7 @@ use Rattle.txg_history.proofs.Logging.{by_bool, same_device, true_not_false}
 use Rattle.pool_moves.specs.AwayRows.{is_spare, leaf_named}
 use Rattle.pool_moves.specs.FreezeRow.{is_dev}
 use Rattle.pool_moves.specs.Leaves.{LeafSeen, Seat}
-use Rattle.pool_moves.specs.LineRows.{TurnReply, Committed, Suspended, Idle, Write, Flush, Round}
+use Rattle.pool_moves.specs.LineRows.{TurnReply, Committed, Suspended}
 use Rattle.pool_moves.specs.Moves.{Move, Makes, Lose, steps}
 use Rattle.pool_moves.specs.ReadRow.{made_in}
 use Rattle.pool_moves.specs.Refusing.{FreezeRefusal}

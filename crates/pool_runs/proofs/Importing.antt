@@ -27,10 +27,10 @@ use Rattle.txg_history.proofs.Logging.{by_bool, true_not_false}
 use Rattle.txg_history.proofs.Moving.{event_survives}
 use Rattle.pool_moves.specs.CommitRows.{IsOpened}
 use Rattle.pool_moves.specs.Keeping.{Kept, Walks}
-use Rattle.pool_moves.specs.LineRows.{TurnReply, Idle, Write, Flush, Round, Committed, Suspended}
+use Rattle.pool_moves.specs.LineRows.{TurnReply, Committed, Suspended}
 use Rattle.pool_moves.specs.Moves.{Move, steps, after_moves}
 use Rattle.pool_moves.specs.Opened.{opened_leaves, opened_seats, claims_of}
-use Rattle.pool_moves.specs.OpeningRow.{IsLiveOne, SeeksLive, SeekReply, NoRecord, NumbersEnd, TakesRecord, taken_by, last_numbers, RowSeek, OpenReply, Opens_state, NoPage, RowOpen, page_calls, IsLostPage, RowResume}
+use Rattle.pool_moves.specs.OpeningRow.{IsLiveOne, SeeksLive, SeekReply, TakesRecord, taken_by, last_numbers, RowSeek, OpenReply, Opens_state, NoPage, RowOpen, page_calls, IsLostPage, RowResume}
 use Rattle.pool_moves.specs.PageReads.{LeafShown, answers_in}
 use Rattle.pool_moves.specs.States.{PoolState, Side}
 use Rattle.pool_moves.specs.Walking.{as_moves}

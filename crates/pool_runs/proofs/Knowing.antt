@@ -29,7 +29,7 @@ use Rattle.pool_moves.specs.Rosters.{roster_after}
 use Rattle.pool_moves.specs.States.{PoolState, Side}
 use Rattle.pool_moves.proofs.Keeping.{move_keeps}
 use Rattle.pool_moves.proofs.Rosters.{roster_goes_on}
-use Rattle.pool_runs.specs.Acts.{Act, Hears, Bare, Does, Marks, Looked, Shows, Reads_as, Enters, Names, Takes, Bears, Closes, does, read_by, events_for, pool_by, pool_along}
+use Rattle.pool_runs.specs.Acts.{Act, Hears, Bare, Does, Looked, Shows, Reads_as, Enters, Takes, Bears, Closes, does, read_by, events_for, pool_by, pool_along}
 use Rattle.pool_runs.specs.Fairness.{IsFair, AreFair}
 use Rattle.pool_runs.specs.Hosts.{Host, IsOpen, is_of, moved, host_by, host_along}
 use Rattle.pool_runs.specs.Knowing.{HasSeats, HasRoster, IsOwnMove, IsShown, IsTrueLook, HasNoLeafAt, IsOwnAct, AreOwnActs}

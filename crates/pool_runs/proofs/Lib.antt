@@ -17,7 +17,6 @@ pub mod ImportsLoseATop
 pub mod Knowing
 pub mod Known
 pub mod LineMoves
-pub mod Lists
 pub mod Losing
 pub mod LostReads
 pub mod Members

@@ -1,5 +1,5 @@
 -- Lines of an open pool of which each move is of one kind, and each act.
-use Rattle.std.proofs.Common.{inl, inr, ℕ, ◌+◌, ◌&&◌, nat_le, Bool, true, false, List, [], ◌∷◌, ◌++◌, Option, Some, None, Result, Ok, Err, sym, subst}
+use Rattle.std.proofs.Common.{inl, inr, ℕ, ◌+◌, ◌&&◌, nat_le, Bool, true, false, List, [], ◌∷◌, ◌++◌, Option, Some, None, Result, Ok, sym, subst}
 use Rattle.std.specs.List.{AllByRecursion, find, filter}
 use Rattle.mp_base.specs.declared.number.Guid.{Guid}
 use Rattle.bank_core.specs.declared.bank.Fault.{Fault}
@@ -15,9 +15,9 @@ use Rattle.pool_moves.specs.Boards.{members_where}
 use Rattle.pool_moves.specs.CommitRows.{RowLogs}
 use Rattle.pool_moves.specs.FreezeRow.{up_devs}
 use Rattle.pool_moves.specs.Leaves.{LeafSeen}
-use Rattle.pool_moves.specs.LineRows.{TurnReply, sets_failed, has_number, RowTurn, Committed, Suspended, Idle, Write, Flush, Round, FreezeReply, FreezeFor, FreezeBy, RowFreezeLine, RowSync}
+use Rattle.pool_moves.specs.LineRows.{TurnReply, sets_failed, has_number, RowTurn, Committed, FreezeReply, FreezeFor, FreezeBy, RowFreezeLine, RowSync}
 use Rattle.pool_moves.specs.Moves.{Move, Freeze, Leave, Burn, Sets, Finds, Drop, Clear, Pass, Scan_from, Scrubs, Rest, steps}
-use Rattle.pool_moves.specs.OnlineRow.{HostDevice, NoneFound, HeldBy, Handed, OnlineReply, Stands, NoLeaf, IsSpare, NoDevice, InUse, TooSmall, FaultOnDevice, WrongLabel, is_away, marked_own, brought_own, searched_own, SearchEnds, ScansBehind, OnlineRoomy, OnlineAway, OnlineOn, OnlineBy}
+use Rattle.pool_moves.specs.OnlineRow.{HostDevice, Handed, OnlineReply, Stands, is_away, marked_own, brought_own, searched_own, SearchEnds, ScansBehind, OnlineRoomy, OnlineAway, OnlineOn, OnlineBy}
 use Rattle.pool_moves.specs.OpeningRow.{ResumesBy, ResumesUnless}
 use Rattle.pool_moves.specs.ReadRow.{ReadReply, count_reads, stands_under, ReadRecord, ReadGroup, ReadOpen, RowRead, made_in}
 use Rattle.pool_moves.specs.Refusing.{FreezeRefusal}

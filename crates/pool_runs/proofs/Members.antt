@@ -5,7 +5,7 @@ use Rattle.std.specs.Str.{bytes_eq}
 use Rattle.mp_base.specs.declared.number.Guid.{Guid}
 use Rattle.bank_core.specs.Asks.{Writes, ask_of, IsPart}
 use Rattle.bank_core.specs.declared.bank.Fault.{Fault}
-use Rattle.bank_core.specs.Disk.{Call, Read, Write as WriteCall, Flush as FlushCall, Admit, Eject, Noted}
+use Rattle.bank_core.specs.Disk.{Call, Write as WriteCall, Noted}
 use Rattle.label_store.specs.Layout.{ring_offset}
 use Rattle.label_store.specs.Plans.{zero_ring, stamp_plan}
 use Rattle.mp_base.specs.declared.place.Key.{Key}
@@ -15,9 +15,9 @@ use Rattle.txg_history.specs.Pools.{Pool, other_than, after, pool_after}
 use Rattle.txg_history.specs.Survival.{IsAmong}
 use Rattle.txg_history.proofs.Logging.{by_bool, same_device}
 use Rattle.pool_moves.specs.AwayRows.{WriteReply, WriteFits, WriteBy, RowWrite}
-use Rattle.pool_moves.specs.LineRows.{TurnReply, Committed, Suspended, Idle, Write, Flush, Round}
+use Rattle.pool_moves.specs.LineRows.{TurnReply, Committed, Suspended}
 use Rattle.pool_moves.specs.Moves.{Move, Makes, Lose, Comes, events_of}
-use Rattle.pool_moves.specs.OpeningRow.{SeekReply, NoRecord, NumbersEnd, TakesRecord, OpenReply, Opens_state, NoPage, lacking_of}
+use Rattle.pool_moves.specs.OpeningRow.{SeekReply, TakesRecord, OpenReply, Opens_state, NoPage, lacking_of}
 use Rattle.pool_moves.specs.ReadRow.{made_in}
 use Rattle.pool_moves.specs.StampRow.{NewLeaf, top_leaves, leaves_from, Stamp, AreStamps, new_state, CreateReply, Created, FaultOn}
 use Rattle.pool_moves.specs.PageReads.{PageTurn, page_of, up_to}

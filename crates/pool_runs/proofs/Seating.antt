@@ -10,7 +10,7 @@ use Rattle.txg_history.specs.Pools.{Pool, pool_after}
 use Rattle.pool_moves.specs.AwayRows.{is_spare, leaf_named}
 use Rattle.pool_moves.specs.Keeping.{Kept}
 use Rattle.pool_moves.specs.Leaves.{LeafSeen, Seat, told, leaf_seen}
-use Rattle.pool_moves.specs.LineRows.{TurnReply, Idle, Write, Flush, Round, Committed, Suspended}
+use Rattle.pool_moves.specs.LineRows.{TurnReply, Committed, Suspended}
 use Rattle.pool_moves.specs.Moves.{Move, Makes, Lose, Returns, steps}
 use Rattle.pool_moves.specs.Refusing.{FreezeRefusal}
 use Rattle.pool_moves.specs.States.{PoolState, Side}

@@ -1,6 +1,6 @@
 -- Calls on other pools' devices spare a pool.
 use Rattle.std.proofs.Common.{◌≡◌, ◌≢◌, inl, ℕ, ◌==◌, ◌&&◌, true, false, [], ◌∷◌, Option, Some, refl, ap, subst}
-use Rattle.bank_core.specs.Disk.{Call, Read, Write, Flush, Admit, Eject, Noted, covers, sectors_in}
+use Rattle.bank_core.specs.Disk.{Call, Write, Admit, Eject, Noted, covers, sectors_in}
 use Rattle.bank_core.specs.Standing.{touches}
 use Rattle.txg_history.specs.Events.{Calls}
 use Rattle.txg_history.specs.Moves.{IsPlain, IsSparing, Mays}

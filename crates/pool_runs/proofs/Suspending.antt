@@ -2,7 +2,7 @@
 -- its board before.
 use Rattle.std.proofs.Common.{◌≡◌, ◌⊎◌, inl, inr, ℕ, ◌==◌, ◌&&◌, ◌||◌, Bool, true, false, cond, List, [], ◌∷◌, ◌++◌, Option, Some, refl, sym, ap, ◌∙◌, subst}
 use Rattle.std.specs.List.{AllByRecursion, list_any}
-use Rattle.std.proofs.lemmas.Bool.{and_parts}
+use Rattle.std.proofs.lemmas.Bool.{and_parts, or_left, or_right}
 use Rattle.mp_base.specs.declared.number.Guid.{Guid}
 use Rattle.bank_core.specs.Calls.{AllCaused}
 use Rattle.txg_history.specs.Pages.{Codec}
@@ -10,17 +10,18 @@ use Rattle.txg_history.proofs.Logging.{by_bool, same_device, true_not_false}
 use Rattle.pool_moves.specs.Boards.{is_on, has_on, emptied_of}
 use Rattle.pool_moves.specs.FreezeRow.{is_dev}
 use Rattle.pool_moves.specs.Leaves.{LeafSeen}
-use Rattle.pool_moves.specs.LineRows.{TurnReply, Idle, Write, Flush, Round, Committed, Suspended, RowTurn, SyncReply, Ended, Refused, NoMemory, EndsGroup, SyncBehind, EndsFirst, SyncBy, RowSync}
+use Rattle.pool_moves.specs.LineRows.{TurnReply, Committed, Suspended, RowTurn, SyncReply, Ended, EndsGroup, SyncBehind, EndsFirst, SyncBy, RowSync}
 use Rattle.pool_moves.specs.Moves.{Move, steps}
 use Rattle.pool_moves.specs.ReadRow.{made_in}
 use Rattle.pool_moves.specs.Refusing.{is_writable}
 use Rattle.pool_moves.specs.States.{PoolState}
 use Rattle.pool_runs.specs.Counting.{has_leaf_at, RoseAt, HasLostBoard, IsSuspended, SuspendsSync, is_under, IsLostBy, LosesBoard, LosesFreeze}
-use Rattle.pool_runs.proofs.Lists.{same_test, or_left, or_right}
 use Rattle.pool_runs.proofs.Failing.{FailedOn, failed_rose, IsCaught, caught_first, caught_second}
-use Rattle.pool_runs.proofs.Losing.{Anything, any_may, turn_loses, group_loses}
+use Rattle.pool_runs.proofs.Losing.{turn_loses, group_loses}
 use Rattle.pool_runs.proofs.OnlyFailedLeave.{Comes, group_comes, steps_any}
 use Rattle.pool_runs.proofs.SyncsLoseATop.{ended_same, open_loses}
+use Rattle.pool_moves.proofs.KindsOfMoves.{AnySet, any_may}
+use Rattle.pool_moves.proofs.Tests.{same_test}
 
 -- Where one of a lost top's leaves is so, its device failed.
 abbrev at_leaves : (leaves : List LeafSeen) → ℕ → Bool
@@ -82,13 +83,13 @@ module _ (c : Codec) (size : ℕ → ℕ) (s : PoolState) where
   still_at : (vs : List Move) (number d : ℕ) → EndsGroup c size s vs (Committed number)
       → at_leaves (steps vs s).core.leaves d ≡ true → at_leaves s.core.leaves d ≡ true
   still_at vs number d ends is =
-      of (group_comes (λ d. Unit {0}) Anything (Unit {0})
-      (λ vs s just may. any_may (steps vs s).core.leaves) c size s vs (Committed number)
-      (λ is. tt) (any_may s.core.leaves) (λ d failed. tt) ends)
+      of (group_comes (λ d. Unit {0}) AnySet (Unit {0})
+      (λ vs s just may. any_may (steps vs s).core.leaves) c size s vs (Committed number) (λ is. tt)
+      (any_may s.core.leaves) (λ d failed. tt) ends)
     where
-      of : Comes (λ d. Unit {0}) Anything (Unit {0}) s vs (Committed number) → at_leaves s.core.leaves d ≡ true
+      of : Comes (λ d. Unit {0}) AnySet (Unit {0}) s vs (Committed number) → at_leaves s.core.leaves d ≡ true
       of (inl lost) = absurd (let no = lost.tells in cc)
-      of (inr just) = sym (steps_any (λ d. Unit {0}) Anything (Unit {0}) (λ m dev top. is_dev d dev) vs s just.0) ∙ is
+      of (inr just) = sym (steps_any (λ d. Unit {0}) AnySet (Unit {0}) (λ m dev top. is_dev d dev) vs s just.0) ∙ is
 
   first_fails : (vs : List Move) (group : ℕ) (top : Guid) (faults : ℕ) → s.core.group.frozen ≡ true
       → EndsFirst c size s vs (Ended (Suspended group top faults)) → FailsIn vs

@@ -8,22 +8,22 @@ use Rattle.txg_history.specs.Pools.{Pool}
 use Rattle.txg_history.proofs.Logging.{by_bool}
 use Rattle.pool_moves.specs.Keeping.{Kept}
 use Rattle.pool_moves.specs.Leaves.{LeafSeen}
-use Rattle.pool_moves.specs.LineRows.{TurnReply, Idle, Write, Flush, Round, Committed, Suspended, CommitsOpen, Ended, CommitsFor, SyncOpen, SyncBehind, EndsFirst, SyncBy, EndsGroup, RowSync}
+use Rattle.pool_moves.specs.LineRows.{TurnReply, Committed, Suspended, CommitsOpen, Ended, CommitsFor, SyncOpen, SyncBehind, EndsFirst, SyncBy, EndsGroup, RowSync}
 use Rattle.pool_moves.specs.Moves.{Move, steps, after_moves}
 use Rattle.pool_moves.specs.ReadRow.{made_in}
-use Rattle.pool_moves.specs.Refusing.{FreezeRefusal, is_writable, unwritable, last_number, IsRefused}
+use Rattle.pool_moves.specs.Refusing.{FreezeRefusal, unwritable, last_number, IsRefused}
 use Rattle.pool_moves.specs.States.{PoolState, Side, group_seen}
 use Rattle.pool_runs.specs.Acts.{Does, does, calls_along, pool_along}
-use Rattle.pool_runs.specs.Counting.{HasRisen, IsLostBy, LosesBoard, LosesFreeze, IsMidway, LosesSince}
+use Rattle.pool_runs.specs.Counting.{HasRisen, LosesBoard, LosesFreeze, IsMidway, LosesSince}
 use Rattle.pool_runs.specs.Knowing.{HasSeats}
 use Rattle.pool_runs.specs.Lines.{Entry}
-use Rattle.pool_runs.proofs.Lists.{each, map_forth, map_back}
 use Rattle.pool_runs.proofs.Answering.{does_calls}
 use Rattle.pool_runs.proofs.Committing.{does_pool, group_commits, ends_pool}
 use Rattle.pool_runs.proofs.Failing.{FailedOn, IsCaught, caught_first, caught_rose}
 use Rattle.pool_runs.proofs.Losing.{group_loses, commits_lose, none_unwritable}
 use Rattle.pool_runs.proofs.ModesStand.{Written, written_as, IsLeftWritable, group_leaves}
 use Rattle.pool_runs.proofs.Midway.{midway_at}
+use Rattle.pool_moves.proofs.Lists.{each, map_forth, map_back}
 
 pub ended_same : (turn : TurnReply) (group : ℕ) (top : Guid) (faults : ℕ)
     → Ended (Suspended group top faults) ≡ Ended turn → Suspended group top faults ≡ turn
@@ -54,7 +54,7 @@ freeze_before Fails s behind group top left x = record {
     at = x.lost.at;
     number_is = sym (ap (λ f. f x.lost.at) left.tops) ∙ x.lost.number_is;
     some = any_same (λ one. one.2 == x.lost.at) behind.core.leaves s.core.leaves left.leaves x.lost.some;
-    lost = map_back (IsLostAs Fails x.lost.at) (IsLostBy is_writable Fails x.lost.at) written_as
+    lost = map_back (IsLostAs Fails x.lost.at) written_as
         (λ leaf lost. lost) s.core.leaves
         (subst (AllByRecursion (IsLostAs Fails x.lost.at)) left.leaves
         (map_forth (IsLostAs Fails x.lost.at) written_as behind.core.leaves x.lost.lost));
