@@ -16,6 +16,7 @@ use Rattle.pool_moves.specs.Keeping.{IsElsewhere, AreSeatsApart, IsAway, HasFoun
 use Rattle.pool_moves.specs.Leaves.{OwnLeaf, LeafSeen, Seat, At, Adrift, told, dev_if, leaf_seen}
 use Rattle.pool_moves.specs.States.{PoolSeen, Side, PoolState, seen_by}
 use Rattle.pool_moves.proofs.Lists.{all_at}
+use Rattle.pool_moves.proofs.Tests.{not_same, no_dev}
 
 -- a kind of members, as leaves of seats show it
 abbrev Shows : (which : LeafSeen → Bool) → Pool → (Which : ℕ → Type 0) → Type 0
@@ -34,9 +35,6 @@ before_all P false dev m ms rest new = rest
 pub dev_is : (found : Bool) (d e : ℕ) → dev_if found d ≡ Some e → (found ≡ true) × (d ≡ e)
 dev_is true d e is = (refl, let same : d ≡ e = cc in same)
 dev_is false d e is = absurd (cc)
-
-pub no_dev : {A : Type 0} (dev : Option ℕ) (d : ℕ) → dev ≡ None → dev ≡ Some d → A
-no_dev dev d none is = absurd (cc)
 
 members_are : (which : LeafSeen → Bool) (p : Pool) (Which : ℕ → Type 0) → Shows which p Which → (seats : List Seat) → AllByRecursion IsAway seats
     → AllByRecursion (λ m. (m ≡ seat p m.dev) × Which m.dev) (members_where which (leaves_of p seats))
@@ -83,15 +81,14 @@ has_member which p d is (Adrift leaf ∷ seats) (inr has) =
     later (which leaf) leaf.dev leaf.guid (members_where which (leaves_of p seats)) (seat p d) (has_member which p d is seats has)
 
 -- Members on devices of their own.
-not_one : (d e : ℕ) → (d == e) ≡ false → d ≢ e
-not_one d e off same = absurd (let no : (d == e) ≡ true = grind (arith, nat_tests) in cc)
-
 others_apart : (which : LeafSeen → Bool) (p : Pool) (d : ℕ) (seats : List Seat) → AllByRecursion IsAway seats → AllByRecursion (IsElsewhere d) seats
     → AllByRecursion (λ n. d ≢ n.dev) (members_where which (leaves_of p seats))
 others_apart which p d [] away off = tt
 others_apart which p d (At e found own ∷ seats) away off =
     before_all (AllByRecursion (λ n. d ≢ n.dev)) (which (leaf_seen true p.scan.running (told p) (At e found own))) (dev_if found e) (p.guid e) (members_where which (leaves_of p seats))
-    (others_apart which p d seats away.1 off.1) (λ x is dev. (subst (λ n. d ≢ n) (dev_is found e x dev).1 (not_one d e off.0), others_apart which p d seats away.1 off.1))
+    (others_apart which p d seats away.1 off.1)
+    (λ x is dev. (subst (λ n. d ≢ n) (dev_is found e x dev).1 (not_same d e off.0), others_apart which p d seats away.1
+    off.1))
 others_apart which p d (Adrift leaf ∷ seats) away off =
     before_all (AllByRecursion (λ n. d ≢ n.dev)) (which leaf) leaf.dev leaf.guid (members_where which (leaves_of p seats))
     (others_apart which p d seats away.1 off.1) (λ x is dev. no_dev leaf.dev x away.0.0 dev)

@@ -1,9 +1,8 @@
 -- A leaf may be taken out: the walk of `detach` from its row.
-use Rattle.std.proofs.Common.{◌≡◌, ⊎_elim, inl, inr, ℕ, ◌≤◌, ◌==◌, ◌&&◌, Bool, true, false, cond, Option, Some, None, List, [], ◌∷◌, ◌++◌, refl, sym, ap, ◌∙◌, subst, arith, append_assoc}
+use Rattle.std.proofs.Common.{◌≡◌, ⊎_elim, inl, inr, ℕ, ◌≤◌, ◌==◌, ◌&&◌, Bool, true, false, cond, Option, Some, None, List, [], ◌∷◌, ◌++◌, refl, sym, ap, ◌∙◌, subst, append_assoc}
 use Rattle.std.specs.Prelude.{slice_get}
 use Rattle.std.specs.List.{AllByRecursion, remove}
 use Rattle.std.specs.Str.{bytes_eq}
-use Rattle.std.proofs.lemmas.Bool.Decides.{nat_tests}
 use Rattle.mp_base.specs.declared.number.Guid.{Guid}
 use Rattle.txg_history.specs.Groups.{no_log}
 use Rattle.txg_history.specs.Losses.{IsStampPlan, IsWipe, IsMark}
@@ -33,6 +32,7 @@ use Rattle.pool_moves.proofs.Lists.{all_at, all_append}
 use Rattle.pool_moves.specs.FreezeRow.{up_devs}
 use Rattle.txg_history.specs.Records.{Cells}
 use Rattle.pool_moves.specs.TreeLeaves.{IsCalm}
+use Rattle.pool_moves.proofs.Tests.{not_same}
 
 -- The leaf of a name, by the history: where it is in the list, and that it has a sibling.
 record IsThere (t : Side) (i : ℕ) (leaf : LeafSeen) (seat : Seat) : Type 0 where
@@ -57,9 +57,6 @@ there_is c s t name leaf seat kept = subst Goal (sym kept.core) (λ named at fre
 seat_top : (f r : Bool) (p : Pool) (top : ℕ) (seat : Seat) → IsUnder p.in_top top seat → (leaf_seen f r (told p) seat).top ≡ top
 seat_top f r p top (At d found own) is = is
 seat_top f r p top (Adrift leaf) is = is
-
-not_same : (a b : ℕ) → (a == b) ≡ false → a ≡ b → ⊥
-not_same a b off same = true_not_false (a == b) (let here : (a == b) ≡ true = grind (arith, nat_tests) in here) off
 
 may_go : (c : Codec) (s : PoolState) (t : Side) (i : ℕ) (leaf : LeafSeen) (seat : Seat) → Kept c s t → t.pool.group.frozen ≡ false → IsThere t i leaf seat
     → MayGo t i

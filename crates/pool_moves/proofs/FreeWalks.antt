@@ -6,7 +6,7 @@ use Rattle.txg_history.specs.Events.{Calls, as_events}
 use Rattle.txg_history.specs.Moves.{Mays}
 use Rattle.txg_history.specs.Pages.{Codec}
 use Rattle.txg_history.specs.Pools.{pool_after}
-use Rattle.txg_history.proofs.Folding.{mays_first, mays_second, pool_more}
+use Rattle.txg_history.proofs.Folding.{mays_first, mays_second, pool_more, with_calls}
 use Rattle.pool_moves.specs.Keeping.{IsOfFound, Admits, Walks}
 use Rattle.pool_moves.specs.Leaves.{Seat}
 use Rattle.pool_moves.specs.Moves.{Move, Makes, Puts, Wrote_key, Flushed_all, Draw, Freeze, Leave, Burn, Copies, Copied, Commits, Sets, Finds, Lose, Comes, Goes, Returns, seats_by, events_of, after_move, after_moves, state_step, steps}
@@ -112,3 +112,7 @@ calls_free seats (noted ∷ made) = (tt, calls_free seats made)
 pub calls_along : (made : List Noted) (ws : List Move) (t : Side) → events_along (as_moves made ++ ws) t ≡ as_events made ++ events_along ws (after_moves (as_moves made) t)
 calls_along [] ws t = refl
 calls_along (noted ∷ made) ws t = ap (λ l. Calls noted ∷ l) (calls_along made ws (after_move (Makes noted) t))
+
+pub calls_pool : (made : List Noted) (t : Side) → (after_moves (as_moves made) t).pool ≡ with_calls made t.pool
+calls_pool [] t = refl
+calls_pool (noted ∷ made) t = calls_pool made (after_move (Makes noted) t)

@@ -17,6 +17,7 @@ use Rattle.pool_moves.specs.Moves.{Draft, Move, Makes, Puts, Freeze, Wrote_key, 
 use Rattle.pool_moves.specs.States.{group_seen, PoolSeen, Side, PoolState}
 use Rattle.pool_moves.proofs.Lists.{either, AnyOf, each, of_both, all_map, all_insert, all_remove, one_map, one_each, one_insert, one_new, none_of}
 use Rattle.pool_moves.proofs.Seeing.{seen_step}
+use Rattle.pool_moves.proofs.Tests.{here, other_back, below_other}
 
 -- A leaf's number and its top stay.
 abbrev SameLeaf : LeafSeen → LeafSeen → Type 0
@@ -137,15 +138,12 @@ apart_map v p (At d found own ∷ seats) apart =
         (λ lost. both.1) (λ there. both)
     first v both = both
 
--- two seats on two devices, either way
-apart_both : (d e : ℕ) → (d == e) ≡ false → (e == d) ≡ false
-apart_both d e off = grind (arith, nat_tests)
-
 apart_insert : (seats : List Seat) (i : ℕ) (seat : Seat) → AreSeatsApart (seat ∷ seats) → AreSeatsApart (insert seats i seat)
 apart_insert seats zero seat apart = apart
 apart_insert [] (suc i) seat apart = apart
 apart_insert (At d found own ∷ seats) (suc i) (At e was is) apart =
-    (all_insert (IsElsewhere d) seats i (At e was is) (apart_both e d apart.0.0) apart.1.0, apart_insert seats i (At e was is) (apart.0.1, apart.1.1))
+    (all_insert (IsElsewhere d) seats i (At e was is) (other_back e d apart.0.0) apart.1.0, apart_insert seats i
+    (At e was is) (apart.0.1, apart.1.1))
 apart_insert (At d found own ∷ seats) (suc i) (Adrift leaf) apart = (all_insert (IsElsewhere d) seats i (Adrift leaf) tt apart.0, apart_insert seats i (Adrift leaf) apart.1)
 apart_insert (Adrift leaf ∷ seats) (suc i) (At e was is) apart = apart_insert seats i (At e was is) (apart.0.1, apart.1)
 apart_insert (Adrift leaf ∷ seats) (suc i) (Adrift other) apart = apart_insert seats i (Adrift other) apart
@@ -172,9 +170,6 @@ come_seated p d m [] off others all = tt
 come_seated p d m (At e found own ∷ seats) off others all =
     (ap (λ t. cond t true (other_than m p.guid p.member e)) off.0 ∙ (ap (λ t. cond t false (p.member e)) others.0 ∙ all.0), come_seated p d m seats off.1 others.1 all.1)
 come_seated p d m (Adrift leaf ∷ seats) off others all = (tt, come_seated p d m seats off.1 others.1 all.1)
-
-pub here : (d : ℕ) → (d == d) ≡ true
-here d = grind (arith, nat_tests)
 
 seated_kept : (v : Move) (t : Side) → Admits t v → AllByRecursion (IsSeated t.pool.member) t.seats
     → AllByRecursion (IsSeated (after_move v t).pool.member) (seats_by v t)
@@ -309,7 +304,7 @@ come_numbers t i e m own ok numbered d is = by_bool (e == d)
     (sym (at_away e d true (other_than m t.pool.guid t.pool.member) away) ∙ is) in
     all_insert _ t.seats i (At e true own)
     (inr (ap (λ n. (n.0 == (at_device e m t.pool.guid d).0)) (at_here e e m t.pool.guid (here e))
-    ∙ (ap (λ n. (m.0 == n.0)) (at_away e d m t.pool.guid away) ∙ apart_both (t.pool.guid d).0 m.0 was.0)))
+    ∙ (ap (λ n. (m.0 == n.0)) (at_away e d m t.pool.guid away) ∙ other_back (t.pool.guid d).0 m.0 was.0)))
     (come_away t.pool e d m away t.seats ok.elsewhere (numbered d was.1)))
 
 numbered_kept : (v : Move) (t : Side) → Admits t v → ((d : ℕ) → t.pool.member d ≡ true → AllByRecursion (IsOwnNumber t.pool.guid d) t.seats)
@@ -525,16 +520,12 @@ at_most a b = grind (arith)
 above_all : (a m : ℕ) → m < max a (m + 1)
 above_all a m = grind (arith)
 
--- a number that is below none of the leaves' is none of theirs
-pub differ : (a b : ℕ) → a < b → (a == b) ≡ false
-differ a b less = grind (arith, nat_tests)
-
 pub other_numbers : (guid : ℕ → Guid) (n : ℕ) (m : Guid) → n ≤ m.0 → (seats : List Seat) → AllByRecursion (HasNumberBelow guid n) seats
     → AllByRecursion (HasOtherNumber guid m) seats
 other_numbers guid n m low seats all = each
     (seat_cases (λ seat. HasNumberBelow guid n seat → HasOtherNumber guid m seat)
-    (λ d found own less. differ (guid d).0 m.0 (omega (arith, less, low)))
-    (λ leaf less. differ leaf.guid.0 m.0 (omega (arith, less, low)))) seats all
+    (λ d found own less. below_other (guid d).0 m.0 (omega (arith, less, low)))
+    (λ leaf less. below_other leaf.guid.0 m.0 (omega (arith, less, low)))) seats all
 
 draft_below : (p : Pool) (n : ℕ) (draft : Draft) (seats : List Seat) → KnowsJust p.guid seats draft → AllByRecursion (HasNumberBelow p.guid n) seats
     → KnowsBelow n (rec_of p draft)

@@ -23,25 +23,23 @@ use Rattle.pool_moves.specs.TreeLeaves.{IsCalm}
 use Rattle.pool_moves.specs.TreeRows.{place_where}
 use Rattle.pool_moves.proofs.Keeping.{IsStill, elsewhere_still, others_still}
 use Rattle.pool_moves.proofs.KindsOfMoves.{IsWithin}
+use Rattle.pool_moves.proofs.Tests.{other_back, some_same}
 
 abbrev seen_as : Bool → Bool → Pool → List Seat → List LeafSeen
 seen_as f r p seats = map (leaf_seen f r (told p)) seats
 
 -- The leaf that is found by a test is the one at the seat of its place.
-some_leaf : (a b : LeafSeen) → Some a ≡ Some b → a ≡ b
-some_leaf a b e = cc
-
-some_seat : (a b : Seat) → Some a ≡ Some b → a ≡ b
-some_seat a b e = cc
-
 pub leaf_there : (test : LeafSeen → Bool) (f r : Bool) (p : Pool) (seats : List Seat) (leaf : LeafSeen) (seat : Seat)
     → find test (seen_as f r p seats) ≡ Some leaf
     → slice_get seats (place_where test (seen_as f r p seats)) ≡ Some seat → leaf ≡ leaf_seen f r (told p) seat
 leaf_there test f r p [] leaf seat found at = absurd (cc)
 leaf_there test f r p (x ∷ seats) leaf seat found at = by_bool (test (leaf_seen f r (told p) x))
-    (λ is. sym (some_leaf (leaf_seen f r (told p) x) leaf (sym (ap (λ t. cond t (Some (leaf_seen f r (told p) x)) (find test (seen_as f r p seats))) is)
+    (λ is. sym (some_same (leaf_seen f r (told p) x) leaf
+    (sym (ap (λ t. cond t (Some (leaf_seen f r (told p) x)) (find test (seen_as f r p seats))) is)
     ∙ found))
-    ∙ ap (leaf_seen f r (told p)) (some_seat x seat (sym (ap (λ t. slice_get (x ∷ seats) (cond t 0 (suc (place_where test (seen_as f r p seats))))) is) ∙ at)))
+    ∙ ap (leaf_seen f r (told p))
+    (some_same x seat (sym (ap (λ t. slice_get (x ∷ seats) (cond t 0 (suc (place_where test (seen_as f r p seats)))))
+    is) ∙ at)))
     (λ off. leaf_there test f r p seats leaf seat (sym (ap (λ t. cond t (Some (leaf_seen f r (told p) x)) (find test (seen_as f r p seats))) off) ∙ found)
     (sym (ap (λ t. slice_get (x ∷ seats) (cond t 0 (suc (place_where test (seen_as f r p seats))))) off) ∙ at))
 
@@ -80,7 +78,7 @@ sibling_left test f r p (x ∷ seats) leaf found has = by_bool (test (leaf_seen 
     (λ is. subst (λ t. HasUnder p.in_top leaf.top (remove (x ∷ seats) (cond t 0 (suc (place_where test (seen_as f r p seats)))))) (sym is)
     (any_under f r p leaf seats (λ none. has (ap (λ t. cond t (leaf_seen f r (told p) x ∷ siblings leaf (seen_as f r p seats))
     (siblings leaf (seen_as f r p seats)))
-    (subst (λ y. is_sibling leaf y ≡ false) (sym (some_leaf (leaf_seen f r (told p) x) leaf
+    (subst (λ y. is_sibling leaf y ≡ false) (sym (some_same (leaf_seen f r (told p) x) leaf
     (sym (ap (λ t. cond t (Some (leaf_seen f r (told p) x)) (find test (seen_as f r p seats))) is) ∙ found))) (no_sibling leaf)) ∙ none))))
     (λ off. subst (λ t. HasUnder p.in_top leaf.top (remove (x ∷ seats) (cond t 0 (suc (place_where test (seen_as f r p seats)))))) (sym off) (deeper
     (sibling_left test f r p seats leaf (sym (ap (λ t. cond t (Some (leaf_seen f r (told p) x)) (find test (seen_as f r p seats))) off) ∙ found))))
@@ -95,7 +93,8 @@ sibling_left test f r p (x ∷ seats) leaf found has = by_bool (test (leaf_seen 
 pub under_kept : (in_top : ℕ → ℕ) (top : ℕ) (seats : List Seat) (i : ℕ) (seat : Seat) → slice_get seats i ≡ Some seat → HasUnder in_top top seats
     → (IsUnder in_top top seat → ⊥) → HasUnder in_top top (remove seats i)
 under_kept in_top top [] i seat at has other = absurd has
-under_kept in_top top (x ∷ seats) zero seat at (inl is) other = absurd (other (subst (IsUnder in_top top) (some_seat x seat at) is))
+under_kept in_top top (x ∷ seats) zero seat at (inl is) other = absurd
+    (other (subst (IsUnder in_top top) (some_same x seat at) is))
 under_kept in_top top (x ∷ seats) zero seat at (inr has) other = has
 under_kept in_top top (x ∷ seats) (suc i) seat at (inl is) other = inl is
 under_kept in_top top (x ∷ seats) (suc i) seat at (inr has) other = inr (under_kept in_top top seats i seat at has other)
@@ -110,20 +109,18 @@ top_is_one f r p top (At d found own ∷ seats) (inr has) ones = top_is_one f r 
 top_is_one f r p top (Adrift leaf ∷ seats) (inr has) ones = top_is_one f r p top seats has ones.1
 
 -- The others are at other devices, and stay so through a commit.
-off_both : (d e : ℕ) → (d == e) ≡ false → (e == d) ≡ false
-off_both d e off = grind (arith, nat_tests)
-
 others_off : (d e : ℕ) (seats : List Seat) (i : ℕ) (found : Bool) (own : OwnLeaf) → slice_get seats i ≡ Some (At e found own)
     → AllByRecursion (IsElsewhere d) seats → (d == e) ≡ false
 others_off d e [] i found own at off = absurd (cc)
-others_off d e (x ∷ seats) zero found own at off = subst (IsElsewhere d) (some_seat x (At e found own) at) off.0
+others_off d e (x ∷ seats) zero found own at off = subst (IsElsewhere d) (some_same x (At e found own) at) off.0
 others_off d e (x ∷ seats) (suc i) found own at off = others_off d e seats i found own at off.1
 
 pub apart_others : (seats : List Seat) (i d : ℕ) (found : Bool) (own : OwnLeaf) → AreSeatsApart seats → slice_get seats i ≡ Some (At d found own)
     → AllByRecursion (IsElsewhere d) (remove seats i)
 apart_others [] i d found own apart at = absurd (cc)
 apart_others (At e was is ∷ seats) zero d found own apart at =
-    subst (λ n. AllByRecursion (IsElsewhere n) seats) (dev_same (At e was is) (At d found own) (some_seat (At e was is) (At d found own) at)) apart.0
+    subst (λ n. AllByRecursion (IsElsewhere n) seats)
+    (dev_same (At e was is) (At d found own) (some_same (At e was is) (At d found own) at)) apart.0
   where
     dev_of : Seat → ℕ
     dev_of (At n f o) = n
@@ -132,7 +129,7 @@ apart_others (At e was is ∷ seats) zero d found own apart at =
     dev_same : (a b : Seat) → a ≡ b → dev_of a ≡ dev_of b
     dev_same a b e = ap dev_of e
 apart_others (At e was is ∷ seats) (suc i) d found own apart at =
-    (off_both e d (others_off e d seats i found own at apart.0), apart_others seats i d found own apart.1 at)
+    (other_back e d (others_off e d seats i found own at apart.0), apart_others seats i d found own apart.1 at)
 apart_others (Adrift leaf ∷ seats) zero d found own apart at = absurd (cc)
 apart_others (Adrift leaf ∷ seats) (suc i) d found own apart at = (tt, apart_others seats i d found own apart at)
 

@@ -1,7 +1,6 @@
 -- A read is exhausted only where each leaf of the block's top missed it.
-use Rattle.std.proofs.Common.{◌≡◌, inl, inr, ⊎_elim, ℕ, ◌+◌, ◌==◌, ◌&&◌, not, Bool, true, false, cond, Option, Some, None, List, [], ◌∷◌, ◌++◌, map, refl, sym, ap, ◌∙◌, subst, arith, append-nil}
+use Rattle.std.proofs.Common.{◌≡◌, inl, inr, ⊎_elim, ℕ, ◌+◌, ◌&&◌, not, Bool, true, false, cond, Option, Some, None, List, [], ◌∷◌, ◌++◌, map, refl, sym, ap, ◌∙◌, subst, append-nil}
 use Rattle.std.specs.List.{AllByRecursion, filter}
-use Rattle.std.proofs.lemmas.Bool.Decides.{nat_tests}
 use Rattle.sha2.specs.Sha256.{sha256}
 use Rattle.mp_base.specs.Block.{zero_block}
 use Rattle.mp_base.specs.declared.place.Key.{Key}
@@ -27,6 +26,7 @@ use Rattle.pool_moves.specs.Showing.{LeafShown, leaf_shown}
 use Rattle.pool_moves.specs.States.{PoolState, Side, seen}
 use Rattle.pool_moves.proofs.ReadWalks.{IsCopy, IsReadOrWrite, none_heals, read_one, plain_one, hurt_one, copies_on, tried_all, made_calls, sum_of_cell}
 use Rattle.pool_moves.proofs.Lists.{all_front, each}
+use Rattle.pool_moves.proofs.Tests.{same_test, some_same}
 
 -- What a copy's device shows behind the reads of a list: it lacked the block where its leaf doesn't owe it.
 abbrev IsLacked : (sectors : Sectors) → (at : ℕ) → List Noted → CopyOf → Type 0
@@ -95,15 +95,13 @@ unmapped Q f (x ∷ xs) all = (all.0, unmapped Q f xs all.1)
 due_leaf : (up owes : Bool) → up ≡ true → owes ≡ false → (up && not owes) ≡ true
 due_leaf up owes a b = rw (a, b) refl
 
-under_top : (a b : ℕ) → a ≡ b → (a == b) ≡ true
-under_top a b e = grind (arith, nat_tests)
-
 missed_leaf : (sum : Sum) (made : List Noted) (sectors : Sectors) (leaf : LeafSeen)
     → (stands_under sum.top leaf ≡ true → is_due false (copy_of sum.birth leaf) ≡ true
     → IsLacked sectors (data_start + sum.sector) made (copy_of sum.birth leaf))
     → Missed sum made sectors leaf
 missed_leaf sum made sectors leaf one top up d dev = by_bool (leaf.owes sum.birth) (λ owes. inl owes)
-    (λ has. inr (subst Shows dev (one (under_top leaf.top sum.top top)) (due_leaf (is_up leaf.own.mode) (leaf.owes sum.birth) up has) has))
+    (λ has. inr (subst Shows dev (one (same_test leaf.top sum.top top))
+    (due_leaf (is_up leaf.own.mode) (leaf.owes sum.birth) up has) has))
   where
     Shows : Option ℕ → Type 0
     Shows o = is_due false (copy_at (is_up leaf.own.mode) o (leaf.owes sum.birth)) ≡ true
@@ -154,9 +152,6 @@ exhausted_record : (c : Codec) (s : PoolState) (t : Side) (a : ℕ) (sum : Optio
 exhausted_record c s t a None vs shown kept is answers row = absurd (let no : Exhausted shown ≡ Gives zero_block = row.1 in cc)
 exhausted_record c s t a (Some sum) vs shown kept is answers row = by_outcome (map (leaf_shown row.1.reads) (copies_of sum (seen t).leaves)) row.0 row.1 row.2
   where
-    some_same : (x y : Sum) → Some x ≡ Some y → x ≡ y
-    some_same x y e = cc
-
     by_cell : RowCopies (seen t) sum vs None → (cell : Option Cell) → t.pool.reads.cells (key 0 a) ≡ cell
         → AllMissed (Some sum) (made_in vs) (run (made_in vs) t.pool.sectors) (seen t).leaves
     by_cell row None at = absurd (let no : Some sum ≡ None = is ∙ ap sum_of at in cc)

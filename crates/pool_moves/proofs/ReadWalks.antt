@@ -39,6 +39,8 @@ use Rattle.pool_moves.specs.Walking.{as_moves}
 use Rattle.pool_moves.proofs.FreeWalks.{walks_more}
 use Rattle.pool_moves.proofs.LineWalks.{IsSet, sets_walk}
 use Rattle.pool_moves.proofs.Lists.{all_append, all_filter}
+use Rattle.pool_moves.proofs.Tests.{some_same}
+use Rattle.txg_history.proofs.LookedParts.{answer_first}
 
 -- A read is always allowed.
 pub read_sparing : (p : Pool) (d at : ℕ) (bytes : List ℕ) (fault : Option Fault) → IsSparing p (Read d at bytes fault)
@@ -205,9 +207,6 @@ outcome_sum at sum (copy ∷ more) (noted ∷ made) wrong bytes (inl (fails, res
 outcome_sum at sum (copy ∷ more) (noted ∷ made) wrong bytes (inr (inl (others, differs, wrong_is, rest))) = outcome_sum at sum more made others bytes rest
 outcome_sum at sum (copy ∷ more) (noted ∷ made) wrong bytes (inr (inr (found, serves, made_is, wrong_is, outcome_is))) =
     let same : bytes ≡ found = some_same bytes found outcome_is in ap sha256 same ∙ serves.same
-  where
-    some_same : (a b : List ℕ) → Some a ≡ Some b → a ≡ b
-    some_same a b e = cc
 
 -- calls alone, and then what no event tells
 pub calls_walk : (c : Codec) (made : List Noted) (t : Side) → Mays c t.pool (as_events made) → Walks c t (as_moves made)
@@ -233,9 +232,6 @@ copies_at c t k cell sum vs outcome s kept at is row answers = subst Goal (some_
   where
     Goal : Sum → Type 0
     Goal sum = (row : RowCopies (seen t) sum vs outcome) → AllAnswer t.pool.sectors row.reads → Walks c t vs ⊎ ClashBy cell outcome
-
-    some_same : (a b : Sum) → Some a ≡ Some b → a ≡ b
-    some_same a b e = cc
 
     whole : (row : RowCopies (seen t) (sum_of_cell cell) vs outcome) → AllAnswer t.pool.sectors row.reads → Walks c t vs ⊎ ClashBy cell outcome
     whole row answers = read_then outcome row.is_read row.is_healed
@@ -274,13 +270,10 @@ pub made_calls : (made : List Noted) (vs : List Move) → made_in (as_moves made
 made_calls [] vs = refl
 made_calls (noted ∷ made) vs = ap (λ l. noted ∷ l) (made_calls made vs)
 
-pub answers_front : (made more : List Noted) (sectors : Sectors) → AllAnswer sectors (made ++ more) → AllAnswer sectors made
-answers_front [] more sectors all = tt
-answers_front (noted ∷ made) more sectors all = (all.0, answers_front made more (run (noted ∷ []) sectors) all.1)
-
 answers_first : (reads rewrites : List Noted) (vs : List Move) (sectors : Sectors) → AllAnswer sectors (made_in (as_moves (reads ++ rewrites) ++ vs)) → AllAnswer sectors reads
-answers_first reads rewrites vs sectors all = answers_front reads rewrites sectors
-    (answers_front (reads ++ rewrites) (made_in vs) sectors (subst (AllAnswer sectors) (made_calls (reads ++ rewrites) vs) all))
+answers_first reads rewrites vs sectors all = answer_first reads rewrites sectors
+    (answer_first (reads ++ rewrites) (made_in vs) sectors
+    (subst (AllAnswer sectors) (made_calls (reads ++ rewrites) vs) all))
 
 -- `read`
 read_record : (c : Codec) (a : ℕ) (sum : Option Sum) (s : PoolState) (t : Side) (vs : List Move) (reply : ReadReply) → Kept c s t → sum ≡ sum_of (t.pool.reads.cells (key 0 a))
@@ -347,9 +340,6 @@ right_record a None t vs bytes is row = by_cell (t.pool.reads.cells (key 0 a)) r
     by_cell (Some cell) at = absurd (let no : None ≡ Some (sum_of_cell cell) = is ∙ ap sum_of at in cc)
 right_record a (Some sum) t vs bytes is row = by_cell (t.pool.reads.cells (key 0 a)) refl
   where
-    some_same : (a b : Sum) → Some a ≡ Some b → a ≡ b
-    some_same a b e = cc
-
     given : (shown : List LeafShown) (outcome : Option (List ℕ)) → Gives bytes ≡ reply_by shown outcome → (row : RowCopies (seen t) sum vs outcome) → sha256 bytes ≡ sum.sum
     given shown None says row = absurd (cc)
     given shown (Some found) says row = ap sha256 (gives_same bytes found says)
@@ -381,3 +371,8 @@ right_at c s t a vs bytes kept (inr row) = right_open c a (s.own.writes a) s t v
 pub read_right : (c : Codec) (s : PoolState) (t : Side) (a : ℕ) (vs : List Move) (bytes : List ℕ) → Kept c s t → RowRead s a vs (Gives bytes)
     → (bytes ≡ t.pool.written a) ⊎ IsClash (t.pool.written a) bytes
 read_right c s t a vs bytes kept row = right_at c s t a vs bytes kept (subst (λ core. RowRead (record { own = s.own; core = core }) a vs (Gives bytes)) kept.core row)
+
+pub sum_cell : (cell : Option Cell) (sum : Sum) → sum_of cell ≡ Some sum → (x : Cell) × (cell ≡ Some x)
+    × (sum_of_cell x ≡ sum)
+sum_cell (Some x) sum is = (x, refl, some_same (sum_of_cell x) sum is)
+sum_cell None sum is = absurd (cc)

@@ -1,7 +1,6 @@
 -- A scan may start, end and be stopped: the walks from their rows.
 use Rattle.std.proofs.Common.{◌≡◌, ◌⊎◌, inl, inr, ℕ, ◌≤◌, ◌==◌, ◌&&◌, Bool, true, false, cond, Option, Some, None, List, [], ◌∷◌, ◌++◌, map, refl, sym, ap, ◌∙◌, subst, arith}
 use Rattle.std.specs.List.{AllByRecursion, find}
-use Rattle.std.proofs.lemmas.Bool.Decides.{nat_tests}
 use Rattle.mp_base.specs.declared.place.Key.{Key}
 use Rattle.bank_core.specs.declared.bank.Fault.{Fault}
 use Rattle.bank_core.specs.Asks.{Flushes, ask_of}
@@ -27,7 +26,7 @@ use Rattle.pool_moves.specs.ScanRows.{first_reads, FlushEnds, AreFlushed, is_eli
 use Rattle.pool_moves.specs.States.{PoolSeen, PoolState, Side}
 use Rattle.pool_moves.specs.Widening.{IsWidened, seen_along}
 use Rattle.pool_moves.proofs.AwayWalks.{only_found}
-use Rattle.pool_moves.proofs.Boarding.{before_all, no_dev, dev_is}
+use Rattle.pool_moves.proofs.Boarding.{before_all, dev_is}
 use Rattle.pool_moves.proofs.FreeWalks.{walks_more}
 use Rattle.pool_moves.proofs.FreezeWalks.{up_of_found}
 use Rattle.pool_moves.proofs.Keeping.{of_found_still, move_keeps, walk_keeps}
@@ -35,6 +34,7 @@ use Rattle.pool_moves.proofs.Widenings.{IsLike, widened_walk, widens_like, widen
 use Rattle.pool_moves.proofs.ReadWalks.{sum_of_cell}
 use Rattle.pool_moves.proofs.ScanSteps.{scan_core, is_running, seen_running, key_walks}
 use Rattle.pool_moves.proofs.Lists.{each}
+use Rattle.pool_moves.proofs.Tests.{no_dev, same_test}
 
 -- The members that are flushed: each eligible, on a device of its own at which a leaf was found.
 abbrev AreDevicesApart : List Member → Type 0
@@ -54,10 +54,8 @@ eligible_are f p all (At d found own ∷ seats) away up =
     before_all (AllByRecursion (IsEligible p all)) (p.scan.eligible d) (dev_if found d) (p.guid d) (eligible_of f p seats)
     (eligible_are f p all seats away.1 (λ e has. up e (inr has)))
     (λ e on dev. let at = dev_is found d e dev in
-    ((subst (λ n. p.scan.eligible n ≡ true) at.1 on, up e (inl (here e d (sym at.1), at.0))), eligible_are f p all seats away.1 (λ e has. up e (inr has))))
-  where
-    here : (e d : ℕ) → e ≡ d → (e == d) ≡ true
-    here e d same = grind (arith, nat_tests)
+    ((subst (λ n. p.scan.eligible n ≡ true) at.1 on, up e (inl (same_test e d (sym at.1), at.0))), eligible_are f p all
+    seats away.1 (λ e has. up e (inr has))))
 eligible_are f p all (Adrift leaf ∷ seats) away up = before_all (AllByRecursion (IsEligible p all)) leaf.eligible leaf.dev leaf.guid (eligible_of f p seats)
     (eligible_are f p all seats away.1 (λ e has. up e (inr has))) (λ e on dev. no_dev leaf.dev e away.0.0 dev)
 

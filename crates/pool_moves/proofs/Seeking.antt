@@ -36,6 +36,7 @@ use Rattle.pool_moves.specs.OpeningRow.{SeekReply, seek_reply, RowSeek, HasSizes
 use Rattle.pool_moves.proofs.OpenedSeats.{ArePaired}
 use Rattle.pool_moves.proofs.ReadWalks.{read_sparing}
 use Rattle.pool_moves.proofs.Lists.{all_front, all_rest}
+use Rattle.pool_moves.proofs.Tests.{le_of, same_guid}
 
 -- Reads are always allowed.
 pub reads_may : (c : Codec) (p : Pool) (made : List Noted) → AreReads made → Mays c p (as_events made)
@@ -181,9 +182,6 @@ on_claimed p size room m e d mine made true is (inl sought) whole =
     let same : d ≡ e = (let one = sought.0 in cc) in
     subst (λ n. IsClaimed p size made n m) (sym same)
     (mine, sought.1, (let le : room + 256 ≤ size e = le_of (room + 256) (size e) is in omega (arith, le)), whole)
-  where
-    le_of : (a b : ℕ) → nat_le a b ≡ true → a ≤ b
-    le_of a b e = grind (arith, nat_tests)
 on_claimed p size room m e d mine made true is (inr sought) whole = absurd (let no : Some d ≡ None = sought.0 in cc)
 
 one_claimed : (p : Pool) (size : ℕ → ℕ) (room : ℕ) (m : Guid) (dev : Option ℕ) (d : ℕ) (mine made : List Noted) → IsSought p.pool size room m dev mine (Some d)
@@ -207,9 +205,6 @@ claimed p size room handed (leaf ∷ leaves) made (dev ∷ devs) d m is claim = 
     dev_of : (dev : Option ℕ) → is_dev d dev ≡ true → dev ≡ Some d
     dev_of None is = absurd (let no : false ≡ true = is in cc)
     dev_of (Some e) is = ap Some (sym (same_device d e is))
-
-    same_guid : (a b : Guid) → (a.0 == b.0) ≡ true → a ≡ b
-    same_guid a b is = let at : ℕ → Guid = λ n. record { 0 = n } in ap at (same_device a.0 b.0 is)
 
 pub sought_no_twin : (c : Codec) (p : Pool) (r : Rec) (size room : ℕ → ℕ) (handed : List ℕ → Option ℕ) (leaves : List LeafKept) (made : List Noted)
     (devs : List (Option ℕ)) → Survives c p → HasSizes size p

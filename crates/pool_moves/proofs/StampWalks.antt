@@ -32,6 +32,7 @@ use Rattle.pool_moves.specs.States.{PoolState, Side}
 use Rattle.pool_moves.proofs.CommitWalks.{found_walks}
 use Rattle.pool_moves.proofs.Making.{made_kept}
 use Rattle.pool_moves.proofs.Lists.{all_append, each}
+use Rattle.pool_moves.proofs.Tests.{here, same_back, some_same}
 
 -- Lists of leaves.
 abbrev pub IsOneOf : NewLeaf → List NewLeaf → Type 0
@@ -50,12 +51,6 @@ leaf_found d (first ∷ leaves) leaf is = by_bool (first.dev == d)
     (λ yes. let same : leaf ≡ first = some_same leaf first (sym is ∙ ap (λ t. cond t (Some first) (leaf_at d leaves)) yes) in
     (inl same, ap (λ l. l.dev) same ∙ same_device first.dev d yes))
     (λ off. let more = leaf_found d leaves leaf (sym (ap (λ t. cond t (Some first) (leaf_at d leaves)) off) ∙ is) in (inr more.0, more.1))
-  where
-    some_same : (a b : NewLeaf) → Some a ≡ Some b → a ≡ b
-    some_same a b e = cc
-
-here : (d : ℕ) → (d == d) ≡ true
-here d = grind (arith, nat_tests)
 
 leaf_is_at : (leaves : List NewLeaf) (leaf : NewLeaf) → AreDevicesApart leaves → IsOneOf leaf leaves → leaf_at leaf.dev leaves ≡ Some leaf
 leaf_is_at [] leaf apart is = absurd is
@@ -424,10 +419,8 @@ gone_stays (stamp ∷ stamps) p d gone = ap (λ q. q.member d) (stamp_pool stamp
 pub stamps_lose : (stamps : List Stamp) (p : Pool) (d : ℕ) → IsListed d (stamped_devices stamps) → (pool_after (stamp_events stamps) p).member d ≡ false
 stamps_lose [] p d listed = absurd listed
 stamps_lose (stamp ∷ stamps) p d (inl is) = ap (λ q. q.member d) (stamp_pool stamp (stamp_events stamps) p)
-    ∙ gone_stays stamps (with_calls stamp.made (after (Loses stamp.dev) p)) d (at_here stamp.dev d false p.member (turn d stamp.dev is))
-  where
-    turn : (a b : ℕ) → (a == b) ≡ true → (b == a) ≡ true
-    turn a b e = grind (arith, nat_tests)
+    ∙ gone_stays stamps (with_calls stamp.made (after (Loses stamp.dev) p)) d
+    (at_here stamp.dev d false p.member (same_back d stamp.dev is))
 stamps_lose (stamp ∷ stamps) p d (inr more) = ap (λ q. q.member d) (stamp_pool stamp (stamp_events stamps) p)
     ∙ stamps_lose stamps (with_calls stamp.made (after (Loses stamp.dev) p)) d more
 
@@ -436,7 +429,5 @@ pub stamps_spare : (stamps : List Stamp) (p : Pool) (d : ℕ) → (IsListed d (s
 stamps_spare [] p d off = refl
 stamps_spare (stamp ∷ stamps) p d off = ap (λ q. q.member d) (stamp_pool stamp (stamp_events stamps) p)
     ∙ (stamps_spare stamps (with_calls stamp.made (after (Loses stamp.dev) p)) d (λ more. off (inr more))
-    ∙ ap (λ t. cond t false (p.member d)) (by_bool (stamp.dev == d) (λ is. absurd (off (inl (turn stamp.dev d is)))) (λ away. away)))
-  where
-    turn : (a b : ℕ) → (a == b) ≡ true → (b == a) ≡ true
-    turn a b e = grind (arith, nat_tests)
+    ∙ ap (λ t. cond t false (p.member d))
+    (by_bool (stamp.dev == d) (λ is. absurd (off (inl (same_back stamp.dev d is)))) (λ away. away)))

@@ -23,7 +23,7 @@ use Rattle.pool_moves.specs.Opened.{opened_leaves}
 use Rattle.pool_moves.specs.PageReads.{LeafShown, is_failed_read, failed_at, answers_in}
 use Rattle.pool_moves.specs.Resilvers.{rest_if, Resilvers}
 use Rattle.pool_moves.specs.States.{PoolSeen, PoolState, Side}
-use Rattle.pool_moves.proofs.FreeWalks.{moves_more}
+use Rattle.pool_moves.proofs.FreeWalks.{moves_more, steps_more}
 use Rattle.pool_moves.proofs.Keeping.{walk_keeps}
 use Rattle.pool_moves.proofs.ResilverWalks.{resume_walks}
 use Rattle.pool_runs.specs.Acts.{Act, Opening, Seeks_by, Marks, Looked, Enters, does, bare, read_by, pool_along, calls_along, Does}
@@ -45,6 +45,7 @@ use Rattle.pool_runs.proofs.GroupMoves.{more, all_group, all_uncounts, all_reope
 use Rattle.pool_moves.proofs.KindsOfMoves.{uncounts_set}
 use Rattle.pool_runs.proofs.Importing.{looks_along, opening_of, opening_front, OpeningFacts, opening_calls, opening_facts, opening_fair, look_facts, taken_live}
 use Rattle.pool_runs.proofs.OpeningActs.{bare_calls, bare_more, bare_fair, shown_more, map_more}
+use Rattle.std.proofs.lemmas.Bool.{or_right}
 
 -- The commit of an opening.
 resilver_written : (s : PoolSeen) (vs : List Move) → Resilvers s vs → AllByRecursion KeepsWritten vs × AllByRecursion KeepsWrites vs
@@ -64,10 +65,6 @@ resilver_acked s vs t n (inl row) acked = subst (λ l. IsAckedAs (after_moves l 
     rests true = record { reads = acked.reads; number = acked.number; idle = acked.idle }
     rests false = record { reads = acked.reads; number = acked.number; idle = acked.idle }
 resilver_acked s vs t n (inr row) acked = subst (λ l. IsAckedAs (after_moves l t).pool n) (sym row.1) acked
-
-steps_more : (vs ws : List Move) (s : PoolState) → steps (vs ++ ws) s ≡ steps ws (steps vs s)
-steps_more [] ws s = refl
-steps_more (v ∷ vs) ws s = steps_more vs ws (state_step v s)
 
 -- What an opening's commit comes to.
 record Resumed (t : Side) (vs : List Move) (from n : ℕ) : Type 0 where
@@ -254,10 +251,6 @@ opens_live c h p before name known found acts reply n knows live titled made fai
 failed_more : (first second : List Noted) (at d : ℕ) → failed_at at second d ≡ true → failed_at at (first ++ second) d ≡ true
 failed_more [] second at d is = is
 failed_more (noted ∷ first) second at d is = or_right (is_failed_read at d noted.call) (failed_at at (first ++ second) d) (failed_more first second at d is)
-  where
-    or_right : (a b : Bool) → b ≡ true → (a || b) ≡ true
-    or_right true b is = refl
-    or_right false b is = is
 
 failed_first : (first second : List Noted) (at d : ℕ) → failed_at at first d ≡ true → failed_at at (first ++ second) d ≡ true
 failed_first [] second at d is = absurd (cc)

@@ -36,6 +36,7 @@ use Rattle.pool_runs.specs.Knowing.{HasSeats, HasRoster, IsOwnMove, IsShown, IsT
 use Rattle.pool_runs.proofs.Acting.{same_number, other_number, own_events, other_events, move_sectors, move_size, move_number, calls_number}
 use Rattle.pool_runs.proofs.Known.{Knows, MayActs}
 use Rattle.pool_runs.proofs.Sparing.{other_call}
+use Rattle.pool_moves.proofs.Tests.{some_same}
 
 -- Fronts.
 pub acts_keep : (c : Codec) (h : Host) (p : Pool) (acts : List Act) → Knows c h p → MayActs c h p acts → (i : ℕ) → AreFair c p (take i acts)
@@ -341,9 +342,6 @@ move_apart (Lose e) h p own apart d k is off = lost_member e d p.member (apart d
 move_apart (Comes i e m top was) h p own apart d k is off = by_bool (e == d)
     (λ same. absurd (off (some_same k p.pool.0 (sym is ∙ (ap h.owner (sym (same_device e d same)) ∙ own)))))
     (λ away. ap (λ t. cond t true (other_than m p.guid p.member d)) away ∙ other_member m p.guid p.member d (apart d k is off))
-  where
-    some_same : (a b : ℕ) → Some a ≡ Some b → a ≡ b
-    some_same a b e = cc
 move_apart v h p own apart d k is off = apart d k is off
 
 pub own_does : (c : Codec) (h : Host) (s : PoolState) (t : Side) (g : ℕ) (v : Move) → Knows c h t.pool → IsOpen s h.pools → t.pool.pool.0 ≡ g → Kept c s t → Mays c t.pool (events_of v t.pool) → Admits t v

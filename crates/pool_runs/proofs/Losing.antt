@@ -5,7 +5,7 @@ use Rattle.std.proofs.lemmas.Bool.Decides.{nat_tests}
 use Rattle.mp_base.specs.declared.number.Guid.{Guid}
 use Rattle.vdev_tree.specs.Leaf.{is_up}
 use Rattle.std.specs.Option.{is_some}
-use Rattle.std.proofs.lemmas.Bool.{and_parts, or_left, or_right}
+use Rattle.std.proofs.lemmas.Bool.{and_parts, or_left, or_right, and_from}
 use Rattle.txg_history.specs.Pages.{Codec}
 use Rattle.txg_history.specs.Records.{Cells}
 use Rattle.txg_history.proofs.Logging.{by_bool, same_device, true_not_false}
@@ -59,9 +59,6 @@ none_unwritable true top s is = absurd (cc)
 none_unwritable false (Some top) s is = absurd (cc)
 none_unwritable false None s is = refl
 
-both_true : (a b : Bool) → a ≡ true → b ≡ true → (a && b) ≡ true
-both_true a b x y = ap (λ t. t && b) x ∙ y
-
 -- a writable leaf is on the board
 abbrev pub IsUp : (board : ℕ → Bool) → LeafSeen → Type 0
 IsUp board leaf = is_writable leaf ≡ true → on_dev board leaf.dev ≡ true
@@ -74,7 +71,7 @@ up_one board up None on is = absurd (let no : false ≡ true = sym (none up) ∙
     none true = refl
     none false = refl
 up_one board up (Some d) on is =
-    on d (both_true up (d == d) (and_parts up true is).0
+    on d (and_from up (d == d) (and_parts up true is).0
     (let same : (d == d) ≡ true = grind (arith, nat_tests) in same))
 
 pub all_up : (board : ℕ → Bool) (leaves : List LeafSeen) → ((d : ℕ) → up_devs leaves d ≡ true → board d ≡ true)
