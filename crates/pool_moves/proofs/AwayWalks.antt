@@ -14,9 +14,11 @@ use Rattle.pool_moves.specs.Refusing.{count_below, keys_needed, written_with, di
 use Rattle.pool_moves.specs.States.{PoolState, Side}
 use Rattle.pool_moves.proofs.Boarding.{found_alone}
 use Rattle.pool_moves.proofs.FreeWalks.{walks_more}
-use Rattle.pool_moves.proofs.Keeping.{all_map, seat_cases, walk_keeps}
+use Rattle.pool_moves.proofs.Keeping.{seat_cases, walk_keeps}
 use Rattle.pool_moves.proofs.Widenings.{widened_walk, seen_of}
 use Rattle.pool_moves.proofs.FreezeWalks.{found_elsewhere}
+use Rattle.pool_moves.proofs.Lists.{all_map}
+use Rattle.pool_moves.proofs.Tests.{no_dev, some_same}
 
 -- A write is taken.
 write_fits : (c : Codec) (short : Bool) (t : Side) (need free a : ℕ) (block : List ℕ) (vs : List Move) (reply : WriteReply)
@@ -53,9 +55,6 @@ dev_found : (found : Bool) (e d : ℕ) → dev_if found e ≡ Some d → ((d == 
 dev_found true e d is = (let same : e ≡ d = cc in subst (λ n. (n == e) ≡ true) same (let here : (e == e) ≡ true = grind (arith, nat_tests) in here), refl)
 dev_found false e d is = absurd (cc)
 
-no_dev : {A : Type 0} (dev : Option ℕ) (d : ℕ) → dev ≡ None → dev ≡ Some d → A
-no_dev dev d none is = absurd (cc)
-
 boarded_leaf : (f r : Bool) (p : Pool) (all : List Seat) (seat : Seat) → IsAway seat → ((d : ℕ) → IsFoundAt d seat → HasFound d all)
     → IsAt f r all (leaf_seen f r (told p) seat)
 boarded_leaf f r p all (At e found own) away up = (
@@ -75,9 +74,6 @@ found_leaf test f r p all (seat ∷ seats) leaf away up is = by_bool (test (leaf
     (boarded_leaf f r p all seat away.0 (λ d at. up d (inl at))))
     (λ no. found_leaf test f r p all seats leaf away.1 (λ d has. up d (inr has))
     (sym (ap (λ t. cond t (Some (leaf_seen f r (told p) seat)) (find test (map (leaf_seen f r (told p)) seats))) no) ∙ is))
-  where
-    some_same : (a b : LeafSeen) → Some a ≡ Some b → a ≡ b
-    some_same a b e = cc
 
 -- no leaf that the run has not found is at the device of one that it has
 pub only_found : (d : ℕ) (seats : List Seat) → AreSeatsApart seats → HasFound d seats → AllByRecursion (IsOfFound (λ e. d == e)) seats
@@ -112,7 +108,7 @@ drop_frozen true None t = refl
 drop_frozen false dev t = refl
 
 drop_found : (which : ℕ → Bool) (on : Bool) (dev : Option ℕ) (t : Side) → AllByRecursion (IsOfFound which) t.seats → AllByRecursion (IsOfFound which) (after_moves (drop_if on dev) t).seats
-drop_found which true (Some d) t all = all_map (IsOfFound which) (IsOfFound which) (seat_step (Drop d) t.pool)
+drop_found which true (Some d) t all = all_map _ (seat_step (Drop d) t.pool)
     (seat_cases (λ seat. IsOfFound which seat → IsOfFound which (seat_step (Drop d) t.pool seat)) (λ e found own is. is) (λ leaf is. tt)) t.seats all
 drop_found which true None t all = all
 drop_found which false dev t all = all

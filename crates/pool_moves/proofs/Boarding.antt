@@ -15,12 +15,8 @@ use Rattle.pool_moves.specs.Boards.{member_before, members_where, is_on, is_on_u
 use Rattle.pool_moves.specs.Keeping.{IsElsewhere, AreSeatsApart, IsAway, HasFound, IsOfFound, Kept}
 use Rattle.pool_moves.specs.Leaves.{OwnLeaf, LeafSeen, Seat, At, Adrift, told, dev_if, leaf_seen}
 use Rattle.pool_moves.specs.States.{PoolSeen, Side, PoolState, seen_by}
-
--- what is so of each is so of the one at a place
-pub all_at : {A : Type 0} (P : A → Type 0) (xs : List A) (i : ℕ) (x : A) → AllByRecursion P xs → slice_get xs i ≡ Some x → P x
-all_at P [] i x all e = absurd (cc)
-all_at P (y ∷ xs) zero x all e = subst P (let same : y ≡ x = cc in same) all.0
-all_at P (y ∷ xs) (suc i) x all e = all_at P xs i x all.1 e
+use Rattle.pool_moves.proofs.Lists.{all_at}
+use Rattle.pool_moves.proofs.Tests.{not_same, no_dev}
 
 -- a kind of members, as leaves of seats show it
 abbrev Shows : (which : LeafSeen → Bool) → Pool → (Which : ℕ → Type 0) → Type 0
@@ -39,9 +35,6 @@ before_all P false dev m ms rest new = rest
 pub dev_is : (found : Bool) (d e : ℕ) → dev_if found d ≡ Some e → (found ≡ true) × (d ≡ e)
 dev_is true d e is = (refl, let same : d ≡ e = cc in same)
 dev_is false d e is = absurd (cc)
-
-pub no_dev : {A : Type 0} (dev : Option ℕ) (d : ℕ) → dev ≡ None → dev ≡ Some d → A
-no_dev dev d none is = absurd (cc)
 
 members_are : (which : LeafSeen → Bool) (p : Pool) (Which : ℕ → Type 0) → Shows which p Which → (seats : List Seat) → AllByRecursion IsAway seats
     → AllByRecursion (λ m. (m ≡ seat p m.dev) × Which m.dev) (members_where which (leaves_of p seats))
@@ -88,22 +81,22 @@ has_member which p d is (Adrift leaf ∷ seats) (inr has) =
     later (which leaf) leaf.dev leaf.guid (members_where which (leaves_of p seats)) (seat p d) (has_member which p d is seats has)
 
 -- Members on devices of their own.
-not_one : (d e : ℕ) → (d == e) ≡ false → d ≢ e
-not_one d e off same = absurd (let no : (d == e) ≡ true = grind (arith, nat_tests) in cc)
-
 others_apart : (which : LeafSeen → Bool) (p : Pool) (d : ℕ) (seats : List Seat) → AllByRecursion IsAway seats → AllByRecursion (IsElsewhere d) seats
     → AllByRecursion (λ n. d ≢ n.dev) (members_where which (leaves_of p seats))
 others_apart which p d [] away off = tt
 others_apart which p d (At e found own ∷ seats) away off =
     before_all (AllByRecursion (λ n. d ≢ n.dev)) (which (leaf_seen true p.scan.running (told p) (At e found own))) (dev_if found e) (p.guid e) (members_where which (leaves_of p seats))
-    (others_apart which p d seats away.1 off.1) (λ x is dev. (subst (λ n. d ≢ n) (dev_is found e x dev).1 (not_one d e off.0), others_apart which p d seats away.1 off.1))
+    (others_apart which p d seats away.1 off.1)
+    (λ x is dev. (subst (λ n. d ≢ n) (dev_is found e x dev).1 (not_same d e off.0), others_apart which p d seats away.1
+    off.1))
 others_apart which p d (Adrift leaf ∷ seats) away off =
     before_all (AllByRecursion (λ n. d ≢ n.dev)) (which leaf) leaf.dev leaf.guid (members_where which (leaves_of p seats))
     (others_apart which p d seats away.1 off.1) (λ x is dev. no_dev leaf.dev x away.0.0 dev)
 
 apart_cons : (m : Member) (ms : List Member) → AllByRecursion (λ n. m.dev ≢ n.dev) ms → AreApart ms → AreApart (m ∷ ms)
 apart_cons m ms others apart zero zero a b ea eb lt = absurd (omega (arith, lt))
-apart_cons m ms others apart zero (suc j) a b ea eb lt = subst (λ x. x.dev ≢ b.dev) (let same : m ≡ a = cc in same) (all_at (λ n. m.dev ≢ n.dev) ms j b others eb)
+apart_cons m ms others apart zero (suc j) a b ea eb lt = subst (λ x. x.dev ≢ b.dev) (let same : m ≡ a = cc in same)
+    (all_at _ ms j b others eb)
 apart_cons m ms others apart (suc i) zero a b ea eb lt = absurd (omega (arith, lt))
 apart_cons m ms others apart (suc i) (suc j) a b ea eb lt = apart i j a b ea eb (omega (arith, lt))
 
@@ -168,7 +161,8 @@ frozen_core t = seen_by true t.pool.scan.running t.seats t.pool
 
 pub board_just : (c : Codec) (s : PoolState) (t : Side) → Kept c s t → t.pool.group.frozen ≡ true → AreJust t.pool (OnBoard t.pool) (board_of (frozen_core t).leaves)
 board_just c s t kept f = record {
-  seated = λ i m e is. all_at (λ m. (m ≡ seat t.pool m.dev) × OnBoard t.pool m.dev) (board_of (leaves_of t.pool t.seats)) i m (members_are is_on t.pool (OnBoard t.pool) (λ d own on. on) t.seats kept.away) e;
+  seated = λ i m e is. all_at _ (board_of (leaves_of t.pool t.seats)) i m
+      (members_are is_on t.pool (OnBoard t.pool) (λ d own on. on) t.seats kept.away) e;
   all = λ d is on. has_member is_on t.pool d (λ own. on) t.seats (kept.boarded f d is on);
 }
 
@@ -189,7 +183,7 @@ under_both p top d on = let a : p.group.board d ≡ true = on.0 in let b : (p.in
 
 pub under_just : (c : Codec) (s : PoolState) (t : Side) (top : ℕ) → Kept c s t → t.pool.group.frozen ≡ true → AreJust t.pool (OnTop t.pool top) (board_under top (frozen_core t).leaves)
 under_just c s t top kept f = record {
-  seated = λ i m e is. all_at (λ m. (m ≡ seat t.pool m.dev) × OnTop t.pool top m.dev) (board_under top (leaves_of t.pool t.seats)) i m
+  seated = λ i m e is. all_at _ (board_under top (leaves_of t.pool t.seats)) i m
       (members_are (is_on_under top) t.pool (OnTop t.pool top) (λ d own on. under_parts t.pool top d on) t.seats kept.away) e;
   all = λ d is on. has_member (is_on_under top) t.pool d (λ own. under_both t.pool top d on) t.seats (kept.boarded f d is on.0);
 }

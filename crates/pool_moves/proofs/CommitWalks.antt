@@ -1,6 +1,5 @@
 -- Openings and creates may commit their groups without keys.
 use Rattle.std.proofs.Common.{◌≡◌, ℕ, Bool, true, false, cond, Some, None, List, [], ◌∷◌, ◌++◌, refl, sym, ap, ◌∙◌, subst}
-use Rattle.std.specs.List.{AllByRecursion}
 use Rattle.mp_base.specs.declared.place.Key.{Key}
 use Rattle.txg_history.specs.Events.{Opens}
 use Rattle.txg_history.specs.Moves.{MayFlush}
@@ -9,18 +8,17 @@ use Rattle.txg_history.specs.Pools.{Pool}
 use Rattle.txg_history.specs.Records.{Cell, Cells, block_in}
 use Rattle.txg_history.specs.Survival.{Survives}
 use Rattle.txg_history.proofs.Moving.{event_survives}
-use Rattle.pool_moves.specs.CommitRows.{IsOpened, uncounts, RowReopen, RowFound, NamedLog, RowLogs}
+use Rattle.pool_moves.specs.CommitRows.{IsOpened, RowFound, NamedLog, RowLogs}
 use Rattle.pool_moves.specs.FreezeRow.{RowEmptyFreeze, up_devs}
 use Rattle.pool_moves.specs.Keeping.{over, Kept, Walks}
-use Rattle.pool_moves.specs.Leaves.{LeafSeen}
-use Rattle.pool_moves.specs.LineRows.{IsSized, TurnReply}
+use Rattle.pool_moves.specs.LineRows.{IsSized}
 use Rattle.pool_moves.specs.Moves.{Move, Freeze, Flushed_all, steps, step, after_move, after_moves}
 use Rattle.pool_moves.specs.States.{PoolState, Side}
 use Rattle.pool_moves.proofs.FreeWalks.{walks_more}
 use Rattle.pool_moves.proofs.Widenings.{IsLike, widens_like}
 use Rattle.pool_moves.proofs.FreezeWalks.{empty_freeze_walks}
 use Rattle.pool_moves.proofs.Keeping.{walk_keeps}
-use Rattle.pool_moves.proofs.LineWalks.{IsSet, sets_walk, group_walks, sized_along}
+use Rattle.pool_moves.proofs.LineWalks.{sized_along}
 use Rattle.pool_moves.proofs.RoundWalks.{round_walks}
 
 pub opened_kept : (c : Codec) (s : PoolState) (t : Side) → IsOpened c s t → Kept c s t
@@ -42,19 +40,6 @@ opened_kept c s t o = record {
       (ap (λ w. over w (block_in o.r.cells a)) (sym (o.unwritten a)));
   survives = subst (Survives c) (sym o.is) (event_survives c o.before (Opens o.r) o.survives o.live);
 }
-
--- counts that begin anew
-pub uncounts_set : (leaves : List LeafSeen) → AllByRecursion IsSet (uncounts leaves)
-uncounts_set [] = tt
-uncounts_set (leaf ∷ leaves) = (tt, uncounts_set leaves)
-
-pub reopen_walks : (c : Codec) (size : ℕ → ℕ) (s : PoolState) (t : Side) (vs : List Move) (reply : TurnReply) → Kept c s t → IsSized size t → RowReopen c size s vs reply → Walks c t vs
-reopen_walks c size s t vs reply kept same row =
-    let walks = empty_freeze_walks c s t row.first kept row.freeze in
-    let ending = group_walks c size (steps row.first s) (after_moves row.first t) row.rest reply (walk_keeps c row.first s t walks kept) (sized_along size row.first t same) row.ends in
-    subst (Walks c t) (sym row.moves) (walks_more c row.first (row.rest ++ uncounts (steps row.rest (steps row.first s)).core.leaves) t walks
-    (walks_more c row.rest (uncounts (steps row.rest (steps row.first s)).core.leaves) (after_moves row.first t) ending
-    (sets_walk c (uncounts (steps row.rest (steps row.first s)).core.leaves) (after_moves row.rest (after_moves row.first t)) (uncounts_set (steps row.rest (steps row.first s)).core.leaves))))
 
 -- a group without keys has nothing to flush
 no_key : {A : Type 0} (cells : Cells) (k : Key) (cell : Cell) → cells ≡ (λ k. None) → cells k ≡ Some cell → A

@@ -1,9 +1,8 @@
 -- A leaf may be taken out: the walk of `detach` from its row.
-use Rattle.std.proofs.Common.{◌≡◌, ⊎_elim, inl, inr, ℕ, ◌≤◌, ◌==◌, ◌&&◌, Bool, true, false, cond, Option, Some, None, List, [], ◌∷◌, ◌++◌, refl, sym, ap, ◌∙◌, subst, arith}
+use Rattle.std.proofs.Common.{◌≡◌, ⊎_elim, inl, inr, ℕ, ◌≤◌, ◌==◌, ◌&&◌, Bool, true, false, cond, Option, Some, None, List, [], ◌∷◌, ◌++◌, refl, sym, ap, ◌∙◌, subst, append_assoc}
 use Rattle.std.specs.Prelude.{slice_get}
 use Rattle.std.specs.List.{AllByRecursion, remove}
 use Rattle.std.specs.Str.{bytes_eq}
-use Rattle.std.proofs.lemmas.Bool.Decides.{nat_tests}
 use Rattle.mp_base.specs.declared.number.Guid.{Guid}
 use Rattle.txg_history.specs.Groups.{no_log}
 use Rattle.txg_history.specs.Losses.{IsStampPlan, IsWipe, IsMark}
@@ -15,20 +14,25 @@ use Rattle.txg_history.proofs.Losing.{stamps_may}
 use Rattle.pool_moves.specs.AwayRows.{IsRequired, is_spare, leaf_named}
 use Rattle.pool_moves.specs.Keeping.{IsElsewhere, AreSeatsApart, IsAway, IsSeated, IsOwnNumber, HasOtherNumber, IsUnder, HasUnder, IsOfFound, IsNotFoundAt, MayReturn, MayGo, Kept, Walks}
 use Rattle.pool_moves.specs.Leaves.{OwnLeaf, LeafSeen, Seat, At, Adrift, dev_if, told, leaf_seen}
-use Rattle.pool_moves.specs.LineRows.{IsSized, TurnReply, Idle, Write, Flush, Round, Committed, Suspended, CommitsOpen}
-use Rattle.pool_moves.specs.Moves.{Move, Freeze, Burn, Lose, steps, after_move, after_moves}
+use Rattle.pool_moves.specs.LineRows.{IsSized, TurnReply, Committed, Suspended, CommitsOpen}
+use Rattle.pool_moves.specs.Moves.{Move, Freeze, Burn, Lose, steps, after_move, after_moves, step}
 use Rattle.pool_moves.specs.Refusing.{FreezeRefusal}
 use Rattle.pool_moves.specs.States.{PoolSeen, PoolState, Side, seen}
 use Rattle.pool_moves.specs.TreeRows.{place_named, DetachReply, goes_out, is_there, clean_plan, IsCleaned, DetachBehind, CommitsWithout, DetachFor, DetachLeaf, DetachBy, RowDetach, IsSeatOf}
-use Rattle.pool_moves.proofs.Boarding.{all_at}
 use Rattle.pool_moves.proofs.FreeWalks.{walks_more, moves_more}
 use Rattle.pool_moves.proofs.FreezeWalks.{is_idle}
-use Rattle.pool_moves.proofs.Keeping.{walk_keeps}
-use Rattle.pool_moves.proofs.LineWalks.{IsWithin, open_walks, sized_along}
-use Rattle.pool_moves.proofs.Leaving.{leaf_there, not_required, sibling_left, under_kept, top_is_one, apart_others, others_map, elsewhere_along, Aside, aside, aside_along, AsideIn, aside_stays, aside_frozen, aside_burnt}
+use Rattle.pool_moves.proofs.Keeping.{walk_keeps, others_still}
+use Rattle.pool_moves.proofs.LineWalks.{open_walks, sized_along}
+use Rattle.pool_moves.proofs.GroupTurns.{HasParts, kind_parts, Comes, group_comes, commits_hold}
+use Rattle.pool_moves.proofs.KindsOfMoves.{IsKind, AnyLeaf, AnySet, all_widens, all_widened, IsWithin, within_kind}
+use Rattle.pool_moves.proofs.Leaving.{leaf_there, not_required, sibling_left, under_kept, top_is_one, apart_others, elsewhere_along, Aside, aside, aside_along, aside_stays, aside_frozen, aside_burnt}
 use Rattle.pool_moves.proofs.ReadWalks.{calls_walk}
-use Rattle.pool_moves.proofs.Shaping.{IsOfCommit, IsFreeze, commit_moves}
 use Rattle.pool_moves.proofs.Widenings.{nothing_more}
+use Rattle.pool_moves.proofs.Lists.{all_at, all_append}
+use Rattle.pool_moves.specs.FreezeRow.{up_devs}
+use Rattle.txg_history.specs.Records.{Cells}
+use Rattle.pool_moves.specs.TreeLeaves.{IsCalm}
+use Rattle.pool_moves.proofs.Tests.{not_same}
 
 -- The leaf of a name, by the history: where it is in the list, and that it has a sibling.
 record IsThere (t : Side) (i : ℕ) (leaf : LeafSeen) (seat : Seat) : Type 0 where
@@ -53,9 +57,6 @@ there_is c s t name leaf seat kept = subst Goal (sym kept.core) (λ named at fre
 seat_top : (f r : Bool) (p : Pool) (top : ℕ) (seat : Seat) → IsUnder p.in_top top seat → (leaf_seen f r (told p) seat).top ≡ top
 seat_top f r p top (At d found own) is = is
 seat_top f r p top (Adrift leaf) is = is
-
-not_same : (a b : ℕ) → (a == b) ≡ false → a ≡ b → ⊥
-not_same a b off same = true_not_false (a == b) (let here : (a == b) ≡ true = grind (arith, nat_tests) in here) off
 
 may_go : (c : Codec) (s : PoolState) (t : Side) (i : ℕ) (leaf : LeafSeen) (seat : Seat) → Kept c s t → t.pool.group.frozen ≡ false → IsThere t i leaf seat
     → MayGo t i
@@ -92,10 +93,6 @@ cleaned_walk c size true spare (Some d) t vs off (made, outcome, calls, moves) =
 cleaned_walk c size true spare None t vs off moves = subst (Walks c t) (sym moves) tt
 cleaned_walk c size false spare dev t vs off moves = subst (Walks c t) (sym moves) tt
 
-freeze_of : (v : Move) → IsFreeze v → IsOfCommit v
-freeze_of (Freeze cells board) is = tt
-freeze_of v is = absurd is
-
 dev_found : (f r : Bool) (p : Pool) (seats : List Seat) (i : ℕ) (seat : Seat) (d : ℕ) → AllByRecursion IsAway seats → AreSeatsApart seats
     → slice_get seats i ≡ Some seat
     → (leaf_seen f r (told p) seat).dev ≡ Some d → AllByRecursion (IsElsewhere d) (remove seats i)
@@ -105,7 +102,8 @@ dev_found f r p seats i (At e found own) d away apart at dev =
     is_at : (found : Bool) → dev_if found e ≡ Some d → e ≡ d
     is_at true is = cc
     is_at false is = absurd (cc)
-dev_found f r p seats i (Adrift leaf) d away apart at dev = absurd (no_device leaf.dev (all_at IsAway seats i (Adrift leaf) away at).0 dev)
+dev_found f r p seats i (Adrift leaf) d away apart at dev = absurd
+    (no_device leaf.dev (all_at _ seats i (Adrift leaf) away at).0 dev)
   where
     no_device : (o : Option ℕ) → o ≡ None → o ≡ Some d → ⊥
     no_device o none is = absurd (cc)
@@ -145,7 +143,7 @@ back_apart (Adrift leaf) seats off apart = apart
 
 back_numbered : (guid : ℕ → Guid) (member : ℕ → Bool) (seats : List Seat) (i : ℕ) (seat : Seat) → slice_get seats i ≡ Some seat
     → ((d : ℕ) → member d ≡ true → AllByRecursion (IsOwnNumber guid d) seats) → (d : ℕ) → member d ≡ true → IsOwnNumber guid d seat
-back_numbered guid member seats i seat at numbered d mine = all_at (IsOwnNumber guid d) seats i seat (numbered d mine) at
+back_numbered guid member seats i seat at numbered d mine = all_at _ seats i seat (numbered d mine) at
 
 may_return : (c : Codec) (s : PoolState) (t behind : Side) (i : ℕ) (leaf : LeafSeen) (seat : Seat) → Kept c s t → t.pool.group.frozen ≡ false
     → IsThere t i leaf seat
@@ -157,41 +155,75 @@ may_return c s t behind i leaf seat kept idle there same over apart off logs = r
   idle = over;
   leaf_is = seat_back c s t i leaf seat behind.pool kept idle there same over logs;
   apart = back_apart seat behind.seats off apart;
-  seated = subst (λ a. IsSeated a.member seat) (sym same) (all_at (IsSeated t.pool.member) t.seats i seat kept.seated there.at);
-  away = all_at IsAway t.seats i seat kept.away there.at;
+  seated = subst (λ a. IsSeated a.member seat) (sym same) (all_at _ t.seats i seat kept.seated there.at);
+  away = all_at _ t.seats i seat kept.away there.at;
   numbered = subst (λ a. (d : ℕ) → a.member d ≡ true → IsOwnNumber a.guid d seat) (sym same)
       (back_numbered t.pool.guid t.pool.member t.seats i seat there.at kept.numbered);
   scanned = subst (λ a. a.scan.running ≡ true → IsOfFound a.scan.eligible seat) (sym same)
-      (λ r. all_at (IsOfFound t.pool.scan.eligible) t.seats i seat (kept.scanned r) there.at);
+      (λ r. all_at _ t.seats i seat (kept.scanned r) there.at);
 }
 
 -- Behind the commit without the leaf.
-freeze_aside : (v : Move) (t : Side) → IsFreeze v → aside (after_move v t).pool ≡ aside t.pool
-freeze_aside (Freeze cells board) t is = refl
-freeze_aside v t is = absurd is
-
-freeze_logs : (c : Codec) (v : Move) (t : Side) (d : ℕ) → IsFreeze v → Survives c t.pool → t.pool.member d ≡ true → 1 ≤ t.pool.in_top d
-    → AsideIn (t.pool.owes d) (t.pool.settled d) d (after_move v t).pool
-freeze_logs c (Freeze cells board) t d is sv mine top = aside_frozen c t.pool cells board d sv mine top
-freeze_logs c v t d is sv mine top = absurd is
-
 -- the moves of a suspended commit: a freeze, moves within the group, and its end
 record AreSuspended (part : List Move) : Type 0 where
-  pub freeze : Move
-  pub is_freeze : IsFreeze freeze
+  pub cells : Cells
+  pub board : ℕ → Bool
   pub body : List Move
   pub within : AllByRecursion IsWithin body
-  pub moves : part ≡ freeze ∷ (body ++ (Burn ∷ []))
+  pub moves : part ≡ Freeze cells board ∷ (body ++ (Burn ∷ []))
 
 suspended_are : (c : Codec) (size : ℕ → ℕ) (s : PoolState) (part : List Move) (group : ℕ) (top : Guid) (faults : ℕ)
     → CommitsOpen c size s part (Suspended group top faults) → AreSuspended part
-suspended_are c size s part group top faults commit = let are = commit_moves c size s part (Suspended group top faults) commit in let last = are.burns refl in
-    record { freeze = are.freeze; is_freeze = are.is_freeze; body = last.body; within = last.within; moves = are.moves ∙ ap (λ l. are.freeze ∷ l) last.moves }
+suspended_are c size s part group top faults commit =
+    of (group_comes c size ⊥ (λ s vs. AllByRecursion IsWithin vs) parts (steps commit.first s) commit.rest
+    (Suspended group top faults) (λ never. never) commit.ends)
+  where
+    parts : HasParts c size ⊥ (λ s vs. AllByRecursion IsWithin vs)
+    parts = kind_parts c size ⊥ IsWithin within_kind (λ never. absurd never)
 
-pub commit_of : (c : Codec) (size : ℕ → ℕ) (s : PoolState) (part : List Move) (turn : TurnReply) → CommitsOpen c size s part turn
-    → AllByRecursion IsOfCommit part
-commit_of c size s part turn commit = let are = commit_moves c size s part turn commit in
-    subst (AllByRecursion IsOfCommit) (sym are.moves) (freeze_of are.freeze are.is_freeze, are.of_commit)
+    freeze : Move
+    freeze = Freeze commit.freeze.cells (up_devs s.core.leaves)
+
+    widens : List Move
+    widens = commit.freeze.moves.widens
+
+    of : Comes c size ⊥ (λ s vs. AllByRecursion IsWithin vs) parts (steps commit.first s) commit.rest
+        (Suspended group top faults) → AreSuspended part
+    of (inl lost) = record {
+      cells = commit.freeze.cells;
+      board = up_devs s.core.leaves;
+      body = widens ++ lost.moves;
+      within = all_append _ widens lost.moves
+          (all_widens AnyLeaf AnySet IsWithin within_kind (step freeze s.core) widens commit.freeze.moves.are)
+          lost.holds;
+      moves = commit.moves ∙ (ap (λ l. l ++ commit.rest) commit.freeze.moves.moves
+          ∙ ap (λ l. freeze ∷ l) (ap (λ l. widens ++ l) lost.is ∙ sym (append_assoc widens lost.moves (Burn ∷ []))));
+    }
+    of (inr here) = absurd (here.1 tt)
+
+-- a commit brings no leaf and takes none
+calm_kind : IsKind AnyLeaf AnySet IsCalm
+calm_kind = record {
+  calls = λ noted. tt;
+  leave = λ d f. tt;
+  set = λ m own may. tt;
+  wrote = λ k. tt;
+  flushed = tt;
+  draw = tt;
+  widen = λ m low high. tt;
+  starts = λ draft. tt;
+  copies = λ draft d. tt;
+  copied = λ draft d. tt;
+}
+
+pub commit_calm : (c : Codec) (size : ℕ → ℕ) (s : PoolState) (part : List Move) (turn : TurnReply)
+    → CommitsOpen c size s part turn → AllByRecursion IsCalm part
+commit_calm c size s part turn commit = commits_hold c size (λ s vs. AllByRecursion IsCalm vs)
+    (kind_parts c size (Unit {0}) IsCalm calm_kind (λ ack draft. tt)) (Unit {0})
+    (λ any s vs all frozen. all_append _ vs (Burn ∷ []) all (tt, tt))
+    (λ s vs row. all_widened AnyLeaf AnySet IsCalm calm_kind s.core (Freeze row.cells (up_devs s.core.leaves)) vs tt
+    row.moves)
+    s part turn (λ lost. tt) commit
 
 -- what such a commit leaves of a leaf that was put aside
 record IsKeptAside (t behind : Side) : Type 0 where
@@ -200,11 +232,6 @@ record IsKeptAside (t behind : Side) : Type 0 where
   pub logs : (d : ℕ) → t.pool.member d ≡ true → 1 ≤ t.pool.in_top d → AllByRecursion (HasOtherNumber t.pool.guid (t.pool.guid d)) t.seats
       → (behind.pool.owes d ≡ t.pool.owes d) × (behind.pool.settled d ≡ t.pool.settled d)
 
-freeze_others : (v : Move) (t : Side) (d : ℕ) → IsFreeze v → AllByRecursion (HasOtherNumber t.pool.guid (t.pool.guid d)) t.seats
-    → AllByRecursion (HasOtherNumber (after_move v t).pool.guid ((after_move v t).pool.guid d)) (after_move v t).seats
-freeze_others (Freeze cells board) t d is all = others_map (Freeze cells board) t.pool (t.pool.guid d) t.seats (λ leaf. refl) (λ e found own is. is) all
-freeze_others v t d is all = absurd is
-
 -- a member that no leaf of the list is at has a number of its own
 others_of : (guid : ℕ → Guid) (d : ℕ) (seats : List Seat) → AllByRecursion (IsOwnNumber guid d) seats → AllByRecursion (IsElsewhere d) seats
     → AllByRecursion (HasOtherNumber guid (guid d)) seats
@@ -212,20 +239,23 @@ others_of guid d [] own off = tt
 others_of guid d (At e found mine ∷ seats) own off = (⊎_elim (λ one. absurd (true_not_false (d == e) one off.0)) (λ other. other) own.0, others_of guid d seats own.1 off.1)
 others_of guid d (Adrift leaf ∷ seats) own off = (own.0, others_of guid d seats own.1 off.1)
 
-kept_aside : (c : Codec) (t : Side) (part : List Move) → Survives c t.pool → Walks c t part → AreSuspended part → IsKeptAside t (after_moves part t)
+kept_aside : (c : Codec) (t : Side) (part : List Move) → Survives c t.pool → Walks c t part → AreSuspended part
+    → IsKeptAside t (after_moves part t)
 kept_aside c t part sv walks are = subst (IsKeptAside t) (sym there) (record {
-  same = aside_along are.body frozen are.within ∙ freeze_aside are.freeze t are.is_freeze;
+  same = aside_along are.body frozen are.within;
   over = refl;
   logs = λ d mine top others. aside_burnt (t.pool.owes d) (t.pool.settled d) d (after_moves are.body frozen)
-      (aside_stays c (t.pool.owes d) (t.pool.settled d) d are.body frozen (nothing_more c are.body Burn frozen (subst (Walks c t) are.moves walks).1) are.within
-      (freeze_others are.freeze t d are.is_freeze others) (freeze_logs c are.freeze t d are.is_freeze sv mine top));
+      (aside_stays c (t.pool.owes d) (t.pool.settled d) d are.body frozen
+      (nothing_more c are.body Burn frozen (subst (Walks c t) are.moves walks).1) are.within
+      (others_still d (Freeze are.cells are.board) t tt others)
+      (aside_frozen c t.pool are.cells are.board d sv mine top));
 })
   where
     frozen : Side
-    frozen = after_move are.freeze t
+    frozen = after_move (Freeze are.cells are.board) t
 
-    there : after_moves part t ≡ after_move Burn (after_moves are.body (after_move are.freeze t))
-    there = ap (λ vs. after_moves vs t) are.moves ∙ moves_more are.body (Burn ∷ []) (after_move are.freeze t)
+    there : after_moves part t ≡ after_move Burn (after_moves are.body frozen)
+    there = ap (λ vs. after_moves vs t) are.moves ∙ moves_more are.body (Burn ∷ []) frozen
 
 -- the leaf's own top
 own_top : (f r : Bool) (p : Pool) (leaf : LeafSeen) (d : ℕ) (found : Bool) (own : OwnLeaf) → leaf ≡ leaf_seen f r (told p) (At d found own)
@@ -266,17 +296,19 @@ commits_walk c size s t name leaf seat vs reply kept sized idle there row =
     kept_behind : Kept c (steps row.part (steps (goes_out s name leaf) s)) (after_moves row.part (after_moves (goes_out s name leaf) t))
     kept_behind = walk_keeps c row.part (steps (goes_out s name leaf) s) (after_moves (goes_out s name leaf) t) commits kept_without
 
-    of_commit : AllByRecursion IsOfCommit row.part
-    of_commit = commit_of c size (steps (goes_out s name leaf) s) row.part row.turn row.commit
+    calm : AllByRecursion IsCalm row.part
+    calm = commit_calm c size (steps (goes_out s name leaf) s) row.part row.turn row.commit
 
     off_dev : (d : ℕ) → leaf.dev ≡ Some d → AllByRecursion (IsElsewhere d) (after_moves row.part (after_moves (goes_out s name leaf) t)).seats
     off_dev d dev =
-        elsewhere_along row.part without d of_commit (dev_found t.pool.group.frozen t.pool.scan.running t.pool t.seats i seat d kept.away kept.apart there.at
+        elsewhere_along row.part without d calm
+        (dev_found t.pool.group.frozen t.pool.scan.running t.pool t.seats i seat d kept.away kept.apart there.at
         (sym (ap (λ x. x.dev) there.leaf_is) ∙ dev))
 
     off_seat : (d : ℕ) (found : Bool) (own : OwnLeaf) → seat ≡ At d found own
         → AllByRecursion (IsElsewhere d) (after_moves row.part (after_moves (goes_out s name leaf) t)).seats
-    off_seat d found own is = elsewhere_along row.part without d of_commit (apart_others t.seats i d found own kept.apart (there.at ∙ ap Some is))
+    off_seat d found own is = elsewhere_along row.part without d calm
+        (apart_others t.seats i d found own kept.apart (there.at ∙ ap Some is))
 
     top_one : (d : ℕ) (found : Bool) (own : OwnLeaf) → seat ≡ At d found own → 1 ≤ t.pool.in_top d
     top_one d found own is =
@@ -286,7 +318,7 @@ commits_walk c size s t name leaf seat vs reply kept sized idle there row =
         (subst (λ core. AllByRecursion (λ leaf. 1 ≤ leaf.top) core.leaves) kept_without.core row.commit.freeze.tops))
 
     mine : (d : ℕ) (found : Bool) (own : OwnLeaf) → seat ≡ At d found own → t.pool.member d ≡ true
-    mine d found own is = subst (IsSeated t.pool.member) is (all_at (IsSeated t.pool.member) t.seats i seat kept.seated there.at)
+    mine d found own is = subst (IsSeated t.pool.member) is (all_at _ t.seats i seat kept.seated there.at)
 
     behind_walk : (turn : TurnReply) → CommitsOpen c size (steps (goes_out s name leaf) s) row.part turn
         → DetachBehind turn size s name leaf seat row.rest reply
@@ -304,10 +336,7 @@ commits_walk c size s t name leaf seat vs reply kept sized idle there row =
           ),
           ((tt, tt), tt),
         )
-    behind_walk Idle commit ends = absurd ends
-    behind_walk Write commit ends = absurd ends
-    behind_walk Flush commit ends = absurd ends
-    behind_walk (Round number) commit ends = absurd ends
+    behind_walk turn commit ends = absurd ends
 
 -- `detach`
 detach_for : (c : Codec) (size : ℕ → ℕ) (refusal : Option FreezeRefusal) (s : PoolState) (t : Side) (name : List ℕ) (leaf : LeafSeen) (seat : Seat)

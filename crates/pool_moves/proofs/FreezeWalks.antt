@@ -1,8 +1,8 @@
 -- A freeze may be made: its walk from its row.
-use Rattle.std.proofs.Common.{◌≡◌, ◌⊎◌, inl, inr, ⊎_elim, ℕ, ◌+◌, ◌*◌, ◌≤◌, ◌==◌, ◌&&◌, ◌||◌, Bool, true, false, cond, Option, Some, None, List, [], ◌∷◌, map, refl, sym, ap, ◌∙◌, subst, arith}
+use Rattle.std.proofs.Common.{◌≡◌, inl, inr, ⊎_elim, ℕ, ◌+◌, ◌*◌, ◌≤◌, ◌==◌, ◌&&◌, ◌||◌, Bool, true, false, cond, Option, Some, None, List, [], ◌∷◌, map, refl, sym, ap, ◌∙◌, subst, arith}
 use Rattle.std.specs.Option.{option_map}
 use Rattle.std.specs.List.{AllByRecursion}
-use Rattle.std.proofs.lemmas.Bool.{and_parts}
+use Rattle.std.proofs.lemmas.Bool.{and_parts, or_cases}
 use Rattle.std.proofs.lemmas.Bool.Decides.{nat_tests}
 use Rattle.vdev_tree.specs.Leaf.{is_up}
 use Rattle.txg_history.specs.Moves.{MayFreeze}
@@ -25,10 +25,6 @@ use Rattle.pool_moves.proofs.Seeing.{laid_sum}
 abbrev leaves_by : Bool → Pool → List Seat → List LeafSeen
 leaves_by f p seats = map (leaf_seen f p.scan.running (told p)) seats
 
-or_parts : (t u : Bool) → (t || u) ≡ true → (t ≡ true) ⊎ (u ≡ true)
-or_parts true u is = inl refl
-or_parts false u is = inr is
-
 dev_at : (d e : ℕ) (found : Bool) → is_dev d (dev_if found e) ≡ true → ((d == e) ≡ true) × (found ≡ true)
 dev_at d e true is = (is, refl)
 dev_at d e false is = absurd (cc)
@@ -37,10 +33,10 @@ pub up_found : (f : Bool) (p : Pool) (d : ℕ) (seats : List Seat) → AllByRecu
 up_found f p d [] away on = absurd (cc)
 up_found f p d (At e found own ∷ seats) away on =
     ⊎_elim (λ here. inl (dev_at d e found (and_parts (is_up own.mode) (is_dev d (dev_if found e)) here).1)) (λ more. inr (up_found f p d seats away.1 more))
-    (or_parts (is_up own.mode && is_dev d (dev_if found e)) (up_devs (leaves_by f p seats) d) on)
+    (or_cases (is_up own.mode && is_dev d (dev_if found e)) (up_devs (leaves_by f p seats) d) on)
 up_found f p d (Adrift leaf ∷ seats) away on =
     ⊎_elim (λ here. absurd (let no : false ≡ true = sym (ap (is_dev d) away.0.0) ∙ (and_parts (is_up leaf.own.mode) (is_dev d leaf.dev) here).1 in cc)) (λ more. inr (up_found f p d seats away.1 more))
-    (or_parts (is_up leaf.own.mode && is_dev d leaf.dev) (up_devs (leaves_by f p seats) d) on)
+    (or_cases (is_up leaf.own.mode && is_dev d leaf.dev) (up_devs (leaves_by f p seats) d) on)
 
 -- a device of a leaf that was not found is none of these
 pub found_elsewhere : {A : Type 0} (d : ℕ) (seats : List Seat) → AllByRecursion (IsElsewhere d) seats → HasFound d seats → A

@@ -1,5 +1,5 @@
 -- A leaf may be brought in: the walk of `attach` and of `replace` from its row.
-use Rattle.std.proofs.Common.{◌≡◌, ℕ, ◌+◌, ◌<◌, ◌≤◌, ◌^◌, ◌==◌, nat_le, nat_lt, Bool, true, false, cond, Option, Some, None, List, [], ◌∷◌, ◌++◌, map, length, refl, sym, ap, ◌∙◌, subst, arith}
+use Rattle.std.proofs.Common.{◌≡◌, ℕ, ◌+◌, ◌<◌, ◌≤◌, ◌^◌, ◌==◌, nat_le, nat_lt, Bool, true, false, cond, Option, Some, None, List, [], ◌∷◌, map, length, refl, sym, ap, ◌∙◌, subst, arith}
 use Rattle.std.specs.List.{AllByRecursion}
 use Rattle.std.proofs.lemmas.Bool.Decides.{nat_tests}
 use Rattle.mp_base.specs.declared.number.Guid.{Guid}
@@ -27,12 +27,12 @@ use Rattle.pool_moves.specs.States.{PoolState, Side}
 use Rattle.pool_moves.specs.Trees.{Child}
 use Rattle.pool_moves.specs.TreeRows.{Graft, Attach, Replace, TreeRefusal, limit_if, last_member, numbers_limit, leaves_limit, limits_of, graft_limits, refusal_at, graft_refusal, has_place, new_number, grafted, new_place, new_own, GraftReply, comes_in, graft_first, graft_moves, GraftEnds, GraftOn, GraftAt, GraftFor, RowGraft}
 use Rattle.pool_moves.specs.Walking.{as_moves}
-use Rattle.pool_moves.proofs.FreeWalks.{walks_more, moves_more}
+use Rattle.pool_moves.proofs.FreeWalks.{walks_more, moves_more, calls_pool}
 use Rattle.pool_moves.proofs.Widenings.{widens_walk}
-use Rattle.pool_moves.proofs.Keeping.{all_map, walk_keeps, other_numbers, elsewhere_kept, place_kept, here}
+use Rattle.pool_moves.proofs.Keeping.{walk_keeps, other_numbers, elsewhere_still}
 use Rattle.pool_moves.proofs.ReadWalks.{calls_walk}
 use Rattle.pool_moves.proofs.ScanEnds.{start_walk}
-use Rattle.pool_moves.proofs.ScanSteps.{calls_pool}
+use Rattle.pool_moves.proofs.Tests.{here, not_lt}
 
 -- No leaf that was found is on the device.
 not_found_at : (f r : Bool) (p : Pool) (d : ℕ) (seats : List Seat) → AllByRecursion (λ leaf. is_dev d leaf.dev ≡ false) (map (leaf_seen f r (told p)) seats)
@@ -55,23 +55,14 @@ lose_elsewhere p d (At e found own ∷ seats) = (by (d == e) refl, lose_elsewher
     by false off = off
 lose_elsewhere p d (Adrift leaf ∷ seats) = (tt, lose_elsewhere p d seats)
 
-pub step_elsewhere : (v : Move) (p : Pool) (d : ℕ) (seats : List Seat) → AllByRecursion (IsElsewhere d) seats
-    → AllByRecursion (IsElsewhere d) (map (seat_step v p) seats)
-step_elsewhere v p d seats all =
-    all_map (IsElsewhere d) (IsElsewhere d) (seat_step v p) (λ seat off. elsewhere_kept d seat (seat_step v p seat) (place_kept v p seat) off) seats all
-
 -- Behind calls the seats and the state are as they were.
 calls_seats : (made : List Noted) (t : Side) → (after_moves (as_moves made) t).seats ≡ t.seats
 calls_seats [] t = refl
 calls_seats (noted ∷ made) t = calls_seats made (after_move (Makes noted) t)
 
-calls_state : (made : List Noted) (s : PoolState) → steps (as_moves made) s ≡ s
+pub calls_state : (made : List Noted) (s : PoolState) → steps (as_moves made) s ≡ s
 calls_state [] s = refl
 calls_state (noted ∷ made) s = calls_state made (state_step (Makes noted) s)
-
-pub steps_more : (vs ws : List Move) (s : PoolState) → steps (vs ++ ws) s ≡ steps ws (steps vs s)
-steps_more [] ws s = refl
-steps_more (v ∷ vs) ws s = steps_more vs ws (state_step v s)
 
 -- The stamp of a new leaf's device, whichever call fails.
 stamp_walk : (c : Codec) (s : PoolState) (t : Side) (d size : ℕ) (pool m : Guid) (made : List Noted) (outcome : Option Fault) → Kept c s t
@@ -141,9 +132,6 @@ may_join c size s t d m top made kept sized opened big rooms range above calls =
     same : t.pool.size d ≡ size d
     same = sized d (omega (arith, big))
 
-not_small : (has need : ℕ) → nat_lt has need ≡ false → need ≤ has
-not_small has need off = grind (arith, nat_tests)
-
 pool_opened : (c : Codec) (s : PoolState) (t : Side) → Kept c s t → s.core.opened ≡ t.pool.opened
 pool_opened c s t kept = ap (λ core. core.opened) kept.core
 
@@ -157,7 +145,7 @@ comes_walk c s t i d m top own children made kept may above walks = (
     (
       (subst (λ p. MayJoin (after Rests p) d m top) (sym (calls_pool made (after_move (Lose d) t))) may, tt),
       record {
-        elsewhere = step_elsewhere Rest stamped.pool d stamped.seats
+        elsewhere = elsewhere_still d Rest stamped tt
             (subst (AllByRecursion (IsElsewhere d)) (sym (calls_seats made (after_move (Lose d) t))) (lose_elsewhere t.pool d t.seats));
         others =
             other_numbers (after_move Rest stamped).pool.guid rested.own.next_member m (subst (λ n. n ≤ m.0) (sym same_next) above)
@@ -232,7 +220,7 @@ graft_on : (c : Codec) (small : Bool) (size : ℕ → ℕ) (graft : Graft) (s : 
 graft_on c true size graft s t name leaf new d vs reply kept sized is left row = subst (Walks c t) (sym row.0) tt
 graft_on c false size graft s t name leaf new d vs reply kept sized is left row =
     graft_ends c size row.outcome graft s t name leaf new d row.made vs reply kept sized row.opened row.elsewhere row.big
-    (not_small (size d) (s.core.room leaf.top + 256) is) left row.calls row.ends
+    (not_lt (size d) (s.core.room leaf.top + 256) is) left row.calls row.ends
 
 graft_at : (c : Codec) (named : Option LeafSeen) (size : ℕ → ℕ) (graft : Graft) (s : PoolState) (t : Side) (name new : List ℕ) (d : ℕ) (vs : List Move)
     (reply : GraftReply) → Kept c s t → IsSized size t

@@ -17,32 +17,29 @@ use Rattle.txg_history.proofs.Logging.{by_bool, same_device, true_not_false, is_
 use Rattle.pool_moves.specs.AwayRows.{all_out, is_sibling, siblings, IsRequired}
 use Rattle.pool_moves.specs.Keeping.{IsElsewhere, AreSeatsApart, IsUnder, HasUnder, HasNumbered, HasOtherNumber, Admits, Walks}
 use Rattle.pool_moves.specs.Leaves.{OwnLeaf, LeafSeen, Seat, At, Adrift, told, leaf_seen}
-use Rattle.pool_moves.specs.Moves.{Move, Makes, Freeze, Wrote_key, Flushed_all, Draw, Leave, Widen, Burn, Starts, Copies, Copied, Commits, Sets, leaf_step, seat_step, seats_by, after_move, after_moves}
+use Rattle.pool_moves.specs.Moves.{Move, Makes, Wrote_key, Flushed_all, Draw, Leave, Widen, Burn, Starts, Copies, Copied, Sets, Comes, Goes, Returns, after_move, after_moves}
 use Rattle.pool_moves.specs.States.{Side}
+use Rattle.pool_moves.specs.TreeLeaves.{IsCalm}
 use Rattle.pool_moves.specs.TreeRows.{place_where}
-use Rattle.pool_moves.proofs.GraftWalks.{step_elsewhere}
-use Rattle.pool_moves.proofs.Keeping.{all_map, seat_cases}
-use Rattle.pool_moves.proofs.LineWalks.{IsWithin}
-use Rattle.pool_moves.proofs.Shaping.{IsOfCommit}
+use Rattle.pool_moves.proofs.Keeping.{IsStill, elsewhere_still, others_still}
+use Rattle.pool_moves.proofs.KindsOfMoves.{IsWithin}
+use Rattle.pool_moves.proofs.Tests.{other_back, some_same}
 
 abbrev seen_as : Bool → Bool → Pool → List Seat → List LeafSeen
 seen_as f r p seats = map (leaf_seen f r (told p)) seats
 
 -- The leaf that is found by a test is the one at the seat of its place.
-some_leaf : (a b : LeafSeen) → Some a ≡ Some b → a ≡ b
-some_leaf a b e = cc
-
-some_seat : (a b : Seat) → Some a ≡ Some b → a ≡ b
-some_seat a b e = cc
-
 pub leaf_there : (test : LeafSeen → Bool) (f r : Bool) (p : Pool) (seats : List Seat) (leaf : LeafSeen) (seat : Seat)
     → find test (seen_as f r p seats) ≡ Some leaf
     → slice_get seats (place_where test (seen_as f r p seats)) ≡ Some seat → leaf ≡ leaf_seen f r (told p) seat
 leaf_there test f r p [] leaf seat found at = absurd (cc)
 leaf_there test f r p (x ∷ seats) leaf seat found at = by_bool (test (leaf_seen f r (told p) x))
-    (λ is. sym (some_leaf (leaf_seen f r (told p) x) leaf (sym (ap (λ t. cond t (Some (leaf_seen f r (told p) x)) (find test (seen_as f r p seats))) is)
+    (λ is. sym (some_same (leaf_seen f r (told p) x) leaf
+    (sym (ap (λ t. cond t (Some (leaf_seen f r (told p) x)) (find test (seen_as f r p seats))) is)
     ∙ found))
-    ∙ ap (leaf_seen f r (told p)) (some_seat x seat (sym (ap (λ t. slice_get (x ∷ seats) (cond t 0 (suc (place_where test (seen_as f r p seats))))) is) ∙ at)))
+    ∙ ap (leaf_seen f r (told p))
+    (some_same x seat (sym (ap (λ t. slice_get (x ∷ seats) (cond t 0 (suc (place_where test (seen_as f r p seats)))))
+    is) ∙ at)))
     (λ off. leaf_there test f r p seats leaf seat (sym (ap (λ t. cond t (Some (leaf_seen f r (told p) x)) (find test (seen_as f r p seats))) off) ∙ found)
     (sym (ap (λ t. slice_get (x ∷ seats) (cond t 0 (suc (place_where test (seen_as f r p seats))))) off) ∙ at))
 
@@ -81,7 +78,7 @@ sibling_left test f r p (x ∷ seats) leaf found has = by_bool (test (leaf_seen 
     (λ is. subst (λ t. HasUnder p.in_top leaf.top (remove (x ∷ seats) (cond t 0 (suc (place_where test (seen_as f r p seats)))))) (sym is)
     (any_under f r p leaf seats (λ none. has (ap (λ t. cond t (leaf_seen f r (told p) x ∷ siblings leaf (seen_as f r p seats))
     (siblings leaf (seen_as f r p seats)))
-    (subst (λ y. is_sibling leaf y ≡ false) (sym (some_leaf (leaf_seen f r (told p) x) leaf
+    (subst (λ y. is_sibling leaf y ≡ false) (sym (some_same (leaf_seen f r (told p) x) leaf
     (sym (ap (λ t. cond t (Some (leaf_seen f r (told p) x)) (find test (seen_as f r p seats))) is) ∙ found))) (no_sibling leaf)) ∙ none))))
     (λ off. subst (λ t. HasUnder p.in_top leaf.top (remove (x ∷ seats) (cond t 0 (suc (place_where test (seen_as f r p seats)))))) (sym off) (deeper
     (sibling_left test f r p seats leaf (sym (ap (λ t. cond t (Some (leaf_seen f r (told p) x)) (find test (seen_as f r p seats))) off) ∙ found))))
@@ -96,7 +93,8 @@ sibling_left test f r p (x ∷ seats) leaf found has = by_bool (test (leaf_seen 
 pub under_kept : (in_top : ℕ → ℕ) (top : ℕ) (seats : List Seat) (i : ℕ) (seat : Seat) → slice_get seats i ≡ Some seat → HasUnder in_top top seats
     → (IsUnder in_top top seat → ⊥) → HasUnder in_top top (remove seats i)
 under_kept in_top top [] i seat at has other = absurd has
-under_kept in_top top (x ∷ seats) zero seat at (inl is) other = absurd (other (subst (IsUnder in_top top) (some_seat x seat at) is))
+under_kept in_top top (x ∷ seats) zero seat at (inl is) other = absurd
+    (other (subst (IsUnder in_top top) (some_same x seat at) is))
 under_kept in_top top (x ∷ seats) zero seat at (inr has) other = has
 under_kept in_top top (x ∷ seats) (suc i) seat at (inl is) other = inl is
 under_kept in_top top (x ∷ seats) (suc i) seat at (inr has) other = inr (under_kept in_top top seats i seat at has other)
@@ -111,20 +109,18 @@ top_is_one f r p top (At d found own ∷ seats) (inr has) ones = top_is_one f r 
 top_is_one f r p top (Adrift leaf ∷ seats) (inr has) ones = top_is_one f r p top seats has ones.1
 
 -- The others are at other devices, and stay so through a commit.
-off_both : (d e : ℕ) → (d == e) ≡ false → (e == d) ≡ false
-off_both d e off = grind (arith, nat_tests)
-
 others_off : (d e : ℕ) (seats : List Seat) (i : ℕ) (found : Bool) (own : OwnLeaf) → slice_get seats i ≡ Some (At e found own)
     → AllByRecursion (IsElsewhere d) seats → (d == e) ≡ false
 others_off d e [] i found own at off = absurd (cc)
-others_off d e (x ∷ seats) zero found own at off = subst (IsElsewhere d) (some_seat x (At e found own) at) off.0
+others_off d e (x ∷ seats) zero found own at off = subst (IsElsewhere d) (some_same x (At e found own) at) off.0
 others_off d e (x ∷ seats) (suc i) found own at off = others_off d e seats i found own at off.1
 
 pub apart_others : (seats : List Seat) (i d : ℕ) (found : Bool) (own : OwnLeaf) → AreSeatsApart seats → slice_get seats i ≡ Some (At d found own)
     → AllByRecursion (IsElsewhere d) (remove seats i)
 apart_others [] i d found own apart at = absurd (cc)
 apart_others (At e was is ∷ seats) zero d found own apart at =
-    subst (λ n. AllByRecursion (IsElsewhere n) seats) (dev_same (At e was is) (At d found own) (some_seat (At e was is) (At d found own) at)) apart.0
+    subst (λ n. AllByRecursion (IsElsewhere n) seats)
+    (dev_same (At e was is) (At d found own) (some_same (At e was is) (At d found own) at)) apart.0
   where
     dev_of : Seat → ℕ
     dev_of (At n f o) = n
@@ -133,30 +129,23 @@ apart_others (At e was is ∷ seats) zero d found own apart at =
     dev_same : (a b : Seat) → a ≡ b → dev_of a ≡ dev_of b
     dev_same a b e = ap dev_of e
 apart_others (At e was is ∷ seats) (suc i) d found own apart at =
-    (off_both e d (others_off e d seats i found own at apart.0), apart_others seats i d found own apart.1 at)
+    (other_back e d (others_off e d seats i found own at apart.0), apart_others seats i d found own apart.1 at)
 apart_others (Adrift leaf ∷ seats) zero d found own apart at = absurd (cc)
 apart_others (Adrift leaf ∷ seats) (suc i) d found own apart at = (tt, apart_others seats i d found own apart at)
 
-elsewhere_step : (v : Move) (t : Side) (d : ℕ) → IsOfCommit v → AllByRecursion (IsElsewhere d) t.seats → AllByRecursion (IsElsewhere d) (seats_by v t)
-elsewhere_step (Makes noted) t d is all = all
-elsewhere_step (Wrote_key k) t d is all = all
-elsewhere_step Flushed_all t d is all = all
-elsewhere_step (Starts draft) t d is all = all
-elsewhere_step (Copies draft e) t d is all = all
-elsewhere_step (Copied draft e) t d is all = all
-elsewhere_step (Freeze cells board) t d is all = step_elsewhere (Freeze cells board) t.pool d t.seats all
-elsewhere_step Draw t d is all = step_elsewhere Draw t.pool d t.seats all
-elsewhere_step (Widen m low high) t d is all = step_elsewhere (Widen m low high) t.pool d t.seats all
-elsewhere_step (Leave e) t d is all = step_elsewhere (Leave e) t.pool d t.seats all
-elsewhere_step Burn t d is all = step_elsewhere Burn t.pool d t.seats all
-elsewhere_step (Commits draft) t d is all = step_elsewhere (Commits draft) t.pool d t.seats all
-elsewhere_step (Sets m own) t d is all = step_elsewhere (Sets m own) t.pool d t.seats all
-elsewhere_step v t d is all = absurd is
+-- moves that bring no leaf and take none
+pub calm_still : (v : Move) → IsCalm v → IsStill v
+calm_still (Comes i d m top own) is = is
+calm_still (Goes i) is = is
+calm_still (Returns i seat leaf) is = is
+calm_still v is = tt
 
-pub elsewhere_along : (vs : List Move) (t : Side) (d : ℕ) → AllByRecursion IsOfCommit vs → AllByRecursion (IsElsewhere d) t.seats
+pub elsewhere_along : (vs : List Move) (t : Side) (d : ℕ) → AllByRecursion IsCalm vs
+    → AllByRecursion (IsElsewhere d) t.seats
     → AllByRecursion (IsElsewhere d) (after_moves vs t).seats
 elsewhere_along [] t d are all = all
-elsewhere_along (v ∷ vs) t d are all = elsewhere_along vs (after_move v t) d are.1 (elsewhere_step v t d are.0 all)
+elsewhere_along (v ∷ vs) t d are all =
+    elsewhere_along vs (after_move v t) d are.1 (elsewhere_still d v t (calm_still v are.0) all)
 
 -- What the history has of a device, apart from its logs and boards, stays while a group is frozen, and through its end.
 pub record Aside : Type 0 where
@@ -224,30 +213,11 @@ differs guid m n (Adrift leaf ∷ seats) (inl is) others = by_bool (n.0 == m.0)
     (λ same. absurd (let other : (leaf.guid.0 == n.0) ≡ false = others.0 in let yes : (leaf.guid.0 == n.0) ≡ true = grind (arith, nat_tests) in cc)) (λ off. off)
 differs guid m n (seat ∷ seats) (inr has) others = differs guid m n seats has others.1
 
-pub others_map : (v : Move) (p : Pool) (n : Guid) (seats : List Seat) → ((leaf : LeafSeen) → (leaf_step v p.highest p.group.first p.scan.hi leaf).guid ≡ leaf.guid)
-    → ((d : ℕ) (found : Bool) (own : OwnLeaf) → HasOtherNumber p.guid n (At d found own) → HasOtherNumber p.guid n (seat_step v p (At d found own)))
-    → AllByRecursion (HasOtherNumber p.guid n) seats → AllByRecursion (HasOtherNumber p.guid n) (map (seat_step v p) seats)
-others_map v p n seats same stays all = all_map (HasOtherNumber p.guid n) (HasOtherNumber p.guid n) (seat_step v p)
-    (seat_cases (λ seat. HasOtherNumber p.guid n seat → HasOtherNumber p.guid n (seat_step v p seat)) stays
-    (λ leaf is. subst (λ g. (g.0 == n.0) ≡ false) (sym (same leaf)) is)) seats all
-
-set_guid : (m : Guid) (own : OwnLeaf) (t : Bool) (leaf : LeafSeen) → (cond t (record leaf { own = own }) leaf).guid ≡ leaf.guid
-set_guid m own true leaf = refl
-set_guid m own false leaf = refl
-
-others_within : (v : Move) (t : Side) (d : ℕ) → IsWithin v → AllByRecursion (HasOtherNumber t.pool.guid (t.pool.guid d)) t.seats
-    → AllByRecursion (HasOtherNumber (after_move v t).pool.guid ((after_move v t).pool.guid d)) (seats_by v t)
-others_within (Makes noted) t d is all = all
-others_within (Wrote_key k) t d is all = all
-others_within Flushed_all t d is all = all
-others_within (Starts draft) t d is all = all
-others_within (Copies draft e) t d is all = all
-others_within (Copied draft e) t d is all = all
-others_within Draw t d is all = others_map Draw t.pool (t.pool.guid d) t.seats (λ leaf. refl) (λ e found own is. is) all
-others_within (Leave e) t d is all = others_map (Leave e) t.pool (t.pool.guid d) t.seats (λ leaf. refl) (λ x found own is. is) all
-others_within (Widen m low high) t d is all = others_map (Widen m low high) t.pool (t.pool.guid d) t.seats (λ leaf. refl) (λ x found own is. is) all
-others_within (Sets m own) t d is all = others_map (Sets m own) t.pool (t.pool.guid d) t.seats (λ leaf. set_guid m own (leaf.guid.0 == m.0) leaf) (λ x found was is. is) all
-others_within v t d is all = absurd is
+within_still : (v : Move) → IsWithin v → IsStill v
+within_still (Comes i d m top own) is = is
+within_still (Goes i) is = is
+within_still (Returns i seat leaf) is = is
+within_still v is = tt
 
 aside_within : (log settled : ℕ → Bool) (d : ℕ) (v : Move) (t : Side) → IsWithin v → Admits t v
     → AllByRecursion (HasOtherNumber t.pool.guid (t.pool.guid d)) t.seats → AsideIn log settled d t.pool → AsideIn log settled d (after_move v t).pool
@@ -285,7 +255,8 @@ aside_within log settled d v t is ok others a = absurd is
 pub aside_stays : (c : Codec) (log settled : ℕ → Bool) (d : ℕ) (vs : List Move) (t : Side) → Walks c t vs → AllByRecursion IsWithin vs
     → AllByRecursion (HasOtherNumber t.pool.guid (t.pool.guid d)) t.seats → AsideIn log settled d t.pool → AsideIn log settled d (after_moves vs t).pool
 aside_stays c log settled d [] t walks all others a = a
-aside_stays c log settled d (v ∷ vs) t walks all others a = aside_stays c log settled d vs (after_move v t) walks.1 all.1 (others_within v t d all.0 others)
+aside_stays c log settled d (v ∷ vs) t walks all others a = aside_stays c log settled d vs (after_move v t) walks.1
+    all.1 (others_still d v t (within_still v all.0) others)
     (aside_within log settled d v t all.0 walks.0.1 others a)
 
 -- at the freeze

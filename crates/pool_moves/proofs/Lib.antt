@@ -6,9 +6,12 @@ pub mod Drafting
 pub mod FreeWalks
 pub mod FreezeWalks
 pub mod GraftWalks
+pub mod GroupTurns
 pub mod Keeping
+pub mod KindsOfMoves
 pub mod Leaving
 pub mod LineWalks
+pub mod Lists
 pub mod Making
 pub mod Missing
 pub mod Needing
@@ -26,8 +29,8 @@ pub mod ScanEnds
 pub mod ScanSteps
 pub mod Seeing
 pub mod Seeking
-pub mod Shaping
 pub mod StampWalks
+pub mod Tests
 pub mod TreeEdits
 pub mod TreeLeaves
 pub mod TurnWalks

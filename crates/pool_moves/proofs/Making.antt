@@ -11,7 +11,7 @@ use Rattle.pool_moves.specs.Keeping.{IsSeated, IsAway, IsOwnNumber, HasUnder, Ar
 use Rattle.pool_moves.specs.Leaves.{Seat, At, Adrift}
 use Rattle.pool_moves.specs.Making.{HasSeat, IsHere, IsMade}
 use Rattle.pool_moves.specs.States.{PoolState, Side}
-use Rattle.pool_moves.proofs.Keeping.{all_same}
+use Rattle.pool_moves.proofs.Lists.{each}
 
 here_away : (seat : Seat) → IsHere seat → IsAway seat
 here_away (At d found own) is = tt
@@ -35,7 +35,7 @@ made_kept c s t made = record {
   core = made.core;
   apart = made.apart;
   seated = subst (λ p. AllByRecursion (IsSeated p.member) t.seats) (sym made.is) made.seated;
-  away = all_same IsHere IsAway here_away t.seats made.here;
+  away = each here_away t.seats made.here;
   numbered = subst (λ p. (d : ℕ) → p.member d ≡ true → AllByRecursion (IsOwnNumber p.guid d) t.seats) (sym made.is)
       (λ d mine. own_number made.member made.guid made.numbers d mine t.seats made.seated made.here);
   boarded = λ f. absurd (let no : false ≡ true = sym (ap (λ p. p.group.frozen) made.is) ∙ f in cc);

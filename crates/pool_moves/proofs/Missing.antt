@@ -1,7 +1,6 @@
 -- A read is exhausted only where each leaf of the block's top missed it.
-use Rattle.std.proofs.Common.{◌≡◌, inl, inr, ⊎_elim, ℕ, ◌+◌, ◌==◌, ◌&&◌, not, Bool, true, false, cond, Option, Some, None, List, [], ◌∷◌, ◌++◌, map, refl, sym, ap, ◌∙◌, subst, arith, append-nil}
+use Rattle.std.proofs.Common.{◌≡◌, inl, inr, ⊎_elim, ℕ, ◌+◌, ◌&&◌, not, Bool, true, false, cond, Option, Some, None, List, [], ◌∷◌, ◌++◌, map, refl, sym, ap, ◌∙◌, subst, append-nil}
 use Rattle.std.specs.List.{AllByRecursion, filter}
-use Rattle.std.proofs.lemmas.Bool.Decides.{nat_tests}
 use Rattle.sha2.specs.Sha256.{sha256}
 use Rattle.mp_base.specs.Block.{zero_block}
 use Rattle.mp_base.specs.declared.place.Key.{Key}
@@ -25,8 +24,9 @@ use Rattle.pool_moves.specs.Moves.{Move}
 use Rattle.pool_moves.specs.ReadRow.{copy_at, copy_of, stands_under, copies_of, count_reads, RowCopies, Gives, Exhausted, NoAddress, reply_by, ReadRecord, ReadGroup, ReadOpen, RowRead, made_in}
 use Rattle.pool_moves.specs.Showing.{LeafShown, leaf_shown}
 use Rattle.pool_moves.specs.States.{PoolState, Side, seen}
-use Rattle.pool_moves.proofs.Keeping.{all_same}
 use Rattle.pool_moves.proofs.ReadWalks.{IsCopy, IsReadOrWrite, none_heals, read_one, plain_one, hurt_one, copies_on, tried_all, made_calls, sum_of_cell}
+use Rattle.pool_moves.proofs.Lists.{all_front, each}
+use Rattle.pool_moves.proofs.Tests.{same_test, some_same}
 
 -- What a copy's device shows behind the reads of a list: it lacked the block where its leaf doesn't owe it.
 abbrev IsLacked : (sectors : Sectors) → (at : ℕ) → List Noted → CopyOf → Type 0
@@ -58,8 +58,7 @@ none_served c p k cell (copy ∷ more) (noted ∷ made) wrong sv at are answers 
       only = (plain_one noted copy.dev (data_start + cell.sector) fails.bytes (Some fails.fault) call, later.only);
       each = (
         (λ lacks. inl (inl (fails.bytes, fails.fault, call))),
-        all_same (IsLacked (run made (after (Calls noted) p).sectors) (data_start + cell.sector) made)
-            (IsLacked (run made (after (Calls noted) p).sectors) (data_start + cell.sector) (noted ∷ made))
+        each
             (λ x is. lacked_more (run made (after (Calls noted) p).sectors) (data_start + cell.sector) noted made x is) more later.each,
       );
     }
@@ -73,18 +72,13 @@ none_served c p k cell (copy ∷ more) (noted ∷ made) wrong sv at are answers 
       each = (
         (λ lacks. inr (stays_damaged made copy.dev (data_start + cell.sector) (after (Calls noted) p).sectors (none_heals made copy.dev later.only)
             (hurt lacks))),
-        all_same (IsLacked (run made (after (Calls noted) p).sectors) (data_start + cell.sector) made)
-            (IsLacked (run made (after (Calls noted) p).sectors) (data_start + cell.sector) (noted ∷ made))
+        each
             (λ x is. lacked_more (run made (after (Calls noted) p).sectors) (data_start + cell.sector) noted made x is) more later.each,
       );
     }
 none_served c p k cell (copy ∷ more) (noted ∷ made) wrong sv at are answers (inr (inr (bytes, serves, made_is, wrong_is, outcome_is))) = absurd (cc)
 
 -- From the copies that were tried to the leaves.
-all_front : {A : Type 0} (P : A → Type 0) (xs ys : List A) → AllByRecursion P (xs ++ ys) → AllByRecursion P xs
-all_front P [] ys all = tt
-all_front P (x ∷ xs) ys all = (all.0, all_front P xs ys all.1)
-
 unfiltered : {A : Type 0} (P : A → Type 0) (test : A → Bool) (xs : List A) → AllByRecursion P (filter test xs) → AllByRecursion (λ x. test x ≡ true → P x) xs
 unfiltered P test [] all = tt
 unfiltered P test (x ∷ xs) all = by_bool (test x)
@@ -101,15 +95,13 @@ unmapped Q f (x ∷ xs) all = (all.0, unmapped Q f xs all.1)
 due_leaf : (up owes : Bool) → up ≡ true → owes ≡ false → (up && not owes) ≡ true
 due_leaf up owes a b = rw (a, b) refl
 
-under_top : (a b : ℕ) → a ≡ b → (a == b) ≡ true
-under_top a b e = grind (arith, nat_tests)
-
 missed_leaf : (sum : Sum) (made : List Noted) (sectors : Sectors) (leaf : LeafSeen)
     → (stands_under sum.top leaf ≡ true → is_due false (copy_of sum.birth leaf) ≡ true
     → IsLacked sectors (data_start + sum.sector) made (copy_of sum.birth leaf))
     → Missed sum made sectors leaf
 missed_leaf sum made sectors leaf one top up d dev = by_bool (leaf.owes sum.birth) (λ owes. inl owes)
-    (λ has. inr (subst Shows dev (one (under_top leaf.top sum.top top)) (due_leaf (is_up leaf.own.mode) (leaf.owes sum.birth) up has) has))
+    (λ has. inr (subst Shows dev (one (same_test leaf.top sum.top top))
+    (due_leaf (is_up leaf.own.mode) (leaf.owes sum.birth) up has) has))
   where
     Shows : Option ℕ → Type 0
     Shows o = is_due false (copy_at (is_up leaf.own.mode) o (leaf.owes sum.birth)) ≡ true
@@ -117,16 +109,13 @@ missed_leaf sum made sectors leaf one top up d dev = by_bool (leaf.owes sum.birt
 
 missed_leaves : (sum : Sum) (made : List Noted) (sectors : Sectors) (leaves : List LeafSeen)
     → AllByRecursion (IsLacked sectors (data_start + sum.sector) made) (tries (copies_of sum leaves)) → AllByRecursion (Missed sum made sectors) leaves
-missed_leaves sum made sectors leaves all = all_same
-    (λ leaf. stands_under sum.top leaf ≡ true → is_due false (copy_of sum.birth leaf) ≡ true
-    → IsLacked sectors (data_start + sum.sector) made (copy_of sum.birth leaf))
-    (Missed sum made sectors) (λ leaf one. missed_leaf sum made sectors leaf one) leaves
+missed_leaves sum made sectors leaves all = each (λ leaf one. missed_leaf sum made sectors leaf one) leaves
     (unfiltered (λ leaf. is_due false (copy_of sum.birth leaf) ≡ true → IsLacked sectors (data_start + sum.sector) made (copy_of sum.birth leaf))
     (stands_under sum.top) leaves
     (unmapped (λ copy. is_due false copy ≡ true → IsLacked sectors (data_start + sum.sector) made copy) (copy_of sum.birth)
     (filter (stands_under sum.top) leaves)
     (unfiltered (IsLacked sectors (data_start + sum.sector) made) (is_due false) (copies_of sum leaves)
-    (all_front (IsLacked sectors (data_start + sum.sector) made) (filter (is_due false) (copies_of sum leaves))
+    (all_front _ (filter (is_due false) (copies_of sum leaves))
     (filter (is_due true) (copies_of sum leaves)) all))))
 
 -- The calls of an exhausted read are its reads alone.
@@ -163,9 +152,6 @@ exhausted_record : (c : Codec) (s : PoolState) (t : Side) (a : ℕ) (sum : Optio
 exhausted_record c s t a None vs shown kept is answers row = absurd (let no : Exhausted shown ≡ Gives zero_block = row.1 in cc)
 exhausted_record c s t a (Some sum) vs shown kept is answers row = by_outcome (map (leaf_shown row.1.reads) (copies_of sum (seen t).leaves)) row.0 row.1 row.2
   where
-    some_same : (x y : Sum) → Some x ≡ Some y → x ≡ y
-    some_same x y e = cc
-
     by_cell : RowCopies (seen t) sum vs None → (cell : Option Cell) → t.pool.reads.cells (key 0 a) ≡ cell
         → AllMissed (Some sum) (made_in vs) (run (made_in vs) t.pool.sectors) (seen t).leaves
     by_cell row None at = absurd (let no : Some sum ≡ None = is ∙ ap sum_of at in cc)

@@ -1,32 +1,26 @@
 -- A leaf may come online: its walk from its row.
 use Rattle.std.proofs.Common.{◌≡◌, ℕ, ◌+◌, ◌≤◌, nat_le, Bool, true, false, Option, Some, None, List, [], ◌∷◌, ◌++◌, Result, Ok, Err, refl, sym, subst, arith}
-use Rattle.std.proofs.lemmas.Bool.Decides.{nat_tests}
 use Rattle.bank_core.specs.declared.bank.Fault.{Fault}
 use Rattle.bank_core.specs.Disk.{Noted}
 use Rattle.label_store.specs.Identities.{IsSearch}
 use Rattle.txg_history.specs.Pages.{Codec}
 use Rattle.txg_history.specs.Pools.{Pool}
-use Rattle.txg_history.proofs.Folding.{with_calls}
 use Rattle.pool_moves.specs.AwayRows.{leaf_named}
 use Rattle.pool_moves.specs.Keeping.{Kept, Walks}
 use Rattle.pool_moves.specs.Leaves.{LeafSeen}
 use Rattle.pool_moves.specs.LineRows.{IsSized}
-use Rattle.pool_moves.specs.Moves.{Move, Makes, Sets, Finds, steps, after_move, after_moves}
-use Rattle.pool_moves.specs.OnlineRow.{HostDevice, NoneFound, HeldBy, Handed, OnlineReply, Stands, is_away, brought_own, searched_own, SearchEnds, ScansBehind, BringsBack, OnlineRoomy, MarksOnly, OnlineAway, OnlineOn, OnlineBy, RowOnline, FindMembers}
+use Rattle.pool_moves.specs.Moves.{Move, Sets, Finds, steps, after_move, after_moves}
+use Rattle.pool_moves.specs.OnlineRow.{HostDevice, Handed, OnlineReply, Stands, is_away, brought_own, searched_own, SearchEnds, ScansBehind, BringsBack, OnlineRoomy, MarksOnly, OnlineAway, OnlineOn, OnlineBy, RowOnline, FindMembers}
 use Rattle.pool_moves.specs.OpeningRow.{AreWholeReads}
 use Rattle.pool_moves.specs.ReadRow.{made_in}
 use Rattle.pool_moves.specs.States.{PoolState, Side}
 use Rattle.pool_moves.specs.Walking.{as_moves}
-use Rattle.pool_moves.proofs.FreeWalks.{walks_more}
+use Rattle.pool_moves.proofs.FreeWalks.{walks_more, calls_pool}
 use Rattle.pool_moves.proofs.Keeping.{walk_keeps}
 use Rattle.pool_moves.proofs.ReadWalks.{calls_walk}
 use Rattle.pool_moves.proofs.ResilverWalks.{resilver_walks}
 use Rattle.pool_moves.proofs.Seeking.{reads_may, search_reads, search_home}
-
--- behind calls the members are as they were
-calls_pool : (made : List Noted) (t : Side) → (after_moves (as_moves made) t).pool ≡ with_calls made t.pool
-calls_pool [] t = refl
-calls_pool (noted ∷ made) t = calls_pool made (after_move (Makes noted) t)
+use Rattle.pool_moves.proofs.Tests.{le_of}
 
 finds_first : (p : Pool) (made : List Noted) (vs ws : List Move) → FindMembers p ((as_moves made ++ vs) ++ ws) → FindMembers p (vs ++ ws)
 finds_first p [] vs ws all = all
@@ -91,9 +85,6 @@ online_roomy c true size s t leaf d vs reply kept same is row whole members =
   where
     some_of : (room n : ℕ) → nat_le (room + 256) n ≡ true → 1 ≤ n
     some_of room n e = let le : room + 256 ≤ n = le_of (room + 256) n e in omega (arith, le)
-      where
-        le_of : (a b : ℕ) → nat_le a b ≡ true → a ≤ b
-        le_of a b e = grind (arith, nat_tests)
 
 marks_walk : (c : Codec) (s : PoolState) (t : Side) (leaf : LeafSeen) (vs : List Move) (reply : OnlineReply) → Kept c s t → MarksOnly s leaf vs reply
     → Walks c t vs
@@ -114,10 +105,9 @@ online_away c true size s t leaf d vs reply kept same row whole members =
 online_on : (c : Codec) (device : HostDevice) (size : ℕ → ℕ) (s : PoolState) (t : Side) (leaf : LeafSeen) (vs : List Move) (reply : OnlineReply)
     → Kept c s t → IsSized size t
     → OnlineOn device size s leaf vs reply → AreWholeReads t.pool (made_in vs) → FindMembers t.pool vs → Walks c t vs
-online_on c NoneFound size s t leaf vs reply kept same row whole members = subst (Walks c t) (sym row.0) tt
-online_on c (HeldBy by) size s t leaf vs reply kept same row whole members = subst (Walks c t) (sym row.0) tt
 online_on c (Handed d) size s t leaf vs reply kept same row whole members = online_away c (is_away leaf.own.mode) size s t leaf d vs reply kept same
     row whole members
+online_on c device size s t leaf vs reply kept same row whole members = subst (Walks c t) (sym row.0) tt
 
 online_by : (c : Codec) (found : Option LeafSeen) (size : ℕ → ℕ) (s : PoolState) (t : Side) (listed : Bool) (device : HostDevice) (vs : List Move)
     (reply : OnlineReply) → Kept c s t → IsSized size t

@@ -1,5 +1,5 @@
 -- Behind an opening each leaf of the record has a seat: where it was found, at the member of its number, or at none.
-use Rattle.std.proofs.Common.{◌≡◌, inl, inr, ℕ, ◌<◌, ◌≤◌, ◌==◌, ◌&&◌, ◌||◌, Bool, true, false, cond, Option, Some, None, List, [], ◌∷◌, map, refl, sym, ap, ◌∙◌, subst, arith}
+use Rattle.std.proofs.Common.{◌≡◌, inl, inr, ℕ, ◌<◌, ◌≤◌, ◌==◌, ◌&&◌, Bool, true, false, cond, Option, Some, None, List, [], ◌∷◌, map, refl, sym, ap, ◌∙◌, subst, arith}
 use mathlib.Core.Path.{fun_ext}
 use Rattle.std.specs.List.{AllByRecursion}
 use Rattle.std.proofs.lemmas.Bool.Decides.{nat_tests}
@@ -15,7 +15,9 @@ use Rattle.pool_moves.specs.Keeping.{IsElsewhere, AreSeatsApart, IsAway, IsSeate
 use Rattle.pool_moves.specs.Leaves.{OwnLeaf, LeafSeen, Seat, At, Adrift, Told, leaf_seen}
 use Rattle.pool_moves.specs.Opened.{HasKept, AreNumbersApart, AreValidLeaves, opened_own, opened_leaf, opened_leaves, seat_unfound, opened_seat, opened_seats, claims_of}
 use Rattle.pool_moves.specs.Rosters.{IsRoster, member_of}
-use Rattle.pool_moves.proofs.Rosters.{same_here, both_true, found_member, no_member}
+use Rattle.pool_moves.proofs.Rosters.{found_member, no_member}
+use Rattle.pool_moves.proofs.Tests.{here, other_back, same_guid, same_back}
+use Rattle.std.proofs.lemmas.Bool.{and_from, or_right, or_left}
 
 all_two : {A : Type 0} (P Q R : A → Type 0) → ((x : A) → P x → Q x → R x) → (xs : List A) → AllByRecursion P xs → AllByRecursion Q xs → AllByRecursion R xs
 all_two P Q R one [] a b = tt
@@ -87,19 +89,6 @@ AreSeatsOf p [] (seat ∷ seats) = ⊥
 AreSeatsOf p (leaf ∷ leaves) [] = ⊥
 AreSeatsOf p (leaf ∷ leaves) (seat ∷ seats) = IsSeatOf p leaf seat × AreSeatsOf p leaves seats
 
-same_guid : (a b : Guid) → (a.0 == b.0) ≡ true → a ≡ b
-same_guid a b is = let at : ℕ → Guid = λ n. record { 0 = n } in ap at (same_device a.0 b.0 is)
-
-turned : (a b : Guid) → (a.0 == b.0) ≡ false → (b.0 == a.0) ≡ false
-turned a b off = grind (arith, nat_tests)
-
-or_first : (t u : Bool) → t ≡ true → (t || u) ≡ true
-or_first t u is = rw is refl
-
-or_second : (t u : Bool) → u ≡ true → (t || u) ≡ true
-or_second true u is = refl
-or_second false u is = is
-
 seat_is : (p : Pool) (r : Rec) (roster : List ℕ) (leaf : LeafKept) (dev : Option ℕ) → IsRoster p roster
     → ((d : ℕ) → dev ≡ Some d → (p.member d ≡ true) × (p.guid d ≡ leaf.guid))
     → IsSeatOf p leaf (opened_seat p roster leaf dev)
@@ -108,7 +97,7 @@ seat_is p r roster leaf None ros home = by (member_of p roster leaf.guid) refl
   where
     by : (found : Option ℕ) → member_of p roster leaf.guid ≡ found → IsSeatOf p leaf (seat_unfound found leaf)
     by (Some d) is = let m = found_member p roster leaf.guid d is in (m.0, same_guid (p.guid d) leaf.guid m.1)
-    by None is = (refl, λ d mine. turned (p.guid d) leaf.guid (no_member p roster leaf.guid ros is d mine))
+    by None is = (refl, λ d mine. other_back (p.guid d).0 leaf.guid.0 (no_member p roster leaf.guid ros is d mine))
 
 pub seats_are : (p : Pool) (r : Rec) (roster : List ℕ) (leaves : List LeafKept) (devs : List (Option ℕ)) → IsRoster p roster
     → AllByRecursion (IsIn r.tops r.owes) leaves → ArePaired leaves devs
@@ -119,12 +108,14 @@ seats_are p r roster (leaf ∷ leaves) [] ros all pairs home = absurd pairs
 seats_are p r roster (leaf ∷ leaves) (dev ∷ devs) ros all pairs home = (
   seat_is p r roster leaf dev ros (λ d is. home d leaf.guid (claimed d is) (subst (λ n. 1 ≤ n) (sym all.0.top_is) all.0.under)),
   seats_are p r roster leaves devs ros all.1 pairs
-      (λ d m claim top. home d m (or_second (is_dev d dev && (leaf.guid.0 == m.0)) (claims_of leaves devs d m) claim) top),
+      (λ d m claim top. home d m (or_right (is_dev d dev && (leaf.guid.0 == m.0)) (claims_of leaves devs d m) claim)
+      top),
 )
   where
     claimed : (d : ℕ) → dev ≡ Some d → claims_of (leaf ∷ leaves) (dev ∷ devs) d leaf.guid ≡ true
-    claimed d is = or_first (is_dev d dev && (leaf.guid.0 == leaf.guid.0)) (claims_of leaves devs d leaf.guid)
-        (both_true (is_dev d dev) (leaf.guid.0 == leaf.guid.0) (subst (λ x. is_dev d x ≡ true) (sym is) (same_here d)) (one_number leaf.guid))
+    claimed d is = or_left (is_dev d dev && (leaf.guid.0 == leaf.guid.0)) (claims_of leaves devs d leaf.guid)
+        (and_from (is_dev d dev) (leaf.guid.0 == leaf.guid.0) (subst (λ x. is_dev d x ≡ true) (sym is) (here d))
+        (one_number leaf.guid))
 
 -- What is so of the seats.
 pub opened_seated : (p : Pool) (leaves : List LeafKept) (seats : List Seat) → AreSeatsOf p leaves seats → AllByRecursion (IsSeated p.member) seats
@@ -177,12 +168,10 @@ opened_numbered p roster [] [] d ros are mine = tt
 opened_numbered p roster [] (seat ∷ seats) d ros are mine = absurd are
 opened_numbered p roster (leaf ∷ leaves) [] d ros are mine = absurd are
 opened_numbered p roster (leaf ∷ leaves) (At e found own ∷ seats) d ros are mine = (
-  by_bool ((p.guid e).0 == (p.guid d).0) (λ same. inl (turn e d (ros.numbers e d are.0.0 mine same))) (λ other. inr other),
+  by_bool ((p.guid e).0 == (p.guid d).0) (λ same. inl (same_back e d (ros.numbers e d are.0.0 mine same)))
+      (λ other. inr other),
   opened_numbered p roster leaves seats d ros are.1 mine,
 )
-  where
-    turn : (a b : ℕ) → (a == b) ≡ true → (b == a) ≡ true
-    turn a b is = grind (arith, nat_tests)
 opened_numbered p roster (leaf ∷ leaves) (Adrift other ∷ seats) d ros are mine =
     (subst (λ m. (m.0 == (p.guid d).0) ≡ false) (sym (ap (λ l. l.guid) are.0.0)) (are.0.1 d mine), opened_numbered p roster leaves seats d ros are.1 mine)
 

@@ -3,7 +3,7 @@
 use Rattle.std.proofs.Common.{◌≡◌, ◌⊎◌, inl, inr, ⊎_elim, ℕ, zero, suc, ◌+◌, ◌*◌, ◌/◌, ◌%◌, ◌≤◌, ◌<◌, ◌==◌, ◌&&◌, ◌||◌, not, Bool, true, false, cond, Option, Some, None, List, [], ◌∷◌, ◌++◌, refl, sym, ap, ◌∙◌, subst, append_assoc, arith}
 use mathlib.Core.Path.{fun_ext}
 use Rattle.std.specs.List.{AllByRecursion}
-use Rattle.std.proofs.lemmas.Bool.{and_parts}
+use Rattle.std.proofs.lemmas.Bool.{and_parts, or_right}
 use Rattle.std.proofs.lemmas.Bool.Decides.{nat_tests}
 use Rattle.mp_base.specs.declared.number.Guid.{Guid}
 use Rattle.mp_base.specs.declared.place.Key.{Key}
@@ -34,10 +34,11 @@ use Rattle.pool_moves.specs.Rosters.{IsRoster}
 use Rattle.pool_moves.specs.States.{Sums, sums, no_group_seen, no_scan_seen, PoolSeen, PoolState, Side, seen}
 use Rattle.pool_moves.proofs.OpenedSeats.{IsIn as IsKeptIn, kept_in_record, AreSeatsOf, seats_are, opened_seated, opened_away, opened_apart, opened_below, opened_numbered, opened_topped, seats_seen}
 use Rattle.pool_moves.proofs.PagesBack.{of_volume_or, volume_width, below_known, known_right, before_more, not_before_itself, read_to_fewer, read_to_page, clash_of_more, above_before, closed_before}
-use Rattle.pool_moves.proofs.PageTurns.{tried_reads, IsTrueLeaf, IsOn, on_behind, IsRightTurn, answers_behind, cell_of, turn_may, turns_may, stop_may, stop_never}
+use Rattle.pool_moves.proofs.PageTurns.{tried_reads, IsTrueLeaf, IsOn, on_behind, IsRightTurn, turn_may, turns_may, stop_may, stop_never}
 use Rattle.pool_moves.specs.Walking.{as_moves}
-use Rattle.pool_moves.proofs.ReadWalks.{answers_front, calls_walk, sum_of_cell}
+use Rattle.pool_moves.proofs.ReadWalks.{calls_walk, sum_of_cell, sum_cell}
 use Rattle.pool_moves.proofs.Seeking.{reads_may, sought_reads, sought_paired}
+use Rattle.txg_history.proofs.LookedParts.{answer_first, answer_second}
 
 -- What the configuration says of the record.
 config_tells : (c : Codec) (p : Pool) (r : Rec) (found : Found) → Survives c p → IsLiveOne p found r → Fits c p.name p.pool p.room r
@@ -55,13 +56,11 @@ true_leaves p r (leaf ∷ leaves) (dev ∷ devs) all home = (
     top_is = λ d at. ap r.tops (mine d at).1 ∙ all.0.top_is;
     log_is = λ d g at. ap (λ m. r.owes m g) (mine d at).1 ∙ ap (λ f. f g) all.0.log_is;
   },
-  true_leaves p r leaves devs all.1 (λ d m claim top. home d m (or_second (is_dev d dev && (leaf.guid.0 == m.0)) (claims_of leaves devs d m) claim) top),
+  true_leaves p r leaves devs all.1
+      (λ d m claim top. home d m (or_right (is_dev d dev && (leaf.guid.0 == m.0)) (claims_of leaves devs d m) claim)
+      top),
 )
   where
-    or_second : (t u : Bool) → u ≡ true → (t || u) ≡ true
-    or_second true u is = refl
-    or_second false u is = is
-
     claimed : (d : ℕ) → dev ≡ Some d → claims_of (leaf ∷ leaves) (dev ∷ devs) d leaf.guid ≡ true
     claimed d is = subst (λ x. ((is_dev d x && (leaf.guid.0 == leaf.guid.0)) || claims_of leaves devs d leaf.guid) ≡ true) (sym is)
         (let one : (d == d) ≡ true = grind (arith, nat_tests) in let two : (leaf.guid.0 == leaf.guid.0) ≡ true = grind (arith, nat_tests) in rw (one, two) refl)
@@ -140,7 +139,8 @@ module _ (c : Codec) (size : ℕ → ℕ) (handed : List ℕ → Option ℕ) (na
   }
 
   pages_answer : AllAnswer behind.sectors (page_calls o.row)
-  pages_answer = answers_behind o.row.ids (page_calls o.row) p.sectors (subst (AllAnswer p.sectors) o.row.calls o.answers)
+  pages_answer = answer_second o.row.ids (page_calls o.row) p.sectors
+      (subst (AllAnswer p.sectors) o.row.calls o.answers)
 
   -- where the pages' calls may be made, all may
   all_may : Mays c behind (as_events (page_calls o.row)) → Mays c q (as_events made)
@@ -193,7 +193,8 @@ module _ (c : Codec) (size : ℕ → ℕ) (handed : List ℕ → Option ℕ) (na
   map_may : ReadsMap x o.row.turns → o.row.last ≡ [] → ((k : Key) → x.got k ≡ sum_of (r.cells k)) → Mays c q (as_events made) ⊎ ClashesAt r.cells x.found
   map_may reads none right = ⊎_elim (λ may. inl (all_may (subst (λ l. Mays c behind (as_events (turned ++ l))) (sym none)
       (subst (Mays c behind) (sym (events_more turned [])) (mays_calls c turned [] behind may tt))))) (λ clash. inr clash)
-      (turns_may x r behind o.row.turns on reads.each (all_right o.row.turns) (answers_front turned o.row.last behind.sectors pages_answer))
+      (turns_may x r behind o.row.turns on reads.each (all_right o.row.turns)
+      (answer_first turned o.row.last behind.sectors pages_answer))
     where
       turned : List Noted
       turned = calls_of_turns o.row.turns
@@ -328,12 +329,12 @@ module _ (c : Codec) (size : ℕ → ℕ) (handed : List ℕ → Option ℕ) (na
   turns_each (turn ∷ turns) p1 each backs has answers reads = (
     reads_may c p1 turn.reads (tried_reads (data_start + each.0.sum.sector) (IsPageHere x turn.level turn.index each.0.sum)
         (tries (copies_of each.0.sum x.leaves)) turn.reads turn.wrong (Some each.0.bytes) each.0.tried),
-    λ none. let may = turn_when turn p1 each.0 backs.0 has (answers_front mine (calls_of_turns turns) p1.sectors
-        (answers_front (mine ++ calls_of_turns turns) o.row.last p1.sectors answers)) none in (
+    λ none. let may = turn_when turn p1 each.0 backs.0 has (answer_first mine (calls_of_turns turns) p1.sectors
+        (answer_first (mine ++ calls_of_turns turns) o.row.last p1.sectors answers)) none in (
           mays_second c (as_events turn.reads) (as_events turn.rewrites) p1 (subst (Mays c p1) (events_more turn.reads turn.rewrites) may),
           subst (λ u. MayTurns c u r.cells x.found turns o.row.last) end_is
               (turns_each turns (with_calls mine p1) each.1 backs.1 (on_behind x r p1 mine has may)
-              (answers_behind mine (calls_of_turns turns ++ o.row.last) p1.sectors
+              (answer_second mine (calls_of_turns turns ++ o.row.last) p1.sectors
               (subst (AllAnswer p1.sectors) (append_assoc mine (calls_of_turns turns) o.row.last) answers)) reads),
         ),
   )
@@ -377,13 +378,13 @@ module _ (c : Codec) (size : ℕ → ℕ) (handed : List ℕ → Option ℕ) (na
 
     first_may : AreRightTo level index st.back → Mays c behind (as_events turned) ⊎ ClashesAt r.cells x.found
     first_may right = turns_may x r behind o.row.turns on st.each (turns_right level index st.back right o.row.turns st.each st.before)
-        (answers_front turned o.row.last behind.sectors pages_answer)
+        (answer_first turned o.row.last behind.sectors pages_answer)
 
     abbrev stopped : Pool
     stopped = with_calls turned behind
 
     reads_answer : AllAnswer stopped.sectors o.row.last
-    reads_answer = answers_behind turned o.row.last behind.sectors pages_answer
+    reads_answer = answer_second turned o.row.last behind.sectors pages_answer
 
     right_here : AreRightTo level index st.back → IsRightTurn x r level index
     right_here right = stop_turn level index st.back right st.sum st.low st.sum_is
@@ -425,7 +426,7 @@ module _ (c : Codec) (size : ℕ → ℕ) (handed : List ℕ → Option ℕ) (na
         failed_second (noted ∷ first) second is = failed_second first second (or_last (is_failed_read at d noted.call) (failed_at at (first ++ second) d) is)
 
     cell_here : AreRightTo level index st.back → (cell : Cell) × (r.cells (key (suc level) index) ≡ Some cell) × (sum_of_cell cell ≡ st.sum)
-    cell_here right = cell_of (r.cells (key (suc level) index)) st.sum (sym (right_here right).pointer ∙ st.sum_is)
+    cell_here right = sum_cell (r.cells (key (suc level) index)) st.sum (sym (right_here right).pointer ∙ st.sum_is)
 
     stopped_lost : IsLostPage (pool_after (as_events made) q) r (key (suc level) index) (answers_in x.leaves (page_calls o.row)) ⊎ ClashesAt r.cells x.found
     stopped_lost = ⊎_elim (λ right. ⊎_elim (λ may. let cell = cell_here right in inl (record {

@@ -5,7 +5,7 @@ use Rattle.std.proofs.lemmas.Bool.{and_parts}
 use Rattle.std.proofs.lemmas.Bool.Decides.{nat_tests}
 use Rattle.mp_base.specs.declared.place.Key.{Key}
 use Rattle.bank_core.specs.declared.bank.Fault.{Fault}
-use Rattle.bank_core.specs.Disk.{Read, Noted, Sectors, Answers, AllAnswer, as_found, run}
+use Rattle.bank_core.specs.Disk.{Read, Noted, Answers, AllAnswer, as_found, run}
 use Rattle.label_store.specs.Newest.{IsRead, AreReads}
 use Rattle.mirror_io.specs.declared.copies.CopyOf.{CopyOf}
 use Rattle.mirror_io.specs.Copies.{is_due, tries}
@@ -29,9 +29,11 @@ use Rattle.txg_history.specs.Groups.{Logs}
 use Rattle.pool_moves.specs.FreezeRow.{is_dev, up_devs}
 use Rattle.pool_moves.specs.Leaves.{LeafSeen}
 use Rattle.pool_moves.specs.ReadRow.{copy_at, copy_of, stands_under, copies_of}
-use Rattle.pool_moves.proofs.FreeWalks.{all_append}
 use Rattle.pool_moves.proofs.PagesBack.{same_bytes_or, IsReadOf, page_here}
-use Rattle.pool_moves.proofs.ReadWalks.{IsCopy, IsHurt, IsReadOrWrite, none_heals, AreRead, read_one, plain_one, heals_may, all_filter, answers_front, sum_of_cell}
+use Rattle.pool_moves.proofs.ReadWalks.{IsCopy, IsHurt, IsReadOrWrite, none_heals, AreRead, read_one, plain_one, heals_may, sum_of_cell, sum_cell}
+use Rattle.pool_moves.proofs.Lists.{all_append, all_filter}
+use Rattle.pool_moves.proofs.Tests.{same_test, some_same}
+use Rattle.txg_history.proofs.LookedParts.{answer_first, answer_second}
 
 -- Reads of copies, by what bytes are good: the record's own block always is.
 hurt_by : (c : Codec) (p : Pool) (k : Key) (cell : Cell) (copy : CopyOf) (noted : Noted) (bytes : List ℕ) → Survives c p
@@ -109,9 +111,6 @@ tried_good at Good (copy ∷ more) (noted ∷ made) wrong bytes (inl (fails, res
 tried_good at Good (copy ∷ more) (noted ∷ made) wrong bytes (inr (inl (others, found, gave, wrong_is, rest))) = tried_good at Good more made others bytes rest
 tried_good at Good (copy ∷ more) (noted ∷ made) wrong bytes (inr (inr (found, gave, made_is, wrong_is, outcome_is))) =
     subst Good (some_same found bytes (sym outcome_is)) gave.is
-  where
-    some_same : (a b : List ℕ) → Some a ≡ Some b → a ≡ b
-    some_same a b e = cc
 
 -- and all calls are reads
 pub tried_reads : (at : ℕ) (Good : List ℕ → Type 0) (copies : List CopyOf) (made : List Noted) (wrong : List CopyOf) (outcome : Option (List ℕ))
@@ -187,27 +186,16 @@ tried_copies : (member : ℕ → Bool) (in_top : ℕ → ℕ) (owes : Logs) (cel
 tried_copies member in_top owes cell leaves all =
     let copies = copies_of (sum_of_cell cell) leaves in
     let are = copies_are member in_top owes cell leaves all in
-    all_append (IsCopy member in_top owes cell) (filter (is_due false) copies) (filter (is_due true) copies)
-    (all_filter (CopyIs member in_top owes cell) (IsCopy member in_top owes cell) (is_due false)
+    all_append _ (filter (is_due false) copies) (filter (is_due true) copies)
+    (all_filter (is_due false)
     (λ copy is due. is (and_parts copy.readable (not copy.lacks) due).0) copies are)
-    (all_filter (CopyIs member in_top owes cell) (IsCopy member in_top owes cell) (is_due true)
+    (all_filter (is_due true)
     (λ copy is due. is (and_parts copy.readable copy.lacks due).0) copies are)
 
 -- The pointer of a page, and what is known before it is read, are right.
 pub record IsRightTurn (x : Reading) (r : Rec) (level index : ℕ) : Type 0 where
   pub pointer : x.got (key (suc level) index) ≡ sum_of (r.cells (key (suc level) index))
   pub known : (k : Key) → IsKnown (λ above. is_read_before above (key (suc level) index)) k → x.got k ≡ sum_of (r.cells k)
-
-pub answers_behind : (made more : List Noted) (sectors : Sectors) → AllAnswer sectors (made ++ more) → AllAnswer (run made sectors) more
-answers_behind [] more sectors all = all
-answers_behind (noted ∷ made) more sectors all = answers_behind made more (run (noted ∷ []) sectors) all.1
-
-pub cell_of : (cell : Option Cell) (sum : Sum) → sum_of cell ≡ Some sum → (c : Cell) × (cell ≡ Some c) × (sum_of_cell c ≡ sum)
-cell_of None sum is = absurd (cc)
-cell_of (Some c) sum is = (c, refl, same is)
-  where
-    same : {a b : Sum} → Some a ≡ Some b → a ≡ b
-    same e = cc
 
 -- One page: it may be read and its wrong copies rewritten, or its bytes clash.
 pub turn_may : (x : Reading) (r : Rec) (p : Pool) (turn : PageTurn) (found : Key → Option (List ℕ)) → IsOn x r p → (is : IsPageTurn x turn)
@@ -216,7 +204,7 @@ pub turn_may : (x : Reading) (r : Rec) (p : Pool) (turn : PageTurn) (found : Key
 turn_may x r p turn found on is here right answers = subst Goal cell.2 whole is.tried is.healed
   where
     cell : (c : Cell) × (r.cells (page_of turn) ≡ Some c) × (sum_of_cell c ≡ is.sum)
-    cell = cell_of (r.cells (page_of turn)) is.sum (sym right.pointer ∙ is.sum_is)
+    cell = sum_cell (r.cells (page_of turn)) is.sum (sym right.pointer ∙ is.sum_is)
 
     Goal : Sum → Type 0
     Goal sum = AreTried (data_start + sum.sector) (IsPageHere x turn.level turn.index sum) (tries (copies_of sum x.leaves)) turn.reads turn.wrong
@@ -251,7 +239,8 @@ turn_may x r p turn found on is here right answers = subst Goal cell.2 whole is.
         are : AreRead x.codec p cell.0 turn.reads turn.wrong
         are = tried_read x.codec p (page_of turn) cell.0 (IsPageHere x turn.level turn.index (sum_of_cell cell.0))
             (tries (copies_of (sum_of_cell cell.0) x.leaves)) turn.reads turn.wrong (Some is.bytes) good
-            on.of.survives at (tried_copies p.member p.in_top p.owes cell.0 x.leaves on.leaves) (answers_front turn.reads turn.rewrites p.sectors answers) tried
+            on.of.survives at (tried_copies p.member p.in_top p.owes cell.0 x.leaves on.leaves)
+            (answer_first turn.reads turn.rewrites p.sectors answers) tried
 
         survives : Survives x.codec (with_calls turn.reads p)
         survives = subst (Survives x.codec) (calls_after turn.reads p) (history_survives x.codec (as_events turn.reads) p on.of.survives are.may)
@@ -266,9 +255,10 @@ turns_may x r p (turn ∷ turns) on each right answers = ⊎_elim
     (mays_calls x.codec (turn.reads ++ turn.rewrites) (as_events (calls_of_turns turns)) p may more)))
     (λ clash. inr clash)
     (turns_may x r (with_calls (turn.reads ++ turn.rewrites) p) turns (on_behind x r p (turn.reads ++ turn.rewrites) on may) each.1 right.1
-    (answers_behind (turn.reads ++ turn.rewrites) (calls_of_turns turns) p.sectors answers)))
+    (answer_second (turn.reads ++ turn.rewrites) (calls_of_turns turns) p.sectors answers)))
     (λ clash. inr clash)
-    (turn_may x r p turn x.found on each.0 each.0.bytes_are right.0 (answers_front (turn.reads ++ turn.rewrites) (calls_of_turns turns) p.sectors answers))
+    (turn_may x r p turn x.found on each.0 each.0.bytes_are right.0
+    (answer_first (turn.reads ++ turn.rewrites) (calls_of_turns turns) p.sectors answers))
 
 -- A page none of whose copies is good.
 pub stop_may : (x : Reading) (r : Rec) (p : Pool) (level index : ℕ) (sum : Sum) (reads : List Noted) (wrong : List CopyOf)
@@ -283,7 +273,7 @@ stop_may x r p level index sum reads wrong outcome on low sum_is right answers t
     (tried_copies p.member p.in_top p.owes cell.0 x.leaves on.leaves) answers tried).may) tried
   where
     cell : (c : Cell) × (r.cells (key (suc level) index) ≡ Some c) × (sum_of_cell c ≡ sum)
-    cell = cell_of (r.cells (key (suc level) index)) sum (sym right.pointer ∙ sum_is)
+    cell = sum_cell (r.cells (key (suc level) index)) sum (sym right.pointer ∙ sum_is)
 
     Goal : Sum → Type 0
     Goal sum = AreTried (data_start + sum.sector) (IsPageHere x level index sum) (tries (copies_of sum x.leaves)) reads wrong outcome
@@ -350,14 +340,11 @@ due_copy : (cell : Cell) (d : ℕ) (leaves : List LeafSeen) → HasDue cell.top 
     → HasCopy d (filter (is_due false) (copies_of (sum_of_cell cell) leaves))
 due_copy cell d [] has = absurd has
 due_copy cell d (leaf ∷ leaves) (inl is) =
-    let under : stands_under cell.top leaf ≡ true = same_top leaf.top cell.top is.2 in
+    let under : stands_under cell.top leaf ≡ true = same_test leaf.top cell.top is.2 in
     subst (λ t. HasCopy d (filter (is_due false)
     (map (copy_of cell.birth) (cond t (leaf ∷ filter (stands_under cell.top) leaves) (filter (stands_under cell.top) leaves))))) (sym under)
     (of (copy_of cell.birth leaf) (copy_shape leaf is.0 is.1 is.3))
   where
-    same_top : (a b : ℕ) → a ≡ b → (a == b) ≡ true
-    same_top a b e = grind (arith, nat_tests)
-
     Shape : CopyOf → Type 0
     Shape copy = (copy.dev ≡ d) × (copy.lacks ≡ false) × (copy.readable ≡ true)
 
@@ -413,7 +400,7 @@ pub stop_never : (x : Reading) (r : Rec) (p : Pool) (level index : ℕ) (sum : S
 stop_never x r p level index sum reads wrong answering on low sum_is right answers tried up goods = subst Goal cell.2 whole tried up
   where
     cell : (c : Cell) × (r.cells (key (suc level) index) ≡ Some c) × (sum_of_cell c ≡ sum)
-    cell = cell_of (r.cells (key (suc level) index)) sum (sym right.pointer ∙ sum_is)
+    cell = sum_cell (r.cells (key (suc level) index)) sum (sym right.pointer ∙ sum_is)
 
     good : HasGoodLeaf (with_calls reads p) r cell.0 answering
     good = goods cell.0 cell.1

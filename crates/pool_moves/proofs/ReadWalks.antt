@@ -36,8 +36,11 @@ use Rattle.pool_moves.specs.ReadRow.{copy_at, copy_of, stands_under, copies_of, 
 use Rattle.pool_moves.specs.Showing.{LeafShown, leaf_shown}
 use Rattle.pool_moves.specs.States.{group_seen, PoolState, Side, seen}
 use Rattle.pool_moves.specs.Walking.{as_moves}
-use Rattle.pool_moves.proofs.FreeWalks.{walks_more, all_append}
+use Rattle.pool_moves.proofs.FreeWalks.{walks_more}
 use Rattle.pool_moves.proofs.LineWalks.{IsSet, sets_walk}
+use Rattle.pool_moves.proofs.Lists.{all_append, all_filter}
+use Rattle.pool_moves.proofs.Tests.{some_same}
+use Rattle.txg_history.proofs.LookedParts.{answer_first}
 
 -- A read is always allowed.
 pub read_sparing : (p : Pool) (d at : ℕ) (bytes : List ℕ) (fault : Option Fault) → IsSparing p (Read d at bytes fault)
@@ -74,9 +77,7 @@ none_heals (noted ∷ made) d all = (one noted.call all.0, none_heals made d all
     one : (call : Call) → IsReadOrWrite call → heals call d ≡ false
     one (Read e at bytes fault) is = refl
     one (Write e at bytes fault) is = refl
-    one (Flush e fault) is = absurd is
-    one (Admit e holds) is = absurd is
-    one (Eject e) is = absurd is
+    one call is = absurd is
 
 -- what the reads of some copies may do and leave
 pub record AreRead (c : Codec) (p : Pool) (cell : Cell) (made : List Noted) (wrong : List CopyOf) : Type 0 where
@@ -136,11 +137,8 @@ copies_read c p k cell (copy ∷ more) (noted ∷ made) wrong outcome sv at are 
 
 -- a call that asked for a write is one
 pub write_call : (call : Call) (d at : ℕ) (bytes : List ℕ) → ask_of call ≡ Writes d at bytes → (fault : Option Fault) × (call ≡ Write d at bytes fault)
-write_call (Read e from found fault) d at bytes is = absurd (cc)
 write_call (Write e from found fault) d at bytes is = (fault, let a : e ≡ d = cc in let b : from ≡ at = cc in let c : found ≡ bytes = cc in ap (λ x. Write x from found fault) a ∙ (ap (λ x. Write d x found fault) b ∙ ap (λ x. Write d at x fault) c))
-write_call (Flush e fault) d at bytes is = absurd (cc)
-write_call (Admit e holds) d at bytes is = absurd (cc)
-write_call (Eject e) d at bytes is = absurd (cc)
+write_call call d at bytes is = absurd (cc)
 
 -- The rewriting of the wrong ones.
 healed_rest : (cell : Cell) (p : Pool) (noted : Noted) → IsReadOrWrite noted.call → (wrong : List CopyOf) → AllByRecursion (IsHurt cell p.sectors) wrong
@@ -175,14 +173,6 @@ heals_may c p k cell (copy ∷ wrong) made sv at are hurt asks = by_bool copy.la
     (λ noted made plain sv asks. heals_may c (after (Calls noted) p) k cell wrong made sv at are.1 (healed_rest cell p noted plain wrong hurt.1) asks))
 
 -- The copies on the leaves of a top.
-pub all_filter : {A : Type 0} (P Q : A → Type 0) (test : A → Bool) → ((x : A) → P x → test x ≡ true → Q x) → (xs : List A) → AllByRecursion P xs → AllByRecursion Q (filter test xs)
-all_filter P Q test one [] all = tt
-all_filter P Q test one (x ∷ xs) all = step (all_filter P Q test one xs all.1) (test x) refl
-  where
-    step : AllByRecursion Q (filter test xs) → (t : Bool) → test x ≡ t → AllByRecursion Q (cond t (x ∷ filter test xs) (filter test xs))
-    step rest true is = (one x all.0 is, rest)
-    step rest false is = rest
-
 abbrev pub IsReadable : Pool → Cell → CopyOf → Type 0
 IsReadable p cell copy = copy.readable ≡ true → IsCopy p.member p.in_top p.owes cell copy
 
@@ -205,9 +195,9 @@ copies_on p cell f r (seat ∷ seats) away seated = step (copies_on p cell f r s
     step rest false is = rest
 
 pub tried_all : (p : Pool) (cell : Cell) (copies : List CopyOf) → AllByRecursion (IsReadable p cell) copies → AllByRecursion (IsCopy p.member p.in_top p.owes cell) (tries copies)
-tried_all p cell copies all = all_append (IsCopy p.member p.in_top p.owes cell) (filter (is_due false) copies) (filter (is_due true) copies)
-    (all_filter (IsReadable p cell) (IsCopy p.member p.in_top p.owes cell) (is_due false) (λ copy is due. is (and_parts copy.readable (not copy.lacks) due).0) copies all)
-    (all_filter (IsReadable p cell) (IsCopy p.member p.in_top p.owes cell) (is_due true) (λ copy is due. is (and_parts copy.readable copy.lacks due).0) copies all)
+tried_all p cell copies all = all_append _ (filter (is_due false) copies) (filter (is_due true) copies)
+    (all_filter (is_due false) (λ copy is due. is (and_parts copy.readable (not copy.lacks) due).0) copies all)
+    (all_filter (is_due true) (λ copy is due. is (and_parts copy.readable copy.lacks due).0) copies all)
 
 -- what a read's outcome is worth
 pub outcome_sum : (at : ℕ) (sum : List ℕ) (copies : List CopyOf) (made : List Noted) (wrong : List CopyOf) (bytes : List ℕ) → IsReads at sum copies made wrong (Some bytes) → sha256 bytes ≡ sum
@@ -217,9 +207,6 @@ outcome_sum at sum (copy ∷ more) (noted ∷ made) wrong bytes (inl (fails, res
 outcome_sum at sum (copy ∷ more) (noted ∷ made) wrong bytes (inr (inl (others, differs, wrong_is, rest))) = outcome_sum at sum more made others bytes rest
 outcome_sum at sum (copy ∷ more) (noted ∷ made) wrong bytes (inr (inr (found, serves, made_is, wrong_is, outcome_is))) =
     let same : bytes ≡ found = some_same bytes found outcome_is in ap sha256 same ∙ serves.same
-  where
-    some_same : (a b : List ℕ) → Some a ≡ Some b → a ≡ b
-    some_same a b e = cc
 
 -- calls alone, and then what no event tells
 pub calls_walk : (c : Codec) (made : List Noted) (t : Side) → Mays c t.pool (as_events made) → Walks c t (as_moves made)
@@ -245,9 +232,6 @@ copies_at c t k cell sum vs outcome s kept at is row answers = subst Goal (some_
   where
     Goal : Sum → Type 0
     Goal sum = (row : RowCopies (seen t) sum vs outcome) → AllAnswer t.pool.sectors row.reads → Walks c t vs ⊎ ClashBy cell outcome
-
-    some_same : (a b : Sum) → Some a ≡ Some b → a ≡ b
-    some_same a b e = cc
 
     whole : (row : RowCopies (seen t) (sum_of_cell cell) vs outcome) → AllAnswer t.pool.sectors row.reads → Walks c t vs ⊎ ClashBy cell outcome
     whole row answers = read_then outcome row.is_read row.is_healed
@@ -286,13 +270,10 @@ pub made_calls : (made : List Noted) (vs : List Move) → made_in (as_moves made
 made_calls [] vs = refl
 made_calls (noted ∷ made) vs = ap (λ l. noted ∷ l) (made_calls made vs)
 
-pub answers_front : (made more : List Noted) (sectors : Sectors) → AllAnswer sectors (made ++ more) → AllAnswer sectors made
-answers_front [] more sectors all = tt
-answers_front (noted ∷ made) more sectors all = (all.0, answers_front made more (run (noted ∷ []) sectors) all.1)
-
 answers_first : (reads rewrites : List Noted) (vs : List Move) (sectors : Sectors) → AllAnswer sectors (made_in (as_moves (reads ++ rewrites) ++ vs)) → AllAnswer sectors reads
-answers_first reads rewrites vs sectors all = answers_front reads rewrites sectors
-    (answers_front (reads ++ rewrites) (made_in vs) sectors (subst (AllAnswer sectors) (made_calls (reads ++ rewrites) vs) all))
+answers_first reads rewrites vs sectors all = answer_first reads rewrites sectors
+    (answer_first (reads ++ rewrites) (made_in vs) sectors
+    (subst (AllAnswer sectors) (made_calls (reads ++ rewrites) vs) all))
 
 -- `read`
 read_record : (c : Codec) (a : ℕ) (sum : Option Sum) (s : PoolState) (t : Side) (vs : List Move) (reply : ReadReply) → Kept c s t → sum ≡ sum_of (t.pool.reads.cells (key 0 a))
@@ -359,9 +340,6 @@ right_record a None t vs bytes is row = by_cell (t.pool.reads.cells (key 0 a)) r
     by_cell (Some cell) at = absurd (let no : None ≡ Some (sum_of_cell cell) = is ∙ ap sum_of at in cc)
 right_record a (Some sum) t vs bytes is row = by_cell (t.pool.reads.cells (key 0 a)) refl
   where
-    some_same : (a b : Sum) → Some a ≡ Some b → a ≡ b
-    some_same a b e = cc
-
     given : (shown : List LeafShown) (outcome : Option (List ℕ)) → Gives bytes ≡ reply_by shown outcome → (row : RowCopies (seen t) sum vs outcome) → sha256 bytes ≡ sum.sum
     given shown None says row = absurd (cc)
     given shown (Some found) says row = ap sha256 (gives_same bytes found says)
@@ -393,3 +371,8 @@ right_at c s t a vs bytes kept (inr row) = right_open c a (s.own.writes a) s t v
 pub read_right : (c : Codec) (s : PoolState) (t : Side) (a : ℕ) (vs : List Move) (bytes : List ℕ) → Kept c s t → RowRead s a vs (Gives bytes)
     → (bytes ≡ t.pool.written a) ⊎ IsClash (t.pool.written a) bytes
 read_right c s t a vs bytes kept row = right_at c s t a vs bytes kept (subst (λ core. RowRead (record { own = s.own; core = core }) a vs (Gives bytes)) kept.core row)
+
+pub sum_cell : (cell : Option Cell) (sum : Sum) → sum_of cell ≡ Some sum → (x : Cell) × (cell ≡ Some x)
+    × (sum_of_cell x ≡ sum)
+sum_cell (Some x) sum is = (x, refl, some_same (sum_of_cell x) sum is)
+sum_cell None sum is = absurd (cc)

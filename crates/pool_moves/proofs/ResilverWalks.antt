@@ -13,10 +13,11 @@ use Rattle.pool_moves.specs.Moves.{Move, Scan_from, Rest, seat_step, steps, afte
 use Rattle.pool_moves.specs.OpeningRow.{ResumesBy, ResumesUnless, RowResume, lacking_of}
 use Rattle.pool_moves.specs.Resilvers.{rest_if, StartsResilver, Resilvers}
 use Rattle.pool_moves.specs.States.{scan_seen, PoolState, Side, seen}
-use Rattle.pool_moves.proofs.CommitWalks.{reopen_walks}
+use Rattle.pool_moves.proofs.LineWalks.{reopen_walks}
 use Rattle.pool_moves.proofs.FreeWalks.{walks_more}
 use Rattle.pool_moves.proofs.FreezeWalks.{up_of_found}
-use Rattle.pool_moves.proofs.Keeping.{all_map, seat_cases, walk_keeps}
+use Rattle.pool_moves.proofs.Keeping.{seat_cases, walk_keeps}
+use Rattle.pool_moves.proofs.Lists.{all_map}
 
 may_scan : (p : Pool) → p.opened ≡ true → MayScan p (number_of p.reads)
 may_scan p opened = record { opened = opened; hi_low = omega arith }
@@ -29,7 +30,7 @@ scan_at c t true eligible opened all = (
   (
     (
       (may_scan (after_move Rest t).pool opened, tt),
-      all_map (IsOfFound eligible) (IsOfFound eligible) (seat_step Rest t.pool)
+      all_map _ (seat_step Rest t.pool)
           (seat_cases (λ seat. IsOfFound eligible seat → IsOfFound eligible (seat_step Rest t.pool seat)) (λ d found own is. is) (λ leaf is. tt)) t.seats all,
     ),
     tt,

@@ -1,6 +1,6 @@
 -- A pool's members stand on a list, from its beginning on and behind each event.
-use Rattle.std.proofs.Common.{◌≡◌, ◌⊎◌, inl, inr, ⊎_elim, ℕ, ◌==◌, ◌&&◌, Bool, true, false, cond, Some, None, List, [], ◌∷◌, map, refl, sym, ap, ◌∙◌, subst, arith}
-use Rattle.std.proofs.lemmas.Bool.{and_parts}
+use Rattle.std.proofs.Common.{◌≡◌, ◌⊎◌, inl, inr, ⊎_elim, ℕ, ◌==◌, ◌&&◌, true, false, cond, Some, None, List, [], ◌∷◌, map, sym, ap, ◌∙◌, subst, arith}
+use Rattle.std.proofs.lemmas.Bool.{and_parts, and_from}
 use Rattle.std.proofs.lemmas.Bool.Decides.{nat_tests}
 use Rattle.mp_base.specs.declared.number.Guid.{Guid}
 use Rattle.txg_history.specs.Events.{Event, Joins, Loses}
@@ -13,9 +13,7 @@ use Rattle.pool_moves.specs.Leaves.{Seat, At, Adrift}
 use Rattle.pool_moves.specs.Making.{HasSeat, IsMade}
 use Rattle.pool_moves.specs.Rosters.{IsListed, IsRoster, roster_by, roster_after, devices_of, member_of}
 use Rattle.pool_moves.specs.States.{PoolState, Side}
-
-pub same_here : (d : ℕ) → (d == d) ≡ true
-same_here d = grind (arith, nat_tests)
+use Rattle.pool_moves.proofs.Tests.{here, same_back, some_same}
 
 seat_listed : (d : ℕ) (seats : List Seat) → HasSeat d seats → IsListed d (devices_of seats)
 seat_listed d [] has = has
@@ -26,11 +24,8 @@ seat_listed d (Adrift leaf ∷ seats) has = seat_listed d seats has
 pub made_roster : (s : PoolState) (t : Side) → IsMade s t → IsRoster t.pool (devices_of t.seats)
 made_roster s t made = subst (λ p. IsRoster p (devices_of t.seats)) (sym made.is) (record {
   all = λ d is. seat_listed d t.seats (made.each d is);
-  numbers = λ d e mine others same. let is : (e == d) ≡ true = made.numbers d e mine others same in turn d e is;
+  numbers = λ d e mine others same. same_back e d (made.numbers d e mine others same);
 })
-  where
-    turn : (d e : ℕ) → (e == d) ≡ true → (d == e) ≡ true
-    turn d e is = grind (arith, nat_tests)
 
 -- Behind a device that comes in.
 was_or_new : (d e : ℕ) (m : Guid) (p : Pool) → (after (Joins d m 0) p).member e ≡ true
@@ -48,14 +43,11 @@ joins_roster d m top p devs ros = record {
   numbers = λ a b mine others same. both a b (was_or_new d a m p mine) (was_or_new d b m p others) same;
 }
   where
-    turn : (a b : ℕ) → (a == b) ≡ true → (b == a) ≡ true
-    turn a b is = grind (arith, nat_tests)
-
     across : (a b : ℕ) → (d == a) ≡ true → (d == b) ≡ true → (a == b) ≡ true
     across a b x y = grind (arith, nat_tests)
 
     all : (e : ℕ) → ((d == e) ≡ true) ⊎ (((d == e) ≡ false) × (p.member e ≡ true) × (((p.guid e).0 == m.0) ≡ false)) → IsListed e (d ∷ devs)
-    all e (inl here) = inl (turn d e here)
+    all e (inl here) = inl (same_back d e here)
     all e (inr was) = inr (ros.all e was.1)
 
     new_guid : (a : ℕ) → (d == a) ≡ true → at_device d m p.guid a ≡ m
@@ -96,7 +88,8 @@ roster_goes_on (v ∷ vs) p devs ros = roster_goes_on vs (after v p) (roster_by 
 -- Under other numbers.
 listed_map : (now : ℕ → ℕ) (d : ℕ) (devs : List ℕ) → IsListed d devs → IsListed (now d) (map now devs)
 listed_map now d [] is = is
-listed_map now d (e ∷ devs) (inl same) = inl (subst (λ x. (now d == now x) ≡ true) (same_device d e same) (same_here (now d)))
+listed_map now d (e ∷ devs) (inl same) = inl
+    (subst (λ x. (now d == now x) ≡ true) (same_device d e same) (here (now d)))
 listed_map now d (e ∷ devs) (inr more) = inr (listed_map now d devs more)
 
 pub roster_anew : (p : Pool) (was now : ℕ → ℕ) (devs : List ℕ) → IsRoster p devs → ((d : ℕ) → p.member (was d) ≡ true → now (was d) ≡ d)
@@ -104,22 +97,16 @@ pub roster_anew : (p : Pool) (was now : ℕ → ℕ) (devs : List ℕ) → IsRos
 roster_anew p was now devs ros back = record {
   all = λ d is. subst (λ x. IsListed x (map now devs)) (back d is) (listed_map now (was d) devs (ros.all (was d) is));
   numbers = λ a b mine others same. let one : was a ≡ was b = same_device (was a) (was b) (ros.numbers (was a) (was b) mine others same) in
-      let is : a ≡ b = sym (back a mine) ∙ (ap now one ∙ back b others) in subst (λ x. (a == x) ≡ true) is (same_here a);
+      let is : a ≡ b = sym (back a mine) ∙ (ap now one ∙ back b others) in subst (λ x. (a == x) ≡ true) is (here a);
 }
 
 -- The member of a number is found on the list, or there is none.
-pub both_true : (t u : Bool) → t ≡ true → u ≡ true → (t && u) ≡ true
-both_true t u a b = rw (a, b) refl
-
 pub found_member : (p : Pool) (devs : List ℕ) (m : Guid) (d : ℕ) → member_of p devs m ≡ Some d → (p.member d ≡ true) × (((p.guid d).0 == m.0) ≡ true)
 found_member p [] m d is = absurd (cc)
 found_member p (e ∷ devs) m d is = by_bool (p.member e && ((p.guid e).0 == m.0))
     (λ yes. let same : e ≡ d = some_same e d (sym (ap (λ t. cond t (Some e) (member_of p devs m)) yes) ∙ is) in
     let parts = and_parts (p.member e) ((p.guid e).0 == m.0) yes in subst (λ x. (p.member x ≡ true) × (((p.guid x).0 == m.0) ≡ true)) same (parts.0, parts.1))
     (λ off. found_member p devs m d (sym (ap (λ t. cond t (Some e) (member_of p devs m)) off) ∙ is))
-  where
-    some_same : (a b : ℕ) → Some a ≡ Some b → a ≡ b
-    some_same a b e = cc
 
 not_on : (p : Pool) (devs : List ℕ) (m : Guid) (d : ℕ) → member_of p devs m ≡ None → IsListed d devs → p.member d ≡ true → ((p.guid d).0 == m.0) ≡ true → ⊥
 not_on p [] m d none listed mine same = listed
@@ -127,7 +114,7 @@ not_on p (e ∷ devs) m d none listed mine same = by_bool (p.member e && ((p.gui
     (λ yes. absurd (let no : Some e ≡ None = sym (ap (λ t. cond t (Some e) (member_of p devs m)) yes) ∙ none in cc))
     (λ off. ⊎_elim (λ here. true_not_false (p.member e && ((p.guid e).0 == m.0))
     (subst (λ x. (p.member x && ((p.guid x).0 == m.0)) ≡ true) (same_device d e here)
-    (both_true (p.member d) ((p.guid d).0 == m.0) mine same)) off)
+    (and_from (p.member d) ((p.guid d).0 == m.0) mine same)) off)
     (λ more. not_on p devs m d (sym (ap (λ t. cond t (Some e) (member_of p devs m)) off) ∙ none) more mine same) listed)
 
 pub no_member : (p : Pool) (devs : List ℕ) (m : Guid) → IsRoster p devs → member_of p devs m ≡ None → (d : ℕ) → p.member d ≡ true

@@ -29,9 +29,10 @@ use Rattle.pool_moves.specs.Walking.{events_along, IsFree, as_moves}
 use Rattle.pool_moves.specs.Widening.{AreLeaves, seen_along}
 use Rattle.pool_moves.proofs.Boarding.{frozen_core, is_frozen, seen_frozen, board_just, board_apart, board_found}
 use Rattle.pool_moves.proofs.Drafting.{HasDraftTop, drawn_up, draft_tops, draft_knows}
-use Rattle.pool_moves.proofs.FreeWalks.{walk_of, walks_more, free_walk, all_append, calls_along, frozen_along, pool_along}
+use Rattle.pool_moves.proofs.FreeWalks.{walk_of, walks_more, free_walk, calls_along, frozen_along, pool_along}
 use Rattle.pool_moves.proofs.Keeping.{walk_keeps}
 use Rattle.pool_moves.proofs.Widenings.{seen_of, leaves_walk}
+use Rattle.pool_moves.proofs.Lists.{all_append}
 
 -- Calls, and marks of labels.
 abbrev IsLabelMove : Move → Type 0
@@ -83,8 +84,8 @@ thirds_label : (plan : Member → List Ask) (draft : Draft) (ms : List Member) (
 thirds_label plan draft [] [] [] vs r = subst (AllByRecursion IsLabelMove) (sym r) tt
 thirds_label plan draft (m ∷ ms) (true ∷ was) (c ∷ is) vs r = subst (AllByRecursion IsLabelMove) (sym r.2) (
   tt,
-  all_append IsLabelMove (as_moves r.0) (ended c draft m.dev ++ r.1) (calls_label r.0)
-      (all_append IsLabelMove (ended c draft m.dev) r.1 (ended_label c draft m.dev) (thirds_label plan draft ms was is r.1 r.4)),
+  all_append _ (as_moves r.0) (ended c draft m.dev ++ r.1) (calls_label r.0)
+      (all_append _ (ended c draft m.dev) r.1 (ended_label c draft m.dev) (thirds_label plan draft ms was is r.1 r.4)),
 )
 thirds_label plan draft (m ∷ ms) (false ∷ was) (c ∷ is) vs r = thirds_label plan draft ms was is vs r.1
 thirds_label plan draft [] [] (c ∷ is) vs r = absurd r
@@ -263,8 +264,10 @@ round_at c size s t vs whole kept f same row = subst (Walks c t) (sym row.moves)
     middle = as_moves row.first ++ (as_moves row.second ++ row.thirds)
 
     middle_label : AllByRecursion IsLabelMove (as_moves row.first ++ (as_moves row.second ++ row.thirds))
-    middle_label = all_append IsLabelMove (as_moves row.first) (as_moves row.second ++ row.thirds) (calls_label row.first)
-        (all_append IsLabelMove (as_moves row.second) row.thirds (calls_label row.second) (thirds_label (third_plan size row.draft.commit) row.draft (board_of (frozen_core t).leaves) row.in_second row.results row.thirds row.copies))
+    middle_label = all_append _ (as_moves row.first) (as_moves row.second ++ row.thirds) (calls_label row.first)
+        (all_append _ (as_moves row.second) row.thirds (calls_label row.second)
+        (thirds_label (third_plan size row.draft.commit) row.draft (board_of (frozen_core t).leaves) row.in_second
+        row.results row.thirds row.copies))
 
     end_face : face (after_moves (as_moves row.first ++ (as_moves row.second ++ row.thirds)) (after_move (Starts row.draft) t)) ≡ face (after_move (Starts row.draft) t)
     end_face = face_along middle begun middle_label

@@ -1,9 +1,8 @@
 -- The calls of a scan's step may be made, and leave each copy where the scan may come past it.
-use Rattle.std.proofs.Common.{◌≡◌, ◌⊎◌, inl, inr, ⊎_elim, ℕ, ◌+◌, ◌==◌, ◌&&◌, ◌||◌, Bool, true, false, cond, Option, Some, None, List, [], ◌∷◌, ◌++◌, map, length, refl, sym, ap, ◌∙◌, subst, arith}
+use Rattle.std.proofs.Common.{◌≡◌, inl, inr, ⊎_elim, ℕ, ◌+◌, ◌==◌, ◌&&◌, Bool, true, false, cond, Option, Some, None, List, [], ◌∷◌, ◌++◌, map, length, refl, sym, ap, ◌∙◌, subst, arith}
 use Rattle.std.specs.List.{AllByRecursion, filter}
 use Rattle.std.specs.Option.{is_none}
-use Rattle.std.proofs.lemmas.Bool.{and_parts}
-use Rattle.std.proofs.lemmas.Bool.Decides.{nat_tests}
+use Rattle.std.proofs.lemmas.Bool.{and_parts, or_cases}
 use Rattle.sha2.specs.Sha256.{sha256}
 use Rattle.mp_base.specs.declared.place.Key.{Key}
 use Rattle.bank_core.specs.declared.bank.Fault.{Fault}
@@ -33,6 +32,7 @@ use Rattle.pool_moves.specs.Leaves.{LeafSeen, Seat, At, Adrift, told, leaf_seen}
 use Rattle.pool_moves.specs.ReadRow.{copy_at, copy_of}
 use Rattle.pool_moves.specs.ScanRows.{is_read_call, first_reads, is_settled_under, targets, AreLooked, has_copied, WereRead}
 use Rattle.pool_moves.proofs.ReadWalks.{IsCopy, hurt_one, read_one, write_call}
+use Rattle.pool_moves.proofs.Tests.{other_back, some_same}
 
 -- What a read gave was read.
 is_read_gives : {dev at : ℕ} {bytes : List ℕ} {fault : Option Fault} (call : Call) → call ≡ Read dev at bytes fault → is_read_call call ≡ true
@@ -63,9 +63,6 @@ outcome_first at sum (copy ∷ copies) (noted ∷ made) more wrong bytes (inr (i
 outcome_first at sum (copy ∷ copies) (noted ∷ made) more wrong bytes (inr (inr (found, serves, made_is, wrong_is, outcome_is))) =
     subst (WereRead bytes) (sym (ap (λ t. cond t (noted ∷ first_reads (made ++ more)) []) (is_read_gives noted.call serves.gives.is)))
     (inl (copy.dev, at, serves.gives.is ∙ ap (λ b. Read copy.dev at b None) (sym (some_same bytes found outcome_is))))
-  where
-    some_same : (a b : List ℕ) → Some a ≡ Some b → a ≡ b
-    some_same a b e = cc
 
 -- A target: a copy whose leaf owes the key, for which the key's birth is settled.
 pub record IsTarget (member : ℕ → Bool) (in_top : ℕ → ℕ) (owes settled : Logs) (cell : Cell) (copy : CopyOf) : Type 0 where
@@ -193,10 +190,6 @@ AreTargetsApart [] = Unit {0}
 AreTargetsApart (copy ∷ more) = AreOthers copy.dev more × AreTargetsApart more
 
 -- A target to which a copy answered Ok has the key.
-or_parts : (t u : Bool) → (t || u) ≡ true → (t ≡ true) ⊎ (u ≡ true)
-or_parts true u is = inl refl
-or_parts false u is = inr is
-
 none_of : (fault : Option Fault) → is_none fault ≡ true → fault ≡ None
 none_of None is = refl
 none_of (Some fault) is = absurd (cc)
@@ -233,7 +226,7 @@ copied_at p cell d (copy ∷ more) (noted ∷ made) later long apart asks ok u =
     (data_start + cell.sector)
     (others_at copy.dev d more same apart.0) rest) u))
     (λ deeper. copied_at (after (Calls noted) p) cell d more made later long apart.1 rest deeper u)
-    (or_parts (is_dev (device_of noted.call) (Some d) && is_none (fault_of noted.call)) (has_copied (Some d) made) ok)
+    (or_cases (is_dev (device_of noted.call) (Some d) && is_none (fault_of noted.call)) (has_copied (Some d) made) ok)
   where
     ask : ask_of noted.call ≡ Writes copy.dev (data_start + cell.sector) cell.block
     ask = cc
@@ -277,13 +270,10 @@ targets_are p cell sum f r (seat ∷ seats) birth top away seated =
     (leaf_seen f r (told p) seat) (leaves_by f r p seats) (targets_are p cell sum f r seats birth top away.1 seated.1)
     (λ under due. (target_at p cell sum f r seat birth top away.0 seated.0 under due, targets_are p cell sum f r seats birth top away.1 seated.1))
 
-other_way : (d e : ℕ) → (d == e) ≡ false → (e == d) ≡ false
-other_way d e off = grind (arith, nat_tests)
-
 other_target : (p : Pool) (sum : Sum) (f r : Bool) (d : ℕ) (seat : Seat) → IsAway seat → IsElsewhere d seat
     → is_due true (copy_of sum.birth (leaf_seen f r (told p) seat)) ≡ true
     → ((copy_of sum.birth (leaf_seen f r (told p) seat)).dev == d) ≡ false
-other_target p sum f r d (At e true own) away off due = other_way d e off
+other_target p sum f r d (At e true own) away off due = other_back d e off
 other_target p sum f r d (At e false own) away off due = absurd (let never : false ≡ true = due in cc)
 other_target p sum f r d (Adrift leaf) away off due = no_copy _ (leaf.owes sum.birth) leaf.dev away.0 due
 

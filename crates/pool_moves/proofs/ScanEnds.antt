@@ -1,12 +1,11 @@
 -- A scan may start, end and be stopped: the walks from their rows.
 use Rattle.std.proofs.Common.{◌≡◌, ◌⊎◌, inl, inr, ℕ, ◌≤◌, ◌==◌, ◌&&◌, Bool, true, false, cond, Option, Some, None, List, [], ◌∷◌, ◌++◌, map, refl, sym, ap, ◌∙◌, subst, arith}
 use Rattle.std.specs.List.{AllByRecursion, find}
-use Rattle.std.proofs.lemmas.Bool.Decides.{nat_tests}
 use Rattle.mp_base.specs.declared.place.Key.{Key}
 use Rattle.bank_core.specs.declared.bank.Fault.{Fault}
 use Rattle.bank_core.specs.Asks.{Flushes, ask_of}
 use Rattle.bank_core.specs.Calls.{fault_of}
-use Rattle.bank_core.specs.Disk.{Call, Read, Write, Flush, Admit, Eject, Noted, AllAnswer}
+use Rattle.bank_core.specs.Disk.{Call, Flush, Noted, AllAnswer}
 use Rattle.label_store.specs.declared.member.Member.{Member}
 use Rattle.txg_history.specs.Events.{Calls, Clears}
 use Rattle.txg_history.specs.Groups.{at_device}
@@ -27,13 +26,15 @@ use Rattle.pool_moves.specs.ScanRows.{first_reads, FlushEnds, AreFlushed, is_eli
 use Rattle.pool_moves.specs.States.{PoolSeen, PoolState, Side}
 use Rattle.pool_moves.specs.Widening.{IsWidened, seen_along}
 use Rattle.pool_moves.proofs.AwayWalks.{only_found}
-use Rattle.pool_moves.proofs.Boarding.{before_all, no_dev, dev_is}
+use Rattle.pool_moves.proofs.Boarding.{before_all, dev_is}
 use Rattle.pool_moves.proofs.FreeWalks.{walks_more}
 use Rattle.pool_moves.proofs.FreezeWalks.{up_of_found}
-use Rattle.pool_moves.proofs.Keeping.{all_same, of_found_step, move_keeps, walk_keeps}
+use Rattle.pool_moves.proofs.Keeping.{of_found_still, move_keeps, walk_keeps}
 use Rattle.pool_moves.proofs.Widenings.{IsLike, widened_walk, widens_like, widens_found, seen_of}
 use Rattle.pool_moves.proofs.ReadWalks.{sum_of_cell}
 use Rattle.pool_moves.proofs.ScanSteps.{scan_core, is_running, seen_running, key_walks}
+use Rattle.pool_moves.proofs.Lists.{each}
+use Rattle.pool_moves.proofs.Tests.{no_dev, same_test}
 
 -- The members that are flushed: each eligible, on a device of its own at which a leaf was found.
 abbrev AreDevicesApart : List Member → Type 0
@@ -53,10 +54,8 @@ eligible_are f p all (At d found own ∷ seats) away up =
     before_all (AllByRecursion (IsEligible p all)) (p.scan.eligible d) (dev_if found d) (p.guid d) (eligible_of f p seats)
     (eligible_are f p all seats away.1 (λ e has. up e (inr has)))
     (λ e on dev. let at = dev_is found d e dev in
-    ((subst (λ n. p.scan.eligible n ≡ true) at.1 on, up e (inl (here e d (sym at.1), at.0))), eligible_are f p all seats away.1 (λ e has. up e (inr has))))
-  where
-    here : (e d : ℕ) → e ≡ d → (e == d) ≡ true
-    here e d same = grind (arith, nat_tests)
+    ((subst (λ n. p.scan.eligible n ≡ true) at.1 on, up e (inl (same_test e d (sym at.1), at.0))), eligible_are f p all
+    seats away.1 (λ e has. up e (inr has))))
 eligible_are f p all (Adrift leaf ∷ seats) away up = before_all (AllByRecursion (IsEligible p all)) leaf.eligible leaf.dev leaf.guid (eligible_of f p seats)
     (eligible_are f p all seats away.1 (λ e has. up e (inr has))) (λ e on dev. no_dev leaf.dev e away.0.0 dev)
 
@@ -95,11 +94,8 @@ record AreLeft (c : Codec) (s : PoolState) (t : Side) (ms : List Member) : Type 
   pub found : AllByRecursion (λ m. AllByRecursion (IsOfFound (λ e. m.dev == e)) t.seats) ms
 
 flush_call : (call : Call) (d : ℕ) → ask_of call ≡ Flushes d → call ≡ Flush d (fault_of call)
-flush_call (Read e at bytes fault) d ask = absurd (cc)
-flush_call (Write e at bytes fault) d ask = absurd (cc)
 flush_call (Flush e fault) d ask = let same : e ≡ d = cc in ap (λ n. Flush n fault) same
-flush_call (Admit e holds) d ask = absurd (cc)
-flush_call (Eject e) d ask = absurd (cc)
+flush_call call d ask = absurd (cc)
 
 -- another member's device is no unfound leaf's, behind a move that leaves each where it was
 found_mapped : (v : Move) (t : Side) (ms : List Member) (seats : List Seat)
@@ -107,7 +103,7 @@ found_mapped : (v : Move) (t : Side) (ms : List Member) (seats : List Seat)
     → AllByRecursion (λ m. AllByRecursion (IsOfFound (λ e. m.dev == e)) t.seats) ms
     → AllByRecursion (λ m. AllByRecursion (IsOfFound (λ e. m.dev == e)) seats) ms
 found_mapped v t ms seats step all =
-    all_same (λ m. AllByRecursion (IsOfFound (λ e. m.dev == e)) t.seats) (λ m. AllByRecursion (IsOfFound (λ e. m.dev == e)) seats)
+    each
     (λ m is. step (λ e. m.dev == e) is) ms all
 
 still_eligible : (d : ℕ) (eligible : ℕ → Bool) (ms : List Member) → AllByRecursion (λ n. (d == n.dev) ≡ false) ms
@@ -134,7 +130,7 @@ cleared_walk c s t m ms noted ending rest left call is next = (
     found = found_mapped (Clear m.dev) t ms (after_moves ending behind).seats
         (λ which all. subst (λ l. AllByRecursion (IsOfFound which) (after_moves l behind).seats) (sym is.moves)
         (widens_found which is.widens (step (Clear m.dev) s.core) (after_move (Clear m.dev) behind) is.are
-        (of_found_step which (Clear m.dev) behind.pool (λ d found own is. is) t.seats all))) left.found.1;
+        (of_found_still which (Clear m.dev) behind tt (λ d found own is. is) all))) left.found.1;
   })),
 )
   where
@@ -168,7 +164,8 @@ failed_walk c s t ms (Some leaf) rest left next = (
     eligible = left.eligible;
     apart = left.apart;
     found = found_mapped (Sets leaf.guid (write_failed leaf.own)) t ms (after_move (Sets leaf.guid (write_failed leaf.own)) t).seats
-        (λ which all. of_found_step which (Sets leaf.guid (write_failed leaf.own)) t.pool (λ d found own is. is) t.seats all) left.found;
+        (λ which all. of_found_still which (Sets leaf.guid (write_failed leaf.own)) t tt (λ d found own is. is) all)
+        left.found;
   }),
 )
 
@@ -187,7 +184,7 @@ dropped_walk c s t m ms noted fault leaf rest left ask fails next = (
       eligible = still_eligible m.dev t.pool.scan.eligible ms left.apart.0 left.eligible.1;
       apart = left.apart.1;
       found = found_mapped (Drop m.dev) t ms dropped.seats
-          (λ which all. of_found_step which (Drop m.dev) behind.pool (λ d found own is. is) t.seats all) left.found.1;
+          (λ which all. of_found_still which (Drop m.dev) behind tt (λ d found own is. is) all) left.found.1;
     }) next,
   ),
 )
@@ -220,10 +217,10 @@ end_at c s t vs kept running row = subst (Walks c t) (sym row.moves)
       kept = kept;
       running = running;
       passed = λ k cell is low. row.none k (sum_of_cell cell) (ap sum_of is) low;
-      eligible = all_same (IsEligible t.pool t.seats) (λ m. t.pool.scan.eligible m.dev ≡ true) (λ m is. is.0)
+      eligible = each (λ m is. is.0)
           (eligible_of t.pool.group.frozen t.pool t.seats) are;
       apart = eligible_apart t.pool.group.frozen t.pool t.seats kept.away kept.apart;
-      found = all_same (IsEligible t.pool t.seats) (λ m. AllByRecursion (IsOfFound (λ e. m.dev == e)) t.seats)
+      found = each
           (λ m is. only_found m.dev t.seats kept.apart is.1) (eligible_of t.pool.group.frozen t.pool t.seats) are;
     }) (subst (λ core. AreFlushed core (eligible_of t.pool.group.frozen t.pool t.seats) row.part) (sym (seen_running c s t kept running)) row.flushed)) (((tt, tt), tt), tt))
   where

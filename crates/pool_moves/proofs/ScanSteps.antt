@@ -2,12 +2,12 @@
 use Rattle.std.proofs.Common.{◌≡◌, ◌⊎◌, inl, inr, ⊎_elim, ℕ, suc, zero, ◌+◌, ◌<◌, ◌≤◌, ◌==◌, ◌&&◌, ◌||◌, nat_lt, nat_le, not, Bool, true, false, cond, Option, Some, None, List, [], ◌∷◌, ◌++◌, map, length, drop, refl, sym, ap, ◌∙◌, subst, arith}
 use Rattle.std.specs.List.{AllByRecursion, filter, list_any}
 use Rattle.std.specs.Str.{bytes_eq}
-use Rattle.std.proofs.lemmas.Bool.{and_parts}
+use Rattle.std.proofs.lemmas.Bool.{and_parts, or_cases}
 use Rattle.std.proofs.lemmas.Bool.Decides.{nat_tests}
 use Rattle.std.proofs.lemmas.Slice.Eq.{bytes_eq-Decides}
 use Rattle.sha2.specs.Sha256.{sha256}
 use Rattle.mp_base.specs.declared.place.Key.{Key}
-use Rattle.bank_core.specs.Disk.{Noted, Sectors, AllAnswer, run}
+use Rattle.bank_core.specs.Disk.{Noted, AllAnswer, run}
 use Rattle.bank_core.specs.Standing.{Untouched}
 use Rattle.mirror_io.specs.declared.copies.CopyOf.{CopyOf}
 use Rattle.mirror_io.specs.Copies.{tries}
@@ -27,15 +27,19 @@ use Rattle.txg_history.proofs.Surviving.{history_survives}
 use Rattle.pool_moves.specs.FreezeRow.{IsBefore, is_dev}
 use Rattle.pool_moves.specs.Keeping.{IsAway, Kept, Walks}
 use Rattle.pool_moves.specs.Leaves.{LeafSeen, Seat, At, Adrift, told, leaf_seen}
-use Rattle.pool_moves.specs.Moves.{Move, Makes, Sets, Pass, after_move, after_moves}
+use Rattle.pool_moves.specs.Moves.{Move, Sets, Pass, after_move, after_moves}
 use Rattle.pool_moves.specs.ReadRow.{copies_of, stands_under, count_reads, made_in}
 use Rattle.pool_moves.specs.ScanRows.{first_reads, IsNextKey, targets, AreCopied, untried, LooksBy, AreStepCalls, reads_key, StepCalls, has_copied, is_spared, is_scrubbed, RowKey, WereRead, FoundClash}
 use Rattle.pool_moves.specs.States.{PoolSeen, PoolState, Side, seen_by}
 use Rattle.pool_moves.specs.Walking.{as_moves}
-use Rattle.pool_moves.proofs.FreeWalks.{walks_more}
+use Rattle.pool_moves.proofs.FreeWalks.{walks_more, calls_pool}
 use Rattle.pool_moves.proofs.LineWalks.{sets_walk}
-use Rattle.pool_moves.proofs.ReadWalks.{IsCopy, AreRead, copies_read, heals_may, copies_on, tried_all, all_filter, calls_walk, read_sets, outcome_sum, made_calls, answers_front, sum_of_cell}
+use Rattle.pool_moves.proofs.ReadWalks.{IsCopy, AreRead, copies_read, heals_may, copies_on, tried_all, calls_walk, read_sets, outcome_sum, made_calls, sum_of_cell, sum_cell}
 use Rattle.pool_moves.proofs.ScanCalls.{outcome_first, first_longer, copies_may, looks_may, AreOthers, looks_untouched, copied_at, targets_are, targets_apart}
+use Rattle.pool_moves.proofs.Lists.{all_filter}
+use Rattle.pool_moves.proofs.Tests.{same_test, lt_of}
+use Rattle.txg_history.proofs.LookedParts.{answer_first, answer_second}
+use Rattle.txg_history.proofs.Branching.{keys_one}
 
 -- The state while a scan runs.
 running_of : (r : Bool) (s : PoolSeen) (t : Side) → s ≡ seen_by t.pool.group.frozen r t.seats t.pool → s.scan.running ≡ true → r ≡ true
@@ -52,40 +56,23 @@ pub seen_running : (c : Codec) (s : PoolState) (t : Side) → Kept c s t → t.p
 seen_running c s t kept r = kept.core ∙ ap (λ x. seen_by t.pool.group.frozen x t.seats t.pool) r
 
 -- The order of keys.
-or_parts : (t u : Bool) → (t || u) ≡ true → (t ≡ true) ⊎ (u ≡ true)
-or_parts true u is = inl refl
-or_parts false u is = inr is
-
-less_than : (a b : ℕ) → nat_lt a b ≡ true → a < b
-less_than a b is = grind (arith, nat_tests)
-
 at_most_is : (a b : ℕ) → nat_le a b ≡ true → (a < b) ⊎ (a ≡ b)
 at_most_is a b is = let low : a ≤ b = grind (arith, nat_tests) in grind (arith)
 
-same_key : (j k : Key) → j.level ≡ k.level → j.index ≡ k.index → j ≡ k
-same_key j k level index = ap (λ l. record { level = l; index = j.index }) level ∙ ap (λ i. record { level = k.level; index = i }) index
-
 up_to_is : (k j : Key) → up_to k j ≡ true → IsBefore j k ⊎ (j ≡ k)
-up_to_is k j is = ⊎_elim (λ lower. inl (inl (less_than j.level k.level lower)))
+up_to_is k j is = ⊎_elim (λ lower. inl (inl (lt_of j.level k.level lower)))
     (λ level. let parts = and_parts (j.level == k.level) (nat_le j.index k.index) level in let same = same_device j.level k.level parts.0 in
-    ⊎_elim (λ less. inl (inr (same, less))) (λ index. inr (same_key j k same index)) (at_most_is j.index k.index parts.1))
-    (or_parts (nat_lt j.level k.level) ((j.level == k.level) && nat_le j.index k.index) is)
+    ⊎_elim (λ less. inl (inr (same, less))) (λ index. inr (keys_one j k same index))
+    (at_most_is j.index k.index parts.1))
+    (or_cases (nat_lt j.level k.level) ((j.level == k.level) && nat_le j.index k.index) is)
 
 -- Behind calls, and behind the counts of leaves.
-pub calls_pool : (made : List Noted) (t : Side) → (after_moves (as_moves made) t).pool ≡ with_calls made t.pool
-calls_pool [] t = refl
-calls_pool (noted ∷ made) t = calls_pool made (after_move (Makes noted) t)
-
 counts_pool : (sum : List ℕ) (made : List Noted) (leaves : List LeafSeen) (t : Side) → (after_moves (count_reads sum made leaves) t).pool ≡ t.pool
 counts_pool sum made [] t = refl
 counts_pool sum made (leaf ∷ leaves) t = counts_pool sum made leaves (after_move (Sets leaf.guid _) t)
 
 more_calls : (first second : List Noted) (p : Pool) → pool_after (as_events (first ++ second)) p ≡ pool_after (as_events second) (with_calls first p)
 more_calls first second p = ap (λ l. pool_after l p) (events_more first second) ∙ calls_then first (as_events second) p
-
-answers_back : (first second : List Noted) (sectors : Sectors) → AllAnswer sectors (first ++ second) → AllAnswer (run first sectors) second
-answers_back [] second sectors all = all
-answers_back (noted ∷ first) second sectors all = answers_back first second (run (noted ∷ []) sectors) all.1
 
 mays_both : (c : Codec) (first second : List Noted) (p : Pool) → Mays c p (as_events first) → Mays c (with_calls first p) (as_events second)
     → Mays c p (as_events (first ++ second))
@@ -158,12 +145,10 @@ has_or_copied : (owes copied : Bool) → cond owes copied true ≡ true → (owe
 has_or_copied true copied is = inr is
 has_or_copied false copied is = inl refl
 
-same_top : (a b : ℕ) → a ≡ b → (a == b) ≡ true
-same_top a b e = grind (arith, nat_tests)
-
 spared_here : (owes copied rest : Bool) (a b : ℕ) → a ≡ b → (not (a == b) || (cond owes copied true && rest)) ≡ true → (owes ≡ false) ⊎ (copied ≡ true)
 spared_here owes copied rest a b same is = has_or_copied owes copied
-    (and_parts (cond owes copied true) rest (sym (ap (λ t. not t || (cond owes copied true && rest)) (same_top a b same)) ∙ is)).0
+    (and_parts (cond owes copied true) rest
+    (sym (ap (λ t. not t || (cond owes copied true && rest)) (same_test a b same)) ∙ is)).0
 
 abbrev HasOrGot : Pool → Cell → (copied : List Noted) → (d : ℕ) → Type 0
 HasOrGot p cell copied d = (p.owes d cell.birth ≡ false) ⊎ (has_copied (Some d) copied ≡ true)
@@ -188,7 +173,8 @@ spared_at : (p : Pool) (cell : Cell) (f r scrubs : Bool) (calls copied : List No
 spared_at p cell f r scrubs calls copied d [] away top is = absurd (cc)
 spared_at p cell f r scrubs calls copied d (seat ∷ seats) away top is = ⊎_elim (λ here. spared_seat p cell f r scrubs calls copied d seat away.0 top here)
     (λ more. spared_at p cell f r scrubs calls copied d seats away.1 top more)
-    (or_parts (is_dev d (leaf_seen f r (told p) seat).dev && is_spared scrubs (sum_of_cell cell) calls copied (leaf_seen f r (told p) seat))
+    (or_cases (is_dev d (leaf_seen f r (told p) seat).dev && is_spared scrubs (sum_of_cell cell) calls copied
+    (leaf_seen f r (told p) seat))
     (list_any (λ leaf. is_dev d leaf.dev && is_spared scrubs (sum_of_cell cell) calls copied leaf) (map (leaf_seen f r (told p)) seats)) is)
 
 -- A step that makes no call.
@@ -214,7 +200,7 @@ not_lacks false is = refl
 untried_are : (p : Pool) (cell : Cell) (copies : List CopyOf) (reads : List Noted) → AllByRecursion (IsCopy p.member p.in_top p.owes cell) (tries copies)
     → AllByRecursion (IsCopy p.member p.in_top p.owes cell) (untried copies reads)
 untried_are p cell copies reads all =
-    all_filter (IsCopy p.member p.in_top p.owes cell) (IsCopy p.member p.in_top p.owes cell) (λ copy. not copy.lacks) (λ copy is has. is)
+    all_filter (λ copy. not copy.lacks) (λ copy is has. is)
     (drop (length reads) (tries copies)) (all_drop (IsCopy p.member p.in_top p.owes cell) (length reads) (tries copies) all)
 
 all_any : {A : Type 0} (xs : List A) → AllByRecursion (λ x. Unit {0}) xs
@@ -222,7 +208,7 @@ all_any [] = tt
 all_any (x ∷ xs) = (tt, all_any xs)
 
 untried_have : (copies : List CopyOf) (reads : List Noted) → AllByRecursion (λ copy. copy.lacks ≡ false) (untried copies reads)
-untried_have copies reads = all_filter (λ copy. Unit {0}) (λ copy. copy.lacks ≡ false) (λ copy. not copy.lacks) (λ copy is has. not_lacks copy.lacks has)
+untried_have copies reads = all_filter (λ copy. not copy.lacks) (λ copy is has. not_lacks copy.lacks has)
     (drop (length reads) (tries copies)) (all_any (drop (length reads) (tries copies)))
 
 -- a leaf that owes the key has none of these copies
@@ -275,8 +261,9 @@ found_good c s t k cell scrubs reads rewritten copied looks wrong kept at ahead 
       (looks_by c (with_calls copied (with_calls rewritten (with_calls reads p))) k cell scrubs (untried (copies_of sum (scan_core t).leaves) reads) looks
       (behind_calls c copied (with_calls rewritten (with_calls reads p)) second copies) at (untried_are p cell (copies_of sum (scan_core t).leaves) reads tried)
       (untried_have (copies_of sum (scan_core t).leaves) reads)
-      (answers_back copied looks (run rewritten (run reads p.sectors))
-      (answers_back rewritten (copied ++ looks) (run reads p.sectors) (answers_back reads (rewritten ++ (copied ++ looks)) p.sectors answers)))
+      (answer_second copied looks (run rewritten (run reads p.sectors))
+      (answer_second rewritten (copied ++ looks) (run reads p.sectors)
+      (answer_second reads (rewritten ++ (copied ++ looks)) p.sectors answers)))
       is_looked)));
   got = λ d owes ok. subst (λ q. WasCopied q d cell) (sym behind)
       (copied_at (with_calls rewritten (with_calls reads p)) cell d (targets sum (scan_core t).leaves) copied looks
@@ -299,7 +286,7 @@ found_good c s t k cell scrubs reads rewritten copied looks wrong kept at ahead 
 
     are : AreRead c t.pool cell reads wrong
     are = copies_read c t.pool k cell (tries (copies_of (sum_of_cell cell) (scan_core t).leaves)) reads wrong (Some cell.block) kept.survives at tried
-        (answers_front reads (rewritten ++ (copied ++ looks)) t.pool.sectors answers) is_read
+        (answer_first reads (rewritten ++ (copied ++ looks)) t.pool.sectors answers) is_read
 
     first : Survives c (with_calls reads t.pool)
     first = behind_calls c reads t.pool kept.survives are.may
@@ -356,7 +343,8 @@ step_calls c s t k cell scrubs calls copied kept at ahead answers row = by_outco
         → IsGood c t cell calls copied ⊎ FoundClash t.pool (first_reads calls)
     by_outcome None reads healed copies looks = inl (record {
       may = subst (λ made. Mays c t.pool (as_events made)) (sym row.all) (mays_both c row.reads (row.rewritten ++ (copied ++ row.looks)) t.pool
-          (none_good c s t k cell row.reads row.wrong kept at (answers_front row.reads (row.rewritten ++ (copied ++ row.looks)) t.pool.sectors split) reads)
+          (none_good c s t k cell row.reads row.wrong kept at
+          (answer_first row.reads (row.rewritten ++ (copied ++ row.looks)) t.pool.sectors split) reads)
           (subst (λ made. Mays c (with_calls row.reads t.pool) (as_events (made ++ (copied ++ row.looks)))) (sym healed)
           (subst (λ made. Mays c (with_calls row.reads t.pool) (as_events (made ++ row.looks))) (sym copies)
           (subst (λ made. Mays c (with_calls row.reads t.pool) (as_events made))
@@ -389,13 +377,6 @@ step_calls c s t k cell scrubs calls copied kept at ahead answers row = by_outco
         }))
 
 -- A step on one key.
-sum_cell : (cell : Option Cell) (sum : Sum) → sum_of cell ≡ Some sum → (x : Cell) × (cell ≡ Some x) × (sum_of_cell x ≡ sum)
-sum_cell (Some x) sum is = (x, refl, some_same (sum_of_cell x) sum is)
-  where
-    some_same : (a b : Sum) → Some a ≡ Some b → a ≡ b
-    some_same a b e = cc
-sum_cell None sum is = absurd (cc)
-
 key_at : (c : Codec) (s : PoolState) (t : Side) (scrubs : Bool) (k : Key) (cell : Cell) (calls copied : List Noted) (vs : List Move) → Kept c s t
     → t.pool.scan.running ≡ true
     → t.pool.reads.cells k ≡ Some cell → AllAnswer t.pool.sectors (made_in vs) → IsNextKey (scan_core t) k (sum_of_cell cell)
@@ -420,7 +401,7 @@ key_at c s t scrubs k cell calls copied vs kept running at answers next true row
       read = subst (λ made. WereRead clash.bytes (first_reads made)) (sym made_is) (first_longer clash.bytes calls rest clash.read);
       clash = clash.clash;
     }))
-    (step_calls c s t k cell scrubs calls copied kept at next.ahead (answers_front calls rest t.pool.sectors
+    (step_calls c s t k cell scrubs calls copied kept at next.ahead (answer_first calls rest t.pool.sectors
     (subst (AllAnswer t.pool.sectors) made_is answers)) row)
   where
     rest : List Noted

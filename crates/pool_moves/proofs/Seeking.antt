@@ -1,13 +1,12 @@
 -- What an opening's looks come to: of a pool of the name, a live record.
-use Rattle.std.proofs.Common.{◌≡◌, inl, inr, ℕ, ◌+◌, ◌-◌, ◌*◌, ◌/◌, ◌%◌, ◌≤◌, ◌<◌, ◌==◌, ◌&&◌, ◌||◌, nat_le, nat_lt, zero, suc, Bool, true, false, cond, Option, Some, None, List, [], ◌∷◌, ◌++◌, length, take, Result, Ok, Err, refl, sym, ap, ◌∙◌, subst, arith}
+use Rattle.std.proofs.Common.{◌≡◌, inl, inr, ℕ, ◌+◌, ◌-◌, ◌*◌, ◌/◌, ◌%◌, ◌≤◌, ◌<◌, ◌==◌, ◌&&◌, ◌||◌, nat_le, nat_lt, zero, suc, Bool, true, false, cond, Option, Some, None, List, [], ◌∷◌, ◌++◌, length, take, Result, Ok, refl, sym, ap, ◌∙◌, subst, arith}
 use Rattle.std.specs.Prelude.{slice_index}
-use Rattle.std.specs.List.{AllByRecursion}
 use Rattle.std.proofs.lemmas.Bool.{and_parts}
 use Rattle.std.proofs.lemmas.Bool.Decides.{nat_tests}
 use Rattle.mp_base.specs.declared.number.Guid.{Guid}
 use Rattle.bank_core.specs.declared.bank.Fault.{Fault}
 use Rattle.bank_core.specs.Asks.{Ask, Reads, ask_of}
-use Rattle.bank_core.specs.Disk.{Call, Read, Write, Flush, Admit, Eject, Noted, AllAnswer, covers, sectors_in, sector_of}
+use Rattle.bank_core.specs.Disk.{Call, Read, Noted, AllAnswer, covers, sectors_in, sector_of}
 use Rattle.label_store.specs.declared.found.Found.{Found}
 use Rattle.label_store.specs.declared.rule.Head.{Head}
 use Rattle.label_store.specs.declared.uberblock.Uberblock.{Uberblock}
@@ -36,6 +35,8 @@ use Rattle.pool_moves.specs.Opened.{claims_of}
 use Rattle.pool_moves.specs.OpeningRow.{SeekReply, seek_reply, RowSeek, HasSizes, IsLiveOne, SeeksLive, read_of, AreWholeReads, IsSoughtOn, IsSought, AreSought, OpenReply, RowOpen}
 use Rattle.pool_moves.proofs.OpenedSeats.{ArePaired}
 use Rattle.pool_moves.proofs.ReadWalks.{read_sparing}
+use Rattle.pool_moves.proofs.Lists.{all_front, all_rest}
+use Rattle.pool_moves.proofs.Tests.{le_of, same_guid}
 
 -- Reads are always allowed.
 pub reads_may : (c : Codec) (p : Pool) (made : List Noted) → AreReads made → Mays c p (as_events made)
@@ -44,10 +45,7 @@ reads_may c p (noted ∷ made) reads = (one noted.call reads.0, reads_may c (aft
   where
     one : (call : Call) → IsRead call → IsSparing p call
     one (Read dev at bytes fault) is = read_sparing p dev at bytes fault
-    one (Write dev at bytes fault) is = absurd is
-    one (Flush dev fault) is = absurd is
-    one (Admit dev holds) is = absurd is
-    one (Eject dev) is = absurd is
+    one call is = absurd is
 
 -- A search for an identity only reads.
 asked_read : (call : Call) (dev at n : ℕ) → ask_of call ≡ Reads dev at n → IsRead call
@@ -63,8 +61,7 @@ pub search_reads : (pool member : Guid) (dev size : ℕ) (made : List Noted) (re
 search_reads pool member dev size made (Ok true) s =
     subst AreReads (sym s.all) (are_reads_more s.misses (s.hit ∷ [])
     (misses_read pool member dev (take s.before (rings_of size)) s.misses s.are_misses) (asked_read s.hit.call dev _ _ s.ask, tt))
-search_reads pool member dev size made (Ok false) s = misses_read pool member dev (rings_of size) made s.0
-search_reads pool member dev size made (Err fault) s = misses_read pool member dev (rings_of size) made s.0
+search_reads pool member dev size made result s = misses_read pool member dev (rings_of size) made s.0
 
 sought_on_reads : (roomy : Bool) (pool : Guid) (size : ℕ) (m : Guid) (d : ℕ) (made : List Noted) (found : Option ℕ)
     → IsSoughtOn roomy pool size m d made found → AreReads made
@@ -161,11 +158,7 @@ given_home c p m d before (Read dev at bytes None) sv mine lt ask gives whole =
     long_in : Ask → ℕ
     long_in (Reads dev at n) = n
     long_in ask = 0
-given_home c p m d before (Read dev at bytes (Some fault)) sv mine lt ask gives whole = absurd gives
-given_home c p m d before (Write dev at bytes fault) sv mine lt ask gives whole = absurd gives
-given_home c p m d before (Flush dev fault) sv mine lt ask gives whole = absurd gives
-given_home c p m d before (Admit dev holds) sv mine lt ask gives whole = absurd gives
-given_home c p m d before (Eject dev) sv mine lt ask gives whole = absurd gives
+given_home c p m d before call sv mine lt ask gives whole = absurd gives
 
 whole_last : (p : Pool) (first : List Noted) (noted : Noted) → AreWholeReads p (first ++ (noted ∷ [])) → AreNotTorn p (read_of noted.call)
 whole_last p [] noted all = all.0
@@ -181,14 +174,6 @@ search_home c p m d made sv mine s whole = given_home c p m d s.before s.hit.cal
 abbrev IsClaimed : Pool → (size : ℕ → ℕ) → List Noted → ℕ → Guid → Type 0
 IsClaimed p size made d m = (mine : List Noted) × IsSearch p.pool m d (size d) mine (Ok true) × (1 ≤ size d) × (AreWholeReads p made → AreWholeReads p mine)
 
-pub all_first : {A : Type 0} (P : A → Type 0) (xs ys : List A) → AllByRecursion P (xs ++ ys) → AllByRecursion P xs
-all_first P [] ys all = tt
-all_first P (x ∷ xs) ys all = (all.0, all_first P xs ys all.1)
-
-all_second : {A : Type 0} (P : A → Type 0) (xs ys : List A) → AllByRecursion P (xs ++ ys) → AllByRecursion P ys
-all_second P [] ys all = all
-all_second P (x ∷ xs) ys all = all_second P xs ys all.1
-
 on_claimed : (p : Pool) (size : ℕ → ℕ) (room : ℕ) (m : Guid) (e d : ℕ) (mine made : List Noted) (roomy : Bool) → nat_le (room + 256) (size e) ≡ roomy
     → IsSoughtOn roomy p.pool (size e) m e mine (Some d)
     → (AreWholeReads p made → AreWholeReads p mine) → IsClaimed p size made d m
@@ -197,9 +182,6 @@ on_claimed p size room m e d mine made true is (inl sought) whole =
     let same : d ≡ e = (let one = sought.0 in cc) in
     subst (λ n. IsClaimed p size made n m) (sym same)
     (mine, sought.1, (let le : room + 256 ≤ size e = le_of (room + 256) (size e) is in omega (arith, le)), whole)
-  where
-    le_of : (a b : ℕ) → nat_le a b ≡ true → a ≤ b
-    le_of a b e = grind (arith, nat_tests)
 on_claimed p size room m e d mine made true is (inr sought) whole = absurd (let no : Some d ≡ None = sought.0 in cc)
 
 one_claimed : (p : Pool) (size : ℕ → ℕ) (room : ℕ) (m : Guid) (dev : Option ℕ) (d : ℕ) (mine made : List Noted) → IsSought p.pool size room m dev mine (Some d)
@@ -215,17 +197,14 @@ claimed p size room handed (leaf ∷ leaves) made (dev ∷ devs) d m is claim = 
     (λ here. let parts = and_parts (is_dev d dev) (leaf.guid.0 == m.0) here in
     let mine : IsClaimed p size made d leaf.guid = one_claimed p size (room leaf.top) leaf.guid (handed leaf.name) d is.0 made
     (subst (λ x. IsSought p.pool size (room leaf.top) leaf.guid (handed leaf.name) is.0 x) (dev_of dev parts.0) is.3)
-    (λ whole. all_first (λ noted. AreNotTorn p (read_of noted.call)) is.0 is.1 (subst (AreWholeReads p) is.2 whole)) in
+    (λ whole. all_front _ is.0 is.1 (subst (AreWholeReads p) is.2 whole)) in
     subst (IsClaimed p size made d) (same_guid leaf.guid m parts.1) mine)
     (λ off. let later = claimed p size room handed leaves is.1 devs d m is.4 (sym (ap (λ t. t || claims_of leaves devs d m) off) ∙ claim) in
-    (later.0, later.1, later.2, λ whole. later.3 (all_second (λ noted. AreNotTorn p (read_of noted.call)) is.0 is.1 (subst (AreWholeReads p) is.2 whole))))
+    (later.0, later.1, later.2, λ whole. later.3 (all_rest _ is.0 is.1 (subst (AreWholeReads p) is.2 whole))))
   where
     dev_of : (dev : Option ℕ) → is_dev d dev ≡ true → dev ≡ Some d
     dev_of None is = absurd (let no : false ≡ true = is in cc)
     dev_of (Some e) is = ap Some (sym (same_device d e is))
-
-    same_guid : (a b : Guid) → (a.0 == b.0) ≡ true → a ≡ b
-    same_guid a b is = let at : ℕ → Guid = λ n. record { 0 = n } in ap at (same_device a.0 b.0 is)
 
 pub sought_no_twin : (c : Codec) (p : Pool) (r : Rec) (size room : ℕ → ℕ) (handed : List ℕ → Option ℕ) (leaves : List LeafKept) (made : List Noted)
     (devs : List (Option ℕ)) → Survives c p → HasSizes size p

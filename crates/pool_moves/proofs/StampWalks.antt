@@ -31,6 +31,8 @@ use Rattle.pool_moves.specs.StampRow.{NewMember, NewLeaf, top_leaves, leaves_fro
 use Rattle.pool_moves.specs.States.{PoolState, Side}
 use Rattle.pool_moves.proofs.CommitWalks.{found_walks}
 use Rattle.pool_moves.proofs.Making.{made_kept}
+use Rattle.pool_moves.proofs.Lists.{all_append, each}
+use Rattle.pool_moves.proofs.Tests.{here, same_back, some_same}
 
 -- Lists of leaves.
 abbrev pub IsOneOf : NewLeaf → List NewLeaf → Type 0
@@ -42,14 +44,6 @@ all_of P [] leaf all is = absurd is
 all_of P (first ∷ leaves) leaf all (inl same) = subst P (sym same) all.0
 all_of P (first ∷ leaves) leaf all (inr more) = all_of P leaves leaf all.1 more
 
-both_all : {A : Type 0} (P : A → Type 0) (xs ys : List A) → AllByRecursion P xs → AllByRecursion P ys → AllByRecursion P (xs ++ ys)
-both_all P [] ys a b = b
-both_all P (x ∷ xs) ys a b = (a.0, both_all P xs ys a.1 b)
-
-each_all : {A : Type 0} (P Q : A → Type 0) → ((x : A) → P x → Q x) → (xs : List A) → AllByRecursion P xs → AllByRecursion Q xs
-each_all P Q one [] all = tt
-each_all P Q one (x ∷ xs) all = (one x all.0, each_all P Q one xs all.1)
-
 -- The leaf on a device.
 pub leaf_found : (d : ℕ) (leaves : List NewLeaf) (leaf : NewLeaf) → leaf_at d leaves ≡ Some leaf → IsOneOf leaf leaves × (leaf.dev ≡ d)
 leaf_found d [] leaf is = absurd (cc)
@@ -57,12 +51,6 @@ leaf_found d (first ∷ leaves) leaf is = by_bool (first.dev == d)
     (λ yes. let same : leaf ≡ first = some_same leaf first (sym is ∙ ap (λ t. cond t (Some first) (leaf_at d leaves)) yes) in
     (inl same, ap (λ l. l.dev) same ∙ same_device first.dev d yes))
     (λ off. let more = leaf_found d leaves leaf (sym (ap (λ t. cond t (Some first) (leaf_at d leaves)) off) ∙ is) in (inr more.0, more.1))
-  where
-    some_same : (a b : NewLeaf) → Some a ≡ Some b → a ≡ b
-    some_same a b e = cc
-
-here : (d : ℕ) → (d == d) ≡ true
-here d = grind (arith, nat_tests)
 
 leaf_is_at : (leaves : List NewLeaf) (leaf : NewLeaf) → AreDevicesApart leaves → IsOneOf leaf leaves → leaf_at leaf.dev leaves ≡ Some leaf
 leaf_is_at [] leaf apart is = absurd is
@@ -92,8 +80,8 @@ rising_more : (mid low high : ℕ) (first second : List NewLeaf) → AreRising f
     → AllByRecursion (IsNumbered mid high) second → AreRising (first ++ second)
 rising_more mid low high [] second a below b above = b
 rising_more mid low high (leaf ∷ first) second a below b above = (
-  both_all (λ other. leaf.guid.0 < other.guid.0) first second a.0
-      (each_all (IsNumbered mid high) (λ other. leaf.guid.0 < other.guid.0) (λ other is. let x = below.0.1 in let y = is.0 in omega (arith, x, y))
+  all_append _ first second a.0
+      (each (λ other is. let x = below.0.1 in let y = is.0 in omega (arith, x, y))
       second above),
   rising_more mid low high first second a.1 below.1 b above,
 )
@@ -102,7 +90,7 @@ top_numbered : (next top : ℕ) (ms : List NewMember) → AllByRecursion (IsNumb
 top_numbered next top [] = tt
 top_numbered next top (m ∷ ms) = (
   (omega arith, omega arith),
-  each_all (IsNumbered (suc next) (suc next + length ms)) (IsNumbered next (next + suc (length ms)))
+  each
       (λ leaf is. let x = is.0 in let y = is.1 in (omega (arith, x), omega (arith, y)))
       (top_leaves (suc next) top ms) (top_numbered (suc next) top ms),
 )
@@ -110,7 +98,7 @@ top_numbered next top (m ∷ ms) = (
 top_rising : (next top : ℕ) (ms : List NewMember) → AreRising (top_leaves next top ms)
 top_rising next top [] = tt
 top_rising next top (m ∷ ms) = (
-  each_all (IsNumbered (suc next) (suc next + length ms)) (λ other. next < other.guid.0) (λ leaf is. let x = is.0 in omega (arith, x))
+  each (λ leaf is. let x = is.0 in omega (arith, x))
       (top_leaves (suc next) top ms) (top_numbered (suc next) top ms),
   top_rising (suc next) top ms,
 )
@@ -121,13 +109,12 @@ next_up next (members ∷ tops) = let up = next_up (suc next + length members) t
 
 from_numbered : (next top : ℕ) (tops : List (List NewMember)) → AllByRecursion (IsNumbered (suc next) (next_from next tops)) (leaves_from next top tops)
 from_numbered next top [] = tt
-from_numbered next top (members ∷ tops) = both_all (IsNumbered (suc next) (next_from (suc next + length members) tops))
+from_numbered next top (members ∷ tops) = all_append _
     (top_leaves (suc next) top members) (leaves_from (suc next + length members) (suc top) tops)
-    (each_all (IsNumbered (suc next) (suc next + length members)) (IsNumbered (suc next) (next_from (suc next + length members) tops))
+    (each
     (λ leaf is. let x = is.0 in let y = is.1 in let up = next_up (suc next + length members) tops in (x, omega (arith, y, up)))
     (top_leaves (suc next) top members) (top_numbered (suc next) top members))
-    (each_all (IsNumbered (suc (suc next + length members)) (next_from (suc next + length members) tops))
-    (IsNumbered (suc next) (next_from (suc next + length members) tops))
+    (each
     (λ leaf is. let x = is.0 in (omega (arith, x), is.1)) (leaves_from (suc next + length members) (suc top) tops)
     (from_numbered (suc next + length members) (suc top) tops))
 
@@ -137,8 +124,7 @@ from_rising next top (members ∷ tops) = rising_more (suc next + length members
     (top_leaves (suc next) top members)
     (leaves_from (suc next + length members) (suc top) tops) (top_rising (suc next) top members) (top_numbered (suc next) top members)
     (from_rising (suc next + length members) (suc top) tops)
-    (each_all (IsNumbered (suc (suc next + length members)) (next_from (suc next + length members) tops))
-    (IsNumbered (suc next + length members) (next_from (suc next + length members) tops))
+    (each
     (λ leaf is. let x = is.0 in (omega (arith, x), is.1)) (leaves_from (suc next + length members) (suc top) tops)
     (from_numbered (suc next + length members) (suc top) tops))
 
@@ -164,11 +150,11 @@ top_is next top (m ∷ ms) = (refl, top_is (suc next) top ms)
 
 from_tops : (next top : ℕ) (tops : List (List NewMember)) → AllByRecursion (λ leaf. top ≤ leaf.top) (leaves_from next top tops)
 from_tops next top [] = tt
-from_tops next top (members ∷ tops) = both_all (λ leaf. top ≤ leaf.top) (top_leaves (suc next) top members)
+from_tops next top (members ∷ tops) = all_append _ (top_leaves (suc next) top members)
     (leaves_from (suc next + length members) (suc top) tops)
-    (each_all (λ leaf. leaf.top ≡ top) (λ leaf. top ≤ leaf.top) (λ leaf is. omega (arith, is)) (top_leaves (suc next) top members)
+    (each (λ leaf is. omega (arith, is)) (top_leaves (suc next) top members)
     (top_is (suc next) top members))
-    (each_all (λ leaf. suc top ≤ leaf.top) (λ leaf. top ≤ leaf.top) (λ leaf is. omega (arith, is))
+    (each (λ leaf is. omega (arith, is))
     (leaves_from (suc next + length members) (suc top) tops) (from_tops (suc next + length members) (suc top) tops))
 
 -- Rooms.
@@ -347,7 +333,7 @@ stamps_make size name pool blocks tops stamps sectors new range are = record {
   seated = seats_seated leaves leaves new.apart (ones leaves leaves (λ leaf is. is));
   here = seats_here leaves;
   below = seats_below leaves (next_from 1 tops) leaves new.apart (ones leaves leaves (λ leaf is. is))
-      (each_all (IsNumbered 2 (next_from 1 tops)) (λ leaf. leaf.guid.0 < next_from 1 tops) (λ leaf is. is.1) leaves (from_numbered 1 1 tops));
+      (each (λ leaf is. is.1) leaves (from_numbered 1 1 tops));
   each = λ d is. let leaf = leaf_of d leaves is in let one = leaf_found d leaves leaf.0 leaf.1 in subst (λ n. HasSeat n (map new_seat leaves)) one.1 (seats_has leaves leaf.0 one.0);
   core = ap (λ l. record (new_state size name pool blocks tops).core { leaves = l }) (leaves_seen size name pool leaves leaves (run (calls_of_stamps stamps) sectors) new.apart (ones leaves leaves (λ leaf is. is)));
   unwritten = λ a. refl;
@@ -433,10 +419,8 @@ gone_stays (stamp ∷ stamps) p d gone = ap (λ q. q.member d) (stamp_pool stamp
 pub stamps_lose : (stamps : List Stamp) (p : Pool) (d : ℕ) → IsListed d (stamped_devices stamps) → (pool_after (stamp_events stamps) p).member d ≡ false
 stamps_lose [] p d listed = absurd listed
 stamps_lose (stamp ∷ stamps) p d (inl is) = ap (λ q. q.member d) (stamp_pool stamp (stamp_events stamps) p)
-    ∙ gone_stays stamps (with_calls stamp.made (after (Loses stamp.dev) p)) d (at_here stamp.dev d false p.member (turn d stamp.dev is))
-  where
-    turn : (a b : ℕ) → (a == b) ≡ true → (b == a) ≡ true
-    turn a b e = grind (arith, nat_tests)
+    ∙ gone_stays stamps (with_calls stamp.made (after (Loses stamp.dev) p)) d
+    (at_here stamp.dev d false p.member (same_back d stamp.dev is))
 stamps_lose (stamp ∷ stamps) p d (inr more) = ap (λ q. q.member d) (stamp_pool stamp (stamp_events stamps) p)
     ∙ stamps_lose stamps (with_calls stamp.made (after (Loses stamp.dev) p)) d more
 
@@ -445,7 +429,5 @@ pub stamps_spare : (stamps : List Stamp) (p : Pool) (d : ℕ) → (IsListed d (s
 stamps_spare [] p d off = refl
 stamps_spare (stamp ∷ stamps) p d off = ap (λ q. q.member d) (stamp_pool stamp (stamp_events stamps) p)
     ∙ (stamps_spare stamps (with_calls stamp.made (after (Loses stamp.dev) p)) d (λ more. off (inr more))
-    ∙ ap (λ t. cond t false (p.member d)) (by_bool (stamp.dev == d) (λ is. absurd (off (inl (turn stamp.dev d is)))) (λ away. away)))
-  where
-    turn : (a b : ℕ) → (a == b) ≡ true → (b == a) ≡ true
-    turn a b e = grind (arith, nat_tests)
+    ∙ ap (λ t. cond t false (p.member d))
+    (by_bool (stamp.dev == d) (λ is. absurd (off (inl (same_back stamp.dev d is)))) (λ away. away)))

@@ -6,6 +6,7 @@ use Rattle.mp_base.specs.declared.number.Guid.{Guid}
 use Rattle.txg_history.proofs.Logging.{by_bool, true_not_false}
 use Rattle.pool_moves.specs.TreeLeaves.{AreDifferent}
 use Rattle.pool_moves.specs.Trees.{Branch, Single, Replacing, Child, Plain, Spared, same_number, branch_leaves, option_leaves, child_leaves, tree_leaves, is_single, may_be_replaced, has_replaceable, attached, replaced_branch, replaced_child, replaced, pruned_branch, pruned_spares, pruned_first, pruned_plain, pruned_child, pruned}
+use Rattle.std.proofs.lemmas.Bool.{or_cases}
 
 -- A number put behind another one, and one taken out.
 abbrev pub put_behind : (m new : Guid) → List Guid → List Guid
@@ -29,12 +30,6 @@ pub has_both : {A : Type 0} (m : Guid) (ns : List Guid) → Has m ns → HasNot 
 has_both m [] has not_one = absurd has
 has_both m (n ∷ ns) (inl is) not_one = true_not_false (same_number m n) is not_one.0
 has_both m (n ∷ ns) (inr has) not_one = has_both m ns has not_one.1
-
-same_back : (m n : Guid) → same_number m n ≡ true → same_number n m ≡ true
-same_back m n is = back m.0 n.0 is
-  where
-    back : (a b : ℕ) → (a == b) ≡ true → (b == a) ≡ true
-    back a b is = grind (arith, nat_tests)
 
 same_on : (a b c : ℕ) → (a == b) ≡ true → (b == c) ≡ false → (a == c) ≡ false
 same_on a b c same off = grind (arith, nat_tests)
@@ -133,15 +128,11 @@ child_has : (m : Guid) (child : Child) → may_be_replaced m child ≡ true → 
 child_has m (Plain branch) is = branch_has m branch is
 child_has m (Spared v first spare second) is = has_more m (branch_leaves first) (spare ∷ option_leaves second) (branch_has m first is)
 
-or_parts : (t u : Bool) → (t || u) ≡ true → (t ≡ true) ⊎ (u ≡ true)
-or_parts true u is = inl refl
-or_parts false u is = inr is
-
 tree_has : (m : Guid) (children : List Child) → has_replaceable m children ≡ true → Has m (tree_leaves children)
 tree_has m [] is = absurd (cc)
 tree_has m (child ∷ children) is = ⊎_elim (λ here. has_more m (child_leaves child) (tree_leaves children) (child_has m child here))
     (λ more. has_later m (child_leaves child) (tree_leaves children) (tree_has m children more))
-    (or_parts (may_be_replaced m child) (has_replaceable m children) is)
+    (or_cases (may_be_replaced m child) (has_replaceable m children) is)
 
 -- the leaves of a branch that takes the new one, with others behind it
 branch_put : (m v new : Guid) (branch : Branch) (rest : List Guid) → is_single m branch ≡ true

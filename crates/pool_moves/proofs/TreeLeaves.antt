@@ -1,5 +1,5 @@
 -- The trees of a state keep the leaves of its list, behind lines that change them too.
-use Rattle.std.proofs.Common.{◌≡◌, inl, inr, ℕ, zero, suc, ◌+◌, ◌<◌, ◌≤◌, ◌==◌, ◌||◌, nat_lt, Bool, true, false, cond, Option, Some, None, List, [], ◌∷◌, ◌++◌, map, refl, sym, ap, ◌∙◌, subst, arith}
+use Rattle.std.proofs.Common.{◌≡◌, inl, inr, ℕ, zero, suc, ◌+◌, ◌<◌, ◌≤◌, ◌==◌, nat_lt, Bool, true, false, cond, Option, Some, None, List, [], ◌∷◌, ◌++◌, map, refl, sym, ap, ◌∙◌, subst, arith}
 use Rattle.std.specs.List.{AllByRecursion, find, list_any, insert, remove}
 use Rattle.std.specs.Str.{bytes_eq}
 use Rattle.std.proofs.lemmas.Bool.Decides.{nat_tests}
@@ -12,8 +12,8 @@ use Rattle.txg_history.proofs.Logging.{by_bool, same_device}
 use Rattle.pool_moves.specs.AwayRows.{leaf_named, is_spare}
 use Rattle.pool_moves.specs.Keeping.{HasNumberBelow, Kept}
 use Rattle.pool_moves.specs.Leaves.{OwnLeaf, LeafSeen, Seat, At, Adrift, told, leaf_seen}
-use Rattle.pool_moves.specs.LineRows.{TurnReply, Idle, Write, Flush, Round, Committed, Suspended}
-use Rattle.pool_moves.specs.Moves.{Move, Makes, Puts, Freeze, Wrote_key, Flushed_all, Draw, Leave, Widen, Burn, Starts, Copies, Copied, Commits, Sets, Lose, Comes, Goes, Returns, Rest, Scrubs, Shapes, leaf_step, step, state_step, steps}
+use Rattle.pool_moves.specs.LineRows.{TurnReply, Committed, Suspended}
+use Rattle.pool_moves.specs.Moves.{Move, Widen, Lose, Comes, Goes, Returns, Rest, Shapes, leaf_step, step, state_step, steps}
 use Rattle.pool_moves.specs.Refusing.{FreezeRefusal}
 use Rattle.pool_moves.specs.ScanRows.{starts_scan}
 use Rattle.pool_moves.specs.States.{PoolSeen, PoolState, Side}
@@ -22,11 +22,13 @@ use Rattle.pool_moves.specs.TreeRows.{Graft, Attach, Replace, graft_moves, TreeR
 use Rattle.pool_moves.specs.Trees.{Child, same_number, tree_leaves, pruned}
 use Rattle.pool_moves.specs.Walking.{as_moves}
 use Rattle.pool_moves.specs.Widening.{AreWidens}
-use Rattle.pool_moves.proofs.DetachWalks.{commit_of}
-use Rattle.pool_moves.proofs.GraftWalks.{steps_more, new_above}
-use Rattle.pool_moves.proofs.Keeping.{number_stays, top_stays, all_same}
-use Rattle.pool_moves.proofs.Shaping.{IsOfCommit}
+use Rattle.pool_moves.proofs.DetachWalks.{commit_calm}
+use Rattle.pool_moves.proofs.FreeWalks.{steps_more}
+use Rattle.pool_moves.proofs.GraftWalks.{new_above}
+use Rattle.pool_moves.proofs.Keeping.{leaf_stays, leaves_still}
 use Rattle.pool_moves.proofs.TreeEdits.{put_behind, taken_out, HasNot, attached_leaves, replaced_leaves, pruned_leaves}
+use Rattle.pool_moves.proofs.Tests.{here, other_back, some_same}
+use Rattle.std.proofs.lemmas.Bool.{or_parts}
 
 -- A leaf by its number and its top, and a state by these and its trees.
 abbrev Face : Type 0
@@ -73,27 +75,22 @@ of_shape s is = record { tree = λ top. is.tree top ∙ under_is top s.core.leav
 faces_map : (v : Move) (number first hi : ℕ) (leaves : List LeafSeen) → map face (map (leaf_step v number first hi) leaves) ≡ map face leaves
 faces_map v number first hi [] = refl
 faces_map v number first hi (leaf ∷ leaves) =
-    ap (λ g. (g, (leaf_step v number first hi leaf).top) ∷ map face (map (leaf_step v number first hi) leaves)) (number_stays v number first hi leaf)
-    ∙ (ap (λ t. (leaf.guid, t) ∷ map face (map (leaf_step v number first hi) leaves)) (top_stays v number first hi leaf)
+    ap (λ g. (g, (leaf_step v number first hi leaf).top) ∷ map face (map (leaf_step v number first hi) leaves))
+    (leaf_stays v number first hi leaf).0
+    ∙ (ap (λ t. (leaf.guid, t) ∷ map face (map (leaf_step v number first hi) leaves))
+    (leaf_stays v number first hi leaf).1
     ∙ ap (λ l. face leaf ∷ l) (faces_map v number first hi leaves))
 
 abbrev with_faces : PoolState → List Face → Shape
 with_faces s fs = record { faces = fs; children = s.own.children }
 
 shape_step : (v : Move) (s : PoolState) → IsCalm v → shape_of (state_step v s) ≡ shape_of s
-shape_step (Makes noted) s is = refl
-shape_step (Puts a block) s is = refl
-shape_step (Wrote_key k) s is = refl
-shape_step Flushed_all s is = refl
-shape_step (Starts draft) s is = refl
-shape_step (Copies draft d) s is = refl
-shape_step (Copied draft d) s is = refl
-shape_step Scrubs s is = refl
+shape_step (Shapes top children) s is = absurd is
 shape_step (Comes i d m top own) s is = absurd is
 shape_step (Goes i) s is = absurd is
 shape_step (Returns i seat leaf) s is = absurd is
-shape_step (Shapes top children) s is = absurd is
-shape_step v s is = ap (with_faces s) (faces_map v s.core.number s.core.group.first s.core.scan.hi s.core.leaves)
+shape_step v s is = ap (with_faces s) (ap (map face) (leaves_still v s.core tt)
+    ∙ faces_map v s.core.number s.core.group.first s.core.scan.hi s.core.leaves)
 
 shape_along : (vs : List Move) (s : PoolState) → AllByRecursion IsCalm vs → shape_of (steps vs s) ≡ shape_of s
 shape_along [] s all = refl
@@ -105,22 +102,6 @@ calm_leaves vs s all are = of_shape (steps vs s) (subst IsTree (sym (shape_along
 calls_calm : (made : List Noted) → AllByRecursion IsCalm (as_moves made)
 calls_calm [] = tt
 calls_calm (noted ∷ made) = (tt, calls_calm made)
-
-calm_of : (v : Move) → IsOfCommit v → IsCalm v
-calm_of (Makes noted) is = tt
-calm_of (Freeze cells board) is = tt
-calm_of (Wrote_key k) is = tt
-calm_of Flushed_all is = tt
-calm_of Draw is = tt
-calm_of (Leave d) is = tt
-calm_of (Widen m low high) is = tt
-calm_of Burn is = tt
-calm_of (Starts draft) is = tt
-calm_of (Copies draft d) is = tt
-calm_of (Copied draft d) is = tt
-calm_of (Commits draft) is = tt
-calm_of (Sets m own) is = tt
-calm_of v is = absurd is
 
 -- Faces put in and taken out.
 faces_insert : (leaves : List LeafSeen) (i : ℕ) (leaf : LeafSeen) → map face (insert leaves i leaf) ≡ insert (map face leaves) i (face leaf)
@@ -145,13 +126,10 @@ firsts_insert fs zero m top new all = (new, all)
 firsts_insert [] (suc i) m top new all = (tt, tt)
 firsts_insert (f ∷ fs) (suc i) m top new all = (also fs i all.0, firsts_insert fs i m top new.1 all.1)
   where
-    back : (a b : ℕ) → (a == b) ≡ false → (b == a) ≡ false
-    back a b off = grind (arith, nat_tests)
-
     also : (fs : List Face) (i : ℕ) → AllByRecursion (λ n. same_number f.0 n ≡ false) (firsts fs)
         → AllByRecursion (λ n. same_number f.0 n ≡ false) (firsts (insert fs i (m, top)))
-    also fs zero off = (back m.0 f.0.0 new.0, off)
-    also [] (suc i) off = (back m.0 f.0.0 new.0, tt)
+    also fs zero off = (other_back m.0 f.0.0 new.0, off)
+    also [] (suc i) off = (other_back m.0 f.0.0 new.0, tt)
     also (x ∷ fs) (suc i) off = (off.0, also fs i off.1)
 
 firsts_remove : (fs : List Face) (i : ℕ) → AreDifferent (firsts fs) → AreDifferent (firsts (remove fs i))
@@ -168,9 +146,6 @@ firsts_remove (f ∷ fs) (suc i) all = (also fs i all.0, firsts_remove fs i all.
     also (x ∷ fs) (suc i) off = (off.0, also fs i off.1)
 
 -- A leaf behind all others of its top.
-top_here : (top : ℕ) → (top == top) ≡ true
-top_here top = grind (arith, nat_tests)
-
 -- the numbers under one top differ too
 under_not : (n : Guid) (top : ℕ) (fs : List Face) → AllByRecursion (λ m. same_number n m ≡ false) (firsts fs)
     → AllByRecursion (λ m. same_number n m ≡ false) (under top fs)
@@ -185,13 +160,10 @@ under_different top (f ∷ fs) all = by_bool (f.1 == top)
     (λ is. subst (λ t. AreDifferent (cond t (f.0 ∷ under top fs) (under top fs))) (sym is) (under_not f.0 top fs all.0, under_different top fs all.1))
     (λ off. subst (λ t. AreDifferent (cond t (f.0 ∷ under top fs) (under top fs))) (sym off) (under_different top fs all.1))
 
-or_false : (t u : Bool) → (t || u) ≡ false → (t ≡ false) × (u ≡ false)
-or_false true u is = absurd (cc)
-or_false false u is = (refl, is)
-
 none_under : (top : ℕ) (leaves : List LeafSeen) → list_any (λ other. other.top == top) leaves ≡ false → under top (map face leaves) ≡ []
 none_under top [] none = refl
-none_under top (leaf ∷ leaves) none = let parts = or_false (leaf.top == top) (list_any (λ other. other.top == top) leaves) none in
+none_under top (leaf ∷ leaves) none = let parts = or_parts (leaf.top == top)
+    (list_any (λ other. other.top == top) leaves) none in
     ap (λ t. cond t (leaf.guid ∷ under top (map face leaves)) (under top (map face leaves))) parts.0 ∙ none_under top leaves parts.1
 
 more_last : (t : Bool) (x m : Guid) (l : List Guid) → cond t (x ∷ (l ++ (m ∷ []))) (l ++ (m ∷ [])) ≡ cond t (x ∷ l) l ++ (m ∷ [])
@@ -200,7 +172,7 @@ more_last false x m l = refl
 
 last_under : (top : ℕ) (m : Guid) (leaves : List LeafSeen) → under top (insert (map face leaves) (behind_top top leaves) (m, top)) ≡ under top
     (map face leaves) ++ (m ∷ [])
-last_under top m [] = ap (λ t. cond t (m ∷ []) []) (top_here top)
+last_under top m [] = ap (λ t. cond t (m ∷ []) []) (here top)
 last_under top m (leaf ∷ leaves) = by_bool (list_any (λ other. other.top == top) leaves)
     (λ any. ap (λ t. under top (insert (map face (leaf ∷ leaves)) (cond t (suc (behind_top top leaves)) (cond (leaf.top == top) 1 0)) (m, top))) any
     ∙ (ap (λ l. cond (leaf.top == top) (leaf.guid ∷ l) l) (last_under top m leaves) ∙ more_last (leaf.top == top) leaf.guid m (under top (map face leaves))))
@@ -213,22 +185,21 @@ last_under top m (leaf ∷ leaves) = by_bool (list_any (λ other. other.top == t
     alone true is none = ap (λ t. under top (insert (map face (leaf ∷ leaves)) (cond t 1 0) (m, top))) is
         ∙ (ap (λ t. cond t (leaf.guid ∷ cond (top == top) (m ∷ under top (map face leaves)) (under top (map face leaves)))
         (cond (top == top) (m ∷ under top (map face leaves)) (under top (map face leaves)))) is
-        ∙ (ap (λ t. leaf.guid ∷ cond t (m ∷ under top (map face leaves)) (under top (map face leaves))) (top_here top) ∙ (ap (λ l. leaf.guid ∷ (m ∷ l)) none
+        ∙ (ap (λ t. leaf.guid ∷ cond t (m ∷ under top (map face leaves)) (under top (map face leaves))) (here top)
+        ∙ (ap (λ l. leaf.guid ∷ (m ∷ l)) none
         ∙ (sym (ap (λ l. leaf.guid ∷ (l ++ (m ∷ []))) none) ∙ sym (ap (λ t. cond t (leaf.guid ∷ under top (map face leaves))
         (under top (map face leaves)) ++ (m ∷ [])) is)))))
     alone false off none = ap (λ t. under top (insert (map face (leaf ∷ leaves)) (cond t 1 0) (m, top))) off
         ∙ (ap (λ t. cond t (m ∷ cond (leaf.top == top) (leaf.guid ∷ under top (map face leaves)) (under top (map face leaves)))
-        (cond (leaf.top == top) (leaf.guid ∷ under top (map face leaves)) (under top (map face leaves)))) (top_here top)
+        (cond (leaf.top == top) (leaf.guid ∷ under top (map face leaves)) (under top (map face leaves)))) (here top)
         ∙ (ap (λ t. m ∷ cond t (leaf.guid ∷ under top (map face leaves)) (under top (map face leaves))) off ∙ (ap (λ l. m ∷ l) none
         ∙ (sym (ap (λ l. l ++ (m ∷ [])) none) ∙ sym (ap (λ t. cond t (leaf.guid ∷ under top (map face leaves)) (under top (map face leaves)) ++ (m ∷ []))
         off)))))
 
 -- A leaf directly behind the one that a test finds.
-some_leaf : (a b : LeafSeen) → Some a ≡ Some b → a ≡ b
-some_leaf a b e = cc
-
 found_first : (test : LeafSeen → Bool) (x leaf : LeafSeen) (leaves : List LeafSeen) → test x ≡ true → find test (x ∷ leaves) ≡ Some leaf → x ≡ leaf
-found_first test x leaf leaves is found = some_leaf x leaf (sym (ap (λ t. cond t (Some x) (find test leaves)) is) ∙ found)
+found_first test x leaf leaves is found = some_same x leaf (sym (ap (λ t. cond t (Some x) (find test leaves)) is)
+    ∙ found)
 
 found_later : (test : LeafSeen → Bool) (x leaf : LeafSeen) (leaves : List LeafSeen) → test x ≡ false → find test (x ∷ leaves) ≡ Some leaf
     → find test leaves ≡ Some leaf
@@ -239,12 +210,6 @@ found_among : (P : Guid → Type 0) (test : LeafSeen → Bool) (leaves : List Le
 found_among P test [] leaf found all = absurd (cc)
 found_among P test (x ∷ leaves) leaf found all = by_bool (test x) (λ is. subst (λ y. P y.guid) (found_first test x leaf leaves is found) all.0)
     (λ off. found_among P test leaves leaf (found_later test x leaf leaves off found) all.1)
-
-other_back : (a b : ℕ) → (a == b) ≡ false → (b == a) ≡ false
-other_back a b off = grind (arith, nat_tests)
-
-same_one : (n : ℕ) → (n == n) ≡ true
-same_one n = grind (arith, nat_tests)
 
 behind_one : (t u : Bool) (x m : Guid) (l : List Guid) → t ≡ true → u ≡ true → cond t (x ∷ cond u (m ∷ l) l) (cond u (m ∷ l) l) ≡ x ∷ (m ∷ l)
 behind_one t u x m l a b = rw (a, b) refl
@@ -265,8 +230,10 @@ behind_under test (x ∷ leaves) leaf m found different = by_bool (test x)
     (λ is. ap (λ t. under leaf.top (insert (map face (x ∷ leaves)) (suc (cond t 0 (suc (place_where test leaves)))) (m, leaf.top))) is
     ∙ (subst (λ y. under leaf.top (insert (map face (y ∷ leaves)) 1 (m, leaf.top)) ≡ put_behind leaf.guid m (under leaf.top (map face (y ∷ leaves))))
     (sym (found_first test x leaf leaves is found))
-    (behind_one (leaf.top == leaf.top) (leaf.top == leaf.top) leaf.guid m (under leaf.top (map face leaves)) (top_here leaf.top) (top_here leaf.top)
-    ∙ sym (put_one (leaf.top == leaf.top) leaf.guid m leaf.guid (under leaf.top (map face leaves)) (top_here leaf.top) (same_one leaf.guid.0)))))
+    (behind_one (leaf.top == leaf.top) (leaf.top == leaf.top) leaf.guid m (under leaf.top (map face leaves))
+    (here leaf.top) (here leaf.top)
+    ∙ sym (put_one (leaf.top == leaf.top) leaf.guid m leaf.guid (under leaf.top (map face leaves)) (here leaf.top)
+    (here leaf.guid.0)))))
     (λ off. ap (λ t. under leaf.top (insert (map face (x ∷ leaves)) (suc (cond t 0 (suc (place_where test leaves)))) (m, leaf.top))) off
     ∙ (ap (λ l. cond (x.top == leaf.top) (x.guid ∷ l) l) (behind_under test leaves leaf m (found_later test x leaf leaves off found) different.1)
     ∙ sym (put_past (x.top == leaf.top) leaf.guid m x.guid (under leaf.top (map face leaves))
@@ -288,7 +255,8 @@ out_under test (x ∷ leaves) leaf found different = by_bool (test x)
     (λ is. ap (λ t. under leaf.top (remove (map face (x ∷ leaves)) (cond t 0 (suc (place_where test leaves))))) is
     ∙ subst (λ y. under leaf.top (map face leaves) ≡ taken_out leaf.guid (under leaf.top (map face (y ∷ leaves))))
     (sym (found_first test x leaf leaves is found))
-    (sym (out_one (leaf.top == leaf.top) leaf.guid leaf.guid (under leaf.top (map face leaves)) (top_here leaf.top) (same_one leaf.guid.0))))
+    (sym (out_one (leaf.top == leaf.top) leaf.guid leaf.guid (under leaf.top (map face leaves)) (here leaf.top)
+    (here leaf.guid.0))))
     (λ off. ap (λ t. under leaf.top (remove (map face (x ∷ leaves)) (cond t 0 (suc (place_where test leaves))))) off
     ∙ (ap (λ l. cond (x.top == leaf.top) (x.guid ∷ l) l) (out_under test leaves leaf (found_later test x leaf leaves off found) different.1)
     ∙ sym (out_past (x.top == leaf.top) leaf.guid x.guid (under leaf.top (map face leaves))
@@ -508,7 +476,8 @@ commit_tree c size s name leaf seat vs reply is named row = subst (λ l. IsTree 
     committed : shape_of (steps row.part (steps (goes_out s name leaf) s))
         ≡ without_leaf (place_named name s.core.leaves) leaf.top (pruned leaf.guid (s.own.children leaf.top)) (shape_of s)
     committed =
-        shape_along row.part gone (all_same IsOfCommit IsCalm calm_of row.part (commit_of c size gone row.part row.turn row.commit)) ∙ out_shape s name leaf
+        shape_along row.part gone (commit_calm c size gone row.part row.turn row.commit)
+        ∙ out_shape s name leaf
 
     behind : (turn : TurnReply) → DetachBehind turn size s name leaf seat row.rest reply
         → IsTree (shape_of (steps row.rest (steps row.part (steps (goes_out s name leaf) s))))
@@ -517,10 +486,7 @@ commit_tree c size s name leaf seat vs reply is named row = subst (λ l. IsTree 
     behind (Suspended group top faults) ends = subst (λ l. IsTree (shape_of (steps l (steps row.part gone)))) (sym ends.0)
         (subst IsTree (sym (back_shape (steps row.part gone) (place_named name s.core.leaves) seat leaf leaf.top (s.own.children leaf.top)
         ∙ ap (back_leaf (place_named name s.core.leaves) (face leaf) leaf.top (s.own.children leaf.top)) committed)) (back_tree s name leaf is named))
-    behind Idle ends = absurd ends
-    behind Write ends = absurd ends
-    behind Flush ends = absurd ends
-    behind (Round number) ends = absurd ends
+    behind turn ends = absurd ends
 
 detach_for_tree : (c : Codec) (size : ℕ → ℕ) (refusal : Option FreezeRefusal) (s : PoolState) (name : List ℕ) (leaf : LeafSeen) (seat : Seat) (vs : List Move)
     (reply : DetachReply) → IsTree (shape_of s)

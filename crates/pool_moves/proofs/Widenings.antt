@@ -23,7 +23,8 @@ use Rattle.pool_moves.specs.TurnRows.{turn_moves}
 use Rattle.pool_moves.specs.Walking.{events_along, as_moves}
 use Rattle.pool_moves.specs.Widening.{ranges_in, widest_of, widest, IsSpanned, IsWidening, AreWidens, IsWidened, AreLeaves, seen_along}
 use Rattle.pool_moves.proofs.FreeWalks.{found_stays, walk_of, walks_more, free_walk, frozen_along, free_along, calls_free}
-use Rattle.pool_moves.proofs.Keeping.{all_same, all_map, seat_cases, move_keeps, walk_keeps}
+use Rattle.pool_moves.proofs.Keeping.{seat_cases, move_keeps, walk_keeps}
+use Rattle.pool_moves.proofs.Lists.{all_map, each}
 
 -- A member of a leaf's number is where the leaf is, so the leaf's log is the member's.
 abbrev IsLogOf : Pool → LeafSeen → Type 0
@@ -146,7 +147,7 @@ pub widens_found : (which : ℕ → Bool) (vs : List Move) (s : PoolSeen) (t : S
     → AllByRecursion (IsOfFound which) (after_moves vs t).seats
 widens_found which [] s t are all = all
 widens_found which (Widen m low high ∷ vs) s t are all = widens_found which vs (step (Widen m low high) s) (after_move (Widen m low high) t) are.2
-    (all_map (IsOfFound which) (IsOfFound which) (seat_step (Widen m low high) t.pool)
+    (all_map _ (seat_step (Widen m low high) t.pool)
     (seat_cases (λ seat. IsOfFound which seat → IsOfFound which (seat_step (Widen m low high) t.pool seat)) (λ d found own is. is) (λ leaf is. tt)) t.seats all)
 widens_found which (v ∷ vs) s t are all = absurd are
 
@@ -170,7 +171,7 @@ leaves_walk c (m ∷ ms) (false ∷ results) vs tail s t b kept like f found are
     (subst (λ l. IsLike (after (Leaves m.dev) b) (after_moves l t).pool) (sym are.3.moves)
     (widens_like are.3.widens (step (Leave m.dev) s.core) (after_move (Leave m.dev) t) (after (Leaves m.dev) b) are.3.are (leave_like m.dev t.pool b like)))
     (subst (λ l. (after_moves l t).pool.group.frozen ≡ true) (sym are.3.moves) (widens_frozen are.3.widens (step (Leave m.dev) s.core) (after_move (Leave m.dev) t) are.3.are ∙ f))
-    (all_same (λ n. AllByRecursion (IsOfFound (λ e. n.dev == e)) t.seats) (λ n. AllByRecursion (IsOfFound (λ e. n.dev == e)) (after_moves are.0 t).seats) stays ms found.1) (subst (λ core. AreLeaves core ms results are.1) (sym (seen_of are.0 s)) are.4) more)))
+    (each stays ms found.1) (subst (λ core. AreLeaves core ms results are.1) (sym (seen_of are.0 s)) are.4) more)))
   where
     walk : Walks c t are.0
     walk = widened_walk c (Leave m.dev) are.0 s t kept (((f, tt), (f, found.0)), tt) are.3
@@ -203,7 +204,7 @@ pub turn_walk : (c : Codec) (s : PoolState) (t : Side) (made : List Noted) (ms :
 turn_walk c s t made ms results leaving mark v kept f is found may are = walks_more c (as_moves made) (leaving ++ (mark ∷ [])) t walk
     (leaves_walk c ms results leaving (mark ∷ []) (steps (as_moves made) s) (after_moves (as_moves made) t) (pool_after (as_events made) t.pool)
     (walk_keeps c (as_moves made) s t walk kept) ((pool_after (as_events made) t.pool).owes, calls_pool made t) (frozen_along (as_moves made) t (calls_free t.seats made) ∙ f)
-    (all_same (λ n. AllByRecursion (IsOfFound (λ e. n.dev == e)) t.seats) (λ n. AllByRecursion (IsOfFound (λ e. n.dev == e)) (after_moves (as_moves made) t).seats)
+    (each
     (λ n there. free_along (as_moves made) (Leave n.dev) t (calls_free t.seats made) there) ms found)
     (subst (λ core. AreLeaves core ms results leaving) (sym (seen_of (as_moves made) s ∙ calls_seen made s.core)) are)
     (λ u like g. mark_walk c u (pool_after (leavers ms results) (pool_after (as_events made) t.pool)) mark v is like g

@@ -1,8 +1,8 @@
 -- Calls that answer by the disk model of a host do so by a pool's history.
-use Rattle.std.proofs.Common.{◌≡◌, ℕ, ◌+◌, ◌≤◌, Bool, true, false, List, [], ◌∷◌, ◌++◌, Some, None, refl, sym, ap, ◌∙◌, subst}
+use Rattle.std.proofs.Common.{◌≡◌, ℕ, ◌+◌, ◌≤◌, Bool, true, false, List, [], ◌∷◌, ◌++◌, None, refl, sym, ap, ◌∙◌, subst}
 use Rattle.std.specs.List.{AllByRecursion}
 use Rattle.bank_core.specs.Calls.{device_of}
-use Rattle.bank_core.specs.Disk.{Call, Read, Write, Flush, Admit, Eject, Noted, Sectors, IsClean, Answers, AllAnswer, as_found, hurt, replay, run}
+use Rattle.bank_core.specs.Disk.{Call, Read, Noted, Sectors, IsClean, Answers, AllAnswer, as_found, hurt, replay, run}
 use Rattle.pool_moves.specs.Moves.{Move, Makes}
 use Rattle.pool_moves.specs.ReadRow.{made_in}
 use Rattle.pool_runs.specs.Acts.{Act, does, calls_of_act, calls_along}
@@ -15,11 +15,7 @@ answers_same (Read dev at bytes None) a b same is = (
   λ i inside clean. let e = same (at + i) in
       is.1 i inside (subst (λ x. IsClean x) (sym e) clean) ∙ ap (λ x. x.stable) e,
 )
-answers_same (Read dev at bytes (Some fault)) a b same is = tt
-answers_same (Write dev at bytes fault) a b same is = tt
-answers_same (Flush dev fault) a b same is = tt
-answers_same (Admit dev holds) a b same is = tt
-answers_same (Eject dev) a b same is = tt
+answers_same call a b same is = tt
 
 pub all_answer : (table : List Device) (made : List Noted) (a b : Sectors) → AllByRecursion (λ noted. 1 ≤ size_in table (device_of noted.call)) made
     → ((d s : ℕ) → 1 ≤ size_in table d → a d s ≡ b d s) → AllAnswer a made → AllAnswer b made

@@ -1,11 +1,9 @@
 -- Behind the stamps of a create its pool is known, and its commit may be made.
-use Rattle.std.proofs.Common.{◌≡◌, ◌≢◌, inl, inr, ℕ, ◌^◌, ◌<◌, ◌==◌, Bool, true, false, not, cond, List, [], ◌∷◌, ◌++◌, Some, None, refl, sym, ap, ◌∙◌, subst, arith}
-use Rattle.std.specs.List.{AllByRecursion, filter}
-use Rattle.std.proofs.lemmas.Bool.Decides.{nat_tests}
+use Rattle.std.proofs.Common.{◌≡◌, ◌≢◌, inl, inr, ℕ, ◌^◌, ◌<◌, ◌==◌, Bool, true, false, cond, List, [], ◌∷◌, ◌++◌, Some, None, refl, sym, ap, ◌∙◌, subst}
+use Rattle.std.specs.List.{AllByRecursion}
 use Rattle.mp_base.specs.declared.number.Guid.{Guid}
 use Rattle.bank_core.specs.Disk.{Noted, Sectors, run}
 use Rattle.txg_history.specs.Pages.{Codec}
-use Rattle.txg_history.specs.Pools.{Pool}
 use Rattle.txg_history.specs.Stamps.{AreStamped}
 use Rattle.txg_history.proofs.Logging.{not_true}
 use Rattle.pool_moves.specs.Keeping.{Kept, Walks}
@@ -23,7 +21,7 @@ use Rattle.pool_runs.specs.Creating.{tops_of, leaves_of, new_birth, stamp_acts, 
 use Rattle.pool_runs.specs.Devices.{number_in, size_in}
 use Rattle.pool_runs.specs.Headline.{Headline}
 use Rattle.pool_runs.specs.HostRows.{IsRun}
-use Rattle.pool_runs.specs.Hosts.{Host, IsOpen, is_of, host_by, host_along}
+use Rattle.pool_runs.specs.Hosts.{Host, IsOpen, host_by, host_along}
 use Rattle.pool_runs.specs.Knowing.{AreOwnActs}
 use Rattle.pool_runs.proofs.Known.{Knows, MayActs}
 use Rattle.pool_runs.specs.Lines.{Reply, Entry}
@@ -31,9 +29,12 @@ use Rattle.pool_runs.specs.Pasts.{Born}
 use Rattle.pool_runs.proofs.Creating.{within}
 use Rattle.pool_runs.proofs.Stamps.{stamp_calls}
 use Rattle.pool_runs.proofs.Heading.{headline_from}
-use Rattle.pool_runs.proofs.Knowing.{may_more, open_kept, pools_known, walk_may}
+use Rattle.pool_runs.proofs.Knowing.{may_more, walk_may}
 use Rattle.pool_runs.proofs.Moments.{host_more, bare_host, acts_table}
 use Rattle.pool_runs.proofs.Numbers.{number_fits}
+use Rattle.pool_moves.proofs.Tests.{here, some_same}
+use Rattle.pool_runs.proofs.OpeningActs.{own_second}
+use Rattle.pool_runs.proofs.Importing.{closes_may}
 
 -- The disk of a host goes on by the calls of its acts.
 run_more : (first second : List Noted) (sectors : Sectors) → run (first ++ second) sectors ≡ run second (run first sectors)
@@ -63,13 +64,10 @@ still_owned g (stamp ∷ stamps) h d is = ap (λ x. x.owner d) (bare_host stamp.
     by true = refl
     by false = is
 
-same_dev : (d : ℕ) → (d == d) ≡ true
-same_dev d = grind (arith, nat_tests)
-
 just_taken : (g : ℕ) (stamp : Stamp) (stamps : List Stamp) (h : Host) → (host_stamped h g (stamp ∷ stamps)).owner stamp.dev ≡ Some g
 just_taken g stamp stamps h = ap (λ x. x.owner stamp.dev) (bare_host stamp.made (stamp_acts g stamps) (host_by (Takes g stamp.dev) h))
     ∙ still_owned g stamps (record (host_by (Takes g stamp.dev) h) { disk = run stamp.made h.disk }) stamp.dev
-    (ap (λ t. cond t (Some g) (h.owner stamp.dev)) (same_dev stamp.dev))
+    (ap (λ t. cond t (Some g) (h.owner stamp.dev)) (here stamp.dev))
 
 all_owned : (pool : Guid) (size : ℕ → ℕ) (leaves : List NewLeaf) (stamps : List Stamp) (h : Host) → AreStamps size pool leaves stamps None
     → AllByRecursion (λ leaf. (host_stamped h pool.0 stamps).owner leaf.dev ≡ Some pool.0) leaves
@@ -101,10 +99,6 @@ is_stamped h name blocks tops pool stamps may are = let made = is_made h name bl
     subst (λ q. AreStamped q.pool q.member q.guid q.size q.room q.home q.sectors) (sym made.is) made.stamps
 
 -- The pool that begins is known.
-own_more : (g : ℕ) (h : Host) (first second : List Act) → AreOwnActs g h (first ++ second) → AreOwnActs g (host_along first h) second
-own_more g h [] second own = own
-own_more g h (act ∷ first) second own = own_more g (host_by act h) first second own.1
-
 new_pools : (g : ℕ) (s : PoolState) (pools : List PoolState) → ((s : PoolState) → IsOpen s pools → s.core.pool.0 ≢ g) → (x : PoolState) → IsOpen x (s ∷ pools) → x.core.pool.0 ≡ g → x ≡ s
 new_pools g s pools none x (inl is) number = is
 new_pools g s pools none x (inr more) number = absurd (none x more number)
@@ -136,14 +130,8 @@ bears_known c h name blocks tops pool stamps may are new =
       },
       kept,
     )
-  where
-    some_same : (a b : ℕ) → Some a ≡ Some b → a ≡ b
-    some_same a b e = cc
 
 -- The commit, and the end of a create that failed in it.
-closes_may : (c : Codec) (h : Host) (p : Pool) (g : ℕ) → Knows c h p → MayActs c h p (Closes g ∷ [])
-closes_may c h p g knows = λ fair. (tt, pools_known c h p (filter (λ s. not (is_of g s)) h.pools) (λ s is number. open_kept (λ s. not (is_of g s)) s h.pools is) knows, tt)
-
 commit_may : (answer : CreateReply) (c : Codec) (h : Host) (t : Side) (s : PoolState) (g : ℕ) (vs : List Move) → Knows c h t.pool → IsOpen s h.pools
     → t.pool.pool.0 ≡ g → Kept c s t → Walks c t vs → AreOwnActs g h (commit_acts answer g vs) → MayActs c h t.pool (commit_acts answer g vs)
 commit_may Created c h t s g vs knows is number kept walks own = walk_may c h s t g vs knows is number kept walks own
@@ -167,7 +155,7 @@ bears_may c h name blocks tops acts reply k new =
     let own : AreOwnActs k.pool.0 h (stamp_acts k.pool.0 k.stamps ++ (Bears b ∷ rest)) = (subst (AreOwnActs k.pool.0 h) k.all k.own).1 in
     commit_may k.answer c (host_by (Bears b) (host_stamped h k.pool.0 k.stamps)) t s k.pool.0 k.moves known.0 (inl refl) refl known.1
     (found_walks c (size_in h.table) s t k.moves k.row.whole known.1 (λ d one. refl) k.row.row)
-    (own_more k.pool.0 h (stamp_acts k.pool.0 k.stamps) (Bears b ∷ rest) own).1
+    (own_second k.pool.0 h (stamp_acts k.pool.0 k.stamps) (Bears b ∷ rest) own).1
 
 pub born_headline : (c : Codec) (h : Host) (name : List ℕ) (blocks : ℕ) (tops : List (List (List ℕ))) (acts : List Act) (reply : Reply) (entries : List Entry) → (k : Creates c h name blocks tops acts reply)
     → IsNew h k.pool.0 → IsRun c (host_along acts h) entries

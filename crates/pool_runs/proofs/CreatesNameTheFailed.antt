@@ -1,7 +1,6 @@
 -- A create that tells a device which failed tells the first one of whose calls one failed, as its count tells.
-use Rattle.std.proofs.Common.{◌≡◌, inl, inr, ℕ, ◌<◌, ◌==◌, Bool, true, false, cond, List, [], ◌∷◌, ◌++◌, map, Option, Some, None, refl, sym, ap, ◌∙◌, subst, arith}
+use Rattle.std.proofs.Common.{◌≡◌, inl, inr, ℕ, ◌<◌, Bool, true, false, cond, List, [], ◌∷◌, ◌++◌, map, Option, Some, None, refl, sym, ap, ◌∙◌, subst}
 use Rattle.std.specs.List.{AllByRecursion}
-use Rattle.std.proofs.lemmas.Bool.Decides.{nat_tests}
 use Rattle.mp_base.specs.declared.number.Guid.{Guid}
 use Rattle.bank_core.specs.Calls.{AllCaused}
 use Rattle.label_store.specs.declared.member.Member.{Member}
@@ -24,22 +23,20 @@ use Rattle.pool_runs.specs.Creating.{all_names, tops_of, leaves_of, new_birth, s
 use Rattle.pool_runs.specs.Devices.{Device, number_in, size_in}
 use Rattle.pool_runs.specs.Hosts.{Host}
 use Rattle.pool_runs.specs.Lines.{Reply, To_create}
-use Rattle.pool_runs.proofs.Lists.{same_test, of_both, map_forth}
-use Rattle.pool_runs.proofs.Failing.{FailedOn, failed_rose, failed_left, failed_right, IsAskOn, part_failed, Failing, IsCaught, caught_second, moves_left}
-use Rattle.pool_runs.proofs.Losing.{Anything}
+use Rattle.pool_runs.proofs.Failing.{FailedOn, failed_rose, failed_left, failed_right, IsAskOn, part_failed, IsCaught, caught_second, moves_left}
 use Rattle.pool_runs.proofs.Members.{HasName, all_have}
-use Rattle.pool_runs.proofs.OnlyFailedLeave.{just_more, just_widens, round_failing, steps_places}
+use Rattle.pool_runs.proofs.OnlyFailedLeave.{just_widens, round_failing, steps_places}
 use Rattle.pool_runs.proofs.Stamps.{stamp_calls}
 use Rattle.pool_runs.proofs.Midway.{calls_more, closed_calls}
+use Rattle.pool_moves.proofs.KindsOfMoves.{AnySet, Failing}
+use Rattle.pool_moves.proofs.Lists.{all_append, of_both, map_forth}
+use Rattle.pool_moves.proofs.Tests.{same_test, below_other, some_same}
 
 fault_same : (a b : List ℕ) → FaultOn a ≡ FaultOn b → a ≡ b
 fault_same a b e = cc
 
 answer_same : (a b : CreateReply) → To_create a ≡ To_create b → a ≡ b
 answer_same a b e = cc
-
-leaf_same : (a b : NewLeaf) → Some a ≡ Some b → a ≡ b
-leaf_same a b e = cc
 
 -- A stamp that failed is told by its leaf.
 pub stamp_on : (d size : ℕ) (pool member : Guid) → AllByRecursion (IsAskOn d) (stamp_plan d size pool member)
@@ -56,7 +53,7 @@ stamp_failed P size pool (first ∷ leaves) (stamp ∷ stamps) leaf all (dev, in
     (more.0, failed_right leaf.dev stamp.made (calls_of_stamps stamps) more.1)
 stamp_failed P size pool (first ∷ leaves) (stamp ∷ stamps) leaf all (dev, inr stop) =
     subst (λ l. P l × FailedOn l.dev (stamp.made ++ calls_of_stamps stamps))
-    (sym (leaf_same leaf first stop.3)) (
+    (sym (some_same leaf first stop.3)) (
       all.0,
       failed_left first.dev stamp.made (calls_of_stamps stamps)
           (part_failed first.dev (stamp_plan first.dev (size first.dev) pool first.guid) stamp.made stop.0
@@ -88,9 +85,6 @@ members_all P which (leaf ∷ leaves) all =
     before_all P (which leaf) leaf.dev leaf.guid (members_where which leaves) all.0 (members_all P which leaves all.1)
 
 -- Each new leaf is found by its number.
-number_below : (a b : ℕ) → a < b → (a == b) ≡ false
-number_below a b below = grind (arith, nat_tests)
-
 names_own : (leaves : List NewLeaf) → AreRising leaves
     → AllByRecursion (λ leaf. name_in (map new_leaf_seen leaves) leaf.guid ≡ leaf.name) leaves
 names_own [] rising = tt
@@ -99,7 +93,7 @@ names_own (leaf ∷ leaves) rising = (
   of_both {P = λ other. leaf.guid.0 < other.guid.0}
       {Q = λ other. name_in (map new_leaf_seen leaves) other.guid ≡ other.name}
       (λ other below own. ap (λ t. cond t leaf.name (name_in (map new_leaf_seen leaves) other.guid))
-      (number_below leaf.guid.0 other.guid.0 below) ∙ own)
+      (below_other leaf.guid.0 other.guid.0 below) ∙ own)
       leaves rising.0 (names_own leaves rising.1),
 )
 
@@ -111,9 +105,6 @@ module _ (table : List Device) (tops : List (List (List ℕ))) where
   -- so of each leaf by its number, through the freeze of the first commit
   abbrev Sees : List LeafSeen → Guid → Option ℕ → Type 0
   Sees leaves m dev = (d : ℕ) → dev ≡ Some d → IsNamedAs (name_in leaves m) d
-
-  dev_same : (a b : ℕ) → Some a ≡ Some b → a ≡ b
-  dev_same a b e = cc
 
   new_seen : (leaves : List NewLeaf) → AreRising leaves → AllByRecursion (HasName table (all_names tops)) leaves
       → AllByRecursion (λ leaf. Sees (map new_leaf_seen leaves) leaf.guid leaf.dev) (map new_leaf_seen leaves)
@@ -158,9 +149,9 @@ create_from c h name blocks tops acts reply device row says = by (first_failed m
     at_x : AllByRecursion (λ leaf. Seen leaf.guid leaf.dev) x.core.leaves
     at_x = subst (λ l. AllByRecursion (λ leaf. Seen leaf.guid leaf.dev)
         (steps (l ++ (Flushed_all ∷ [])) s).core.leaves) (sym w.freeze.moves.moves)
-        (steps_places (λ d. ⊥) Anything ⊥ Seen (w.freeze.moves.widens ++ (Flushed_all ∷ [])) (state_step v s)
-        (just_more (λ d. ⊥) Anything ⊥ w.freeze.moves.widens (Flushed_all ∷ [])
-        (just_widens (λ d. ⊥) Anything ⊥ (step v s.core) w.freeze.moves.widens w.freeze.moves.are) (tt, tt))
+        (steps_places (λ d. ⊥) AnySet ⊥ Seen (w.freeze.moves.widens ++ (Flushed_all ∷ [])) (state_step v s)
+        (all_append _ w.freeze.moves.widens (Flushed_all ∷ [])
+        (just_widens (λ d. ⊥) AnySet ⊥ (step v s.core) w.freeze.moves.widens w.freeze.moves.are) (tt, tt))
         (map_forth (λ leaf. Seen leaf.guid leaf.dev)
         (leaf_step v s.core.number s.core.group.first s.core.scan.hi) s.core.leaves at_first))
 

@@ -6,7 +6,7 @@ use Rattle.mp_base.specs.declared.number.Guid.{Guid}
 use Rattle.txg_history.specs.Pages.{Codec}
 use Rattle.pool_moves.specs.AwayRows.{leaf_named}
 use Rattle.pool_moves.specs.Leaves.{LeafSeen, Seat}
-use Rattle.pool_moves.specs.LineRows.{TurnReply, Idle, Write, Flush, Round, Committed, Suspended, CommitsOpen}
+use Rattle.pool_moves.specs.LineRows.{TurnReply, Committed, Suspended, CommitsOpen}
 use Rattle.pool_moves.specs.Moves.{Move, steps}
 use Rattle.pool_moves.specs.Refusing.{FreezeRefusal, last_number, unwritable, IsRefused}
 use Rattle.pool_moves.specs.States.{PoolState}
@@ -49,10 +49,7 @@ module _ (Fails : ℕ → Type 0) (c : Codec) (size : ℕ → ℕ) (s : PoolStat
       by (Committed number) commit end = absurd (let no = end.1 in cc)
       by (Suspended g t k) commit end =
           loses (subst (CommitsOpen c size behind row.part) (undone_same g group t top k faults (sym end.1)) commit)
-      by Idle commit end = absurd end
-      by Write commit end = absurd end
-      by Flush commit end = absurd end
-      by (Round n) commit end = absurd end
+      by turn commit end = absurd end
 
   for_loses : (at : LeafSeen) (refusal : Option FreezeRefusal) (vs : List Move)
       → IsRefused (steps (goes_out s name at) s) refusal → IsCaught Fails vs

@@ -13,6 +13,8 @@ use Rattle.pool_moves.specs.ReadRow.{made_in}
 use Rattle.pool_moves.specs.TurnRows.{ended, IsThirdMoves}
 use Rattle.pool_moves.specs.Walking.{as_moves}
 use Rattle.pool_runs.specs.Counting.{HasRisen}
+use Rattle.pool_moves.proofs.KindsOfMoves.{Failing}
+use Rattle.pool_moves.proofs.ReadWalks.{made_calls}
 
 -- Counts never fall, and stay risen.
 rose_more : (a b d : ℕ) → Rose a b → b ≤ d → Rose a d
@@ -82,12 +84,6 @@ turn_failed d asks made on (None, part, is) = absurd (let no : false ≡ true = 
 turn_failed d asks made on (Some fault, part, is) = part_failed d asks made fault on part
 
 -- Each member without a good result failed.
-abbrev pub Failing : (Fails : ℕ → Type 0) → List Member → (results : List Bool) → Type 0
-Failing Fails [] results = Unit {0}
-Failing Fails (m ∷ ms) [] = Unit {0}
-Failing Fails (m ∷ ms) (true ∷ results) = Failing Fails ms results
-Failing Fails (m ∷ ms) (false ∷ results) = Fails m.dev × Failing Fails ms results
-
 pub start_failing : (Fails : ℕ → Type 0) (ms : List Member) → Failing Fails ms (map (λ m. true) ms)
 start_failing Fails [] = tt
 start_failing Fails (m ∷ ms) = start_failing Fails ms
@@ -118,11 +114,6 @@ phase_failing Fails plan on (m ∷ ms) (false ∷ was) (false ∷ is) made fails
   phase_failing Fails plan on ms was is rest
       (λ d failed. fails d (subst (FailedOn d) (sym whole) (failed_right d mine rest failed))) more before.1,
 )
-
--- calls among moves
-as_more : (made : List Noted) (vs : List Move) → made_in (as_moves made ++ vs) ≡ made ++ made_in vs
-as_more [] vs = refl
-as_more (noted ∷ made) vs = ap (λ l. noted ∷ l) (as_more made vs)
 
 ended_more : (c : Bool) (draft : Draft) (d : ℕ) (vs : List Move) → made_in (ended c draft d ++ vs) ≡ made_in vs
 ended_more true draft d vs = refl
@@ -159,7 +150,7 @@ third_failing Fails plan draft on (m ∷ ms) (true ∷ was) (c ∷ is) vs fails 
   where
     calls : made_in vs ≡ mine ++ made_in rest
     calls = ap made_in whole
-        ∙ (as_more mine (ended c draft m.dev ++ rest) ∙ ap (λ l. mine ++ l) (ended_more c draft m.dev rest))
+        ∙ (made_calls mine (ended c draft m.dev ++ rest) ∙ ap (λ l. mine ++ l) (ended_more c draft m.dev rest))
 
     by : (c : Bool) → IsTurn (plan m) true c mine → Failing Fails ms is → Failing Fails (m ∷ ms) (c ∷ is)
     by true turn more = more

@@ -15,7 +15,7 @@ use Rattle.txg_history.proofs.Folding.{calls_after, events_more, pool_more}
 use Rattle.pool_moves.specs.CommitRows.{uncounts}
 use Rattle.pool_moves.specs.Keeping.{Kept}
 use Rattle.pool_moves.specs.Leaves.{LeafSeen}
-use Rattle.pool_moves.specs.LineRows.{TurnReply, Idle, Write, Flush, Round, Committed, Suspended}
+use Rattle.pool_moves.specs.LineRows.{TurnReply, Committed, Suspended}
 use Rattle.pool_moves.specs.Moves.{Move, Freeze, Scan_from, state_step, steps, after_moves}
 use Rattle.pool_moves.specs.OpeningRow.{IsLiveOne, SeekReply, NoRecord, NumbersEnd, TakesRecord, taken_by, last_numbers, SeeksLive, OpenReply, Opens_state, NoPage, page_calls, IsLostPage, lacking_of, Resumes, ResumesUnless, RowResume}
 use Rattle.pool_moves.specs.FreezeRow.{up_devs}
@@ -23,7 +23,7 @@ use Rattle.pool_moves.specs.Opened.{opened_leaves}
 use Rattle.pool_moves.specs.PageReads.{LeafShown, is_failed_read, failed_at, answers_in}
 use Rattle.pool_moves.specs.Resilvers.{rest_if, Resilvers}
 use Rattle.pool_moves.specs.States.{PoolSeen, PoolState, Side}
-use Rattle.pool_moves.proofs.FreeWalks.{moves_more}
+use Rattle.pool_moves.proofs.FreeWalks.{moves_more, steps_more}
 use Rattle.pool_moves.proofs.Keeping.{walk_keeps}
 use Rattle.pool_moves.proofs.ResilverWalks.{resume_walks}
 use Rattle.pool_runs.specs.Acts.{Act, Opening, Seeks_by, Marks, Looked, Enters, does, bare, read_by, pool_along, calls_along, Does}
@@ -42,9 +42,10 @@ use Rattle.pool_runs.proofs.Knowing.{step_number, step_name, moved_own}
 use Rattle.pool_runs.proofs.Moments.{host_more, bare_host}
 use Rattle.std.proofs.lemmas.Slice.Eq.{bytes_eq-Decides}
 use Rattle.pool_runs.proofs.GroupMoves.{more, all_group, all_uncounts, all_reopen}
-use Rattle.pool_moves.proofs.CommitWalks.{uncounts_set}
+use Rattle.pool_moves.proofs.KindsOfMoves.{uncounts_set}
 use Rattle.pool_runs.proofs.Importing.{looks_along, opening_of, opening_front, OpeningFacts, opening_calls, opening_facts, opening_fair, look_facts, taken_live}
 use Rattle.pool_runs.proofs.OpeningActs.{bare_calls, bare_more, bare_fair, shown_more, map_more}
+use Rattle.std.proofs.lemmas.Bool.{or_right}
 
 -- The commit of an opening.
 resilver_written : (s : PoolSeen) (vs : List Move) → Resilvers s vs → AllByRecursion KeepsWritten vs × AllByRecursion KeepsWrites vs
@@ -64,10 +65,6 @@ resilver_acked s vs t n (inl row) acked = subst (λ l. IsAckedAs (after_moves l 
     rests true = record { reads = acked.reads; number = acked.number; idle = acked.idle }
     rests false = record { reads = acked.reads; number = acked.number; idle = acked.idle }
 resilver_acked s vs t n (inr row) acked = subst (λ l. IsAckedAs (after_moves l t).pool n) (sym row.1) acked
-
-steps_more : (vs ws : List Move) (s : PoolState) → steps (vs ++ ws) s ≡ steps ws (steps vs s)
-steps_more [] ws s = refl
-steps_more (v ∷ vs) ws s = steps_more vs ws (state_step v s)
 
 -- What an opening's commit comes to.
 record Resumed (t : Side) (vs : List Move) (from n : ℕ) : Type 0 where
@@ -242,10 +239,7 @@ opens_live c h p before name known found acts reply n knows live titled made fai
         → OpensBy turn g s vs opens.rest reply → OpensAs before (pool_along acts p) (host_along acts h) name n
     by_turn (Committed m) s vs out row by = committed s vs m out row by.0 by.1
     by_turn (Suspended group top faults) s vs out row by = absurd (let no = sym by.1 ∙ says in cc)
-    by_turn Idle s vs out row by = absurd by
-    by_turn Write s vs out row by = absurd by
-    by_turn Flush s vs out row by = absurd by
-    by_turn (Round m) s vs out row by = absurd by
+    by_turn turn s vs out row by = absurd by
 
     follow : (outcome : OpenReply) → opens.outcome ≡ outcome → FollowsMap outcome c (size_in h.table) g opens.rest reply
         → OpensAs before (pool_along acts p) (host_along acts h) name n
@@ -257,10 +251,6 @@ opens_live c h p before name known found acts reply n knows live titled made fai
 failed_more : (first second : List Noted) (at d : ℕ) → failed_at at second d ≡ true → failed_at at (first ++ second) d ≡ true
 failed_more [] second at d is = is
 failed_more (noted ∷ first) second at d is = or_right (is_failed_read at d noted.call) (failed_at at (first ++ second) d) (failed_more first second at d is)
-  where
-    or_right : (a b : Bool) → b ≡ true → (a || b) ≡ true
-    or_right true b is = refl
-    or_right false b is = is
 
 failed_first : (first second : List Noted) (at d : ℕ) → failed_at at first d ≡ true → failed_at at (first ++ second) d ≡ true
 failed_first [] second at d is = absurd (cc)
@@ -344,10 +334,7 @@ opens_loses c h p before name known found acts reply page shown knows live made 
     by_turn : (turn : TurnReply) (s : PoolState) (vs : List Move) → OpensBy turn found.pool.0 s vs opens.rest reply → LosesPage c before (pool_along acts p) acts page
     by_turn (Committed m) s vs by = absurd (let no = sym by.1 ∙ says in cc)
     by_turn (Suspended group top faults) s vs by = absurd (let no = sym by.1 ∙ says in cc)
-    by_turn Idle s vs by = absurd by
-    by_turn Write s vs by = absurd by
-    by_turn Flush s vs by = absurd by
-    by_turn (Round m) s vs by = absurd by
+    by_turn turn s vs by = absurd by
 
     follow : (outcome : OpenReply) → opens.outcome ≡ outcome → FollowsMap outcome c (size_in h.table) found.pool.0 opens.rest reply → LosesPage c before (pool_along acts p) acts page
     follow (Opens_state s) out row = by_turn row.1 s row.0 row.3
@@ -395,10 +382,7 @@ opens_some c h name known found acts reply other opens says is = follow opens.ou
     by_turn : (turn : TurnReply) (s : PoolState) (vs : List Move) → OpensBy turn found.pool.0 s vs opens.rest reply → ⊥
     by_turn (Committed m) s vs by = subst IsUnread (same other (Opened m) (sym says ∙ by.1)) is
     by_turn (Suspended group top faults) s vs by = subst IsUnread (same other (Unopened group top faults) (sym says ∙ by.1)) is
-    by_turn Idle s vs by = by
-    by_turn Write s vs by = by
-    by_turn Flush s vs by = by
-    by_turn (Round m) s vs by = by
+    by_turn turn s vs by = by
 
     follow : (outcome : OpenReply) → FollowsMap outcome c (size_in h.table) found.pool.0 opens.rest reply → ⊥
     follow (Opens_state s) row = by_turn row.1 s row.0 row.3

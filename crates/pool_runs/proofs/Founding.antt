@@ -29,6 +29,7 @@ use Rattle.pool_runs.proofs.Bearing.{bears_known, side_behind}
 use Rattle.pool_runs.proofs.Committing.{EndsIn, ends_acked, KeepsWritten, KeepsWrites, written_kind, writes_kind, written_along, frozen_writes, kept_blocks, does_pool}
 use Rattle.pool_runs.proofs.Finding.{does_head, steps_name}
 use Rattle.pool_runs.proofs.GroupMoves.{all_found, all_round}
+use Rattle.pool_moves.proofs.FreeWalks.{steps_more}
 
 -- where no member is told as failed, each ended the round
 none_failed : (plan : Member → List Ask) (draft : Draft) (ms : List Member) (was is : List Bool) (vs : List Move) → IsThirdMoves plan draft ms was is vs
@@ -48,10 +49,6 @@ widens_number : (s : PoolState) (vs : List Move) → AreWidens s.core vs → (st
 widens_number s [] are = refl
 widens_number s (Widen m low high ∷ vs) are = widens_number (state_step (Widen m low high) s) vs are.2
 widens_number s (v ∷ vs) are = absurd are
-
-steps_more : (vs ws : List Move) (s : PoolState) → steps (vs ++ ws) s ≡ steps ws (steps vs s)
-steps_more [] ws s = refl
-steps_more (v ∷ vs) ws s = steps_more vs ws (state_step v s)
 
 first_number : (c : Codec) (size : ℕ → ℕ) (s : PoolState) (vs : List Move) (whole : Bool) → (row : RowFound c size s vs whole)
     → (steps (row.first ++ (Flushed_all ∷ [])) s).core.number ≡ s.core.number + 1

@@ -1,7 +1,6 @@
 -- Lines that put a leaf in or take one out, and which devices lines take.
-use Rattle.std.proofs.Common.{◌≡◌, ◌⊎◌, inl, inr, ⊎_elim, ℕ, ◌+◌, ◌==◌, nat_lt, Bool, true, false, List, [], ◌∷◌, ◌++◌, Option, Some, None, refl, sym, ap, ◌∙◌, subst, append-nil, append_assoc, arith}
+use Rattle.std.proofs.Common.{◌≡◌, ◌⊎◌, inl, inr, ⊎_elim, ℕ, ◌+◌, ◌==◌, nat_lt, Bool, true, false, List, [], ◌∷◌, ◌++◌, Option, Some, None, refl, sym, ap, ◌∙◌, subst, append-nil, append_assoc}
 use Rattle.std.specs.List.{AllByRecursion}
-use Rattle.std.proofs.lemmas.Bool.Decides.{nat_tests}
 use Rattle.mp_base.specs.declared.number.Guid.{Guid}
 use Rattle.bank_core.specs.declared.bank.Fault.{Fault}
 use Rattle.bank_core.specs.Asks.{IsPart}
@@ -14,7 +13,7 @@ use Rattle.txg_history.proofs.Logging.{by_bool, same_device, true_not_false}
 use Rattle.pool_moves.specs.AwayRows.{is_spare, leaf_named}
 use Rattle.pool_moves.specs.FreezeRow.{is_dev}
 use Rattle.pool_moves.specs.Leaves.{LeafSeen, Seat}
-use Rattle.pool_moves.specs.LineRows.{TurnReply, Committed, Suspended, Idle, Write, Flush, Round}
+use Rattle.pool_moves.specs.LineRows.{TurnReply, Committed, Suspended}
 use Rattle.pool_moves.specs.Moves.{Move, Makes, Lose, steps}
 use Rattle.pool_moves.specs.ReadRow.{made_in}
 use Rattle.pool_moves.specs.Refusing.{FreezeRefusal}
@@ -31,6 +30,7 @@ use Rattle.pool_runs.specs.Taking.{HasWriteTo, IsGraftedOn, IsDetachedFrom, IsTa
 use Rattle.pool_runs.proofs.Answering.{does_calls}
 use Rattle.pool_runs.proofs.GroupMoves.{all_calls, all_widens, all_commits}
 use Rattle.pool_runs.proofs.Members.{Held, KeepsIt, KeepsMembers, kept_kind, AllKeep, Keep, it_keeps, acts_held, write_asked, stamp_wrote, create_keeps, row_keeps, none_keeps, rewrite_front}
+use Rattle.pool_moves.proofs.Tests.{same_guid, other_back}
 
 -- A leaf that is put in.
 abbrev KeepAll : Held → (g : ℕ) → List Move → Type 0
@@ -112,9 +112,6 @@ pub graft_calls : (g d : ℕ) (vs : List Move) → calls_along (graft_acts g d v
 graft_calls g d [] = refl
 graft_calls g d (v ∷ vs) = does_calls g (v ∷ vs)
 
-same_guid : (a b : Guid) → (a.0 == b.0) ≡ true → a ≡ b
-same_guid a b is = ap (λ n. record { 0 = n }) (same_device a.0 b.0 is)
-
 graft_keeps : (h : Host) (e : Entry) (p : Pool) (d : ℕ) (graft : Graft) (name leaf new : List ℕ) (s : PoolState) → e.asked ≡ Asks_graft graft name leaf new → named name h.pools ≡ Some s
     → GraftLine h graft leaf new s e.acts e.reply → Keep (record { pool = p.pool.0; d = d; guid = p.guid d }) e.acts ⊎ IsGraftedOn p h e d
 graft_keeps h e p d graft name leaf new s asked stands row = refused (graft_refusal graft s leaf (leaf_named leaf s.core.leaves)) row
@@ -167,10 +164,9 @@ graft_keeps h e p d graft name leaf new s asked stands row = refused (graft_refu
 
 -- A leaf that is taken out.
 cleaned_keeps : (there : Bool) (dev : Option ℕ) (spare : Bool) (size : ℕ → ℕ) (x : Held) (g : ℕ) (vs : List Move) → is_dev x.d dev ≡ false → IsCleaned there dev spare size vs → KeepAll x g vs
-cleaned_keeps true (Some k) spare size x g vs away row = subst (KeepAll x g) (sym row.3) ((λ mine. let back : (k == x.d) ≡ false = other_way x.d k away in back), all_plain x g (as_moves row.0) (all_calls KeepsMembers kept_kind row.0))
-  where
-    other_way : (a b : ℕ) → (a == b) ≡ false → (b == a) ≡ false
-    other_way a b off = grind (arith, nat_tests)
+cleaned_keeps true (Some k) spare size x g vs away row = subst (KeepAll x g) (sym row.3)
+    ((λ mine. let back : (k == x.d) ≡ false = other_back x.d k away in back), all_plain x g (as_moves row.0)
+    (all_calls KeepsMembers kept_kind row.0))
 cleaned_keeps true None spare size x g vs away row = subst (KeepAll x g) (sym row) tt
 cleaned_keeps false dev spare size x g vs away row = subst (KeepAll x g) (sym row) tt
 
@@ -206,10 +202,7 @@ behind_keeps : (turn : TurnReply) (size : ℕ → ℕ) (s : PoolState) (name : L
 behind_keeps (Committed number) size s name at seat x g vs reply row = ⊎_elim (λ keeps. inl keeps) (λ goes. inr (record { here = goes.0; n = number; says = row.1; wrote = goes.1 }))
     (cleans (is_there at.own.mode) at.dev (is_spare s at) size x g vs row.0)
 behind_keeps (Suspended group top faults) size s name at seat x g vs reply row = inl (subst (KeepAll x g) (sym row.0) ((λ mine. tt), ((λ mine. tt), tt)))
-behind_keeps Idle size s name at seat x g vs reply row = absurd row
-behind_keeps Write size s name at seat x g vs reply row = absurd row
-behind_keeps Flush size s name at seat x g vs reply row = absurd row
-behind_keeps (Round number) size s name at seat x g vs reply row = absurd row
+behind_keeps turn size s name at seat x g vs reply row = absurd row
 
 without_keeps : (c : Codec) (size : ℕ → ℕ) (s : PoolState) (name : List ℕ) (at : LeafSeen) (seat : Seat) (x : Held) (g : ℕ) (vs : List Move) (reply : DetachReply)
     → CommitsWithout c size s name at seat vs reply → KeepAll x g vs ⊎ GoesAway x at vs reply

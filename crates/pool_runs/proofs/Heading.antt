@@ -16,7 +16,7 @@ use Rattle.txg_history.proofs.Surviving.{survives_sound}
 use Rattle.pool_moves.specs.AwayRows.{OfflineReply, Gone, Required, LeastOut, is_offline, is_spare, leaf_named, siblings, OfflineLeaf, OfflineHere, OfflineBy}
 use Rattle.pool_moves.specs.Keeping.{Kept}
 use Rattle.pool_moves.specs.Leaves.{LeafSeen, Seat}
-use Rattle.pool_moves.specs.LineRows.{TurnReply, SyncReply, Ended, Committed, Suspended, RowTurn, SyncBy, RowSync, Idle, Write, Flush, Round}
+use Rattle.pool_moves.specs.LineRows.{TurnReply, SyncReply, Ended, Committed, Suspended, RowTurn, SyncBy, RowSync}
 use Rattle.pool_moves.specs.Missing.{AllMissed}
 use Rattle.pool_moves.specs.Moves.{Move, steps, after_moves}
 use Rattle.pool_moves.specs.ReadRow.{ReadReply, Gives, Exhausted, NoAddress, RowRead, made_in}
@@ -369,10 +369,7 @@ for_not_required None c size s name leaf seat vs r group row is = absurd (by row
     by : (turn : TurnReply) → DetachBehind turn size s name leaf seat row.rest r → ⊥
     by (Committed number) behind = let no = sym behind.1 ∙ is in cc
     by (Suspended g top faults) behind = let no = sym behind.1 ∙ is in cc
-    by Idle behind = behind
-    by Write behind = behind
-    by Flush behind = behind
-    by (Round n) behind = behind
+    by turn behind = behind
 
 required_out : (c : Codec) (size : ℕ → ℕ) (s : PoolState) (name : List ℕ) (leaf : LeafSeen) (seat : Seat) (vs : List Move) (r : DetachReply) (reply : Reply) (group : ℕ) → reply ≡ To_detach r
     → DetachLeaf false c size s name leaf seat vs r → IsRequiredFor leaf s.core.leaves group reply (To_detach (DetachRequired group))

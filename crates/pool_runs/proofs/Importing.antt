@@ -27,10 +27,10 @@ use Rattle.txg_history.proofs.Logging.{by_bool, true_not_false}
 use Rattle.txg_history.proofs.Moving.{event_survives}
 use Rattle.pool_moves.specs.CommitRows.{IsOpened}
 use Rattle.pool_moves.specs.Keeping.{Kept, Walks}
-use Rattle.pool_moves.specs.LineRows.{TurnReply, Idle, Write, Flush, Round, Committed, Suspended}
-use Rattle.pool_moves.specs.Moves.{Move, steps, after_moves}
+use Rattle.pool_moves.specs.LineRows.{TurnReply, Committed, Suspended}
+use Rattle.pool_moves.specs.Moves.{Move, after_moves}
 use Rattle.pool_moves.specs.Opened.{opened_leaves, opened_seats, claims_of}
-use Rattle.pool_moves.specs.OpeningRow.{IsLiveOne, SeeksLive, SeekReply, NoRecord, NumbersEnd, TakesRecord, taken_by, last_numbers, RowSeek, OpenReply, Opens_state, NoPage, RowOpen, page_calls, IsLostPage, RowResume}
+use Rattle.pool_moves.specs.OpeningRow.{IsLiveOne, SeeksLive, SeekReply, TakesRecord, taken_by, last_numbers, RowSeek, OpenReply, Opens_state, NoPage, RowOpen, page_calls, IsLostPage, RowResume}
 use Rattle.pool_moves.specs.PageReads.{LeafShown, answers_in}
 use Rattle.pool_moves.specs.States.{PoolState, Side}
 use Rattle.pool_moves.specs.Walking.{as_moves}
@@ -53,6 +53,7 @@ use Rattle.pool_runs.proofs.Answering.{all_answer}
 use Rattle.pool_runs.proofs.Knowing.{may_more, looked_acted, call_known, pools_known, open_kept, roster_by_events, other_may, walk_may}
 use Rattle.pool_runs.proofs.OpeningActs.{own_second, own_first, bare_then, bare_own, bare_calls, bare_fair, shown_calls, shown_then, shown_pools, shown_table, shown_fair, turned_pools, turned_table, host_turned, map_calls_along, map_fair, map_own, map_split, map_then}
 use Rattle.pool_runs.proofs.ReadsBehind.{whole_before, claimed_member}
+use Rattle.pool_moves.proofs.GraftWalks.{calls_state}
 
 -- Lists.
 all_first : {A : Type 0} (P : A → Type 0) (xs ys : List A) → AllByRecursion P (xs ++ ys) → AllByRecursion P xs
@@ -64,10 +65,6 @@ all_second P [] ys all = all
 all_second P (x ∷ xs) ys all = all_second P xs ys all.1
 
 -- Calls as moves of a pool's state.
-calls_state : (made : List Noted) (s : PoolState) → steps (as_moves made) s ≡ s
-calls_state [] s = refl
-calls_state (noted ∷ made) s = calls_state made s
-
 pub calls_side : (made : List Noted) (t : Side) → after_moves (as_moves made) t ≡ record { pool = pool_after (as_events made) t.pool; seats = t.seats }
 calls_side [] t = refl
 calls_side (noted ∷ made) t = calls_side made (record { pool = after (Calls noted) t.pool; seats = t.seats })
@@ -143,7 +140,7 @@ enters_known c h p s knows has mine none = record {
     only x (inl e) number = e
     only x (inr more) number = absurd (none x more number)
 
-closes_may : (c : Codec) (h : Host) (p : Pool) (g : ℕ) → Knows c h p → MayActs c h p (Closes g ∷ [])
+pub closes_may : (c : Codec) (h : Host) (p : Pool) (g : ℕ) → Knows c h p → MayActs c h p (Closes g ∷ [])
 closes_may c h p g knows = λ fair. (tt, pools_known c h p (filter (λ s. not (is_of g s)) h.pools) (λ s is number. open_kept (λ s. not (is_of g s)) s h.pools is) knows, tt)
 
 -- The commit.
@@ -170,10 +167,7 @@ commit_may (Suspended group top faults) c h t s g vs acts reply knows is kept no
           (own_first g (record h { pools = s ∷ h.pools }) (does g vs) (Closes g ∷ []) rest))
           (λ fair known. closes_may c (host_along (does g vs) (record h { pools = s ∷ h.pools })) (pool_along (does g vs) t.pool) g known) behind,
     ))
-commit_may Idle c h t s g vs acts reply knows is kept none row own by = absurd by
-commit_may Write c h t s g vs acts reply knows is kept none row own by = absurd by
-commit_may Flush c h t s g vs acts reply knows is kept none row own by = absurd by
-commit_may (Round number) c h t s g vs acts reply knows is kept none row own by = absurd by
+commit_may turn c h t s g vs acts reply knows is kept none row own by = absurd by
 
 -- What an opening may do of a pool of the number that it found.
 record Own (c : Codec) (h : Host) (p : Pool) (name : List ℕ) (known : Known) (found : Found) : Type 0 where
@@ -484,14 +478,13 @@ true_look c h name made seek row answers = record {
 found_may : (seek : SeekReply) (c : Codec) (h : Host) (p : Pool) (name : List ℕ) (known : Known) (acts : List Act) (reply : Reply) → Knows c h p → named name h.pools ≡ None
     → ((found : Found) → seek ≡ TakesRecord found → p.name ≡ name → Premises c.head_of p known → (r : Rec) × IsLiveOne p found r) → AreMade h (calls_along acts)
     → ImportBy seek c h name known acts reply → MayActs c h p acts
-found_may NoRecord c h p name known acts reply knows free live made row = subst (MayActs c h p) (sym row.0) tt
-found_may (NumbersEnd limit count) c h p name known acts reply knows free live made row = subst (MayActs c h p) (sym row.0) tt
 found_may (TakesRecord found) c h p name known acts reply knows free live made row = by_bool (p.pool.0 == found.pool.0)
     (λ mine. own_opens c h p name known found acts reply (record { knows = knows; number = number_of_test p.pool.0 found.pool.0 mine; free = free; live = live found refl }) made row)
     (λ off. other_may c h p found.pool.0 acts knows (λ e. other p.pool.0 found.pool.0 off (sym e)) row.own)
   where
     other : (m n : ℕ) → (m == n) ≡ false → m ≢ n
     other m n off is = let yes : (m == n) ≡ true = same_number m n is in true_not_false (m == n) yes off
+found_may seek c h p name known acts reply knows free live made row = subst (MayActs c h p) (sym row.0) tt
 
 taken_same : (ended : Bool) (a b : Found) → TakesRecord a ≡ taken_by ended b → a ≡ b
 taken_same true a b e = absurd (cc)

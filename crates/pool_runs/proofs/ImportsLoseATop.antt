@@ -3,7 +3,7 @@
 use Rattle.std.proofs.Common.{◌≡◌, ℕ, ◌==◌, ◌&&◌, ◌||◌, nat_le, Bool, true, false, cond, List, [], ◌∷◌, ◌++◌, length, Option, Some, None, refl, sym, ap, ◌∙◌, subst, append_assoc}
 use Rattle.std.specs.List.{AllByRecursion, list_any}
 use Rattle.std.specs.Option.{is_some}
-use Rattle.std.proofs.lemmas.Bool.{and_parts}
+use Rattle.std.proofs.lemmas.Bool.{and_parts, or_left, or_right}
 use Rattle.mp_base.specs.declared.number.Guid.{Guid}
 use Rattle.bank_core.specs.Calls.{AllCaused}
 use Rattle.bank_core.specs.Disk.{Noted}
@@ -13,10 +13,10 @@ use Rattle.txg_history.specs.Events.{Known}
 use Rattle.txg_history.specs.Pages.{Codec}
 use Rattle.txg_history.proofs.Logging.{by_bool, true_not_false}
 use Rattle.pool_moves.specs.Leaves.{LeafSeen}
-use Rattle.pool_moves.specs.LineRows.{TurnReply, Idle, Write, Flush, Round, Committed, Suspended}
+use Rattle.pool_moves.specs.LineRows.{TurnReply, Committed, Suspended}
 use Rattle.pool_moves.specs.Moves.{Move, steps}
 use Rattle.pool_moves.specs.Opened.{opened_leaves}
-use Rattle.pool_moves.specs.OpeningRow.{SeekReply, NoRecord, NumbersEnd, TakesRecord, OpenReply, Opens_state, NoPage, RowOpen, is_up_under, lacking_of, ResumesUnless, RowResume}
+use Rattle.pool_moves.specs.OpeningRow.{SeekReply, TakesRecord, OpenReply, Opens_state, NoPage, RowOpen, is_up_under, lacking_of, ResumesUnless, RowResume}
 use Rattle.pool_moves.specs.Refusing.{is_writable}
 use Rattle.pool_moves.specs.States.{PoolState}
 use Rattle.pool_runs.specs.Acts.{Act, Opening, Looked, Enters, Closes, does, bare, calls_along}
@@ -26,12 +26,12 @@ use Rattle.pool_runs.specs.Devices.{size_in}
 use Rattle.pool_runs.specs.Hosts.{Host, free_in, named}
 use Rattle.pool_runs.specs.Importing.{OpensBy, FollowsMap, OpensFound, ImportBy, host_behind, Imports, ImportFor, ImportUnless, RowImport}
 use Rattle.pool_runs.specs.Lines.{Reply, To_import, Unopened}
-use Rattle.pool_runs.proofs.Lists.{same_test, some_same, or_left, or_right}
 use Rattle.pool_runs.proofs.Failing.{IsCaught, caught_first, caught_second, caught_rose}
 use Rattle.pool_runs.proofs.Finding.{opening_bare}
 use Rattle.pool_runs.proofs.Importing.{opening_of, opening_front}
 use Rattle.pool_runs.proofs.Losing.{top_frozen, group_lost}
 use Rattle.pool_runs.proofs.Midway.{closed_calls, midway_at}
+use Rattle.pool_moves.proofs.Tests.{same_test, some_same}
 
 suspended_top : (a b : ℕ) (top other : Guid) (m n : ℕ) → Suspended a top m ≡ Suspended b other n → top ≡ other
 suspended_top a b top other m n e = cc
@@ -139,10 +139,7 @@ opens_unopened c h name known found acts reply group top faults opens says = fol
           numbers = is.1;
           row = subst (RowResume c (size_in h.table) s vs) (unopened_same n group t top k faults (sym by.1 ∙ says)) row;
         }
-    by_turn Idle s vs out row by = absurd by
-    by_turn Write s vs out row by = absurd by
-    by_turn Flush s vs out row by = absurd by
-    by_turn (Round m) s vs out row by = absurd by
+    by_turn turn s vs out row by = absurd by
 
     follow : (outcome : OpenReply) → opens.outcome ≡ outcome
         → FollowsMap outcome c (size_in h.table) found.pool.0 opens.rest reply → A
@@ -181,15 +178,13 @@ seek_unopened : (seek : SeekReply) (c : Codec) (h : Host) (name : List ℕ) (kno
     → ImportBy seek c h name known acts reply → reply ≡ To_import (Unopened group top faults)
     → (opening : Opening) × (opening_in acts ≡ Some opening)
     × EndsUnopened c (size_in h.table) opening acts group top faults
-seek_unopened NoRecord c h name known acts reply group top faults row says = absurd (let no = sym row.1 ∙ says in cc)
-seek_unopened (NumbersEnd limit count) c h name known acts reply group top faults row says =
-    absurd (let no = sym row.1 ∙ says in cc)
 seek_unopened (TakesRecord found) c h name known acts reply group top faults row says = (
   opening_of c h name known found acts reply row,
   ap opening_in row.are,
   opens_unopened c h name known found acts reply group
       top faults row says,
 )
+seek_unopened seek c h name known acts reply group top faults row says = absurd (let no = sym row.1 ∙ says in cc)
 
 pub import_loses : (c : Codec) (h : Host) (name : List ℕ) (acts : List Act) (reply : Reply) (group : ℕ) (top : Guid)
     (faults : ℕ) (from to : ℕ → ℕ) → RowImport c h name acts reply

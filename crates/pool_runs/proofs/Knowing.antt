@@ -29,13 +29,14 @@ use Rattle.pool_moves.specs.Rosters.{roster_after}
 use Rattle.pool_moves.specs.States.{PoolState, Side}
 use Rattle.pool_moves.proofs.Keeping.{move_keeps}
 use Rattle.pool_moves.proofs.Rosters.{roster_goes_on}
-use Rattle.pool_runs.specs.Acts.{Act, Hears, Bare, Does, Marks, Looked, Shows, Reads_as, Enters, Names, Takes, Bears, Closes, does, read_by, events_for, pool_by, pool_along}
+use Rattle.pool_runs.specs.Acts.{Act, Hears, Bare, Does, Looked, Shows, Reads_as, Enters, Takes, Bears, Closes, does, read_by, events_for, pool_by, pool_along}
 use Rattle.pool_runs.specs.Fairness.{IsFair, AreFair}
 use Rattle.pool_runs.specs.Hosts.{Host, IsOpen, is_of, moved, host_by, host_along}
 use Rattle.pool_runs.specs.Knowing.{HasSeats, HasRoster, IsOwnMove, IsShown, IsTrueLook, HasNoLeafAt, IsOwnAct, AreOwnActs}
 use Rattle.pool_runs.proofs.Acting.{same_number, other_number, own_events, other_events, move_sectors, move_size, move_number, calls_number}
 use Rattle.pool_runs.proofs.Known.{Knows, MayActs}
 use Rattle.pool_runs.proofs.Sparing.{other_call}
+use Rattle.pool_moves.proofs.Tests.{some_same}
 
 -- Fronts.
 pub acts_keep : (c : Codec) (h : Host) (p : Pool) (acts : List Act) → Knows c h p → MayActs c h p acts → (i : ℕ) → AreFair c p (take i acts)
@@ -292,7 +293,6 @@ other_act c h p g (Hears second) off own fair knows = (
 )
 other_act c h p g (Bare noted) off own fair knows = let may = other_call c g h.owner p noted knows.apart off own in (may, call_known c h p noted may knows)
 other_act c h p g (Does k v) off own fair knows = does_acted c h p k v (λ e. off (sym own.0 ∙ e)) (subst (λ n. IsOwnMove n h.owner v) (sym own.0) own.1) knows
-other_act c h p g (Marks k mark) off own fair knows = (tt, knows)
 other_act c h p g (Looked name known) off own fair knows = looked_acted c h p known (bytes_eq p.name name) own knows
 other_act c h p g (Shows k d known) off own fair knows = (tt, owned_known c h p k d (shown_other c h p g d known knows fair own.1 off) knows)
 other_act c h p g (Reads_as opening) off own fair knows =
@@ -300,7 +300,6 @@ other_act c h p g (Reads_as opening) off own fair knows =
     let events : events_for (Reads_as opening) p ≡ [] = ap (λ t. cond t (Opens (read_by opening p) ∷ []) []) away in
     (subst (Mays c p) (sym events) tt, subst (λ vs. Knows c h (pool_after vs p)) (sym events) knows)
 other_act c h p g (Enters s) off own fair knows = (tt, pools_known c h p (s ∷ h.pools) (other_first p.pool.0 g s h.pools own off) knows)
-other_act c h p g (Names k) off own fair knows = (tt, knows)
 other_act c h p g (Takes k d) off own fair knows =
     let away : (p.pool.0 == k) ≡ false = other_number p.pool.0 k (λ e. off (sym own.0 ∙ sym e)) in
     let events : events_for (Takes k d) p ≡ Loses d ∷ [] = ap (λ t. cond t [] (Loses d ∷ [])) away in (
@@ -310,6 +309,7 @@ other_act c h p g (Takes k d) off own fair knows =
     )
 other_act c h p g (Bears birth) off own fair knows = (tt, pools_known c h p (birth.state ∷ h.pools) (other_first p.pool.0 g birth.state h.pools own off) knows)
 other_act c h p g (Closes k) off own fair knows = (tt, pools_known c h p (filter (λ s. not (is_of k s)) h.pools) (λ s is number. open_kept (λ s. not (is_of k s)) s h.pools is) knows)
+other_act c h p g act off own fair knows = (tt, knows)
 
 -- Acts of another pool.
 pub other_may : (c : Codec) (h : Host) (p : Pool) (g : ℕ) (acts : List Act) → Knows c h p → g ≢ p.pool.0 → AreOwnActs g h acts → MayActs c h p acts
@@ -342,9 +342,6 @@ move_apart (Lose e) h p own apart d k is off = lost_member e d p.member (apart d
 move_apart (Comes i e m top was) h p own apart d k is off = by_bool (e == d)
     (λ same. absurd (off (some_same k p.pool.0 (sym is ∙ (ap h.owner (sym (same_device e d same)) ∙ own)))))
     (λ away. ap (λ t. cond t true (other_than m p.guid p.member d)) away ∙ other_member m p.guid p.member d (apart d k is off))
-  where
-    some_same : (a b : ℕ) → Some a ≡ Some b → a ≡ b
-    some_same a b e = cc
 move_apart v h p own apart d k is off = apart d k is off
 
 pub own_does : (c : Codec) (h : Host) (s : PoolState) (t : Side) (g : ℕ) (v : Move) → Knows c h t.pool → IsOpen s h.pools → t.pool.pool.0 ≡ g → Kept c s t → Mays c t.pool (events_of v t.pool) → Admits t v

@@ -18,7 +18,6 @@ pub mod Knowing
 pub mod Known
 pub mod LabelsKeepUp
 pub mod LineMoves
-pub mod Lists
 pub mod Losing
 pub mod LostReads
 pub mod Members

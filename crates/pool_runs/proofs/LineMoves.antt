@@ -1,5 +1,5 @@
 -- Lines of an open pool of which each move is of one kind, and each act.
-use Rattle.std.proofs.Common.{inl, inr, ℕ, ◌+◌, ◌&&◌, nat_le, Bool, true, false, List, [], ◌∷◌, ◌++◌, Option, Some, None, Result, Ok, Err, sym, subst}
+use Rattle.std.proofs.Common.{inl, inr, ℕ, ◌+◌, ◌&&◌, nat_le, Bool, true, false, List, [], ◌∷◌, ◌++◌, Option, Some, None, Result, Ok, sym, subst}
 use Rattle.std.specs.List.{AllByRecursion, find, filter}
 use Rattle.mp_base.specs.declared.number.Guid.{Guid}
 use Rattle.bank_core.specs.declared.bank.Fault.{Fault}
@@ -15,9 +15,9 @@ use Rattle.pool_moves.specs.Boards.{members_where}
 use Rattle.pool_moves.specs.CommitRows.{RowLogs}
 use Rattle.pool_moves.specs.FreezeRow.{up_devs}
 use Rattle.pool_moves.specs.Leaves.{LeafSeen}
-use Rattle.pool_moves.specs.LineRows.{TurnReply, sets_failed, has_number, RowTurn, Committed, Suspended, Idle, Write, Flush, Round, FreezeReply, FreezeFor, FreezeBy, RowFreezeLine, RowSync}
+use Rattle.pool_moves.specs.LineRows.{TurnReply, sets_failed, has_number, RowTurn, Committed, FreezeReply, FreezeFor, FreezeBy, RowFreezeLine, RowSync}
 use Rattle.pool_moves.specs.Moves.{Move, Freeze, Leave, Burn, Sets, Finds, Drop, Clear, Pass, Scan_from, Scrubs, Rest, steps}
-use Rattle.pool_moves.specs.OnlineRow.{HostDevice, NoneFound, HeldBy, Handed, OnlineReply, Stands, NoLeaf, IsSpare, NoDevice, InUse, TooSmall, FaultOnDevice, WrongLabel, is_away, marked_own, brought_own, searched_own, SearchEnds, ScansBehind, OnlineRoomy, OnlineAway, OnlineOn, OnlineBy}
+use Rattle.pool_moves.specs.OnlineRow.{HostDevice, Handed, OnlineReply, Stands, is_away, marked_own, brought_own, searched_own, SearchEnds, ScansBehind, OnlineRoomy, OnlineAway, OnlineOn, OnlineBy}
 use Rattle.pool_moves.specs.OpeningRow.{ResumesBy, ResumesUnless}
 use Rattle.pool_moves.specs.ReadRow.{ReadReply, count_reads, stands_under, ReadRecord, ReadGroup, ReadOpen, RowRead, made_in}
 use Rattle.pool_moves.specs.Refusing.{FreezeRefusal}
@@ -128,11 +128,7 @@ module _ (P : Move → Type 0) (k : IsLineKind P) where
 
   line_resumes : (turn : TurnReply) (s : PoolState) (vs : List Move) → ResumesBy turn s vs → All vs
   line_resumes (Committed number) s vs row = line_resilver s.core vs row
-  line_resumes Idle s vs row = subst All (sym row) tt
-  line_resumes Write s vs row = subst All (sym row) tt
-  line_resumes Flush s vs row = subst All (sym row) tt
-  line_resumes (Round number) s vs row = subst All (sym row) tt
-  line_resumes (Suspended group top faults) s vs row = subst All (sym row) tt
+  line_resumes turn s vs row = subst All (sym row) tt
 
   pub line_resume : (top : Option ℕ) (c : Codec) (size : ℕ → ℕ) (s : PoolState) (vs : List Move) (turn : TurnReply) → ResumesUnless top c size s vs turn
       → All vs
@@ -145,18 +141,11 @@ module _ (P : Move → Type 0) (k : IsLineKind P) where
       → SearchEnds result leaf e made vs reply → All vs
   line_search (Ok true) leaf e made vs reply row = subst All (sym row.0)
       (more P (as_moves made) (Finds leaf.guid e ∷ (Sets leaf.guid (brought_own (searched_own made leaf.own)) ∷ [])) (line_calls made) (k.finds _ _, (k.kind.set _ _, tt)))
-  line_search (Ok false) leaf e made vs reply row = subst All (sym row.0) (more P (as_moves made) (Sets leaf.guid (searched_own made leaf.own) ∷ []) (line_calls made) (k.kind.set _ _, tt))
-  line_search (Err fault) leaf e made vs reply row = subst All (sym row.0) (more P (as_moves made) (Sets leaf.guid (searched_own made leaf.own) ∷ []) (line_calls made) (k.kind.set _ _, tt))
+  line_search result leaf e made vs reply row = subst All (sym row.0) (more P (as_moves made) (Sets leaf.guid (searched_own made leaf.own) ∷ []) (line_calls made) (k.kind.set _ _, tt))
 
   line_scans : (reply : OnlineReply) (s : PoolState) (vs : List Move) → ScansBehind reply s vs → All vs
   line_scans (Stands mode) s vs row = line_resilver s.core vs row
-  line_scans NoLeaf s vs row = subst All (sym row) tt
-  line_scans IsSpare s vs row = subst All (sym row) tt
-  line_scans NoDevice s vs row = subst All (sym row) tt
-  line_scans (InUse by) s vs row = subst All (sym row) tt
-  line_scans (TooSmall need has) s vs row = subst All (sym row) tt
-  line_scans FaultOnDevice s vs row = subst All (sym row) tt
-  line_scans WrongLabel s vs row = subst All (sym row) tt
+  line_scans reply s vs row = subst All (sym row) tt
 
   line_roomy : (roomy : Bool) (size : ℕ → ℕ) (s : PoolState) (leaf : LeafSeen) (e : ℕ) (vs : List Move) (reply : OnlineReply)
       → OnlineRoomy roomy size s leaf e vs reply → All vs
@@ -171,9 +160,8 @@ module _ (P : Move → Type 0) (k : IsLineKind P) where
 
   line_on : (device : HostDevice) (size : ℕ → ℕ) (s : PoolState) (leaf : LeafSeen) (vs : List Move) (reply : OnlineReply)
       → OnlineOn device size s leaf vs reply → All vs
-  line_on NoneFound size s leaf vs reply row = subst All (sym row.0) tt
-  line_on (HeldBy by) size s leaf vs reply row = subst All (sym row.0) tt
   line_on (Handed e) size s leaf vs reply row = line_away (is_away leaf.own.mode) size s leaf e vs reply row
+  line_on device size s leaf vs reply row = subst All (sym row.0) tt
 
   line_online : (found : Option LeafSeen) (listed : Bool) (device : HostDevice) (size : ℕ → ℕ) (s : PoolState) (vs : List Move) (reply : OnlineReply)
       → OnlineBy found listed device size s vs reply → All vs
@@ -268,7 +256,6 @@ module _ (P : Move → Type 0) (k : IsLineKind P) where
 
     pub plain_line : (c : Codec) (h : Host) (asked : Asked) (acts : List Act) (reply : Reply) → IsPlainLine asked → RowOf c h asked acts reply → AllActs acts
     plain_line c h Asks_nothing acts reply plain row = subst AllActs (sym row.0) tt
-    plain_line c h (Asks_write name at block) acts reply plain row = absurd plain
     plain_line c h (Asks_read name at) acts reply plain row = on_lines (named name h.pools) (ReadLine h at) acts reply
         (λ s line. by_marked h s (λ vs. Gives_for at line.0) (λ vs. RowRead s at vs line.0) acts (λ vs is. line_read s at vs line.0 is) line.2) row
     plain_line c h (Asks_freeze name) acts reply plain row = on_lines (named name h.pools) (FreezeLine c h) acts reply
@@ -289,7 +276,4 @@ module _ (P : Move → Type 0) (k : IsLineKind P) where
         (λ s line. by_moves h s (λ vs. RowStopScrub s vs line.0) acts (λ vs is. line_stop (s.core.scan.running && s.own.scrubs) vs line.0 is) line.2) row
     plain_line c h (Asks_logs name) acts reply plain row = on_lines (named name h.pools) (LogsLine h) acts reply
         (λ s line. by_moves h s (λ vs. RowLogs s vs line.0) acts (λ vs is. subst All (sym is.0) tt) line.2) row
-    plain_line c h (Asks_import name) acts reply plain row = absurd plain
-    plain_line c h (Asks_create name blocks tops) acts reply plain row = absurd plain
-    plain_line c h (Asks_graft graft name leaf new) acts reply plain row = absurd plain
-    plain_line c h (Asks_detach name leaf) acts reply plain row = absurd plain
+    plain_line c h asked acts reply plain row = absurd plain

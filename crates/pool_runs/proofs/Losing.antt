@@ -5,30 +5,24 @@ use Rattle.std.proofs.lemmas.Bool.Decides.{nat_tests}
 use Rattle.mp_base.specs.declared.number.Guid.{Guid}
 use Rattle.vdev_tree.specs.Leaf.{is_up}
 use Rattle.std.specs.Option.{is_some}
-use Rattle.std.proofs.lemmas.Bool.{and_parts}
+use Rattle.std.proofs.lemmas.Bool.{and_parts, or_left, or_right, and_from}
 use Rattle.txg_history.specs.Pages.{Codec}
 use Rattle.txg_history.specs.Records.{Cells}
 use Rattle.txg_history.proofs.Logging.{by_bool, same_device, true_not_false}
 use Rattle.pool_moves.specs.Boards.{is_on, is_on_under, has_on, emptied_of}
 use Rattle.pool_moves.specs.FreezeRow.{is_dev, up_devs}
-use Rattle.pool_moves.specs.Leaves.{OwnLeaf, LeafSeen}
+use Rattle.pool_moves.specs.Leaves.{LeafSeen}
 use Rattle.pool_moves.specs.LineRows.{Suspended, RowTurn, TurnBy, EndsGroup, CommitsOpen}
-use Rattle.pool_moves.specs.Moves.{Move, Makes, Freeze, Wrote_key, Flushed_all, Draw, Leave, Widen, Starts, Copies, Copied, Sets, on_dev, leaf_step, step, state_step, steps}
+use Rattle.pool_moves.specs.Moves.{Move, Freeze, Leave, Sets, on_dev, leaf_step, step, state_step, steps, Commits, Finds, Clear, Burn}
 use Rattle.pool_moves.specs.Refusing.{RefusedBy, is_writable, is_writable_under, unwritable_of, unwritable}
 use Rattle.pool_moves.specs.States.{PoolState}
 use Rattle.pool_moves.specs.Widening.{IsWidened}
 use Rattle.pool_runs.specs.Counting.{is_under, IsLostBy, LosesTop, LosesBoard, LosesFreeze}
-use Rattle.pool_runs.proofs.Lists.{same_test, some_same, or_left, or_right, map_back, any_map}
 use Rattle.pool_runs.proofs.Failing.{IsCaught, caught_second}
-use Rattle.pool_runs.proofs.OnlyFailedLeave.{MaySet, IsJust, AreJust, just_widens, IsLostBehind, lost_more, Comes, turn_comes, KeepsMay, group_comes, step_leaves, steps_any, steps_tops}
-
--- What is set of leaves makes no odds here.
-abbrev pub Anything : Guid → OwnLeaf → Type 0
-Anything m own = Unit {0}
-
-pub any_may : (leaves : List LeafSeen) → MaySet Anything leaves
-any_may [] = tt
-any_may (leaf ∷ leaves) = (tt, any_may leaves)
+use Rattle.pool_runs.proofs.OnlyFailedLeave.{IsJust, AreJust, just_widens, IsLostBehind, lost_more, Comes, turn_comes, KeepsMay, group_comes, step_leaves, steps_any, steps_tops}
+use Rattle.pool_moves.proofs.KindsOfMoves.{AnySet, any_may}
+use Rattle.pool_moves.proofs.Lists.{either, map_back, any_map}
+use Rattle.pool_moves.proofs.Tests.{same_test, some_same}
 
 -- A top with nobody left on the board is some leaf's, and where each top of these has a leaf that could be written it
 -- has one.
@@ -65,9 +59,6 @@ none_unwritable true top s is = absurd (cc)
 none_unwritable false (Some top) s is = absurd (cc)
 none_unwritable false None s is = refl
 
-both_true : (a b : Bool) → a ≡ true → b ≡ true → (a && b) ≡ true
-both_true a b x y = ap (λ t. t && b) x ∙ y
-
 -- a writable leaf is on the board
 abbrev pub IsUp : (board : ℕ → Bool) → LeafSeen → Type 0
 IsUp board leaf = is_writable leaf ≡ true → on_dev board leaf.dev ≡ true
@@ -80,7 +71,7 @@ up_one board up None on is = absurd (let no : false ≡ true = sym (none up) ∙
     none true = refl
     none false = refl
 up_one board up (Some d) on is =
-    on d (both_true up (d == d) (and_parts up true is).0
+    on d (and_from up (d == d) (and_parts up true is).0
     (let same : (d == d) ≡ true = grind (arith, nat_tests) in same))
 
 pub all_up : (board : ℕ → Bool) (leaves : List LeafSeen) → ((d : ℕ) → up_devs leaves d ≡ true → board d ≡ true)
@@ -116,57 +107,38 @@ module _ (Fails : ℕ → Type 0) where
       by_bool (d == e) (λ here. (e, refl, subst Fails (same_device d e here) fails))
       (λ away. lost at (ap (λ t. cond t false on) away ∙ is))
 
-  sets_back : (top : ℕ) (t : Bool) (leaf : LeafSeen) (own : OwnLeaf)
-      → IsLostBy is_on Fails top (cond t (record leaf { own = own }) leaf) → IsLostBy is_on Fails top leaf
-  sets_back top true leaf own lost = lost
-  sets_back top false leaf own lost = lost
-
-  leaf_back : (top : ℕ) (v : Move) (number first hi : ℕ) (leaf : LeafSeen) → IsJust Fails Anything ⊥ v
-      → IsLostBy is_on Fails top (leaf_step v number first hi leaf)
-      → IsLostBy is_on Fails top leaf
-  leaf_back top (Makes noted) number first hi leaf just lost = lost
-  leaf_back top (Wrote_key k) number first hi leaf just lost = lost
-  leaf_back top Flushed_all number first hi leaf just lost = lost
-  leaf_back top (Starts draft) number first hi leaf just lost = lost
-  leaf_back top (Copies draft d) number first hi leaf just lost = lost
-  leaf_back top (Copied draft d) number first hi leaf just lost = lost
-  leaf_back top Draw number first hi leaf just lost = lost
+  leaf_back : (top : ℕ) (v : Move) (number first hi : ℕ) (leaf : LeafSeen) → IsJust Fails AnySet ⊥ v
+      → IsLostBy is_on Fails top (leaf_step v number first hi leaf) → IsLostBy is_on Fails top leaf
   leaf_back top (Leave d) number first hi leaf just lost = leave_back d just leaf.dev leaf.on (leaf.top ≡ top) lost
-  leaf_back top (Widen m low high) number first hi leaf just lost = lost
-  leaf_back top (Sets m own) number first hi leaf just lost = sets_back top (leaf.guid.0 == m.0) leaf own lost
-  leaf_back top v number first hi leaf just lost = absurd just
+  leaf_back top (Sets m own) number first hi leaf just lost = either (λ t. IsLostBy is_on Fails top
+      (cond t (record leaf { own = own }) leaf) → IsLostBy is_on Fails top leaf) (λ lost. lost) (λ lost. lost)
+      (leaf.guid.0 == m.0) lost
+  leaf_back top (Freeze cells board) number first hi leaf just lost = absurd just
+  leaf_back top Burn number first hi leaf just lost = absurd just
+  leaf_back top (Commits draft) number first hi leaf just lost = absurd just
+  leaf_back top (Finds m d) number first hi leaf just lost = absurd just
+  leaf_back top (Clear d) number first hi leaf just lost = absurd just
+  leaf_back top v number first hi leaf just lost = lost
 
-  step_back : (top : ℕ) (v : Move) (s : PoolState) → IsJust Fails Anything ⊥ v
-      → AllByRecursion (IsLostBy is_on Fails top) (state_step v s).core.leaves
-      → AllByRecursion (IsLostBy is_on Fails top) s.core.leaves
-  step_back top v s just = step_leaves Fails Anything ⊥
-      (λ l. AllByRecursion (IsLostBy is_on Fails top) l → AllByRecursion (IsLostBy is_on Fails top) s.core.leaves) v s
-      just (λ all. all)
-      (map_back (IsLostBy is_on Fails top) (IsLostBy is_on Fails top)
-      (leaf_step v s.core.number s.core.group.first s.core.scan.hi)
-      (λ leaf lost. leaf_back top v s.core.number s.core.group.first s.core.scan.hi leaf just lost) s.core.leaves)
-
-  steps_back : (top : ℕ) (vs : List Move) (s : PoolState) → AreJust Fails Anything ⊥ vs
+  steps_back : (top : ℕ) (vs : List Move) (s : PoolState) → AreJust Fails AnySet ⊥ vs
       → AllByRecursion (IsLostBy is_on Fails top) (steps vs s).core.leaves
       → AllByRecursion (IsLostBy is_on Fails top) s.core.leaves
   steps_back top [] s just lost = lost
-  steps_back top (v ∷ vs) s just lost = step_back top v s just.0 (steps_back top vs (state_step v s) just.1 lost)
+  steps_back top (v ∷ vs) s just lost =
+      step_leaves Fails AnySet ⊥
+      (λ l. AllByRecursion (IsLostBy is_on Fails top) l → AllByRecursion (IsLostBy is_on Fails top) s.core.leaves)
+      v s just.0 (map_back _ (leaf_step v s.core.number s.core.group.first s.core.scan.hi)
+      (λ leaf lost. leaf_back top v s.core.number s.core.group.first s.core.scan.hi leaf just.0 lost) s.core.leaves)
+      (steps_back top vs (state_step v s) just.1 lost)
 
-  step_first : (v : Move) (s : PoolState) → IsJust Fails Anything ⊥ v
+  step_first : (v : Move) (s : PoolState) → IsJust Fails AnySet ⊥ v
       → (state_step v s).core.group.first ≡ s.core.group.first
-  step_first (Makes noted) s just = refl
-  step_first (Wrote_key k) s just = refl
-  step_first Flushed_all s just = refl
-  step_first (Starts draft) s just = refl
-  step_first (Copies draft d) s just = refl
-  step_first (Copied draft d) s just = refl
-  step_first Draw s just = refl
-  step_first (Leave d) s just = refl
-  step_first (Widen m low high) s just = refl
-  step_first (Sets m own) s just = refl
-  step_first v s just = absurd just
+  step_first (Freeze cells board) s just = absurd just
+  step_first Burn s just = absurd just
+  step_first (Commits draft) s just = absurd just
+  step_first v s just = refl
 
-  steps_first : (vs : List Move) (s : PoolState) → AreJust Fails Anything ⊥ vs
+  steps_first : (vs : List Move) (s : PoolState) → AreJust Fails AnySet ⊥ vs
       → (steps vs s).core.group.first ≡ s.core.group.first
   steps_first [] s just = refl
   steps_first (v ∷ vs) s just = steps_first vs (state_step v s) just.1 ∙ step_first v s just.0
@@ -177,7 +149,7 @@ module _ (Fails : ℕ → Type 0) where
   suspended_same a b top other m n e = (cc, cc)
 
   abbrev pub IsLostFor : PoolState → (group : ℕ) → (top : Guid) → (faults : ℕ) → Type 0
-  IsLostFor s group top faults = IsLostBehind Fails Anything ⊥ s (Suspended group top faults)
+  IsLostFor s group top faults = IsLostBehind Fails AnySet ⊥ s (Suspended group top faults)
 
   top_loses : (s : PoolState) (group : ℕ) (top : Guid) (faults : ℕ) → IsLostFor s group top faults
       → (s.core.group.first ≡ group) × LosesTop is_on s.core.leaves s.own.top_number Fails top
@@ -186,8 +158,8 @@ module _ (Fails : ℕ → Type 0) where
         sym (steps_first lost.moves s lost.just) ∙ sym tells.0,
         record {
           at = lost.at;
-          number_is = sym (ap (λ f. f lost.at) (steps_tops Fails Anything ⊥ lost.moves s lost.just).0) ∙ sym tells.1;
-          some = sym (steps_any Fails Anything ⊥ (λ m dev top. top == lost.at) lost.moves s lost.just)
+          number_is = sym (ap (λ f. f lost.at) (steps_tops lost.moves s).0) ∙ sym tells.1;
+          some = sym (steps_any Fails AnySet ⊥ (λ m dev top. top == lost.at) lost.moves s lost.just)
               ∙ emptied_under lost.at behind.core.leaves behind.core.leaves lost.empty;
           lost = steps_back lost.at lost.moves s lost.just
               (none_on lost.at behind.core.leaves
@@ -206,29 +178,29 @@ module _ (Fails : ℕ → Type 0) where
   turn_frozen false c size s vs group top faults row = absurd (let no = row.1 in cc)
   turn_frozen true c size s vs group top faults row = refl
 
+  keeps_any : KeepsMay Fails AnySet ⊥
+  keeps_any vs s just may = any_may (steps vs s).core.leaves
+
   pub turn_loses : (c : Codec) (size : ℕ → ℕ) (s : PoolState) (vs : List Move) (group : ℕ) (top : Guid) (faults : ℕ)
       → IsCaught Fails vs
       → RowTurn c size s vs (Suspended group top faults) → LosesBoard s Fails group top
   turn_loses c size s vs group top faults caught row =
-      of (turn_comes Fails Anything ⊥ c size s vs (Suspended group top faults) (λ is. is)
+      of (turn_comes Fails AnySet ⊥ keeps_any c size s vs (Suspended group top faults) (λ is. is)
       (any_may s.core.leaves) caught row)
     where
-      of : Comes Fails Anything ⊥ s vs (Suspended group top faults) → LosesBoard s Fails group top
+      of : Comes Fails AnySet ⊥ s vs (Suspended group top faults) → LosesBoard s Fails group top
       of (inl lost) = board_loses s group top faults
           (turn_frozen s.core.group.frozen c size s vs group top faults row) lost
       of (inr just) = absurd (just.1 tt)
-
-  keeps_any : KeepsMay Fails Anything ⊥
-  keeps_any vs s just may = any_may (steps vs s).core.leaves
 
   pub group_lost : (c : Codec) (size : ℕ → ℕ) (s : PoolState) (vs : List Move) (group : ℕ) (top : Guid) (faults : ℕ)
       → IsCaught Fails vs
       → EndsGroup c size s vs (Suspended group top faults) → IsLostFor s group top faults
   group_lost c size s vs group top faults caught ends =
-      of (group_comes Fails Anything ⊥ keeps_any c size s vs (Suspended group top faults) (λ is. is)
+      of (group_comes Fails AnySet ⊥ keeps_any c size s vs (Suspended group top faults) (λ is. is)
       (any_may s.core.leaves) caught ends)
     where
-      of : Comes Fails Anything ⊥ s vs (Suspended group top faults) → IsLostFor s group top faults
+      of : Comes Fails AnySet ⊥ s vs (Suspended group top faults) → IsLostFor s group top faults
       of (inl lost) = lost
       of (inr just) = absurd (just.1 tt)
 
@@ -274,8 +246,8 @@ module _ (Fails : ℕ → Type 0) where
       frozen = state_step v s
 
       one : (frozen.core.group.first ≡ group) × LosesTop is_on frozen.core.leaves frozen.own.top_number Fails top
-      one = top_loses frozen group top faults (lost_more Fails Anything ⊥ w.widens frozen (Suspended group top faults)
-          (just_widens Fails Anything ⊥ (step v s.core) w.widens w.are)
+      one = top_loses frozen group top faults (lost_more Fails AnySet ⊥ w.widens frozen (Suspended group top faults)
+          (just_widens Fails AnySet ⊥ (step v s.core) w.widens w.are)
           (subst (λ l. IsLostFor (steps l s) group top faults) w.moves lost))
 
   pub commits_lose : (c : Codec) (size : ℕ → ℕ) (s : PoolState) (vs : List Move) (group : ℕ) (top : Guid) (faults : ℕ)

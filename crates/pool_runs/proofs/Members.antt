@@ -5,7 +5,7 @@ use Rattle.std.specs.Str.{bytes_eq}
 use Rattle.mp_base.specs.declared.number.Guid.{Guid}
 use Rattle.bank_core.specs.Asks.{Writes, ask_of, IsPart}
 use Rattle.bank_core.specs.declared.bank.Fault.{Fault}
-use Rattle.bank_core.specs.Disk.{Call, Read, Write as WriteCall, Flush as FlushCall, Admit, Eject, Noted}
+use Rattle.bank_core.specs.Disk.{Call, Write as WriteCall, Noted}
 use Rattle.label_store.specs.Layout.{ring_offset}
 use Rattle.label_store.specs.Plans.{zero_ring, stamp_plan}
 use Rattle.mp_base.specs.declared.place.Key.{Key}
@@ -15,9 +15,9 @@ use Rattle.txg_history.specs.Pools.{Pool, other_than, after, pool_after}
 use Rattle.txg_history.specs.Survival.{IsAmong}
 use Rattle.txg_history.proofs.Logging.{by_bool, same_device}
 use Rattle.pool_moves.specs.AwayRows.{WriteReply, WriteFits, WriteBy, RowWrite}
-use Rattle.pool_moves.specs.LineRows.{TurnReply, Committed, Suspended, Idle, Write, Flush, Round}
+use Rattle.pool_moves.specs.LineRows.{TurnReply, Committed, Suspended}
 use Rattle.pool_moves.specs.Moves.{Move, Makes, Lose, Comes, events_of}
-use Rattle.pool_moves.specs.OpeningRow.{SeekReply, NoRecord, NumbersEnd, TakesRecord, OpenReply, Opens_state, NoPage, lacking_of}
+use Rattle.pool_moves.specs.OpeningRow.{SeekReply, TakesRecord, OpenReply, Opens_state, NoPage, lacking_of}
 use Rattle.pool_moves.specs.ReadRow.{made_in}
 use Rattle.pool_moves.specs.StampRow.{NewLeaf, top_leaves, leaves_from, Stamp, AreStamps, new_state, CreateReply, Created, FaultOn}
 use Rattle.pool_moves.specs.PageReads.{PageTurn, page_of, up_to}
@@ -207,10 +207,7 @@ keep_bare d (noted ∷ made) rest all = (tt, keep_bare d made rest all)
 -- A stamp writes to its device.
 pub write_asked : (d at : ℕ) (bytes : List ℕ) (call : Call) → ask_of call ≡ Writes d at bytes → IsWriteTo d call
 write_asked d at bytes (WriteCall dev x written fault) is = cc
-write_asked d at bytes (Read dev x read fault) is = absurd (cc)
-write_asked d at bytes (FlushCall dev fault) is = absurd (cc)
-write_asked d at bytes (Admit dev holds) is = absurd (cc)
-write_asked d at bytes (Eject dev) is = absurd (cc)
+write_asked d at bytes call is = absurd (cc)
 
 pub stamp_wrote : (d size : ℕ) (pool member : Guid) (made : List Noted) (outcome : Option Fault) → IsPart (stamp_plan d size pool member) made outcome
     → HasWriteTo d made
@@ -388,18 +385,13 @@ keep_map d g bytes (turn ∷ turns) last rest all =
 keep_opens : (turn : TurnReply) (d : Held) (g : ℕ) (s : PoolState) (vs : List Move) (acts : List Act) (reply : Reply) → AllKeep vs → OpensBy turn g s vs acts reply → Keep d acts
 keep_opens (Committed number) d g s vs acts reply all by = subst (Keep d) (sym by.0) (tt, keep_does d g vs all)
 keep_opens (Suspended group top faults) d g s vs acts reply all by = subst (Keep d) (sym by.0) (tt, keep_acts d (does g vs) (Closes g ∷ []) (keep_does d g vs all) (tt, tt))
-keep_opens Idle d g s vs acts reply all by = absurd by
-keep_opens Write d g s vs acts reply all by = absurd by
-keep_opens Flush d g s vs acts reply all by = absurd by
-keep_opens (Round number) d g s vs acts reply all by = absurd by
+keep_opens turn d g s vs acts reply all by = absurd by
 
 keep_follows : (outcome : OpenReply) (c : Codec) (size : ℕ → ℕ) (d : Held) (g : ℕ) (acts : List Act) (reply : Reply) → FollowsMap outcome c size g acts reply → Keep d acts
 keep_follows (NoPage page shown) c size d g acts reply row = subst (Keep d) (sym row.0) tt
 keep_follows (Opens_state s) c size d g acts reply row = keep_opens row.1 d g s row.0 acts reply (line_resume KeepsMembers kept_line (lacking_of s.core.leaves s.core.leaves) c size s row.0 row.1 row.2) row.3
 
 keep_import_by : (seek : SeekReply) (c : Codec) (h : Host) (name : List ℕ) (known : Known) (acts : List Act) (reply : Reply) (d : Held) → ImportBy seek c h name known acts reply → Keep d acts
-keep_import_by NoRecord c h name known acts reply d row = subst (Keep d) (sym row.0) tt
-keep_import_by (NumbersEnd limit count) c h name known acts reply d row = subst (Keep d) (sym row.0) tt
 keep_import_by (TakesRecord found) c h name known acts reply d row = subst (Keep d) (sym row.are) (
   tt,
   keep_bare d row.row.ids (all_shown found.pool.0 (read_in row.row.ids) row.row.devs ++ (mark ∷ turned))
@@ -415,6 +407,7 @@ keep_import_by (TakesRecord found) c h name known acts reply d row = subst (Keep
 
     turned : List Act
     turned = map_acts found.pool.0 row.row.bytes row.row.turns row.row.last row.rest
+keep_import_by seek c h name known acts reply d row = subst (Keep d) (sym row.0) tt
 
 keep_for : (full : Bool) (c : Codec) (h : Host) (name : List ℕ) (acts : List Act) (reply : Reply) (d : Held) → ImportFor full c h name acts reply → Keep d acts
 keep_for true c h name acts reply d row = subst (Keep d) (sym row.0) tt

@@ -1,8 +1,8 @@
 -- Through the turns of a group each leaf may be written as before.
-use Rattle.std.proofs.Common.{◌≡◌, inl, inr, ℕ, ◌≤◌, ◌==◌, ◌&&◌, ◌||◌, Bool, true, false, cond, List, [], ◌∷◌, map, Option, refl, sym, ap, ◌∙◌, subst}
+use Rattle.std.proofs.Common.{◌≡◌, inl, inr, ℕ, ◌≤◌, ◌==◌, ◌&&◌, ◌||◌, Bool, true, false, List, [], ◌∷◌, map, Option, refl, sym, ap, ◌∙◌, subst}
 use Rattle.std.specs.List.{AllByRecursion, list_any}
 use Rattle.std.specs.Option.{is_some}
-use Rattle.std.proofs.lemmas.Bool.{and_parts}
+use Rattle.std.proofs.lemmas.Bool.{and_parts, cond_both, or_right}
 use Rattle.mp_base.specs.declared.number.Guid.{Guid}
 use Rattle.vdev_tree.specs.Leaf.{is_up}
 use Rattle.txg_history.specs.Pages.{Codec}
@@ -11,12 +11,14 @@ use Rattle.txg_history.proofs.Logging.{by_bool, same_device, true_not_false}
 use Rattle.pool_moves.specs.Keeping.{IsElsewhere, AreSeatsApart, IsAway, IsSeated, IsOwnNumber}
 use Rattle.pool_moves.specs.Leaves.{OwnLeaf, LeafSeen, Seat, At, Adrift, told, leaf_seen}
 use Rattle.pool_moves.specs.LineRows.{Committed, EndsGroup, write_failed}
-use Rattle.pool_moves.specs.Moves.{Move, Makes, Wrote_key, Flushed_all, Draw, Leave, Widen, Starts, Copies, Copied, Commits, Sets, leaf_step, state_step, steps}
+use Rattle.pool_moves.specs.Moves.{Move, Sets, leaf_step, state_step, steps, Freeze, Finds, Clear, Burn}
 use Rattle.pool_moves.specs.Refusing.{is_writable}
 use Rattle.pool_moves.specs.States.{PoolState}
 use Rattle.pool_runs.specs.Knowing.{HasSeats}
-use Rattle.pool_runs.proofs.Lists.{same_test, or_right, each, of_all, of_both, swap, map_forth}
-use Rattle.pool_runs.proofs.OnlyFailedLeave.{MaySet, IsJust, AreJust, Comes, KeepsMay, group_comes, step_leaves, steps_tops, steps_places}
+use Rattle.pool_runs.proofs.OnlyFailedLeave.{IsJust, AreJust, Comes, KeepsMay, group_comes, step_leaves, steps_tops, steps_places}
+use Rattle.pool_moves.proofs.KindsOfMoves.{AnyLeaf, MaySet}
+use Rattle.pool_moves.proofs.Lists.{all_map, each, of_all, of_both, swap, map_forth}
+use Rattle.pool_moves.proofs.Tests.{same_test}
 
 -- Seats at one device are one seat.
 abbrev IsSameAt : (d : ℕ) → OwnLeaf → Seat → Type 0
@@ -68,44 +70,27 @@ module _ (leaves : List LeafSeen) where
   abbrev pub Mild : Guid → OwnLeaf → Type 0
   Mild m own = IsMild m.0 own
 
-  abbrev Fine : ℕ → Type 0
-  Fine d = Unit {0}
-
-  leaf_mild : (v : Move) (number first hi : ℕ) (leaf : LeafSeen) → IsJust Fine Mild (Unit {0}) v
+  leaf_mild : (v : Move) (number first hi : ℕ) (leaf : LeafSeen) → IsJust AnyLeaf Mild (Unit {0}) v
       → Mild leaf.guid (write_failed leaf.own)
       → Mild (leaf_step v number first hi leaf).guid (write_failed (leaf_step v number first hi leaf).own)
-  leaf_mild (Makes noted) number first hi leaf just mild = mild
-  leaf_mild (Wrote_key k) number first hi leaf just mild = mild
-  leaf_mild Flushed_all number first hi leaf just mild = mild
-  leaf_mild (Starts draft) number first hi leaf just mild = mild
-  leaf_mild (Copies draft d) number first hi leaf just mild = mild
-  leaf_mild (Copied draft d) number first hi leaf just mild = mild
-  leaf_mild Draw number first hi leaf just mild = mild
-  leaf_mild (Leave d) number first hi leaf just mild = mild
-  leaf_mild (Widen m low high) number first hi leaf just mild = mild
-  leaf_mild (Sets m own) number first hi leaf just mild = by (leaf.guid.0 == m.0) refl
-    where
-      by : (t : Bool) → (leaf.guid.0 == m.0) ≡ t
-          → Mild (cond t (record leaf { own = own }) leaf).guid
-          (write_failed (cond t (record leaf { own = own }) leaf).own)
-      by true same = subst (λ n. IsMild n own) (sym (same_device leaf.guid.0 m.0 same)) just
-      by false away = mild
-  leaf_mild (Commits draft) number first hi leaf just mild = mild
-  leaf_mild v number first hi leaf just mild = absurd just
+  leaf_mild (Sets m own) number first hi leaf just mild = cond_both (leaf.guid.0 == m.0) (record leaf { own = own })
+      leaf
+      (λ x. Mild x.guid (write_failed x.own))
+      (λ same. subst (λ n. IsMild n own) (sym (same_device leaf.guid.0 m.0 same)) just)
+      (λ away. mild)
+  leaf_mild (Freeze cells board) number first hi leaf just mild = absurd just
+  leaf_mild Burn number first hi leaf just mild = absurd just
+  leaf_mild (Finds m d) number first hi leaf just mild = absurd just
+  leaf_mild (Clear d) number first hi leaf just mild = absurd just
+  leaf_mild v number first hi leaf just mild = mild
 
-  all_mild : (f : LeafSeen → LeafSeen)
-      → ((leaf : LeafSeen) → Mild leaf.guid (write_failed leaf.own) → Mild (f leaf).guid (write_failed (f leaf).own))
-      → (xs : List LeafSeen) → MaySet Mild xs → MaySet Mild (map f xs)
-  all_mild f keeps [] all = tt
-  all_mild f keeps (leaf ∷ xs) all = (keeps leaf all.0, all_mild f keeps xs all.1)
-
-  step_mild : (v : Move) (s : PoolState) → IsJust Fine Mild (Unit {0}) v → MaySet Mild s.core.leaves
+  step_mild : (v : Move) (s : PoolState) → IsJust AnyLeaf Mild (Unit {0}) v → MaySet Mild s.core.leaves
       → MaySet Mild (state_step v s).core.leaves
-  step_mild v s just all = step_leaves Fine Mild (Unit {0}) (MaySet Mild) v s just all
-      (all_mild (leaf_step v s.core.number s.core.group.first s.core.scan.hi)
+  step_mild v s just all = step_leaves AnyLeaf Mild (Unit {0}) (MaySet Mild) v s just
+      (all_map _ (leaf_step v s.core.number s.core.group.first s.core.scan.hi)
       (λ leaf mild. leaf_mild v s.core.number s.core.group.first s.core.scan.hi leaf just mild) s.core.leaves all)
 
-  steps_mild : KeepsMay Fine Mild (Unit {0})
+  steps_mild : KeepsMay AnyLeaf Mild (Unit {0})
   steps_mild [] s just all = all
   steps_mild (v ∷ vs) s just all = steps_mild vs (state_step v s) just.1 (step_mild v s just.0 all)
 
@@ -135,19 +120,12 @@ module _ (leaves : List LeafSeen) where
   none_and false true = refl
   none_and false false = refl
 
-  leaf_written : (v : Move) (number first hi : ℕ) (leaf : LeafSeen) → IsJust Fine Mild (Unit {0}) v
+  leaf_written : (v : Move) (number first hi : ℕ) (leaf : LeafSeen) → IsJust AnyLeaf Mild (Unit {0}) v
       → Mild leaf.guid (write_failed leaf.own) → IsCarried leaf
       → written_as (leaf_step v number first hi leaf) ≡ written_as leaf
-  leaf_written (Makes noted) number first hi leaf just mild carried = refl
-  leaf_written (Wrote_key k) number first hi leaf just mild carried = refl
-  leaf_written Flushed_all number first hi leaf just mild carried = refl
-  leaf_written (Starts draft) number first hi leaf just mild carried = refl
-  leaf_written (Copies draft d) number first hi leaf just mild carried = refl
-  leaf_written (Copied draft d) number first hi leaf just mild carried = refl
-  leaf_written Draw number first hi leaf just mild carried = refl
-  leaf_written (Leave d) number first hi leaf just mild carried = refl
-  leaf_written (Widen m low high) number first hi leaf just mild carried = refl
-  leaf_written (Sets m own) number first hi leaf just mild carried = by (leaf.guid.0 == m.0) refl
+  leaf_written (Sets m own) number first hi leaf just mild carried = cond_both (leaf.guid.0 == m.0)
+      (record leaf { own = own }) leaf (λ x. written_as x ≡ written_as leaf)
+      (λ same. ap (λ t. (t, leaf.dev, leaf.top)) (writable (same_device leaf.guid.0 m.0 same))) (λ away. refl)
     where
       writable : leaf.guid.0 ≡ m.0 → (is_up own.mode && is_some leaf.dev) ≡ is_writable leaf
       writable same = by_bool (is_some leaf.dev)
@@ -155,13 +133,11 @@ module _ (leaves : List LeafSeen) where
           (one_mode leaf.guid.0 own leaf.own leaves (carried some) (subst (λ n. IsMild n own) (sym same) just) mild))
           (λ none. ap (λ t. is_up own.mode && t) none
           ∙ (none_and (is_up own.mode) (is_up leaf.own.mode) ∙ ap (λ t. is_up leaf.own.mode && t) (sym none)))
-
-      by : (t : Bool) → (leaf.guid.0 == m.0) ≡ t
-          → written_as (cond t (record leaf { own = own }) leaf) ≡ written_as leaf
-      by true same = ap (λ t. (t, leaf.dev, leaf.top)) (writable (same_device leaf.guid.0 m.0 same))
-      by false away = refl
-  leaf_written (Commits draft) number first hi leaf just mild carried = refl
-  leaf_written v number first hi leaf just mild carried = absurd just
+  leaf_written (Freeze cells board) number first hi leaf just mild carried = absurd just
+  leaf_written Burn number first hi leaf just mild carried = absurd just
+  leaf_written (Finds m d) number first hi leaf just mild carried = absurd just
+  leaf_written (Clear d) number first hi leaf just mild carried = absurd just
+  leaf_written v number first hi leaf just mild carried = refl
 
   all_written : (f : LeafSeen → LeafSeen)
       → ((leaf : LeafSeen) → Mild leaf.guid (write_failed leaf.own) → IsCarried leaf
@@ -173,21 +149,21 @@ module _ (leaves : List LeafSeen) where
       ap (λ one. one ∷ map written_as (map f xs)) (same leaf mild.0 carried.0)
       ∙ ap (λ more. written_as leaf ∷ more) (all_written f same xs mild.1 carried.1)
 
-  step_written : (v : Move) (s : PoolState) → IsJust Fine Mild (Unit {0}) v → MaySet Mild s.core.leaves
+  step_written : (v : Move) (s : PoolState) → IsJust AnyLeaf Mild (Unit {0}) v → MaySet Mild s.core.leaves
       → AllByRecursion IsCarried s.core.leaves
       → map written_as (state_step v s).core.leaves ≡ map written_as s.core.leaves
   step_written v s just mild carried =
-      step_leaves Fine Mild (Unit {0}) (λ l. map written_as l ≡ map written_as s.core.leaves) v s just refl
+      step_leaves AnyLeaf Mild (Unit {0}) (λ l. map written_as l ≡ map written_as s.core.leaves) v s just
       (all_written (leaf_step v s.core.number s.core.group.first s.core.scan.hi)
       (λ leaf. leaf_written v s.core.number s.core.group.first s.core.scan.hi leaf just) s.core.leaves mild carried)
 
-  steps_written : (vs : List Move) (s : PoolState) → AreJust Fine Mild (Unit {0}) vs → MaySet Mild s.core.leaves
+  steps_written : (vs : List Move) (s : PoolState) → AreJust AnyLeaf Mild (Unit {0}) vs → MaySet Mild s.core.leaves
       → AllByRecursion IsCarried s.core.leaves
       → map written_as (steps vs s).core.leaves ≡ map written_as s.core.leaves
   steps_written [] s just mild carried = refl
   steps_written (v ∷ vs) s just mild carried =
       steps_written vs (state_step v s) just.1 (step_mild v s just.0 mild)
-      (steps_places Fine Mild (Unit {0}) HasDevice (v ∷ []) s (just.0, tt) carried)
+      (steps_places AnyLeaf Mild (Unit {0}) HasDevice (v ∷ []) s (just.0, tt) carried)
       ∙ step_written v s just.0 mild carried
 
 -- each leaf of a list is carried by it
@@ -260,15 +236,15 @@ pub group_leaves : (c : Codec) (size : ℕ → ℕ) (s : PoolState) (p : Pool) (
     → HasSeats c s p → EndsGroup c size s vs (Committed number)
     → IsLeftWritable s (steps vs s)
 group_leaves c size s p vs number seats ends =
-    of (group_comes (λ d. Unit {0}) may (Unit {0}) (steps_mild s.core.leaves) c size s vs (Committed number)
-    (λ is. tt) (state_mild c s p seats) (λ d failed. tt) ends)
+    of (group_comes AnyLeaf may (Unit {0}) (steps_mild s.core.leaves) c size s vs (Committed number) (λ is. tt)
+    (state_mild c s p seats) (λ d failed. tt) ends)
   where
     may : Guid → OwnLeaf → Type 0
     may = Mild s.core.leaves
 
-    of : Comes (λ d. Unit {0}) may (Unit {0}) s vs (Committed number) → IsLeftWritable s (steps vs s)
+    of : Comes AnyLeaf may (Unit {0}) s vs (Committed number) → IsLeftWritable s (steps vs s)
     of (inl lost) = absurd (let no = lost.tells in cc)
-    of (inr just) = let same = steps_tops (λ d. Unit {0}) may (Unit {0}) vs s just.0 in record {
+    of (inr just) = let same = steps_tops vs s in record {
       leaves = steps_written s.core.leaves vs s just.0 (state_mild c s p seats) (carried_all s.core.leaves);
       tops = same.0;
       number = same.1;

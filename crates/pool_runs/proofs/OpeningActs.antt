@@ -20,6 +20,7 @@ use Rattle.pool_runs.specs.Knowing.{AreOwnActs}
 use Rattle.pool_runs.proofs.Acting.{calls_number}
 use Rattle.pool_runs.proofs.Known.{Knows, MayActs}
 use Rattle.pool_runs.proofs.Knowing.{call_known}
+use Rattle.pool_moves.proofs.Tests.{some_same}
 
 pub own_second : (g : ℕ) (h : Host) (first second : List Act) → AreOwnActs g h (first ++ second) → AreOwnActs g (host_along first h) second
 own_second g h [] second own = own
@@ -66,9 +67,6 @@ own_shown c h p g d number knows = record {
   sizes = knows.sizes;
   disk = knows.disk;
 }
-  where
-    some_same : (a b : ℕ) → Some a ≡ Some b → a ≡ b
-    some_same a b e = cc
 
 pub shown_then : (c : Codec) (g : ℕ) (known : Known) (devs : List (Option ℕ)) (more : List Act) (h : Host) (p : Pool) → p.pool.0 ≡ g → Knows c h p
     → (Knows c (host_along (all_shown g known devs) h) p → MayActs c (host_along (all_shown g known devs) h) p more) → MayActs c h p (all_shown g known devs ++ more)

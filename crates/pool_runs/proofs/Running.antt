@@ -1,5 +1,5 @@
 -- The lines of a run may be made.
-use Rattle.std.proofs.Common.{◌≡◌, ◌≢◌, ◌⊎◌, inl, inr, ⊎_elim, ℕ, ◌==◌, Bool, true, false, cond, List, [], ◌∷◌, ◌++◌, map, Option, Some, None, refl, sym, ap, ◌∙◌, subst}
+use Rattle.std.proofs.Common.{◌≡◌, ◌⊎◌, inl, inr, ⊎_elim, ℕ, ◌==◌, Bool, true, false, cond, List, [], ◌∷◌, ◌++◌, map, Option, Some, None, refl, sym, ap, ◌∙◌, subst}
 use Rattle.std.specs.List.{AllByRecursion}
 use Rattle.std.specs.Str.{bytes_eq}
 use Rattle.bank_core.specs.Disk.{Noted, AllAnswer}
@@ -45,6 +45,7 @@ use Rattle.pool_runs.proofs.Knowing.{acts_number, may_more, moved_own, open_move
 use Rattle.pool_runs.proofs.ReadsBehind.{read_plain, read_untouched, seeks_behind}
 use Rattle.pool_runs.proofs.Seating.{seat_as, detach_as, may_as, own_as, some_seat}
 use Rattle.pool_runs.proofs.Sparing.{untouched_sparing}
+use Rattle.pool_moves.proofs.Tests.{not_same}
 
 -- the open pool of a name is open
 named_by : (t : Bool) (u s : PoolState) (rest : Option PoolState) (pools : List PoolState) → (rest ≡ Some s → IsOpen s pools) → cond t (Some u) rest ≡ Some s → (s ≡ u) ⊎ IsOpen s pools
@@ -57,9 +58,6 @@ named_by false u s rest pools more is = inr (more is)
 pub named_open : (name : List ℕ) (s : PoolState) (pools : List PoolState) → named name pools ≡ Some s → IsOpen s pools
 named_open name s [] is = absurd (cc)
 named_open name s (u ∷ pools) is = named_by (bytes_eq u.core.name name) u s (named name pools) pools (λ more. named_open name s pools more) is
-
-not_same : (m n : ℕ) → (m == n) ≡ false → m ≢ n
-not_same m n off is = let yes : (m == n) ≡ true = same_number m n is in absurd (let no : true ≡ false = sym yes ∙ off in cc)
 
 -- fronts of what may be done
 pub may_front : (c : Codec) (h : Host) (p : Pool) (first second : List Act) → MayActs c h p (first ++ second) → MayActs c h p first

@@ -10,7 +10,7 @@ use Rattle.txg_history.specs.Pools.{Pool, pool_after}
 use Rattle.pool_moves.specs.AwayRows.{is_spare, leaf_named}
 use Rattle.pool_moves.specs.Keeping.{Kept}
 use Rattle.pool_moves.specs.Leaves.{LeafSeen, Seat, told, leaf_seen}
-use Rattle.pool_moves.specs.LineRows.{TurnReply, Idle, Write, Flush, Round, Committed, Suspended}
+use Rattle.pool_moves.specs.LineRows.{TurnReply, Committed, Suspended}
 use Rattle.pool_moves.specs.Moves.{Move, Makes, Lose, Returns, steps}
 use Rattle.pool_moves.specs.Refusing.{FreezeRefusal}
 use Rattle.pool_moves.specs.States.{PoolState, Side}
@@ -66,10 +66,7 @@ behind_as : (turn : TurnReply) (size : ℕ → ℕ) (s : PoolState) (name : List
     → DetachBehind turn size s name leaf y (map (seat_as y) vs) reply
 behind_as (Committed number) size s name leaf x y vs reply row = (cleaned_as (is_there leaf.own.mode) leaf.dev (is_spare s leaf) size vs y row.0, row.1)
 behind_as (Suspended group top faults) size s name leaf x y vs reply row = (ap (map (seat_as y)) row.0, row.1)
-behind_as Idle size s name leaf x y vs reply row = row
-behind_as Write size s name leaf x y vs reply row = row
-behind_as Flush size s name leaf x y vs reply row = row
-behind_as (Round number) size s name leaf x y vs reply row = row
+behind_as turn size s name leaf x y vs reply row = row
 
 for_as : (refusal : Option FreezeRefusal) (c : Codec) (size : ℕ → ℕ) (s : PoolState) (name : List ℕ) (leaf : LeafSeen) (x y : Seat) (vs : List Move) (reply : DetachReply)
     → DetachFor refusal c size s name leaf x vs reply → DetachFor refusal c size s name leaf y (map (seat_as y) vs) reply

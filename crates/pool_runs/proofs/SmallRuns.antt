@@ -60,6 +60,7 @@ use Rattle.pool_runs.proofs.Bearing.{born_headline}
 use Rattle.pool_runs.proofs.Knowing.{acts_number, moved_own, moved_number}
 use Rattle.pool_runs.proofs.Pasting.{then_called, is_in_size, next_begins}
 use Rattle.pool_runs.proofs.Numbers.{number_fits}
+use Rattle.pool_moves.proofs.Tests.{some_same}
 
 none_refused : create_refusal small_host small_name 1 small_tops ≡ None
 none_refused = refl
@@ -757,9 +758,6 @@ one_name name d is = by (bytes_eq small_device name) refl is
 
     first_one : (d : ℕ) → Some 0 ≡ Some d → name_in small_table d ≡ small_device
     first_one d same = ap (name_in small_table) (sym (some_same 0 d same))
-      where
-        some_same : (a b : ℕ) → Some a ≡ Some b → a ≡ b
-        some_same a b e = cc
 
     by : (t : Bool) → bytes_eq small_device name ≡ t → cond t (Some 0) None ≡ Some d → name_in small_table d ≡ name
     by true same at = first_one d at ∙ named_so true same refl

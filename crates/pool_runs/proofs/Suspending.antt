@@ -2,7 +2,7 @@
 -- its board before.
 use Rattle.std.proofs.Common.{◌≡◌, ◌⊎◌, inl, inr, ℕ, ◌==◌, ◌&&◌, ◌||◌, Bool, true, false, cond, List, [], ◌∷◌, ◌++◌, Option, Some, refl, sym, ap, ◌∙◌, subst}
 use Rattle.std.specs.List.{AllByRecursion, list_any}
-use Rattle.std.proofs.lemmas.Bool.{and_parts}
+use Rattle.std.proofs.lemmas.Bool.{and_parts, or_left, or_right}
 use Rattle.mp_base.specs.declared.number.Guid.{Guid}
 use Rattle.bank_core.specs.Calls.{AllCaused}
 use Rattle.txg_history.specs.Pages.{Codec}
@@ -10,17 +10,18 @@ use Rattle.txg_history.proofs.Logging.{by_bool, same_device, true_not_false}
 use Rattle.pool_moves.specs.Boards.{is_on, has_on, emptied_of}
 use Rattle.pool_moves.specs.FreezeRow.{is_dev}
 use Rattle.pool_moves.specs.Leaves.{LeafSeen}
-use Rattle.pool_moves.specs.LineRows.{TurnReply, Idle, Write, Flush, Round, Committed, Suspended, RowTurn, SyncReply, Ended, Refused, NoMemory, EndsGroup, SyncBehind, EndsFirst, SyncBy, RowSync}
+use Rattle.pool_moves.specs.LineRows.{TurnReply, Committed, Suspended, RowTurn, SyncReply, Ended, EndsGroup, SyncBehind, EndsFirst, SyncBy, RowSync}
 use Rattle.pool_moves.specs.Moves.{Move, steps}
 use Rattle.pool_moves.specs.ReadRow.{made_in}
 use Rattle.pool_moves.specs.Refusing.{is_writable}
 use Rattle.pool_moves.specs.States.{PoolState}
 use Rattle.pool_runs.specs.Counting.{has_leaf_at, RoseAt, HasLostBoard, IsSuspended, SuspendsSync, is_under, IsLostBy, LosesBoard, LosesFreeze}
-use Rattle.pool_runs.proofs.Lists.{same_test, or_left, or_right}
 use Rattle.pool_runs.proofs.Failing.{FailedOn, failed_rose, IsCaught, caught_first, caught_second}
-use Rattle.pool_runs.proofs.Losing.{Anything, any_may, turn_loses, group_loses}
+use Rattle.pool_runs.proofs.Losing.{turn_loses, group_loses}
 use Rattle.pool_runs.proofs.OnlyFailedLeave.{Comes, group_comes, steps_any}
 use Rattle.pool_runs.proofs.SyncsLoseATop.{ended_same, open_loses}
+use Rattle.pool_moves.proofs.KindsOfMoves.{AnySet, any_may}
+use Rattle.pool_moves.proofs.Tests.{same_test}
 
 -- Where one of a lost top's leaves is so, its device failed.
 abbrev at_leaves : (leaves : List LeafSeen) → ℕ → Bool
@@ -76,23 +77,19 @@ module _ (c : Codec) (size : ℕ → ℕ) (s : PoolState) where
   turn_fails : (vs : List Move) (reply : TurnReply) → RowTurn c size s vs reply → IsSuspended reply → FailsIn vs
   turn_fails vs (Suspended group top faults) row bad = board_fails (λ d. FailedOn d (made_in vs)) s group top
       (turn_loses (λ d. FailedOn d (made_in vs)) c size s vs group top faults (λ d failed. failed) row)
-  turn_fails vs Idle row bad = absurd bad
-  turn_fails vs Write row bad = absurd bad
-  turn_fails vs Flush row bad = absurd bad
-  turn_fails vs (Round number) row bad = absurd bad
-  turn_fails vs (Committed number) row bad = absurd bad
+  turn_fails vs reply row bad = absurd bad
 
   -- behind a group each device is still a leaf's
   still_at : (vs : List Move) (number d : ℕ) → EndsGroup c size s vs (Committed number)
       → at_leaves (steps vs s).core.leaves d ≡ true → at_leaves s.core.leaves d ≡ true
   still_at vs number d ends is =
-      of (group_comes (λ d. Unit {0}) Anything (Unit {0})
-      (λ vs s just may. any_may (steps vs s).core.leaves) c size s vs (Committed number)
-      (λ is. tt) (any_may s.core.leaves) (λ d failed. tt) ends)
+      of (group_comes (λ d. Unit {0}) AnySet (Unit {0})
+      (λ vs s just may. any_may (steps vs s).core.leaves) c size s vs (Committed number) (λ is. tt)
+      (any_may s.core.leaves) (λ d failed. tt) ends)
     where
-      of : Comes (λ d. Unit {0}) Anything (Unit {0}) s vs (Committed number) → at_leaves s.core.leaves d ≡ true
+      of : Comes (λ d. Unit {0}) AnySet (Unit {0}) s vs (Committed number) → at_leaves s.core.leaves d ≡ true
       of (inl lost) = absurd (let no = lost.tells in cc)
-      of (inr just) = sym (steps_any (λ d. Unit {0}) Anything (Unit {0}) (λ m dev top. is_dev d dev) vs s just.0) ∙ is
+      of (inr just) = sym (steps_any (λ d. Unit {0}) AnySet (Unit {0}) (λ m dev top. is_dev d dev) vs s just.0) ∙ is
 
   first_fails : (vs : List Move) (group : ℕ) (top : Guid) (faults : ℕ) → s.core.group.frozen ≡ true
       → EndsFirst c size s vs (Ended (Suspended group top faults)) → FailsIn vs
@@ -117,10 +114,7 @@ module _ (c : Codec) (size : ℕ → ℕ) (s : PoolState) where
           (group_loses (λ d. FailedOn d (made_in vs)) c size s e.first group top faults frozen
           (caught_first (λ d. FailedOn d (made_in vs)) e.first e.rest parts)
           (subst (EndsGroup c size s e.first) (sym (ended_same (Suspended g t k) group top faults row.1)) ends))
-      by Idle ends row = absurd (let no = row.1 in cc)
-      by Write ends row = absurd (let no = row.1 in cc)
-      by Flush ends row = absurd (let no = row.1 in cc)
-      by (Round number) ends row = absurd (let no = row.1 in cc)
+      by turn ends row = absurd (let no = row.1 in cc)
 
   sync_by_fails : (frozen : Bool) (vs : List Move) (group : ℕ) (top : Guid) (faults : ℕ)
       → s.core.group.frozen ≡ frozen → SyncBy frozen c size s vs (Ended (Suspended group top faults))
@@ -133,13 +127,7 @@ module _ (c : Codec) (size : ℕ → ℕ) (s : PoolState) where
   sync_fails : (vs : List Move) (reply : SyncReply) → RowSync c size s vs reply → SuspendsSync reply → FailsIn vs
   sync_fails vs (Ended (Suspended group top faults)) row bad =
       sync_by_fails s.core.group.frozen vs group top faults refl row
-  sync_fails vs (Ended Idle) row bad = absurd bad
-  sync_fails vs (Ended Write) row bad = absurd bad
-  sync_fails vs (Ended Flush) row bad = absurd bad
-  sync_fails vs (Ended (Round number)) row bad = absurd bad
-  sync_fails vs (Ended (Committed number)) row bad = absurd bad
-  sync_fails vs (Refused refusal) row bad = absurd bad
-  sync_fails vs NoMemory row bad = absurd bad
+  sync_fails vs reply row bad = absurd bad
 
   rose_in : (vs : List Move) (from to : ℕ → ℕ) → AllCaused (made_in vs) from to → FailsIn vs
       → RoseAt (λ d. has_leaf_at d s) from to ⊎ HasLostBoard s

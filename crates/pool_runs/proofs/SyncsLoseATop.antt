@@ -5,25 +5,25 @@ use Rattle.mp_base.specs.declared.number.Guid.{Guid}
 use Rattle.bank_core.specs.Calls.{AllCaused}
 use Rattle.txg_history.specs.Pages.{Codec}
 use Rattle.txg_history.specs.Pools.{Pool}
-use Rattle.txg_history.proofs.Logging.{by_bool}
 use Rattle.pool_moves.specs.Keeping.{Kept}
 use Rattle.pool_moves.specs.Leaves.{LeafSeen}
-use Rattle.pool_moves.specs.LineRows.{TurnReply, Idle, Write, Flush, Round, Committed, Suspended, CommitsOpen, Ended, CommitsFor, SyncOpen, SyncBehind, EndsFirst, SyncBy, EndsGroup, RowSync}
+use Rattle.pool_moves.specs.LineRows.{TurnReply, Committed, Suspended, CommitsOpen, Ended, CommitsFor, SyncOpen, SyncBehind, EndsFirst, SyncBy, EndsGroup, RowSync}
 use Rattle.pool_moves.specs.Moves.{Move, steps, after_moves}
 use Rattle.pool_moves.specs.ReadRow.{made_in}
-use Rattle.pool_moves.specs.Refusing.{FreezeRefusal, is_writable, unwritable, last_number, IsRefused}
-use Rattle.pool_moves.specs.States.{PoolState, Side, group_seen}
+use Rattle.pool_moves.specs.Refusing.{FreezeRefusal, unwritable, last_number, IsRefused}
+use Rattle.pool_moves.specs.States.{PoolState, Side}
 use Rattle.pool_runs.specs.Acts.{Does, does, calls_along, pool_along}
-use Rattle.pool_runs.specs.Counting.{HasRisen, IsLostBy, LosesBoard, LosesFreeze, IsMidway, LosesSince}
+use Rattle.pool_runs.specs.Counting.{HasRisen, LosesBoard, LosesFreeze, IsMidway, LosesSince}
 use Rattle.pool_runs.specs.Knowing.{HasSeats}
 use Rattle.pool_runs.specs.Lines.{Entry}
-use Rattle.pool_runs.proofs.Lists.{each, map_forth, map_back}
 use Rattle.pool_runs.proofs.Answering.{does_calls}
 use Rattle.pool_runs.proofs.Committing.{does_pool, group_commits, ends_pool}
 use Rattle.pool_runs.proofs.Failing.{FailedOn, IsCaught, caught_first, caught_rose}
 use Rattle.pool_runs.proofs.Losing.{group_loses, commits_lose, none_unwritable}
 use Rattle.pool_runs.proofs.ModesStand.{Written, written_as, IsLeftWritable, group_leaves}
 use Rattle.pool_runs.proofs.Midway.{midway_at}
+use Rattle.pool_moves.proofs.Lists.{each, map_forth, map_back}
+use Rattle.pool_moves.proofs.FreezeWalks.{is_idle}
 
 pub ended_same : (turn : TurnReply) (group : ℕ) (top : Guid) (faults : ℕ)
     → Ended (Suspended group top faults) ≡ Ended turn → Suspended group top faults ≡ turn
@@ -54,7 +54,7 @@ freeze_before Fails s behind group top left x = record {
     at = x.lost.at;
     number_is = sym (ap (λ f. f x.lost.at) left.tops) ∙ x.lost.number_is;
     some = any_same (λ one. one.2 == x.lost.at) behind.core.leaves s.core.leaves left.leaves x.lost.some;
-    lost = map_back (IsLostAs Fails x.lost.at) (IsLostBy is_writable Fails x.lost.at) written_as
+    lost = map_back (IsLostAs Fails x.lost.at) written_as
         (λ leaf lost. lost) s.core.leaves
         (subst (AllByRecursion (IsLostAs Fails x.lost.at)) left.leaves
         (map_forth (IsLostAs Fails x.lost.at) written_as behind.core.leaves x.lost.lost));
@@ -129,17 +129,7 @@ first_loses c size s t vs group top faults kept frozen e = by e.turn e.ends e.be
     by (Suspended g m k) ends row =
         inl (group_loses (λ d. FailedOn d (made_in vs)) c size s e.first group top faults frozen fails
         (subst (EndsGroup c size s e.first) (sym (ended_same (Suspended g m k) group top faults row.1)) ends))
-    by Idle ends row = absurd (let no = row.1 in cc)
-    by Write ends row = absurd (let no = row.1 in cc)
-    by Flush ends row = absurd (let no = row.1 in cc)
-    by (Round number) ends row = absurd (let no = row.1 in cc)
-
-still_idle : (c : Codec) (s : PoolState) (t : Side) → Kept c s t → s.core.group.frozen ≡ false
-    → t.pool.group.frozen ≡ false
-still_idle c s t kept idle = by_bool t.pool.group.frozen
-    (λ on. absurd (let no : true ≡ false =
-    sym (ap (λ core. core.group.frozen) kept.core ∙ ap (λ f. (group_seen f t.pool.group).frozen) on)
-    ∙ idle in cc)) (λ off. off)
+    by turn ends row = absurd (let no = row.1 in cc)
 
 sync_by_loses : (frozen : Bool) (c : Codec) (size : ℕ → ℕ) (s : PoolState) (t : Side) (vs : List Move) (group : ℕ)
     (top : Guid) (faults : ℕ) → Kept c s t
@@ -149,7 +139,7 @@ sync_by_loses false c size s t vs group top faults kept is row = inr (record {
   first = [];
   rest = vs;
   moves = refl;
-  idle = still_idle c s t kept is;
+  idle = is_idle c s t kept is;
   lost = open_loses c size s vs group top faults row;
 })
 sync_by_loses true c size s t vs group top faults kept is row = first_loses c size s t vs group top faults kept is row
