@@ -53,9 +53,11 @@ eligible_are f p all [] away up = tt
 eligible_are f p all (At d found own ∷ seats) away up =
     before_all (AllByRecursion (IsEligible p all)) (p.scan.eligible d) (dev_if found d) (p.guid d) (eligible_of f p seats)
     (eligible_are f p all seats away.1 (λ e has. up e (inr has)))
-    (λ e on dev. let at = dev_is found d e dev in
-    ((subst (λ n. p.scan.eligible n ≡ true) at.1 on, up e (inl (same_test e d (sym at.1), at.0))), eligible_are f p all
-    seats away.1 (λ e has. up e (inr has))))
+    (λ e on dev. let at = dev_is found d e dev in (
+      (subst (λ n. p.scan.eligible n ≡ true) at.1 on, up e (inl (same_test e d (sym at.1), at.0))),
+      eligible_are f p all
+          seats away.1 (λ e has. up e (inr has)),
+    ))
 eligible_are f p all (Adrift leaf ∷ seats) away up = before_all (AllByRecursion (IsEligible p all)) leaf.eligible leaf.dev leaf.guid (eligible_of f p seats)
     (eligible_are f p all seats away.1 (λ e has. up e (inr has))) (λ e on dev. no_dev leaf.dev e away.0.0 dev)
 

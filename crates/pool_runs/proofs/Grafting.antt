@@ -164,9 +164,11 @@ graft_keeps h e p d graft name leaf new s asked stands row = refused (graft_refu
 
 -- A leaf that is taken out.
 cleaned_keeps : (there : Bool) (dev : Option ℕ) (spare : Bool) (size : ℕ → ℕ) (x : Held) (g : ℕ) (vs : List Move) → is_dev x.d dev ≡ false → IsCleaned there dev spare size vs → KeepAll x g vs
-cleaned_keeps true (Some k) spare size x g vs away row = subst (KeepAll x g) (sym row.3)
-    ((λ mine. let back : (k == x.d) ≡ false = other_back x.d k away in back), all_plain x g (as_moves row.0)
-    (all_calls KeepsMembers kept_kind row.0))
+cleaned_keeps true (Some k) spare size x g vs away row = subst (KeepAll x g) (sym row.3) (
+  (λ mine. let back : (k == x.d) ≡ false = other_back x.d k away in back),
+  all_plain x g (as_moves row.0)
+      (all_calls KeepsMembers kept_kind row.0),
+)
 cleaned_keeps true None spare size x g vs away row = subst (KeepAll x g) (sym row) tt
 cleaned_keeps false dev spare size x g vs away row = subst (KeepAll x g) (sym row) tt
 

@@ -1,4 +1,5 @@
 pub mod AddressesCounted
+pub mod AddressesRise
 pub mod Adopted
 pub mod Calling
 pub mod Closing

@@ -17,6 +17,7 @@ mod leave;
 mod leaves;
 mod members;
 mod merge;
+mod need;
 mod open;
 mod pins;
 mod prepare;

@@ -118,7 +118,7 @@ fn put_write(writes: &mut Vec<Write>, addr: u64, block: Block)
 }
 
 // Where the write of an address is, or where it belongs.
-fn find(writes: &[Write], addr: u64) -> Result<usize, usize>
+pub(crate) fn find(writes: &[Write], addr: u64) -> Result<usize, usize>
     requires { RiseFrom 0 writes.now }
     ensures { IsFound writes.now addr result }
 {

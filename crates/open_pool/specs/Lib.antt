@@ -1,0 +1,5 @@
+pub mod Answering
+pub mod Form
+pub mod Freezing
+pub mod Parts
+pub mod State

@@ -1,0 +1,10 @@
+//! An open pool, as its code keeps it: what its record says, its tree, and its groups in memory
+//! (docs/MODEL.md, "The open pool").
+#![tactic(auto)]
+
+mod dirty;
+mod laws;
+mod pool;
+
+pub use laws::freezes_are_rows;
+pub use pool::Pool;
