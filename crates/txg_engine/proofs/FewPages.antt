@@ -1,5 +1,6 @@
 -- How many pages a group has.
-use Rattle.std.proofs.Common.{◌≡◌, ℕ, zero, suc, ◌+◌, ◌*◌, ◌<◌, ◌≤◌, nat_lt, cond, Bool, true, false, List, [], ◌∷◌, ◌++◌, length, arith, append_assoc, length-append}
+use Rattle.std.proofs.Common.{◌≡◌, ℕ, zero, suc, ◌+◌, ◌*◌, ◌<◌, ◌≤◌, nat_lt, cond, Bool, true, false, List, [], ◌∷◌}
+use Rattle.std.proofs.Common.{◌++◌, length, arith, append_assoc, length-append}
 use Rattle.mp_base.specs.declared.place.Key.{Key}
 use Rattle.block_map.specs.Dirty.{page_above, pages_from, pages_above}
 

@@ -1,5 +1,7 @@
 -- Each leaf that left the board did so by a cause.
-use Rattle.std.proofs.Common.{◌≡◌, ℕ, zero, suc, ◌+◌, ◌<◌, ◌≤◌, ◌==◌, ◌&&◌, ◌||◌, not, cond, Bool, true, false, List, [], ◌∷◌, length, get_or, map, Option, Some, None, Contains, refl, sym, ap, ◌∙◌, inl, inr, ⊎_elim, arith}
+use Rattle.std.proofs.Common.{◌≡◌, ℕ, zero, suc, ◌+◌, ◌<◌, ◌≤◌, ◌==◌, ◌&&◌, ◌||◌, not, cond, Bool, true, false, List}
+use Rattle.std.proofs.Common.{[], ◌∷◌, length, get_or, map, Option, Some, None, Contains, refl, sym, ap, ◌∙◌, inl, inr}
+use Rattle.std.proofs.Common.{⊎_elim, arith}
 use Rattle.std.specs.Prelude.{All}
 use Rattle.std.specs.List.{filter_map, cons_option}
 use Rattle.std.specs.Option.{option_map}
@@ -16,7 +18,8 @@ use Rattle.vdev_tree.specs.declared.top.Top.{Top}
 use Rattle.vdev_tree.specs.declared.vdev.LeafVdev.{LeafVdev}
 use Rattle.txg_engine.specs.declared.seat.Seat.{Seat}
 use Rattle.txg_engine.specs.declared.seat.Suspended.{Suspended}
-use Rattle.txg_engine.specs.Boards.{LeftByCause, is_on_as, is_on_under, has_on, without, as_taken, failed, count_up, behind_turn, seat_of, seats_of, emptied_from, emptied, faults_under}
+use Rattle.txg_engine.specs.Boards.{LeftByCause, is_on_as, is_on_under, has_on, without, as_taken, failed, count_up}
+use Rattle.txg_engine.specs.Boards.{behind_turn, seat_of, seats_of, emptied_from, emptied, faults_under}
 use Rattle.txg_engine.specs.Turns.{HasLeft, IsTold}
 
 still : (a t : Bool) → t ≡ false → (a && not t) ≡ false → a ≡ false

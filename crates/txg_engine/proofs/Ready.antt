@@ -48,7 +48,8 @@ still_on : (m x : Guid) (seats : List Seat) → on_board (map (without m) seats)
 still_on m x [] = refl
 still_on m x (seat ∷ seats) = ap (λ b. is_on_as x (without m seat) || b) (still_on m x seats) ∙ one (seat.on) (seat.member.guid.0) (on_board seats x)
   where
-    one : (on : Bool) (g : ℕ) (rest : Bool) → (((on && not (g == m.0)) && (g == x.0)) || (rest && not (x.0 == m.0))) ≡ (((on && (g == x.0)) || rest) && not (x.0 == m.0))
+    one : (on : Bool) (g : ℕ) (rest : Bool)
+        → (((on && not (g == m.0)) && (g == x.0)) || (rest && not (x.0 == m.0))) ≡ (((on && (g == x.0)) || rest) && not (x.0 == m.0))
     one on g rest = by_board (g == x.0)
         (λ e. let same : g ≡ x.0 = grind (arith, nat_tests) in rw same (bools on (x.0 == x.0) (x.0 == m.0) rest))
         (λ e. rw e (bools_off on (g == m.0) (x.0 == m.0) rest))
@@ -75,7 +76,8 @@ still_on m x (seat ∷ seats) = ap (λ b. is_on_as x (without m seat) || b) (sti
 -- a failed call takes nobody off it
 pub same_board : (m x : Guid) (seats : List Seat) → on_board (map (failed m) seats) x ≡ on_board seats x
 same_board m x [] = refl
-same_board m x (seat ∷ seats) = ap (λ b. is_on_as x (failed m seat) || b) (same_board m x seats) ∙ ap (λ b. b || on_board seats x) (one (seat.member.guid.0 == m.0))
+same_board m x (seat ∷ seats) =
+    ap (λ b. is_on_as x (failed m seat) || b) (same_board m x seats) ∙ ap (λ b. b || on_board seats x) (one (seat.member.guid.0 == m.0))
   where
     one : (b : Bool) → is_on_as x (cond b (record seat { faults = count_up seat.faults }) seat) ≡ is_on_as x seat
     one true = refl
@@ -125,9 +127,11 @@ module _ (seats : List Seat) (last : ℕ) where
         settled = omega (arith, w.ranges);
       }
 
-  widened_first : (before behind : List LeafVdev) (old new : LeafVdev) → WidensLeaf old new → All (IsReady seats last) (before ++ old ∷ behind) → All (IsReady seats last) (before ++ new ∷ behind)
+  widened_first : (before behind : List LeafVdev) (old new : LeafVdev) → WidensLeaf old new
+      → All (IsReady seats last) (before ++ old ∷ behind) → All (IsReady seats last) (before ++ new ∷ behind)
   widened_first [] behind old new w all =
-      All-cons (IsReady seats last) new behind (widened_leaf old new w (All-head (IsReady seats last) old behind all)) (All-tail (IsReady seats last) old behind all)
+      All-cons (IsReady seats last) new behind (widened_leaf old new w (All-head (IsReady seats last) old behind all))
+      (All-tail (IsReady seats last) old behind all)
   widened_first (x ∷ before) behind old new w all =
       All-cons (IsReady seats last) x (before ++ new ∷ behind) (All-head (IsReady seats last) x (before ++ old ∷ behind) all)
       (widened_first before behind old new w (All-tail (IsReady seats last) x (before ++ old ∷ behind) all))
@@ -168,7 +172,8 @@ module _ (seats : List Seat) (last : ℕ) where
   all_spare leaves all = λ k d lt. (all k d lt).spare
 
 -- the board that is the same for each leaf
-pub board_ready : (seats seats' : List Seat) (last : ℕ) (leaves : List LeafVdev) → ((x : Guid) → on_board seats' x ≡ on_board seats x) → All (IsReady seats last) leaves
+pub board_ready : (seats seats' : List Seat) (last : ℕ) (leaves : List LeafVdev) → ((x : Guid) → on_board seats' x ≡ on_board seats x)
+    → All (IsReady seats last) leaves
     → All (IsReady seats' last) leaves
 board_ready seats seats' last leaves same all = λ k d lt.
     let ready = all k d lt in
@@ -182,7 +187,8 @@ grown_all P Q f (x ∷ old) [] are all = absurd are
 grown_all P Q f (x ∷ old) (y ∷ new) are all = All-cons Q y new (f x y are.0 (All-head P x old all)) (grown_all P Q f old new are.1 (All-tail P x old all))
 
 -- a leaf leaves the board
-left_leaf : (m : Guid) (seats : List Seat) (first last : ℕ) → first ≤ last → (old new : LeafVdev) → Grows (is_leaf m) first last old new → IsReady seats last old
+left_leaf : (m : Guid) (seats : List Seat) (first last : ℕ) → first ≤ last → (old new : LeafVdev) → Grows (is_leaf m) first last old new
+    → IsReady seats last old
     → IsReady (map (without m) seats) last new
 left_leaf m seats first last le old new g ready =
     let guid = same_guid old new g.rest in
@@ -198,7 +204,9 @@ left_leaf m seats first last le old new g ready =
       settled = by_board (on_board seats old.guid) (λ e. let fit = (ready.on e).settled in omega (arith, g.ranges))
           (λ e. omega (arith, g.lengthens last (omega arith) (omega arith) (ready.off e)));
       off = λ e. g.groups last ∙ by_board (on_board seats old.guid)
-          (λ was. or_right (holds old.log last) _ (rw (one_left (on_board seats old.guid) (old.guid.0 == m.0) was (sym now ∙ ap (on_board (map (without m) seats)) (sym guid) ∙ e)) (in_between first last last le (omega arith))))
+          (λ was.
+          let here = one_left (on_board seats old.guid) (old.guid.0 == m.0) was (sym now ∙ ap (on_board (map (without m) seats)) (sym guid) ∙ e) in
+          or_right (holds old.log last) _ (rw here (in_between first last last le (omega arith))))
           (λ was. or_left (holds old.log last) _ (ready.off was));
     }
   where
@@ -219,7 +227,8 @@ left_ready m seats first last le old new g all =
     (grown_all (IsReady seats last) (IsReady (map (without m) seats) last) (left_leaf m seats first last le) old g.grown g.grow all)
 
 -- a further number is drawn
-drawn_leaf : (seats : List Seat) (last : ℕ) (old new : LeafVdev) → Grows (is_off seats) (last + 1) (last + 1) old new → IsReady seats last old → IsReady seats (last + 1) new
+drawn_leaf : (seats : List Seat) (last : ℕ) (old new : LeafVdev) → Grows (is_off seats) (last + 1) (last + 1) old new
+    → IsReady seats last old → IsReady seats (last + 1) new
 drawn_leaf seats last old new g ready =
     let guid = same_guid old new g.rest in
     let same = same_room old new g.rest in
@@ -229,12 +238,16 @@ drawn_leaf seats last old new g ready =
       on = λ e. let was = ap (on_board seats) (sym guid) ∙ e in subst HasCommitRoom (sym (g.kept (ap not was))) (ready.on was);
       spare = by_board (on_board seats old.guid) (λ e. subst (λ (leaf : LeafVdev). 1 ≤ leaf.log.spare) (sym (g.kept (ap not e))) ready.spare)
           (λ e. omega (arith, g.room, g.lengthens last (omega arith) (omega arith) (ready.off e)));
-      settled = by_board (on_board seats old.guid) (λ e. subst (λ (leaf : LeafVdev). run_count leaf.log ≤ room_to_settle leaf) (sym (g.kept (ap not e))) ready.settled)
+      settled =
+          by_board (on_board seats old.guid)
+          (λ e. subst (λ (leaf : LeafVdev). run_count leaf.log ≤ room_to_settle leaf) (sym (g.kept (ap not e))) ready.settled)
           (λ e. omega (arith, g.lengthens last (omega arith) (omega arith) (ready.off e)));
-      off = λ e. g.groups (last + 1) ∙ or_right (holds old.log (last + 1)) _ (rw (ap not (ap (on_board seats) (sym guid) ∙ e)) (in_between (last + 1) (last + 1) (last + 1) (omega arith) (omega arith)));
+      off = λ e. g.groups (last + 1) ∙ or_right (holds old.log (last + 1)) _
+          (rw (ap not (ap (on_board seats) (sym guid) ∙ e)) (in_between (last + 1) (last + 1) (last + 1) (omega arith) (omega arith)));
     }
 
-pub drawn_ready : (seats : List Seat) (last : ℕ) (old new : List LeafVdev) → AreGrown (is_off seats) (last + 1) (last + 1) old new → All (IsReady seats last) old
+pub drawn_ready : (seats : List Seat) (last : ℕ) (old new : List LeafVdev) → AreGrown (is_off seats) (last + 1) (last + 1) old new
+    → All (IsReady seats last) old
     → All (IsReady seats (last + 1)) new
 drawn_ready seats last old new g all =
     widened_ready seats (last + 1) g.grown new g.widened

@@ -1,5 +1,6 @@
 -- How turns end.
-use Rattle.std.proofs.Common.{◌≡◌, ◌≤◌, ◌<◌, ◌+◌, ◌^◌, ◌==◌, ◌&&◌, ℕ, Bool, true, false, cond, List, [], ◌∷◌, arith, length, map, Option, Some, None, Result, Ok, Err, OnErr, refl, sym, ap, ◌∙◌, subst}
+use Rattle.std.proofs.Common.{◌≡◌, ◌≤◌, ◌<◌, ◌+◌, ◌^◌, ◌==◌, ◌&&◌, ℕ, Bool, true, false, cond, List, [], ◌∷◌, arith}
+use Rattle.std.proofs.Common.{length, map, Option, Some, None, Result, Ok, Err, OnErr, refl, sym, ap, ◌∙◌, subst}
 use Rattle.std.specs.Prelude.{All, filter, slice_index, is_some}
 use Rattle.std.proofs.lemmas.Bool.{true≢false}
 use Rattle.std.proofs.lemmas.Bool.Decides.{nat_tests}
@@ -22,7 +23,8 @@ use Rattle.txg_engine.proofs.Ready.{fewer_on, same_on}
 use Rattle.txg_engine.specs.Turns.{Scene, Answers, IsChecked, emptied_top, Works, IsTurnBy, numbers_of}
 
 -- a board of which no top was told has somebody under each
-pub none_told : {A : Type 0} (tops : List Guid) (first : Group) (seats : List Seat) (top : Option ℕ) (r : Result A Suspended) (x : A) → IsChecked tops first seats top r → r ≡ Ok x → top ≡ None
+pub none_told : {A : Type 0} (tops : List Guid) (first : Group) (seats : List Seat) (top : Option ℕ) (r : Result A Suspended) (x : A)
+    → IsChecked tops first seats top r → r ≡ Ok x → top ≡ None
 none_told tops first seats None r x told e = refl
 none_told tops first seats (Some top) r x told e = absurd (subst (IsChecked tops first seats (Some top)) e told)
 
@@ -40,7 +42,8 @@ as_many old new built =
     ∙ length-map old (λ (top : Top). marks top.mirror) ∙ sym (length-map old (λ (top : Top). guid_of top.mirror))
 
 -- a turn before which no top was told does its part
-pub turn_goes : (tops tops' : List Guid) (plan : Member → List Ask) (members : List Member) (noted : FrozenGroup) (old new : Scene) (checked r : Result (Unit {0}) Suspended)
+pub turn_goes : (tops tops' : List Guid) (plan : Member → List Ask) (members : List Member) (noted : FrozenGroup) (old new : Scene)
+    (checked r : Result (Unit {0}) Suspended)
     → length tops' ≡ length tops → Answers tops old.group (emptied_top tops old.group) checked → checked ≡ Ok tt → Works plan members noted old new
     → Answers tops' new.group (emptied_top tops' new.group) r → IsTurnBy (emptied_top tops' old.group) tops' plan members noted old new r
 turn_goes tops tops' plan members noted old new checked r same told ok works answers =
@@ -57,13 +60,15 @@ fewer_behind (m ∷ ms) (false ∷ done) seats =
     omega (arith, fewer_behind ms done (map (without m.guid) (map (failed m.guid) seats)), fewer_on m.guid (map (failed m.guid) seats), same_on m.guid seats)
 
 -- what holds of each leaf, and then of the members of those of a kind
-pub members_if : (P : Member → Type 0) (Q : Seat → Type 0) (which : Seat → Bool) → ((seat : Seat) → which seat ≡ true → Q seat → P seat.member) → (seats : List Seat)
+pub members_if : (P : Member → Type 0) (Q : Seat → Type 0) (which : Seat → Bool)
+    → ((seat : Seat) → which seat ≡ true → Q seat → P seat.member) → (seats : List Seat)
     → All Q seats → All P (map member_of (filter which seats))
 members_if P Q which f [] all = All-nil P
 members_if P Q which f (seat ∷ seats) all =
     one (which seat) refl (members_if P Q which f seats (All-tail Q seat seats all))
   where
-    one : (b : Bool) → which seat ≡ b → All P (map member_of (filter which seats)) → All P (map member_of (cond b (seat ∷ filter which seats) (filter which seats)))
+    one : (b : Bool) → which seat ≡ b → All P (map member_of (filter which seats))
+        → All P (map member_of (cond b (seat ∷ filter which seats) (filter which seats)))
     one true is rest = All-cons P seat.member (map member_of (filter which seats)) (f seat is (All-head Q seat seats all)) rest
     one false is rest = rest
 

@@ -4,7 +4,8 @@ ghost use Rattle.std.specs.List.{filter_map};
 ghost use Rattle.vdev_tree.specs.Tree.{leaves};
 ghost use Rattle.vdev_tree.specs.declared.vdev.LeafVdev.{LeafVdev};
 ghost use Rattle.dtl_rules.specs.Widening.{leaves_of};
-ghost use Rattle.txg_engine.specs.Boards.{is_on_under, board_of, board_under, has_on, on_board, emptied, faults_under, without, as_taken, failed, seat_of, seats_of};
+ghost use Rattle.txg_engine.specs.Boards.{is_on_under, board_of, board_under, has_on, on_board, emptied, faults_under};
+ghost use Rattle.txg_engine.specs.Boards.{without, as_taken, failed, seat_of, seats_of};
 
 use crate::members::Members;
 use crate::seat::{MOST_LEAVES, Seat};

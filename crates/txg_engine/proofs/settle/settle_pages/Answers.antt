@@ -1,5 +1,6 @@
 use mathlib.Core.Path.{fun_ext}
-use Rattle.std.proofs.Common.{Vec, Global, length-append, ◌≡◌, ℕ, ◌+◌, ◌++◌, ◌∷◌, [], List, All, true, get_or, ap, sym, subst, ◌∙◌, arith, append_assoc, length, take}
+use Rattle.std.proofs.Common.{Vec, Global, length-append, ◌≡◌, ℕ, ◌+◌, ◌++◌, ◌∷◌, [], List, All, true, get_or, ap, sym}
+use Rattle.std.proofs.Common.{subst, ◌∙◌, arith, append_assoc, length, take}
 use Rattle.std.specs.Option.{option_to_list}
 use Rattle.std.specs.Prelude.{AllPairs}
 use Rattle.std.proofs.lemmas.List.{take_more, get_or_default}
@@ -40,7 +41,9 @@ loop-page-preserved g c =
       settled = settled_next c.loop-page.invariant.settled (λ level. c.page_block-block.ensures.page
           ∙ ap (λ (l : List Item). page_bytes (children (laid l (pointer_at c.loop-page.map)) page)) c.deref.ensures.value
           ∙ ap (λ (f : Key → Pointer). page_bytes (children (laid c.loop-page.items.items f) page)) (fun_ext c.loop-page.invariant.settled.takes.keys)) next;
-      keys = keys_next next ∙ ap (λ l. l ++ page ∷ []) c.loop-page.invariant.keys ∙ append_assoc (keys_of c.args.items.now.items) (take c.loop-page.page-index c.args.pages.now) (page ∷ [])
+      keys =
+          keys_next next ∙ ap (λ l. l ++ page ∷ []) c.loop-page.invariant.keys
+          ∙ append_assoc (keys_of c.args.items.now.items) (take c.loop-page.page-index c.args.pages.now) (page ∷ [])
           ∙ ap (λ l. keys_of c.args.items.now.items ++ l) (sym (take_more c.args.pages.now c.loop-page.page-index no_key c.loop-page-test.true));
       blocks = λ a. page_next a is_page.level next ∙ c.loop-page.invariant.blocks a;
       long = long_more c.loop-page.items.items c.settle.new.items.items next.item c.page_block-block.result next.more next.block_is
@@ -48,7 +51,8 @@ loop-page-preserved g c =
       places = omega (arith, less, c.loop-page.invariant.places);
       room = omega (arith, length_next next, c.loop-page.invariant.room, c.settle.ensures.room);
       buffers = omega (arith, c.loop-page.invariant.buffers, ap length popped, length-append c.pop.new.self.items (c.unwrap-bytes.result ∷ []));
-      sizes = (All-pop (λ (buffer : Vec ℕ Global). length buffer.items ≡ 4096) c.loop-page.buffers.items c.pop.new.self.items c.pop.result c.pop.ensures.items c.loop-page.invariant.sizes).0;
+      sizes = (All-pop (λ (buffer : Vec ℕ Global). length buffer.items ≡ 4096) c.loop-page.buffers.items c.pop.new.self.items
+          c.pop.result c.pop.ensures.items c.loop-page.invariant.sizes).0;
     }
 
 pub page_block-block-requires-clause-rise : goal.page_block-block-requires-clause-rise

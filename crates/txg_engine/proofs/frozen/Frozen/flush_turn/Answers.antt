@@ -7,7 +7,7 @@ use Rattle.txg_engine.specs.declared.seat.Seat.{Seat}
 use Rattle.txg_engine.specs.Boards.{board_of, behind_turn, is_on}
 use Rattle.txg_engine.specs.Frozen.{FrozenGroup, IsSeated}
 use Rattle.txg_engine.specs.Logs.{AreBehind}
-use Rattle.txg_engine.specs.Turns.{IsFlushTurn, MakesCalls, numbers_of, Answers, emptied_top}
+use Rattle.txg_engine.specs.Turns.{Scene, IsFlushTurn, MakesCalls, numbers_of, Answers, emptied_top}
 use Rattle.txg_engine.proofs.GroupsKept.{seen, turn_kept}
 use Rattle.txg_engine.proofs.SeatsKept.{turn_seats}
 use Rattle.txg_engine.proofs.TurnEnds.{turn_goes, as_many, members_if}
@@ -44,14 +44,16 @@ returns-clause-turn g c =
     let is : group ≡ c.args.self.now = c.self.view_is in
     let flushed : c.as_slice-2.result.now ≡ board_of group.board = c.as_slice-2.ensures.members ∙ c.members-members.ensures.members in
     let dropped : c.as_slice-3.result.now ≡ board_of group.board = c.as_slice-3.ensures.members ∙ c.members-members.ensures.members in
-    subst (λ (was : FrozenGroup). IsFlushTurn tops' (record { group = was; leaves = old; bank = bank }) (record { group = behind; leaves = new; bank = bank' }) c.check-2.result) is
-    (turn_goes tops tops' flush_plan (board_of group.board) noted (record { group = group; leaves = old; bank = bank }) (record { group = behind; leaves = new; bank = bank' })
+    let scene' : Scene = record { group = behind; leaves = new; bank = bank' } in
+    subst (λ (was : FrozenGroup). IsFlushTurn tops' (record { group = was; leaves = old; bank = bank }) scene' c.check-2.result) is
+    (turn_goes tops tops' flush_plan (board_of group.board) noted (record { group = group; leaves = old; bank = bank }) scene'
     c.check.result c.check-2.result (as_many c.args.tops.now c.drop_failed.new.tops c.drop_failed.ensures.built)
     (subst (λ (was : FrozenGroup). Answers tops was (emptied_top tops was) c.check.result) (sym is) c.check.ensures.told) c.in_ok-check.was
     (record {
       results = done;
       calls = subst (λ (ms : List Member). MakesCalls flush_plan ms done bank bank') flushed c.flush_all.ensures;
-      group = ap (λ (seats : List Seat). record noted { board = seats }) (c.drop_failed.ensures.board ∙ ap (λ (ms : List Member). behind_turn ms done group.board) dropped);
+      group = ap (λ (seats : List Seat). record noted { board = seats })
+          (c.drop_failed.ensures.board ∙ ap (λ (ms : List Member). behind_turn ms done group.board) dropped);
       leaves = subst (λ (ms : List Member). AreBehind group.numbers ms done old new) dropped c.drop_failed.ensures.leaves;
     }) c.check-2.ensures.told)
 

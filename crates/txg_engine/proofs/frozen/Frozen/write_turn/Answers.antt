@@ -24,7 +24,8 @@ write_item-requires-clause-sector g c =
     let seated = rw (← c.self.view_is) at c.requires.seated in
     let inside : c.self.inside.written < _ = (rw (← c.self.view_is) at c.requires.left) in
     let place : IsPlace (sectors_of c.args.tops.now) c.index-2.result.now.pointer.place =
-    subst (λ (item : Item). IsPlace (sectors_of c.args.tops.now) item.pointer.place) (sym c.index-2.ensures) (seated.places c.self.inside.written c.index-2.result.now inside) in
+    subst (λ (item : Item). IsPlace (sectors_of c.args.tops.now) item.pointer.place) (sym c.index-2.ensures)
+    (seated.places c.self.inside.written c.index-2.result.now inside) in
     small_sector (sectors_of c.args.tops.now) c.index-2.result.now.pointer.place seated.tops place
 
 pub write_item-requires-clause-within : goal.write_item-requires-clause-within
@@ -39,7 +40,8 @@ write_item-requires-clause-within g c =
     let same : c.index.result.now ≡ c.index-2.result.now =
     c.index.ensures ∙ any_default c.self.inside.items.items c.self.inside.written c.index.result.now c.index-2.result.now inside ∙ sym c.index-2.ensures in
     subst (All (λ (m : Member). 128 + at.sector < size m.dev))
-    (sym (c.as_slice-2.ensures.members ∙ c.members_under-members.ensures.members ∙ ap (λ (item : Item). board_under item.pointer.place.top c.self.inside.board) same))
+    (sym (c.as_slice-2.ensures.members ∙ c.members_under-members.ensures.members
+    ∙ ap (λ (item : Item). board_under item.pointer.place.top c.self.inside.board) same))
     (members_if (λ (m : Member). 128 + at.sector < size m.dev) (λ (seat : Seat). seat.on ≡ true → IsSeated size sectors seat) (is_on_under at.top)
     (has_sector size sectors at place) c.self.inside.board seated.seats)
 
@@ -74,7 +76,8 @@ returns-clause-turn g c =
     let under = c.members_under-members.ensures.members ∙ ap (λ (x : Item). board_under x.pointer.place.top group.board) first in
     let wrote : c.as_slice-2.result.now ≡ board_under item.pointer.place.top group.board = c.as_slice-2.ensures.members ∙ under in
     let dropped : c.as_slice-3.result.now ≡ board_under item.pointer.place.top group.board = c.as_slice-3.ensures.members ∙ under in
-    turn_goes tops tops' (write_plan (cell_of item)) (board_under item.pointer.place.top group.board) noted (record { group = group; leaves = old; bank = bank })
+    turn_goes tops tops' (write_plan (cell_of item)) (board_under item.pointer.place.top group.board) noted
+    (record { group = group; leaves = old; bank = bank })
     (record { group = behind; leaves = new; bank = bank' })
     c.check.result c.check-2.result (as_many c.args.tops.now c.drop_failed.new.tops c.drop_failed.ensures.built)
     (subst (λ (was : FrozenGroup). Answers tops was (emptied_top tops was) c.check.result) (sym is) c.check.ensures.told) c.in_ok-check.was
@@ -82,7 +85,8 @@ returns-clause-turn g c =
       results = done;
       calls = subst (λ (x : Item). MakesCalls (write_plan (cell_of x)) (board_under item.pointer.place.top group.board) done bank bank') second
           (subst (λ (ms : List Member). MakesCalls (write_plan (cell_of c.index-2.result.now)) ms done bank bank') wrote c.write_item.ensures);
-      group = ap (λ (seats : List Seat). record noted { board = seats }) (c.drop_failed.ensures.board ∙ ap (λ (ms : List Member). behind_turn ms done group.board) dropped);
+      group = ap (λ (seats : List Seat). record noted { board = seats })
+          (c.drop_failed.ensures.board ∙ ap (λ (ms : List Member). behind_turn ms done group.board) dropped);
       leaves = subst (λ (ms : List Member). AreBehind group.numbers ms done old new) dropped c.drop_failed.ensures.leaves;
     }) c.check-2.ensures.told)
 
