@@ -1,8 +1,6 @@
 -- The causes of what is said of each copy.
 use Rattle.std.proofs.Common.{true≢false, ◌≡◌, ◌≢◌, ℕ, ◌≤◌, ◌==◌, Bool, true, false, List, [], ◌∷◌, ◌++◌, map, Some, None, refl, sym, ◌∙◌, subst, cond, inl, inr, ◌⊎◌, arith}
 use Rattle.std.specs.List.{AllByRecursion, AllZip, filter}
-use Rattle.std.specs.Str.{bytes_eq}
-use Rattle.sha2.specs.Sha256.{sha256}
 use Rattle.mp_base.specs.Outside.{Rose}
 use Rattle.bank_core.specs.declared.bank.Fault.{Fault}
 use Rattle.bank_core.specs.Calls.{AllCaused, IsCaused, device_of, fault_of}
@@ -62,31 +60,31 @@ cond_seen true s good other = good
 cond_seen false s good other = other
 
 -- only a call that failed shows a failure
-shows_failed : (sum : List ℕ) (s : CopySeen) (call : Call) → sees sum s call ≡ seen.Failed → (s ≡ seen.Failed) ⊎ ((fault : Fault) × (fault_of call ≡ Some fault))
-shows_failed sum s (Read dev at bytes None) e = absurd (cond_seen (bytes_eq (sha256 bytes) sum) seen.Failed (λ e. cc) (λ e. cc) e)
-shows_failed sum s (Read dev at bytes (Some fault)) e = inr (fault, refl)
-shows_failed sum s (Write dev at bytes None) e = absurd (cc)
-shows_failed sum s (Write dev at bytes (Some fault)) e = inl e
-shows_failed sum s (Flush dev fault) e = inl e
-shows_failed sum s (Admit dev holds) e = inl e
-shows_failed sum s (Eject dev) e = inl e
+shows_failed : (test : List ℕ → Bool) (s : CopySeen) (call : Call) → sees test s call ≡ seen.Failed → (s ≡ seen.Failed) ⊎ ((fault : Fault) × (fault_of call ≡ Some fault))
+shows_failed test s (Read dev at bytes None) e = absurd (cond_seen (test bytes) seen.Failed (λ e. cc) (λ e. cc) e)
+shows_failed test s (Read dev at bytes (Some fault)) e = inr (fault, refl)
+shows_failed test s (Write dev at bytes None) e = absurd (cc)
+shows_failed test s (Write dev at bytes (Some fault)) e = inl e
+shows_failed test s (Flush dev fault) e = inl e
+shows_failed test s (Admit dev holds) e = inl e
+shows_failed test s (Eject dev) e = inl e
 
 -- none shows that a copy isn't readable
-shows_readable : (sum : List ℕ) (s : CopySeen) (call : Call) → s ≢ seen.NotReadable → sees sum s call ≢ seen.NotReadable
-shows_readable sum s (Read dev at bytes None) ne = cond_seen (bytes_eq (sha256 bytes) sum) seen.NotReadable (λ e. cc) (λ e. cc)
-shows_readable sum s (Read dev at bytes (Some fault)) ne = λ e. cc
-shows_readable sum s (Write dev at bytes None) ne = λ e. cc
-shows_readable sum s (Write dev at bytes (Some fault)) ne = ne
-shows_readable sum s (Flush dev fault) ne = ne
-shows_readable sum s (Admit dev holds) ne = ne
-shows_readable sum s (Eject dev) ne = ne
+shows_readable : (test : List ℕ → Bool) (s : CopySeen) (call : Call) → s ≢ seen.NotReadable → sees test s call ≢ seen.NotReadable
+shows_readable test s (Read dev at bytes None) ne = cond_seen (test bytes) seen.NotReadable (λ e. cc) (λ e. cc)
+shows_readable test s (Read dev at bytes (Some fault)) ne = λ e. cc
+shows_readable test s (Write dev at bytes None) ne = λ e. cc
+shows_readable test s (Write dev at bytes (Some fault)) ne = ne
+shows_readable test s (Flush dev fault) ne = ne
+shows_readable test s (Admit dev holds) ne = ne
+shows_readable test s (Eject dev) ne = ne
 
-pub seen_readable : (sum : List ℕ) (dev : ℕ) (made : List Noted) (s : CopySeen) → s ≢ seen.NotReadable → seen_after sum dev s made ≢ seen.NotReadable
-seen_readable sum dev [] s ne = ne
-seen_readable sum dev (noted ∷ made) s ne = seen_readable sum dev made _ (go (device_of noted.call == dev))
+pub seen_readable : (test : List ℕ → Bool) (dev : ℕ) (made : List Noted) (s : CopySeen) → s ≢ seen.NotReadable → seen_after test dev s made ≢ seen.NotReadable
+seen_readable test dev [] s ne = ne
+seen_readable test dev (noted ∷ made) s ne = seen_readable test dev made _ (go (device_of noted.call == dev))
   where
-    go : (t : Bool) → cond t (sees sum s noted.call) s ≢ seen.NotReadable
-    go true = shows_readable sum s noted.call ne
+    go : (t : Bool) → cond t (sees test s noted.call) s ≢ seen.NotReadable
+    go true = shows_readable test s noted.call ne
     go false = ne
 
 same_number : (a b : ℕ) → (a == b) ≡ true → a ≡ b
@@ -96,19 +94,19 @@ same_number a b e = grind arith
 pub rose_from : (a b c d : ℕ) → a ≤ b → Rose b c → c ≤ d → Rose a d
 rose_from a b c d le rose le' = omega arith
 
-pub failed_rose : (sum : List ℕ) (dev base : ℕ) (made : List Noted) (s : CopySeen) (f g : ℕ → ℕ) → base ≤ f dev → AllCaused made f g
-    → (s ≡ seen.Failed → Rose base (f dev)) → seen_after sum dev s made ≡ seen.Failed → Rose base (g dev)
-failed_rose sum dev base [] s f g le caused was e = rose_from base base (f dev) (g dev) (omega arith) (was e) (let same = caused dev in omega arith)
-failed_rose sum dev base (noted ∷ made) s f g le caused was e =
+pub failed_rose : (test : List ℕ → Bool) (dev base : ℕ) (made : List Noted) (s : CopySeen) (f g : ℕ → ℕ) → base ≤ f dev → AllCaused made f g
+    → (s ≡ seen.Failed → Rose base (f dev)) → seen_after test dev s made ≡ seen.Failed → Rose base (g dev)
+failed_rose test dev base [] s f g le caused was e = rose_from base base (f dev) (g dev) (omega arith) (was e) (let same = caused dev in omega arith)
+failed_rose test dev base (noted ∷ made) s f g le caused was e =
     let between = caused.0 in
-    failed_rose sum dev base made _ between g (let up = caused.1.counts dev in omega arith) caused.2 (go (device_of noted.call == dev) refl) e
+    failed_rose test dev base made _ between g (let up = caused.1.counts dev in omega arith) caused.2 (go (device_of noted.call == dev) refl) e
   where
     one : IsCaused noted.call f caused.0
     one = caused.1
 
-    go : (t : Bool) → (device_of noted.call == dev) ≡ t → cond t (sees sum s noted.call) s ≡ seen.Failed → Rose base (caused.0 dev)
+    go : (t : Bool) → (device_of noted.call == dev) ≡ t → cond t (sees test s noted.call) s ≡ seen.Failed → Rose base (caused.0 dev)
     go false is shows = rose_from base base (f dev) (caused.0 dev) (omega arith) (was shows) (one.counts dev)
-    go true is shows = elim (shows_failed sum s noted.call shows) as (λ _. Rose base (caused.0 dev)) [
+    go true is shows = elim (shows_failed test s noted.call shows) as (λ _. Rose base (caused.0 dev)) [
       | inl same ↦ rose_from base base (f dev) (caused.0 dev) (omega arith) (was same) (one.counts dev)
       | inr (fault, failed) ↦ rose_from base (f dev) (caused.0 dev) (caused.0 dev) le
           (subst (λ d. Rose (f d) (caused.0 d)) (same_number (device_of noted.call) dev is) (one.cause fault failed)) (omega arith)

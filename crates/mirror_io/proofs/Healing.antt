@@ -16,7 +16,7 @@ use Rattle.mirror_io.specs.declared.copies.CopySeen.TheVariants as seen
 use Rattle.mirror_io.specs.Copies.{is_due, AreApart}
 use Rattle.mirror_io.specs.Healing.{HealsCopy, Heals, is_rewritten}
 use Rattle.mirror_io.specs.Reads.{rewrites}
-use Rattle.mirror_io.specs.Seen.{sees, copy_seen, is_mismatch}
+use Rattle.mirror_io.specs.Seen.{sees, copy_shown, is_mismatch}
 use Rattle.mirror_io.proofs.Showing.{shows_none, shows_more, shows_at, got_there, not_readable, same_device}
 
 mismatch_is : (s : CopySeen) → is_mismatch s ≡ true → s ≡ seen.Mismatch
@@ -27,15 +27,15 @@ mismatch_is seen.Failed e = absurd (cc)
 mismatch_is seen.Good e = absurd (cc)
 mismatch_is seen.Healed e = absurd (cc)
 
--- what a write shows goes by no sum
-written_shows : (sum : List ℕ) (known : CopySeen) (dev at : ℕ) (block : List ℕ) (fault : Option Fault)
-    → sees [] known (Write dev at block fault) ≡ sees sum known (Write dev at block fault)
-written_shows sum known dev at block None = refl
-written_shows sum known dev at block (Some fault) = refl
+-- what a write shows goes by no test
+written_shows : (test : List ℕ → Bool) (known : CopySeen) (dev at : ℕ) (block : List ℕ) (fault : Option Fault)
+    → sees (λ bytes. false) known (Write dev at block fault) ≡ sees test known (Write dev at block fault)
+written_shows test known dev at block None = refl
+written_shows test known dev at block (Some fault) = refl
 
 -- one copy that is wrong
 pub healed : {copy : CopyOf} {at : ℕ} {block : List ℕ} {known shown : CopySeen} {fault : Option Fault} {old new : BankView} → is_due false copy ≡ true
-    → is_mismatch known ≡ true → shown ≡ sees [] seen.Mismatch (Write copy.dev at block fault) → Called (Write copy.dev at block fault) old new
+    → is_mismatch known ≡ true → shown ≡ sees (λ bytes. false) seen.Mismatch (Write copy.dev at block fault) → Called (Write copy.dev at block fault) old new
     → HealsCopy copy at block known shown old new
 healed {copy} {at} {block} {known} {shown} {fault} {old} {new} e mismatch is called =
     let one = makes_one called in
@@ -43,8 +43,8 @@ healed {copy} {at} {block} {known} {shown} {fault} {old} {new} e mismatch is cal
       made = record { call = Write copy.dev at block fault; damage = one.damage } ∷ [];
       bank = one.makes;
       asks = rw (e, mismatch) refl;
-      shown = λ sum. rw (same_device copy.dev) (is ∙ written_shows sum seen.Mismatch copy.dev at block fault
-          ∙ ap (λ k. sees sum k (Write copy.dev at block fault)) (sym (mismatch_is known mismatch)));
+      shown = λ test. rw (same_device copy.dev) (is ∙ written_shows test seen.Mismatch copy.dev at block fault
+          ∙ ap (λ k. sees test k (Write copy.dev at block fault)) (sym (mismatch_is known mismatch)));
       on = (refl, tt);
       idle = λ not. absurd (true≢false (sym e ∙ not));
     }
@@ -53,8 +53,8 @@ pub heals_none : {copies : List CopyOf} {at : ℕ} {block : List ℕ} {known : L
 heals_none {copies} {known = known} = record {
   made = [];
   bank = makes_none;
-  asks = λ sum before is. refl;
-  shown = λ sum. shows_none sum copies known;
+  asks = λ test before is. refl;
+  shown = λ test. shows_none test copies known;
 }
 
 asks-more : (first second : List Noted) → asks_of (first ++ second) ≡ asks_of first ++ asks_of second
@@ -73,14 +73,14 @@ pub left_next : {X : Type 0} (i : ℕ) (xs ys : List X) (y : X) → drop i xs �
 left_next i xs ys y e = drop-set-lt (i + 1) xs i y (omega arith) ∙ sym (drop-drop 1 i xs) ∙ ap (drop 1) e ∙ drop-drop 1 i ys
 
 -- the asks for the first copies, and for the next one
-asks_next : (sum : List ℕ) (before : List Noted) (copies : List CopyOf) (at : ℕ) (block : List ℕ) (i : ℕ) (d : CopyOf) (k : CopySeen) (one other : List Noted)
-    → i < length copies → k ≡ copy_seen sum before (get_or copies i d)
-    → asks_of one ≡ rewrites at block (filter (λ copy. is_rewritten (copy_seen sum before copy) copy) (take i copies))
+asks_next : (test : List ℕ → Bool) (before : List Noted) (copies : List CopyOf) (at : ℕ) (block : List ℕ) (i : ℕ) (d : CopyOf) (k : CopySeen) (one other : List Noted)
+    → i < length copies → k ≡ copy_shown test before (get_or copies i d)
+    → asks_of one ≡ rewrites at block (filter (λ copy. is_rewritten (copy_shown test before copy) copy) (take i copies))
     → asks_of other ≡ rewrites at block (filter (is_rewritten k) (get_or copies i d ∷ []))
-    → asks_of (one ++ other) ≡ rewrites at block (filter (λ copy. is_rewritten (copy_seen sum before copy) copy) (take (i + 1) copies))
-asks_next sum before copies at block i d k one other lt knew a b =
+    → asks_of (one ++ other) ≡ rewrites at block (filter (λ copy. is_rewritten (copy_shown test before copy) copy) (take (i + 1) copies))
+asks_next test before copies at block i d k one other lt knew a b =
     let here = get_or copies i d in
-    let p : CopyOf → Bool = λ copy. is_rewritten (copy_seen sum before copy) copy in
+    let p : CopyOf → Bool = λ copy. is_rewritten (copy_shown test before copy) copy in
     asks-more one other ∙ ap₂ (λ x y. x ++ y) a (b ∙ ap (λ k. rewrites at block (filter (is_rewritten k) (here ∷ []))) knew)
     ∙ sym (rewrites-more at block (filter p (take i copies)) (filter p (here ∷ [])))
     ∙ ap (rewrites at block) (sym (filter-append p (take i copies) (here ∷ [])))
@@ -96,10 +96,10 @@ heals_next {copies} {at} {block} {first} {known} i d e s lt paired apart left on
     record {
       made = one.made ++ t.made;
       bank = makes_more one.bank t.bank;
-      asks = λ sum before is. asks_next sum before copies at block i d (get_or known i e) one.made t.made lt
-          (got_there known i e (copy_seen sum before d) (omega arith) ∙ same_there i known first (copy_seen sum before d) left
-          ∙ ap (λ l. get_or l i (copy_seen sum before d)) is ∙ get_or-map (copy_seen sum before) copies i d)
-          (one.asks sum before is) t.asks;
-      shown = λ sum. shows_more sum copies one.made t.made first known (set known i s) (one.shown sum)
-          (shows_at sum copies known t.made i d e s lt apart t.on (λ not. t.idle (not_readable false here not)) (t.shown sum) (omega arith));
+      asks = λ test before is. asks_next test before copies at block i d (get_or known i e) one.made t.made lt
+          (got_there known i e (copy_shown test before d) (omega arith) ∙ same_there i known first (copy_shown test before d) left
+          ∙ ap (λ l. get_or l i (copy_shown test before d)) is ∙ get_or-map (copy_shown test before) copies i d)
+          (one.asks test before is) t.asks;
+      shown = λ test. shows_more test copies one.made t.made first known (set known i s) (one.shown test)
+          (shows_at test copies known t.made i d e s lt apart t.on (λ not. t.idle (not_readable false here not)) (t.shown test) (omega arith));
     }

@@ -7,6 +7,8 @@ pub mod Reading
 pub mod Rewriting
 pub mod Serving
 pub mod Showing
+pub mod SumReads
+pub mod Telling
 pub mod Trying
 pub mod Wrong
 pub mod Writing

@@ -1,18 +1,17 @@
 -- The copy that was good.
-use Rattle.std.proofs.Common.{◌≡◌, ℕ, zero, suc, ◌==◌, Bool, true, false, cond, List, [], ◌∷◌, ◌++◌, map, Contains, Some, refl, sym, ap, ◌∙◌, inl, inr, ◌⊎◌, arith}
+use Rattle.std.proofs.Common.{◌≡◌, ℕ, zero, suc, ◌==◌, Bool, true, false, cond, List, [], ◌∷◌, ◌++◌, map, Contains, Some, refl, sym, ap, ◌∙◌, subst, inl, inr, ◌⊎◌, arith}
 use Rattle.std.specs.List.{filter}
-use Rattle.std.proofs.lemmas.Slice.Eq.{bytes_eq-Decides}
 use Rattle.std.proofs.lemmas.Option.{none-some}
-use Rattle.sha2.specs.Sha256.{sha256}
 use Rattle.bank_core.specs.Calls.{device_of}
 use Rattle.bank_core.specs.Disk.{Noted}
 use Rattle.mirror_io.specs.declared.copies.CopyOf.{CopyOf}
 use Rattle.mirror_io.specs.declared.copies.CopySeen.{CopySeen}
 use Rattle.mirror_io.specs.declared.copies.CopySeen.TheVariants as seen
 use Rattle.mirror_io.specs.Copies.{is_due, tries}
-use Rattle.mirror_io.specs.Reads.{IsReads}
+use Rattle.mirror_io.specs.Reading.{Tells, AllTold}
+use Rattle.mirror_io.specs.Reads.{AreTried}
 use Rattle.mirror_io.specs.Seen.{sees, seen_after}
-use Rattle.mirror_io.proofs.Reading.{Next, next_on}
+use Rattle.mirror_io.proofs.Reading.{Next, next_on, is_test}
 use Rattle.mirror_io.proofs.Showing.{same_device, due_readable}
 
 -- Some one of a list.
@@ -52,42 +51,29 @@ some_contained f s (x ∷ xs) (inl here) = (zero, omega arith, here)
 some_contained f s (x ∷ xs) (inr later) = let more = some_contained f s xs later in (suc more.0, let lt = more.1 in omega arith, more.2)
 
 -- The last read shows a good copy.
-pub some_good : (at : ℕ) (sum : List ℕ) (copies : List CopyOf) (made : List Noted) (wrong : List CopyOf) (block : List ℕ) → IsReads at sum copies made wrong (Some block)
-    → SomeOf (λ copy. (s : CopySeen) → seen_after sum copy.dev s made ≡ seen.Good) copies
-some_good at sum [] made wrong block r = absurd (none-some block (sym r.2))
-some_good at sum (copy ∷ copies) [] wrong block r = absurd r
-some_good at sum (copy ∷ copies) (noted ∷ made) wrong block r = go r (λ wrong' rest. some_good at sum copies made wrong' block rest)
+pub some_good : (test : List ℕ → Bool) (at : ℕ) (Good : List ℕ → Type 0) (copies : List CopyOf) (made : List Noted) (wrong : List CopyOf) (block : List ℕ)
+    → AllTold test Good made → AreTried at Good copies made wrong (Some block)
+    → SomeOf (λ copy. (s : CopySeen) → seen_after test copy.dev s made ≡ seen.Good) copies
+some_good test at Good [] made wrong block told r = absurd (none-some block (sym r.2))
+some_good test at Good (copy ∷ copies) [] wrong block told r = absurd r
+some_good test at Good (copy ∷ copies) (noted ∷ made) wrong block told r =
+    go r (λ wrong' rest. some_good test at Good copies made wrong' block told.1 rest)
   where
-    behind : SomeOf (λ copy. (s : CopySeen) → seen_after sum copy.dev s made ≡ seen.Good) copies
-        → SomeOf (λ copy. (s : CopySeen) → seen_after sum copy.dev s (noted ∷ made) ≡ seen.Good) (copy ∷ copies)
-    behind a = inr (some_by (λ x. (s : CopySeen) → seen_after sum x.dev s made ≡ seen.Good) (λ x. (s : CopySeen) → seen_after sum x.dev s (noted ∷ made) ≡ seen.Good)
-        copies (λ x p s. p (cond (device_of noted.call == x.dev) (sees sum s noted.call) s)) a)
+    behind : SomeOf (λ copy. (s : CopySeen) → seen_after test copy.dev s made ≡ seen.Good) copies
+        → SomeOf (λ copy. (s : CopySeen) → seen_after test copy.dev s (noted ∷ made) ≡ seen.Good) (copy ∷ copies)
+    behind a = inr (some_by (λ x. (s : CopySeen) → seen_after test x.dev s made ≡ seen.Good) (λ x. (s : CopySeen) → seen_after test x.dev s (noted ∷ made) ≡ seen.Good)
+        copies (λ x p s. p (cond (device_of noted.call == x.dev) (sees test s noted.call) s)) a)
 
     on : device_of noted.call ≡ copy.dev
-    on = next_on at sum copy noted copies made wrong (Some block) r
+    on = next_on at Good copy noted copies made wrong (Some block) r
 
-    go : Next at sum copy noted copies made wrong (Some block)
-        → ((wrong' : List CopyOf) → IsReads at sum copies made wrong' (Some block) → SomeOf (λ copy. (s : CopySeen) → seen_after sum copy.dev s made ≡ seen.Good) copies)
-        → SomeOf (λ copy. (s : CopySeen) → seen_after sum copy.dev s (noted ∷ made) ≡ seen.Good) (copy ∷ copies)
+    go : Next at Good copy noted copies made wrong (Some block)
+        → ((wrong' : List CopyOf) → AreTried at Good copies made wrong' (Some block) → SomeOf (λ copy. (s : CopySeen) → seen_after test copy.dev s made ≡ seen.Good) copies)
+        → SomeOf (λ copy. (s : CopySeen) → seen_after test copy.dev s (noted ∷ made) ≡ seen.Good) (copy ∷ copies)
     go (inl (failed, rest)) more = behind (more wrong rest)
-    go (inr (inl (others, differs, is, rest))) more = behind (more others rest)
+    go (inr (inl (others, bytes, differs, is, rest))) more = behind (more others rest)
     go (inr (inr (bytes, serves, none, right, is))) more =
-        inl (λ s. ap (λ m. seen_after sum copy.dev s (noted ∷ m)) none ∙ here s)
+        inl (λ s. ap (λ m. seen_after test copy.dev s (noted ∷ m)) none ∙ here s)
       where
-        here : (s : CopySeen) → seen_after sum copy.dev s (noted ∷ []) ≡ seen.Good
-        here s = rw (on, same_device copy.dev, serves.gives.is, (bytes_eq-Decides (sha256 bytes) sum).1 serves.same) refl
-
-pub same_block : (a b : List ℕ) → Some a ≡ Some b → a ≡ b
-same_block a b e = cc
-
--- and gave bytes of the sum
-pub verified : (at : ℕ) (sum : List ℕ) (copies : List CopyOf) (made : List Noted) (wrong : List CopyOf) (block : List ℕ) → IsReads at sum copies made wrong (Some block)
-    → sha256 block ≡ sum
-verified at sum [] made wrong block r = absurd (none-some block (sym r.2))
-verified at sum (copy ∷ copies) [] wrong block r = absurd r
-verified at sum (copy ∷ copies) (noted ∷ made) wrong block r = go r (λ wrong' rest. verified at sum copies made wrong' block rest)
-  where
-    go : Next at sum copy noted copies made wrong (Some block) → ((wrong' : List CopyOf) → IsReads at sum copies made wrong' (Some block) → sha256 block ≡ sum) → sha256 block ≡ sum
-    go (inl (failed, rest)) more = more wrong rest
-    go (inr (inl (others, differs, is, rest))) more = more others rest
-    go (inr (inr (bytes, serves, none, right, is))) more = ap sha256 (same_block block bytes is) ∙ serves.same
+        here : (s : CopySeen) → seen_after test copy.dev s (noted ∷ []) ≡ seen.Good
+        here s = rw (on, same_device copy.dev, serves.gives.is, is_test test Good bytes (subst (Tells test Good) serves.gives.is told.0) serves.is) refl

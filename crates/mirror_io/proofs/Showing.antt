@@ -8,22 +8,22 @@ use Rattle.mirror_io.specs.declared.copies.CopySeen.{CopySeen}
 use Rattle.mirror_io.specs.declared.copies.CopySeen.TheVariants as seen
 use Rattle.mirror_io.specs.Copies.{AreApart, is_due}
 use Rattle.mirror_io.specs.Reading.{AreOn, Shows}
-use Rattle.mirror_io.specs.Seen.{seen_after, copy_seen}
+use Rattle.mirror_io.specs.Seen.{seen_after, copy_shown}
 
-pub seen-more : (sum : List ℕ) (dev : ℕ) (first second : List Noted) (before : CopySeen)
-    → seen_after sum dev before (first ++ second) ≡ seen_after sum dev (seen_after sum dev before first) second
-seen-more sum dev [] second before = refl
-seen-more sum dev (noted ∷ first) second before = seen-more sum dev first second _
+pub seen-more : (test : List ℕ → Bool) (dev : ℕ) (first second : List Noted) (before : CopySeen)
+    → seen_after test dev before (first ++ second) ≡ seen_after test dev (seen_after test dev before first) second
+seen-more test dev [] second before = refl
+seen-more test dev (noted ∷ first) second before = seen-more test dev first second _
 
 pub other_device : (a b c : ℕ) → a ≡ b → b ≢ c → a == c ≡ false
 other_device a b c is apart = grind arith
 
 -- calls on one device show nothing of another one
-pub seen-elsewhere : (sum : List ℕ) (here dev : ℕ) (before : CopySeen) (made : List Noted) → AreOn here made → here ≢ dev
-    → seen_after sum dev before made ≡ before
-seen-elsewhere sum here dev before [] on apart = refl
-seen-elsewhere sum here dev before (noted ∷ made) on apart =
-    rw (other_device (device_of noted.call) here dev on.0 apart) (seen-elsewhere sum here dev before made on.1 apart)
+pub seen-elsewhere : (test : List ℕ → Bool) (here dev : ℕ) (before : CopySeen) (made : List Noted) → AreOn here made → here ≢ dev
+    → seen_after test dev before made ≡ before
+seen-elsewhere test here dev before [] on apart = refl
+seen-elsewhere test here dev before (noted ∷ made) on apart =
+    rw (other_device (device_of noted.call) here dev on.0 apart) (seen-elsewhere test here dev before made on.1 apart)
 
 map-same : (f g : CopyOf → CopySeen) (copies : List CopyOf) (d : CopyOf)
     → ((j : ℕ) → j < length copies → g (get_or copies j d) ≡ f (get_or copies j d)) → map f copies ≡ map g copies
@@ -42,32 +42,32 @@ map-set f g (copy ∷ copies) (suc i) s d lt here others =
     ap₂ (λ a b. a ∷ b) (sym (others zero (omega arith) (omega arith)))
     (map-set f g copies i s d (omega arith) here (λ j lt' ne. others (suc j) (omega arith) (omega arith)))
 
-pub shows_none : (sum : List ℕ) (copies : List CopyOf) (known : List CopySeen) → Shows sum copies [] known known
-shows_none sum copies known before is = is ∙ ap (λ made. map (copy_seen sum made) copies) (sym (append-nil before))
+pub shows_none : (test : List ℕ → Bool) (copies : List CopyOf) (known : List CopySeen) → Shows test copies [] known known
+shows_none test copies known before is = is ∙ ap (λ made. map (copy_shown test made) copies) (sym (append-nil before))
 
-pub shows_more : (sum : List ℕ) (copies : List CopyOf) (first second : List Noted) (a b c : List CopySeen)
-    → Shows sum copies first a b → Shows sum copies second b c → Shows sum copies (first ++ second) a c
-shows_more sum copies first second a b c one other before is =
-    other (before ++ first) (one before is) ∙ ap (λ made. map (copy_seen sum made) copies) (append_assoc before first second)
+pub shows_more : (test : List ℕ → Bool) (copies : List CopyOf) (first second : List Noted) (a b c : List CopySeen)
+    → Shows test copies first a b → Shows test copies second b c → Shows test copies (first ++ second) a c
+shows_more test copies first second a b c one other before is =
+    other (before ++ first) (one before is) ∙ ap (λ made. map (copy_shown test made) copies) (append_assoc before first second)
 
 -- behind calls on its own device, of a copy that has some only where it is readable
-seen-here : (sum : List ℕ) (copy : CopyOf) (before made : List Noted) → (copy.readable ≡ false → made ≡ [])
-    → copy_seen sum (before ++ made) copy ≡ seen_after sum copy.dev (copy_seen sum before copy) made
-seen-here sum copy before made idle = go copy.readable refl
+seen-here : (test : List ℕ → Bool) (copy : CopyOf) (before made : List Noted) → (copy.readable ≡ false → made ≡ [])
+    → copy_shown test (before ++ made) copy ≡ seen_after test copy.dev (copy_shown test before copy) made
+seen-here test copy before made idle = go copy.readable refl
   where
-    go : (t : Bool) → copy.readable ≡ t → copy_seen sum (before ++ made) copy ≡ seen_after sum copy.dev (copy_seen sum before copy) made
-    go true is = rw is (seen-more sum copy.dev before made seen.NotTried)
+    go : (t : Bool) → copy.readable ≡ t → copy_shown test (before ++ made) copy ≡ seen_after test copy.dev (copy_shown test before copy) made
+    go true is = rw is (seen-more test copy.dev before made seen.NotTried)
     go false is = rw (is, idle is) refl
 
 -- behind calls on another copy's device
-seen-there : (sum : List ℕ) (here copy : CopyOf) (before made : List Noted) → AreOn here.dev made → (here.readable ≡ false → made ≡ [])
-    → (here.readable ≡ true → copy.readable ≡ true → here.dev ≢ copy.dev) → copy_seen sum (before ++ made) copy ≡ copy_seen sum before copy
-seen-there sum here copy before made on idle apart = go here.readable refl copy.readable refl
+seen-there : (test : List ℕ → Bool) (here copy : CopyOf) (before made : List Noted) → AreOn here.dev made → (here.readable ≡ false → made ≡ [])
+    → (here.readable ≡ true → copy.readable ≡ true → here.dev ≢ copy.dev) → copy_shown test (before ++ made) copy ≡ copy_shown test before copy
+seen-there test here copy before made on idle apart = go here.readable refl copy.readable refl
   where
-    go : (t : Bool) → here.readable ≡ t → (u : Bool) → copy.readable ≡ u → copy_seen sum (before ++ made) copy ≡ copy_seen sum before copy
+    go : (t : Bool) → here.readable ≡ t → (u : Bool) → copy.readable ≡ u → copy_shown test (before ++ made) copy ≡ copy_shown test before copy
     go false is u is' = rw (idle is, append-nil before) refl
     go true is false is' = rw is' refl
-    go true is true is' = rw is' (seen-more sum copy.dev before made seen.NotTried ∙ seen-elsewhere sum here.dev copy.dev _ made on (apart is is'))
+    go true is true is' = rw is' (seen-more test copy.dev before made seen.NotTried ∙ seen-elsewhere test here.dev copy.dev _ made on (apart is is'))
 
 trichotomy : (i j : ℕ) → (i < j) ⊎ ((i ≡ j) ⊎ (j < i))
 trichotomy i j = grind arith
@@ -87,17 +87,17 @@ apart_from copies d i j apart lt lt' ne is is' = go (trichotomy i j)
     go (inr (inr more)) = λ e. apart j i d more lt is' is (sym e)
 
 -- calls on one copy's device, and what they show put into its place
-pub shows_at : (sum : List ℕ) (copies : List CopyOf) (known : List CopySeen) (made : List Noted) (i : ℕ) (d : CopyOf) (e s : CopySeen) → i < length copies
+pub shows_at : (test : List ℕ → Bool) (copies : List CopyOf) (known : List CopySeen) (made : List Noted) (i : ℕ) (d : CopyOf) (e s : CopySeen) → i < length copies
     → AreApart copies → AreOn (get_or copies i d).dev made → ((get_or copies i d).readable ≡ false → made ≡ [])
-    → s ≡ seen_after sum (get_or copies i d).dev (get_or known i e) made → i < length known → Shows sum copies made known (set known i s)
-shows_at sum copies known made i d e s lt apart on idle is within before are =
+    → s ≡ seen_after test (get_or copies i d).dev (get_or known i e) made → i < length known → Shows test copies made known (set known i s)
+shows_at test copies known made i d e s lt apart on idle is within before are =
     let here = get_or copies i d in
-    let knew : get_or known i e ≡ copy_seen sum before here =
-    got_there known i e (copy_seen sum before d) within ∙ ap (λ l. get_or l i (copy_seen sum before d)) are ∙ get_or-map (copy_seen sum before) copies i d in
+    let knew : get_or known i e ≡ copy_shown test before here =
+    got_there known i e (copy_shown test before d) within ∙ ap (λ l. get_or l i (copy_shown test before d)) are ∙ get_or-map (copy_shown test before) copies i d in
     ap (λ l. set l i s) are ∙
-    map-set (copy_seen sum before) (copy_seen sum (before ++ made)) copies i s d lt
-    (seen-here sum here before made idle ∙ sym (is ∙ ap (λ k. seen_after sum here.dev k made) knew))
-    (λ j lt' ne. seen-there sum here (get_or copies j d) before made on idle (λ r r'. apart_from copies d i j apart lt lt' ne r r'))
+    map-set (copy_shown test before) (copy_shown test (before ++ made)) copies i s d lt
+    (seen-here test here before made idle ∙ sym (is ∙ ap (λ k. seen_after test here.dev k made) knew))
+    (λ j lt' ne. seen-there test here (get_or copies j d) before made on idle (λ r r'. apart_from copies d i j apart lt lt' ne r r'))
 
 pub not_readable : (owing : Bool) (copy : CopyOf) → copy.readable ≡ false → is_due owing copy ≡ false
 not_readable false copy e = rw e refl

@@ -1,10 +1,8 @@
 -- Which copies were wrong, by what the calls of a read show of them.
-use Rattle.std.proofs.Common.{true≢false, ◌≡◌, ◌≢◌, ℕ, zero, suc, ◌<◌, ◌&&◌, Bool, true, false, List, [], ◌∷◌, ◌++◌, length, get_or, Option, refl, sym, ap, ap₂, ◌∙◌, append-nil, inl, inr, arith}
+use Rattle.std.proofs.Common.{true≢false, ◌≡◌, ◌≢◌, ℕ, zero, suc, ◌<◌, ◌&&◌, Bool, true, false, List, [], ◌∷◌, ◌++◌, length, get_or, Option, refl, sym, ap, ap₂, ◌∙◌, subst, append-nil, inl, inr, arith}
 use Rattle.std.specs.Prelude.{not}
 use Rattle.std.specs.List.{AllByRecursion, filter}
 use Rattle.std.proofs.lemmas.List.Elements.{filter-append}
-use Rattle.std.proofs.lemmas.Slice.Eq.{bytes_eq-Decides}
-use Rattle.sha2.specs.Sha256.{sha256}
 use Rattle.bank_core.specs.Calls.{device_of}
 use Rattle.bank_core.specs.Disk.{Noted}
 use Rattle.mirror_io.specs.declared.copies.CopyOf.{CopyOf}
@@ -12,9 +10,10 @@ use Rattle.mirror_io.specs.declared.copies.CopySeen.{CopySeen}
 use Rattle.mirror_io.specs.declared.copies.CopySeen.TheVariants as seen
 use Rattle.mirror_io.specs.Copies.{is_due, tries, AreApart}
 use Rattle.mirror_io.specs.Healing.{is_rewritten}
-use Rattle.mirror_io.specs.Reads.{IsReads}
-use Rattle.mirror_io.specs.Seen.{sees, seen_after, copy_seen, is_mismatch}
-use Rattle.mirror_io.proofs.Reading.{Next, next_on, not_equal}
+use Rattle.mirror_io.specs.Reading.{Tells, AllTold}
+use Rattle.mirror_io.specs.Reads.{AreTried}
+use Rattle.mirror_io.specs.Seen.{sees, seen_after, copy_shown, is_mismatch}
+use Rattle.mirror_io.proofs.Reading.{Next, next_on, is_test, is_not_test}
 use Rattle.mirror_io.proofs.Showing.{other_device, due_readable, same_device}
 
 -- this device is none of theirs
@@ -76,70 +75,70 @@ tries_distinct (copy ∷ copies) apart =
     go false is false is' d = rw (is, is') d
 
 -- whether the calls show other bytes of the copy
-abbrev differed : (sum : List ℕ) → List Noted → CopyOf → Bool
-differed sum made copy = is_mismatch (seen_after sum copy.dev seen.NotTried made)
+abbrev differed : (test : List ℕ → Bool) → List Noted → CopyOf → Bool
+differed test made copy = is_mismatch (seen_after test copy.dev seen.NotTried made)
 
 -- reads of other devices show nothing of this one
-seen-away : (dev at : ℕ) (sum : List ℕ) (copies : List CopyOf) (made : List Noted) (wrong : List CopyOf) (outcome : Option (List ℕ)) (known : CopySeen)
-    → Away dev copies → IsReads at sum copies made wrong outcome → seen_after sum dev known made ≡ known
-seen-away dev at sum [] made wrong outcome known away r = rw r.0 refl
-seen-away dev at sum (copy ∷ copies) [] wrong outcome known away r = absurd r
-seen-away dev at sum (copy ∷ copies) (noted ∷ made) wrong outcome known away r =
-    rw (other_device (device_of noted.call) copy.dev dev (next_on at sum copy noted copies made wrong outcome r) (λ e. away.0 (sym e)))
-    (go r (λ wrong' outcome' rest. seen-away dev at sum copies made wrong' outcome' known away.1 rest))
+seen-away : (dev at : ℕ) (test : List ℕ → Bool) (Good : List ℕ → Type 0) (copies : List CopyOf) (made : List Noted) (wrong : List CopyOf) (outcome : Option (List ℕ)) (known : CopySeen)
+    → Away dev copies → AreTried at Good copies made wrong outcome → seen_after test dev known made ≡ known
+seen-away dev at test Good [] made wrong outcome known away r = rw r.0 refl
+seen-away dev at test Good (copy ∷ copies) [] wrong outcome known away r = absurd r
+seen-away dev at test Good (copy ∷ copies) (noted ∷ made) wrong outcome known away r =
+    rw (other_device (device_of noted.call) copy.dev dev (next_on at Good copy noted copies made wrong outcome r) (λ e. away.0 (sym e)))
+    (go r (λ wrong' outcome' rest. seen-away dev at test Good copies made wrong' outcome' known away.1 rest))
   where
-    go : Next at sum copy noted copies made wrong outcome
-        → ((wrong' : List CopyOf) (outcome' : Option (List ℕ)) → IsReads at sum copies made wrong' outcome' → seen_after sum dev known made ≡ known)
-        → seen_after sum dev known made ≡ known
+    go : Next at Good copy noted copies made wrong outcome
+        → ((wrong' : List CopyOf) (outcome' : Option (List ℕ)) → AreTried at Good copies made wrong' outcome' → seen_after test dev known made ≡ known)
+        → seen_after test dev known made ≡ known
     go (inl (failed, rest)) more = more wrong outcome rest
-    go (inr (inl (others, differs, is, rest))) more = more others outcome rest
+    go (inr (inl (others, bytes, differs, is, rest))) more = more others outcome rest
     go (inr (inr (bytes, serves, none, right, is))) more = rw none refl
 
 -- a read of another device changes nothing for these
-differed_behind : (sum : List ℕ) (dev : ℕ) (noted : Noted) (made : List Noted) (copies : List CopyOf) → device_of noted.call ≡ dev → Away dev copies
-    → filter (differed sum (noted ∷ made)) copies ≡ filter (differed sum made) copies
-differed_behind sum dev noted made [] on away = refl
-differed_behind sum dev noted made (copy ∷ copies) on away =
-    rw (other_device (device_of noted.call) dev copy.dev on away.0, differed_behind sum dev noted made copies on away.1) refl
+differed_behind : (test : List ℕ → Bool) (dev : ℕ) (noted : Noted) (made : List Noted) (copies : List CopyOf) → device_of noted.call ≡ dev → Away dev copies
+    → filter (differed test (noted ∷ made)) copies ≡ filter (differed test made) copies
+differed_behind test dev noted made [] on away = refl
+differed_behind test dev noted made (copy ∷ copies) on away =
+    rw (other_device (device_of noted.call) dev copy.dev on away.0, differed_behind test dev noted made copies on away.1) refl
 
-none_differed : (sum : List ℕ) (copies : List CopyOf) → filter (differed sum []) copies ≡ []
-none_differed sum [] = refl
-none_differed sum (copy ∷ copies) = none_differed sum copies
+none_differed : (test : List ℕ → Bool) (copies : List CopyOf) → filter (differed test []) copies ≡ []
+none_differed test [] = refl
+none_differed test (copy ∷ copies) = none_differed test copies
 
 -- the wrong copies are those that showed other bytes
-wrong_differed : (at : ℕ) (sum : List ℕ) (copies : List CopyOf) (made : List Noted) (wrong : List CopyOf) (outcome : Option (List ℕ)) → AreDistinct copies
-    → IsReads at sum copies made wrong outcome → wrong ≡ filter (differed sum made) copies
-wrong_differed at sum [] made wrong outcome d r = r.1
-wrong_differed at sum (copy ∷ copies) [] wrong outcome d r = absurd r
-wrong_differed at sum (copy ∷ copies) (noted ∷ made) wrong outcome d r =
-    go r (λ wrong' rest. wrong_differed at sum copies made wrong' outcome d.1 rest)
+wrong_differed : (at : ℕ) (test : List ℕ → Bool) (Good : List ℕ → Type 0) (copies : List CopyOf) (made : List Noted) (wrong : List CopyOf) (outcome : Option (List ℕ)) → AreDistinct copies
+    → AllTold test Good made → AreTried at Good copies made wrong outcome → wrong ≡ filter (differed test made) copies
+wrong_differed at test Good [] made wrong outcome d told r = r.1
+wrong_differed at test Good (copy ∷ copies) [] wrong outcome d told r = absurd r
+wrong_differed at test Good (copy ∷ copies) (noted ∷ made) wrong outcome d told r =
+    go r (λ wrong' rest. wrong_differed at test Good copies made wrong' outcome d.1 told.1 rest)
   where
     on : device_of noted.call ≡ copy.dev
-    on = next_on at sum copy noted copies made wrong outcome r
+    on = next_on at Good copy noted copies made wrong outcome r
 
-    behind : filter (differed sum (noted ∷ made)) copies ≡ filter (differed sum made) copies
-    behind = differed_behind sum copy.dev noted made copies on d.0
+    behind : filter (differed test (noted ∷ made)) copies ≡ filter (differed test made) copies
+    behind = differed_behind test copy.dev noted made copies on d.0
 
-    here : (s : CopySeen) → sees sum seen.NotTried noted.call ≡ s → (wrong' : List CopyOf) (outcome' : Option (List ℕ)) → IsReads at sum copies made wrong' outcome'
-        → differed sum (noted ∷ made) copy ≡ is_mismatch s
+    here : (s : CopySeen) → sees test seen.NotTried noted.call ≡ s → (wrong' : List CopyOf) (outcome' : Option (List ℕ)) → AreTried at Good copies made wrong' outcome'
+        → differed test (noted ∷ made) copy ≡ is_mismatch s
     here s shows wrong' outcome' rest =
-        rw (on, same_device copy.dev, shows) (ap is_mismatch (seen-away copy.dev at sum copies made wrong' outcome' s d.0 rest))
+        rw (on, same_device copy.dev, shows) (ap is_mismatch (seen-away copy.dev at test Good copies made wrong' outcome' s d.0 rest))
 
-    go : Next at sum copy noted copies made wrong outcome → ((wrong' : List CopyOf) → IsReads at sum copies made wrong' outcome → wrong' ≡ filter (differed sum made) copies)
-        → wrong ≡ filter (differed sum (noted ∷ made)) (copy ∷ copies)
+    go : Next at Good copy noted copies made wrong outcome → ((wrong' : List CopyOf) → AreTried at Good copies made wrong' outcome → wrong' ≡ filter (differed test made) copies)
+        → wrong ≡ filter (differed test (noted ∷ made)) (copy ∷ copies)
     go (inl (failed, rest)) more =
-        rw (here seen.Failed (ap (sees sum seen.NotTried) failed.gives.is) wrong outcome rest, behind) (more wrong rest)
-    go (inr (inl (others, differs, is, rest))) more =
-        rw (here seen.Mismatch (ap (sees sum seen.NotTried) differs.gives.is ∙ rw (not_equal (sha256 differs.bytes) sum differs.other) refl) others outcome rest, behind, is)
+        rw (here seen.Failed (ap (sees test seen.NotTried) failed.gives.is) wrong outcome rest, behind) (more wrong rest)
+    go (inr (inl (others, bytes, differs, is, rest))) more =
+        rw (here seen.Mismatch (ap (sees test seen.NotTried) differs.gives.is ∙ rw (is_not_test test Good bytes (subst (Tells test Good) differs.gives.is told.0) differs.is) refl) others outcome rest, behind, is)
         (ap (λ l. copy ∷ l) (more others rest))
     go (inr (inr (bytes, serves, none, right, is))) more =
-        right ∙ sym (ap (λ m. filter (differed sum (noted ∷ m)) (copy ∷ copies)) none ∙ none_left)
+        right ∙ sym (ap (λ m. filter (differed test (noted ∷ m)) (copy ∷ copies)) none ∙ none_left)
       where
-        none_after : filter (differed sum (noted ∷ [])) copies ≡ []
-        none_after = differed_behind sum copy.dev noted [] copies on d.0 ∙ none_differed sum copies
+        none_after : filter (differed test (noted ∷ [])) copies ≡ []
+        none_after = differed_behind test copy.dev noted [] copies on d.0 ∙ none_differed test copies
 
-        none_left : filter (differed sum (noted ∷ [])) (copy ∷ copies) ≡ []
-        none_left = rw (on, same_device copy.dev, serves.gives.is, (bytes_eq-Decides (sha256 bytes) sum).1 serves.same) none_after
+        none_left : filter (differed test (noted ∷ [])) (copy ∷ copies) ≡ []
+        none_left = rw (on, same_device copy.dev, serves.gives.is, is_test test Good bytes (subst (Tells test Good) serves.gives.is told.0) serves.is) none_after
 
 -- Of those that are due, the ones that are rewritten.
 filters : (n p d q : CopyOf → Bool) → ((copy : CopyOf) → q copy ≡ (d copy && p copy)) → ((copy : CopyOf) → d copy ≡ true → n copy ≡ true) → (copies : List CopyOf)
@@ -178,24 +177,24 @@ lacks_it copy e = go copy.readable copy.lacks refl refl
     go true false is is' = absurd (true≢false (sym e ∙ rw (is, is') refl))
     go true true is is' = rw is' refl
 
-rewritten_is : (sum : List ℕ) (made : List Noted) (copy : CopyOf) → is_rewritten (copy_seen sum made copy) copy ≡ (is_due false copy && differed sum made copy)
-rewritten_is sum made copy = go copy.readable refl
+rewritten_is : (test : List ℕ → Bool) (made : List Noted) (copy : CopyOf) → is_rewritten (copy_shown test made copy) copy ≡ (is_due false copy && differed test made copy)
+rewritten_is test made copy = go copy.readable refl
   where
-    go : (t : Bool) → copy.readable ≡ t → is_rewritten (copy_seen sum made copy) copy ≡ (is_due false copy && differed sum made copy)
+    go : (t : Bool) → copy.readable ≡ t → is_rewritten (copy_shown test made copy) copy ≡ (is_due false copy && differed test made copy)
     go true is = rw is refl
     go false is = rw is refl
 
 -- the wrong copies whose leaves have the block, in tree order
-pub wrong_rewritten : (at : ℕ) (sum : List ℕ) (copies : List CopyOf) (made : List Noted) (wrong : List CopyOf) (outcome : Option (List ℕ)) → AreApart copies
-    → IsReads at sum (tries copies) made wrong outcome
-    → filter (λ copy. not copy.lacks) wrong ≡ filter (λ copy. is_rewritten (copy_seen sum made copy) copy) copies
-wrong_rewritten at sum copies made wrong outcome apart r =
+pub wrong_rewritten : (at : ℕ) (test : List ℕ → Bool) (Good : List ℕ → Type 0) (copies : List CopyOf) (made : List Noted) (wrong : List CopyOf) (outcome : Option (List ℕ)) → AreApart copies
+    → AllTold test Good made → AreTried at Good (tries copies) made wrong outcome
+    → filter (λ copy. not copy.lacks) wrong ≡ filter (λ copy. is_rewritten (copy_shown test made copy) copy) copies
+wrong_rewritten at test Good copies made wrong outcome apart told r =
     let n : CopyOf → Bool = λ copy. not copy.lacks in
-    let p : CopyOf → Bool = differed sum made in
+    let p : CopyOf → Bool = differed test made in
     let first = filter (is_due false) copies in
     let second = filter (is_due true) copies in
-    ap (filter n) (wrong_differed at sum (tries copies) made wrong outcome (tries_distinct copies apart) r)
+    ap (filter n) (wrong_differed at test Good (tries copies) made wrong outcome (tries_distinct copies apart) told r)
     ∙ ap (filter n) (filter-append p first second) ∙ filter-append n (filter p first) (filter p second)
-    ∙ ap₂ (λ a b. a ++ b) (filters n p (is_due false) (λ copy. is_rewritten (copy_seen sum made copy) copy) (rewritten_is sum made) lacks_not copies)
+    ∙ ap₂ (λ a b. a ++ b) (filters n p (is_due false) (λ copy. is_rewritten (copy_shown test made copy) copy) (rewritten_is test made) lacks_not copies)
     (filters_none n p (is_due true) lacks_it copies)
     ∙ append-nil _

@@ -10,7 +10,7 @@ use Rattle.mirror_io.specs.declared.copies.CopySeen.{CopySeen}
 use Rattle.mirror_io.specs.Copies.{is_due}
 use Rattle.mirror_io.specs.Reading.{AreOn, Shows}
 use Rattle.mirror_io.specs.Reads.{rewrites}
-use Rattle.mirror_io.specs.Seen.{seen_after, copy_seen, is_mismatch}
+use Rattle.mirror_io.specs.Seen.{seen_after, copy_shown, is_mismatch}
 
 -- the copy is rewritten, where it showed this
 abbrev pub is_rewritten : CopySeen → CopyOf → Bool
@@ -22,7 +22,7 @@ pub record HealsCopy (copy : CopyOf) (at : ℕ) (block : List ℕ) (known known'
   pub made : List Noted
   pub bank : Makes made old new
   pub asks : asks_of made ≡ rewrites at block (filter (is_rewritten known) (copy ∷ []))
-  pub shown : (sum : List ℕ) → known' ≡ seen_after sum copy.dev known made
+  pub shown : (test : List ℕ → Bool) → known' ≡ seen_after test copy.dev known made
   pub on : AreOn copy.dev made
   pub idle : is_due false copy ≡ false → made ≡ []
 
@@ -31,6 +31,6 @@ pub record Heals (copies some : List CopyOf) (at : ℕ) (block : List ℕ) (know
     (old new : BankView) : Type 0 where
   pub made : List Noted
   pub bank : Makes made old new
-  pub asks : (sum : List ℕ) (before : List Noted) → known ≡ map (copy_seen sum before) copies
-      → asks_of made ≡ rewrites at block (filter (λ copy. is_rewritten (copy_seen sum before copy) copy) some)
-  pub shown : (sum : List ℕ) → Shows sum copies made known known'
+  pub asks : (test : List ℕ → Bool) (before : List Noted) → known ≡ map (copy_shown test before) copies
+      → asks_of made ≡ rewrites at block (filter (λ copy. is_rewritten (copy_shown test before copy) copy) some)
+  pub shown : (test : List ℕ → Bool) → Shows test copies made known known'

@@ -10,8 +10,8 @@ use Rattle.mirror_io.specs.declared.copies.CopyOf.{CopyOf}
 use Rattle.mirror_io.specs.declared.copies.CopySeen.{CopySeen}
 use Rattle.mirror_io.specs.Copies.{tries}
 use Rattle.mirror_io.specs.Reading.{MirrorBlock}
-use Rattle.mirror_io.specs.Reads.{IsReads, heals}
-use Rattle.mirror_io.specs.Seen.{copy_seen}
+use Rattle.mirror_io.specs.Reads.{AreTried, IsReads, heals}
+use Rattle.mirror_io.specs.Seen.{is_outcome, copy_shown, copy_seen}
 
 -- the block that a read answered, where it did
 abbrev pub given : {E : Type 0} → List ℕ → Result (Unit {0}) E → Option (List ℕ)
@@ -22,6 +22,18 @@ given out (Err error) = None
 abbrev pub IsHealed : (at : ℕ) → (outcome : Option (List ℕ)) → (wrong : List CopyOf) → List Noted → Type 0
 IsHealed at (Some block) wrong made = asks_of made ≡ heals at block wrong
 IsHealed at None wrong made = made ≡ []
+
+-- A read of copies of which such bytes are good: they were read in their order, up to the first that was good, and the wrong ones
+-- rewritten with it. Of each copy is told what these calls show, where a copy is good that gave the very bytes of the answer.
+pub record ReadsGood (Good : List ℕ → Type 0) (copies : List CopyOf) (at : ℕ) (seen : List CopySeen)
+    (outcome : Option (List ℕ)) (old new : BankView) : Type 0 where
+  pub reads : List Noted
+  pub rewrites : List Noted
+  pub wrong : List CopyOf
+  pub bank : Makes (reads ++ rewrites) old new
+  pub is_tried : AreTried at Good (tries copies) reads wrong outcome
+  pub is_healed : IsHealed at outcome wrong rewrites
+  pub shown : seen ≡ map (copy_shown (is_outcome outcome) (reads ++ rewrites)) copies
 
 -- A read of a block: the copies were read in their order, up to the first that was good, and the wrong ones rewritten.
 -- Of each copy is told what these calls show.

@@ -29,8 +29,28 @@ pub record Serves (copy : CopyOf) (at : ℕ) (sum : List ℕ) (bytes : List ℕ)
   pub gives : Gives copy at None bytes call
   pub same : sha256 bytes ≡ sum
 
--- Each copy is read once, in order. One whose read failed is passed by; one that gave bytes of another sum is wrong;
--- the first that gave bytes of this sum is the last that is read, and its bytes are the outcome.
+-- A read gave bytes of this kind.
+pub record GivesSome (copy : CopyOf) (at : ℕ) (Kind : List ℕ → Type 0) (bytes : List ℕ) (call : Call) : Type 0 where
+  pub gives : Gives copy at None bytes call
+  pub is : Kind bytes
+
+-- Each copy is read once, in order. One whose read failed is passed by; one that gave bytes that aren't good is wrong; the first
+-- that gave good ones is the last that is read, and its bytes are the outcome.
+abbrev pub AreTried : (at : ℕ) → (Good : List ℕ → Type 0) → List CopyOf → List Noted → (wrong : List CopyOf)
+    → (outcome : Option (List ℕ)) → Type 0
+AreTried at Good [] made wrong outcome = (made ≡ []) × (wrong ≡ []) × (outcome ≡ None)
+AreTried at Good (copy ∷ more) [] wrong outcome = ⊥
+AreTried at Good (copy ∷ more) (noted ∷ made) wrong outcome =
+    (Fails copy at noted.call × AreTried at Good more made wrong outcome)
+    ⊎ (((others : List CopyOf) × (bytes : List ℕ) × GivesSome copy at (λ bytes. Good bytes → ⊥) bytes noted.call
+    × (wrong ≡ copy ∷ others) × AreTried at Good more made others outcome)
+    ⊎ ((bytes : List ℕ) × GivesSome copy at Good bytes noted.call × (made ≡ []) × (wrong ≡ []) × (outcome ≡ Some bytes)))
+
+-- bytes have this sum
+abbrev pub HasSum : (sum : List ℕ) → List ℕ → Type 0
+HasSum sum bytes = sha256 bytes ≡ sum
+
+-- The same where the bytes of this sum are the good ones.
 abbrev pub IsReads : (at : ℕ) → (sum : List ℕ) → List CopyOf → List Noted → (wrong : List CopyOf)
     → (outcome : Option (List ℕ)) → Type 0
 IsReads at sum [] made wrong outcome = (made ≡ []) × (wrong ≡ []) × (outcome ≡ None)

@@ -4,11 +4,13 @@
 
 mod copies;
 mod heal;
+mod judge;
 mod laws;
 mod read;
 mod write;
 
 pub use copies::{CopyOf, CopySeen, Exhausted};
+pub use judge::Judge;
 pub use laws::reads_give_the_block;
-pub use read::read_block;
+pub use read::{read_block, read_good};
 pub use write::write_block;

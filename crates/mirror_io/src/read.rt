@@ -1,18 +1,18 @@
 //! Reads of a block from its copies. They are tried in tree order, those of leaves that owe the block last, and the
-//! first whose sum is the block's answers; so bytes that a device made up are never handed out.
-ghost use Rattle.std.specs.Prelude.{◌≡◌, ℕ, ◌<◌, true, length, map, Contains, is_ok, OnOk};
+//! first that is good answers; so bytes that a device made up are never handed out.
+ghost use Rattle.std.specs.Prelude.{◌≡◌, ℕ, ◌<◌, true, false, length, map, Contains, is_ok, OnOk, OnErr};
 ghost use Rattle.std.specs.List.{AllZip, filter};
 ghost use Rattle.sha2.specs.Sha256.{sha256};
 ghost use Rattle.mirror_io.specs.Causes.{IsCause};
 ghost use Rattle.mirror_io.specs.Copies.{AreApart, AreWithin, is_due, tries};
-ghost use Rattle.mirror_io.specs.Mirror.{ReadsBlock, given};
+ghost use Rattle.mirror_io.specs.Mirror.{ReadsBlock, ReadsGood, given};
 ghost use Rattle.mirror_io.specs.Reading.{ReadsCopy, Tries, TriesCopy, outcome_of};
-ghost use Rattle.mirror_io.specs.Seen.{unread};
+ghost use Rattle.mirror_io.specs.Seen.{unread, is_good};
 
 use crate::copies::{CopyOf, CopySeen, Exhausted};
 use crate::heal::heal_all;
+use crate::judge::{Judge, SumRule};
 use bank_core::Bank;
-use sha2::{Digest, Sha256};
 
 /// Reads a block of which each of these copies has one, all at the same sector. `out` is a block of 4,096 bytes, and
 /// `seen` has a place for each copy. Any number of copies is taken, in tree order; a pool has at most 32.
@@ -39,8 +39,35 @@ pub fn read_block<B: Bank>(
     ensures causes { AllZip (IsCause (is_ok result) (B.view bank.old).faults (B.view bank.new).faults)
         copies.now seen.new }
 {
+    let mut rule = SumRule { sum: *sum };
+    read_good(bank, copies, at, &mut rule, out, seen)
+}
+
+/// The same, where this judge says which bytes are good. At `Ok` it took them, and at `Err` it is as it was.
+pub fn read_good<B: Bank, J: Judge>(
+    bank: &mut B,
+    copies: &[CopyOf],
+    at: u64,
+    judge: &mut J,
+    out: &mut [u8],
+    seen: &mut [CopySeen],
+) -> Result<(), Exhausted>
+    requires block { length out.old ≡ 4096 }
+    requires paired { length seen.old ≡ length copies.now }
+    requires within { AreWithin (B.view bank.old).size copies.now at }
+    requires apart { AreApart copies.now }
+    ensures read { ReadsGood (J.Good judge.old) copies.now at seen.new (given out.new result)
+        (B.view bank.old) (B.view bank.new) }
+    ensures taken { OnOk result (J.Good judge.old out.new) }
+    ensures whole { length out.new ≡ 4096 }
+    ensures behind { OnOk result (J.Behind judge.old out.new judge.new) }
+    ensures unchanged { OnErr result (judge.new ≡ judge.old) }
+    ensures good { OnOk result (Contains seen.new CopySeen.Good) }
+    ensures causes { AllZip (IsCause (is_ok result) (B.view bank.old).faults (B.view bank.new).faults)
+        copies.now seen.new }
+{
     clear_seen(copies, seen);
-    if !try_all(bank, copies, at, sum, out, seen) {
+    if !try_all(bank, copies, at, judge, out, seen) {
         return Err(Exhausted);
     }
     heal_all(bank, copies, at, out, seen);
@@ -58,11 +85,11 @@ fn clear_seen(copies: &[CopyOf], seen: &mut [CopySeen])
 }
 
 // Tries the copies in their order, up to the first that is good, and says whether there is one.
-fn try_all<B: Bank>(
+fn try_all<B: Bank, J: Judge>(
     bank: &mut B,
     copies: &[CopyOf],
     at: u64,
-    sum: &[u8; 32],
+    judge: &mut J,
     out: &mut [u8],
     seen: &mut [CopySeen],
 ) -> bool
@@ -70,22 +97,24 @@ fn try_all<B: Bank>(
     requires paired { length seen.old ≡ length copies.now }
     requires within { AreWithin (B.view bank.old).size copies.now at }
     requires apart { AreApart copies.now }
-    ensures { Tries (record { copies = copies.now; at = at; sum = sum.now }) (tries copies.now)
+    ensures tries { Tries (J.Good judge.old) copies.now at (tries copies.now)
         (outcome_of result out.new) seen.old seen.new (B.view bank.old) (B.view bank.new) }
+    ensures behind { result ≡ true → J.Behind judge.old out.new judge.new }
+    ensures unchanged { result ≡ false → judge.new ≡ judge.old }
 {
-    if try_due(bank, copies, false, at, sum, out, seen) {
+    if try_due(bank, copies, false, at, judge, out, seen) {
         return true;
     }
-    try_due(bank, copies, true, at, sum, out, seen)
+    try_due(bank, copies, true, at, judge, out, seen)
 }
 
 // Tries those whose leaves owe the block, or those whose leaves have it, in tree order.
-fn try_due<B: Bank>(
+fn try_due<B: Bank, J: Judge>(
     bank: &mut B,
     copies: &[CopyOf],
     owing: bool,
     at: u64,
-    sum: &[u8; 32],
+    judge: &mut J,
     out: &mut [u8],
     seen: &mut [CopySeen],
 ) -> bool
@@ -93,11 +122,13 @@ fn try_due<B: Bank>(
     requires paired { length seen.old ≡ length copies.now }
     requires within { AreWithin (B.view bank.old).size copies.now at }
     requires apart { AreApart copies.now }
-    ensures { Tries (record { copies = copies.now; at = at; sum = sum.now }) (filter (is_due owing) copies.now)
+    ensures tries { Tries (J.Good judge.old) copies.now at (filter (is_due owing) copies.now)
         (outcome_of result out.new) seen.old seen.new (B.view bank.old) (B.view bank.new) }
+    ensures behind { result ≡ true → J.Behind judge.old out.new judge.new }
+    ensures unchanged { result ≡ false → judge.new ≡ judge.old }
 {
     for i in 0..copies.len() {
-        if try_copy(bank, copies[i], owing, at, sum, out, &mut seen[i]) {
+        if try_copy(bank, copies[i], owing, at, judge, out, &mut seen[i]) {
             return true;
         }
     }
@@ -105,37 +136,47 @@ fn try_due<B: Bank>(
 }
 
 // Reads a copy where it is due, notes what it showed, and says whether it is good.
-fn try_copy<B: Bank>(
+fn try_copy<B: Bank, J: Judge>(
     bank: &mut B,
     copy: CopyOf,
     owing: bool,
     at: u64,
-    sum: &[u8; 32],
+    judge: &mut J,
     out: &mut [u8],
     seen: &mut CopySeen,
 ) -> bool
     requires block { length out.old ≡ 4096 }
     requires within { copy.readable ≡ true → at < (B.view bank.old).size copy.dev }
-    ensures { TriesCopy copy owing at sum.now (outcome_of result out.new) seen.old seen.new
+    ensures tries { TriesCopy (J.Good judge.old) copy owing at (outcome_of result out.new) seen.old seen.new
         (B.view bank.old) (B.view bank.new) }
+    ensures behind { result ≡ true → J.Behind judge.old out.new judge.new }
+    ensures unchanged { result ≡ false → judge.new ≡ judge.old }
 {
     if !copy.is_due(owing) {
         return false;
     }
-    *seen = read_copy(bank, copy.dev, at, sum, out);
+    *seen = read_copy(bank, copy.dev, at, judge, out);
     seen.is_good()
 }
 
 // Reads one copy, and says what it showed.
-fn read_copy<B: Bank>(bank: &mut B, dev: u32, at: u64, sum: &[u8; 32], out: &mut [u8]) -> CopySeen
+fn read_copy<B: Bank, J: Judge>(
+    bank: &mut B,
+    dev: u32,
+    at: u64,
+    judge: &mut J,
+    out: &mut [u8],
+) -> CopySeen
     requires block { length out.old ≡ 4096 }
     requires inside { at < (B.view bank.old).size dev }
-    ensures { ReadsCopy dev at sum.now out.new result (B.view bank.old) (B.view bank.new) }
+    ensures read { ReadsCopy (J.Good judge.old) dev at out.new result (B.view bank.old) (B.view bank.new) }
+    ensures behind { is_good result ≡ true → J.Behind judge.old out.new judge.new }
+    ensures unchanged { is_good result ≡ false → judge.new ≡ judge.old }
 {
     if bank.read(dev, at, out).is_err() {
         return CopySeen::Failed;
     }
-    if Sha256::digest(&*out) != *sum {
+    if !judge.takes(out) {
         return CopySeen::Mismatch;
     }
     CopySeen::Good

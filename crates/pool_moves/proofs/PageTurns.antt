@@ -10,7 +10,8 @@ use Rattle.label_store.specs.Newest.{IsRead, AreReads}
 use Rattle.mirror_io.specs.declared.copies.CopyOf.{CopyOf}
 use Rattle.mirror_io.specs.Copies.{is_due, tries}
 use Rattle.mirror_io.specs.Mirror.{IsHealed}
-use Rattle.mirror_io.specs.Reads.{rewrites}
+use Rattle.mirror_io.specs.Reads.{AreTried, rewrites}
+use Rattle.mirror_io.proofs.Reading.{tried_good}
 use Rattle.txg_history.specs.Events.{Calls, as_events}
 use Rattle.txg_history.specs.Moves.{IsSparing, Mays}
 use Rattle.txg_history.specs.Pages.{Codec, Sum, sum_of, ClashesAt}
@@ -22,7 +23,7 @@ use Rattle.txg_history.proofs.Logging.{by_bool, same_device, true_not_false}
 use Rattle.txg_history.proofs.Moving.{event_survives}
 use Rattle.txg_history.proofs.Showing.{read_damage, stays_damaged}
 use Rattle.txg_history.proofs.Surviving.{history_survives}
-use Rattle.pool_moves.specs.PageReads.{Reading, is_read_before, IsKnown, IsPageHere, AreTried, PageTurn, page_of, calls_of_turns, IsPageTurn, is_failed_read, failed_at}
+use Rattle.pool_moves.specs.PageReads.{Reading, is_read_before, IsKnown, IsPageHere, PageTurn, page_of, calls_of_turns, IsPageTurn, is_failed_read, failed_at}
 use Rattle.vdev_tree.specs.Leaf.{is_up}
 use Rattle.txg_history.specs.Premises.{HasGoodLeaf}
 use Rattle.txg_history.specs.Groups.{Logs}
@@ -102,17 +103,7 @@ tried_read c p k cell Good (copy ∷ more) (noted ∷ made) wrong outcome good s
     one (noted ∷ made) wrong a b sparing plain = absurd (cc)
     one [] (copy ∷ wrong) a b sparing plain = absurd (cc)
 
--- the bytes that come out of it are good
-tried_good : (at : ℕ) (Good : List ℕ → Type 0) (copies : List CopyOf) (made : List Noted) (wrong : List CopyOf) (bytes : List ℕ)
-    → AreTried at Good copies made wrong (Some bytes) → Good bytes
-tried_good at Good [] made wrong bytes tried = absurd (let no : Some bytes ≡ None = tried.2 in cc)
-tried_good at Good (copy ∷ more) [] wrong bytes tried = absurd tried
-tried_good at Good (copy ∷ more) (noted ∷ made) wrong bytes (inl (fails, rest)) = tried_good at Good more made wrong bytes rest
-tried_good at Good (copy ∷ more) (noted ∷ made) wrong bytes (inr (inl (others, found, gave, wrong_is, rest))) = tried_good at Good more made others bytes rest
-tried_good at Good (copy ∷ more) (noted ∷ made) wrong bytes (inr (inr (found, gave, made_is, wrong_is, outcome_is))) =
-    subst Good (some_same found bytes (sym outcome_is)) gave.is
-
--- and all calls are reads
+-- All calls are reads.
 pub tried_reads : (at : ℕ) (Good : List ℕ → Type 0) (copies : List CopyOf) (made : List Noted) (wrong : List CopyOf) (outcome : Option (List ℕ))
     → AreTried at Good copies made wrong outcome → AreReads made
 tried_reads at Good [] made wrong outcome tried = subst AreReads (sym tried.0) tt

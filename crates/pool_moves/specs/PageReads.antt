@@ -7,7 +7,7 @@ use Rattle.bank_core.specs.Disk.{Call, Read, Noted}
 use Rattle.mirror_io.specs.declared.copies.CopyOf.{CopyOf}
 use Rattle.mirror_io.specs.Copies.{tries}
 use Rattle.mirror_io.specs.Mirror.{IsHealed}
-use Rattle.mirror_io.specs.Reads.{Gives, Fails}
+use Rattle.mirror_io.specs.Reads.{AreTried}
 use Rattle.txg_history.specs.Pages.{Codec, Sum, IsOfVolume}
 use Rattle.txg_history.specs.Records.{key, data_start}
 use Rattle.pool_moves.specs.FreezeRow.{up_devs}
@@ -60,22 +60,6 @@ pub record IsPageHere (x : Reading) (level index : ℕ) (sum : Sum) (bytes : Lis
   pub fresh : (j : ℕ) (below other : Sum) (k : Key) → j < 64 → x.codec.pointer bytes j ≡ Some below
       → IsKnown (λ above. is_read_before above (key (suc level) index)) k → x.got k ≡ Some other
       → AreOnePlace below other → ⊥
-
--- a read gave bytes of this kind
-pub record GivesSome (copy : CopyOf) (at : ℕ) (Kind : List ℕ → Type 0) (bytes : List ℕ) (call : Call) : Type 0 where
-  pub gives : Gives copy at None bytes call
-  pub is : Kind bytes
-
--- Each copy is read once, in order. One whose read failed is passed by; one that gave bytes that aren't good is wrong; the first that
--- gave good ones is the last that is read, and its bytes are the outcome.
-abbrev pub AreTried : (at : ℕ) → (Good : List ℕ → Type 0) → List CopyOf → List Noted → (wrong : List CopyOf) → (outcome : Option (List ℕ)) → Type 0
-AreTried at Good [] made wrong outcome = (made ≡ []) × (wrong ≡ []) × (outcome ≡ None)
-AreTried at Good (copy ∷ more) [] wrong outcome = ⊥
-AreTried at Good (copy ∷ more) (noted ∷ made) wrong outcome =
-    (Fails copy at noted.call × AreTried at Good more made wrong outcome)
-    ⊎ (((others : List CopyOf) × (bytes : List ℕ) × GivesSome copy at (λ bytes. Good bytes → ⊥) bytes noted.call × (wrong ≡ copy ∷ others)
-    × AreTried at Good more made others outcome)
-    ⊎ ((bytes : List ℕ) × GivesSome copy at Good bytes noted.call × (made ≡ []) × (wrong ≡ []) × (outcome ≡ Some bytes)))
 
 -- A page that is read: its key is the one above this level of this index. Its copies are read, and wrong ones rewritten.
 pub record PageTurn : Type 0 where

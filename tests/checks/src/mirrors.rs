@@ -1,10 +1,10 @@
 //! That a read of a block finds the good copy and rewrites the wrong ones, whatever fails.
-ghost use Rattle.std.specs.Prelude.{◌≡◌, true};
+ghost use Rattle.std.specs.Prelude.{◌≡◌, true, get_or};
 ghost use Rattle.bank_core.specs.MemBank.{bank_size};
 ghost use Rattle.mirror_io.specs.Copies.{AreApart, AreWithin};
 
 use bank_core::{Bank, Fault, MemBank};
-use mirror_io::{CopyOf, CopySeen, read_block, write_block};
+use mirror_io::{CopyOf, CopySeen, Judge, read_block, read_good, write_block};
 use mp_base::{MemFault, Name};
 use sha2::{Digest, Sha256};
 use std::alloc::Global;
@@ -197,5 +197,47 @@ fn a_write_goes_on_where_any_of_its_calls_fails(rt: HostRuntime) -> Result<(), F
         let mut bank = failing_at(rt.alloc(), place)?;
         assert!(rt; writes(&mut bank, [place != 0, place != 1, place != 2]));
     }
+    Ok(())
+}
+
+/// Blocks that begin with the least byte that is left are good, and each byte is taken once.
+#[derive(Drop)]
+struct Rising {
+    least: u8,
+}
+
+impl Judge for Rising {
+    ghost Good = { λ rising bytes. get_or bytes 0 0 ≡ rising.least };
+
+    ghost Behind = { λ rising bytes behind. behind.least ≡ (rising.least + 1) % 256 };
+
+    fn takes(&mut self, bytes: &[u8]) -> bool {
+        if bytes[0] != self.least {
+            return false;
+        }
+        self.least = self.least.wrapping_add(1);
+        true
+    }
+}
+
+/// Whether a read by this judge answers so, and shows this of its two copies.
+fn reads_rising(bank: &mut MemBank, judge: &mut Rising, good: bool, shown: [CopySeen; 2]) -> bool {
+    let copies = [copy_on(0), copy_on(1)];
+    if !are_in_order(bank, &copies) {
+        return false;
+    }
+    let (mut out, mut seen) = ([0; 4096], [CopySeen::NotTried; 2]);
+    let read = read_good(bank, &copies, 0, judge, &mut out, &mut seen);
+    read.is_ok() == good && seen == shown
+}
+
+#[test]
+fn a_judge_goes_on_behind_the_bytes_that_it_took(rt: HostRuntime) -> Result<(), Fail> {
+    let mut bank = bank_of(rt.alloc(), &[1, 0])?;
+    let mut judge = Rising { least: 0 };
+    let healed = [CopySeen::Healed, CopySeen::Good];
+    assert!(rt; reads_rising(&mut bank, &mut judge, true, healed) && judge.least == 1);
+    let wrong = [CopySeen::Mismatch, CopySeen::Mismatch];
+    assert!(rt; reads_rising(&mut bank, &mut judge, false, wrong) && judge.least == 1);
     Ok(())
 }
