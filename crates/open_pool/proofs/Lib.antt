@@ -1,6 +1,13 @@
+pub mod BoardIsSeats
+pub mod BoardKept
+pub mod CopiesOfTops
 pub mod FreezesAreRows
 pub mod GroupBlocks
 pub mod KeysDirty
 pub mod KeysFound
+pub mod LeavesByTops
+pub mod LogsWidened
+pub mod NumbersApart
 pub mod PagesFormed
 pub mod PlacesGiven
+pub mod SeatsOfFreeze

@@ -2,6 +2,7 @@
 //! (docs/MODEL.md, "The open pool").
 #![tactic(auto)]
 
+mod copies;
 mod dirty;
 mod laws;
 mod pool;
