@@ -13,7 +13,7 @@ use mp_base::Place;
 
 impl Frozen {
     /// The map is that of the group's record from now on, which was acknowledged: each key of the group has its new
-    /// pointer, the place of its old one is free, and no place is pinned any more.
+    /// pointer, the place of its old one is free, and none of `pins` is pinned any more.
     pub fn adopt(self, map: &mut BlockMap, pins: &mut Pins)
         requires acked { self.acked ≡ true }
         requires keys { All (λ item. IsKey map.old.blocks item.key) self.items }

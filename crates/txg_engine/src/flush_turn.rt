@@ -16,7 +16,7 @@ impl Frozen {
     ghost use Rattle.txg_engine.specs.Turns.{Scene, IsFlushTurn, KeepsKeys, is_suspended, numbers_of};
 
     /// Flushes each leaf that is on the board, in tree order, once each key was written. A leaf whose flush failed leaves the
-    /// board, and the others go on. Behind it each key is safe on each leaf of its top that is still on the board.
+    /// board, and the others go on.
     ///
     /// At `Err` a top had nobody on the board: before the turn, and then no call was made, or behind it. Then `burn` is due.
     pub fn flush_turn<B: Bank>(&mut self, bank: &mut B, tops: &mut [Top]) -> Result<(), Suspended>

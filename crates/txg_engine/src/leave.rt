@@ -18,7 +18,8 @@ impl Frozen {
     ghost use Rattle.txg_engine.specs.Turns.{Answers, emptied_top, is_suspended};
 
     /// The leaf of this number leaves the board, where it is on it, and owes each number that was drawn for the group: it is
-    /// taken offline, or faulted, or its device is gone. Nothing happens where it isn't on the board.
+    /// taken offline, or faulted, or its device is gone. Nothing happens where it isn't on the board. A pool takes off no leaf that
+    /// is required, so the last one of a top leaves the board by a failed call alone.
     pub fn leave(&mut self, tops: &mut [Top], member: Guid)
         requires ready { All (IsReady self.old.board self.old.numbers.last.0) (leaves_of tops.old) }
         ensures group { self.new ≡ record self.old { board = map (without member) (map (as_taken member) self.old.board) } }
