@@ -141,9 +141,11 @@ apart_map v p (At d found own ∷ seats) apart =
 apart_insert : (seats : List Seat) (i : ℕ) (seat : Seat) → AreSeatsApart (seat ∷ seats) → AreSeatsApart (insert seats i seat)
 apart_insert seats zero seat apart = apart
 apart_insert [] (suc i) seat apart = apart
-apart_insert (At d found own ∷ seats) (suc i) (At e was is) apart =
-    (all_insert (IsElsewhere d) seats i (At e was is) (other_back e d apart.0.0) apart.1.0, apart_insert seats i
-    (At e was is) (apart.0.1, apart.1.1))
+apart_insert (At d found own ∷ seats) (suc i) (At e was is) apart = (
+  all_insert (IsElsewhere d) seats i (At e was is) (other_back e d apart.0.0) apart.1.0,
+  apart_insert seats i
+      (At e was is) (apart.0.1, apart.1.1),
+)
 apart_insert (At d found own ∷ seats) (suc i) (Adrift leaf) apart = (all_insert (IsElsewhere d) seats i (Adrift leaf) tt apart.0, apart_insert seats i (Adrift leaf) apart.1)
 apart_insert (Adrift leaf ∷ seats) (suc i) (At e was is) apart = apart_insert seats i (At e was is) (apart.0.1, apart.1)
 apart_insert (Adrift leaf ∷ seats) (suc i) (Adrift other) apart = apart_insert seats i (Adrift other) apart
