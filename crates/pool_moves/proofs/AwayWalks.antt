@@ -115,19 +115,17 @@ drop_found which false dev t all = all
 
 away_walk : (c : Codec) (s : PoolState) (t : Side) (leaf : LeafSeen) (temporary : Bool) (vs : List Move) → Kept c s t → IsAt t.pool.group.frozen t.pool.scan.running t.seats leaf
     → GoesAway s leaf temporary vs → Walks c t vs
-away_walk c s t leaf temporary vs kept at goes = subst (Walks c t) (sym goes.moves)
+away_walk c s t leaf temporary vs kept at goes =
+    let dropped = drop_walk c t leaf.eligible leaf.dev
+        (λ on d dev. ((at.1 on d dev).0, only_found d t.seats kept.apart (at.1 on d dev).1)) in
+    let behind = after_moves (drop_if leaf.eligible leaf.dev) t in
+    subst (Walks c t) (sym goes.moves)
     (walks_more c (drop_if leaf.eligible leaf.dev) (goes.leaving ++ (Sets leaf.guid (gone temporary leaf.own) ∷ [])) t dropped
     (walks_more c goes.leaving (Sets leaf.guid (gone temporary leaf.own) ∷ []) behind
     (leave_walk c (steps (drop_if leaf.eligible leaf.dev) s) behind leaf.on leaf.dev goes.leaving (walk_keeps c (drop_if leaf.eligible leaf.dev) s t dropped kept) (λ on d dev. (
       drop_frozen leaf.eligible leaf.dev t ∙ (at.0 on).0,
       drop_found (λ e. d == e) leaf.eligible leaf.dev t (only_found d t.seats kept.apart ((at.0 on).1 d dev)),
     )) (subst (λ core. LeaveIf leaf.on leaf.dev core goes.leaving) (sym (seen_of (drop_if leaf.eligible leaf.dev) s)) goes.leaves)) ((tt, tt), tt)))
-  where
-    dropped : Walks c t (drop_if leaf.eligible leaf.dev)
-    dropped = drop_walk c t leaf.eligible leaf.dev (λ on d dev. ((at.1 on d dev).0, only_found d t.seats kept.apart (at.1 on d dev).1))
-
-    behind : Side
-    behind = after_moves (drop_if leaf.eligible leaf.dev) t
 
 offline_leaf : (c : Codec) (already : Bool) (s : PoolState) (t : Side) (leaf : LeafSeen) (temporary : Bool) (vs : List Move) (reply : OfflineReply) → Kept c s t
     → IsAt t.pool.group.frozen t.pool.scan.running t.seats leaf → OfflineLeaf already s leaf temporary vs reply → Walks c t vs

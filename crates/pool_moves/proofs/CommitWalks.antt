@@ -53,15 +53,12 @@ empty_flush b p like frozen none = subst MayFlush (sym like.1) (record {
 })
 
 found_first : (c : Codec) (s : PoolState) (t : Side) (first : List Move) → Kept c s t → RowEmptyFreeze s first → Walks c t (first ++ (Flushed_all ∷ []))
-found_first c s t first kept row = walks_more c first (Flushed_all ∷ []) t (empty_freeze_walks c s t first kept row)
+found_first c s t first kept row = let frozen = after_move (Freeze (λ k. None) (up_devs s.core.leaves)) t in
+    let like = widens_like row.moves.widens (step (Freeze (λ k. None) (up_devs s.core.leaves)) s.core) frozen
+        frozen.pool row.moves.are (frozen.pool.owes, refl) in
+    walks_more c first (Flushed_all ∷ []) t (empty_freeze_walks c s t first kept row)
     (subst (λ vs. Walks c (after_moves vs t) (Flushed_all ∷ [])) (sym row.moves.moves)
     (((empty_flush frozen.pool (after_moves row.moves.widens frozen).pool like refl refl, tt), ap (λ p. p.group.frozen) like.1), tt))
-  where
-    frozen : Side
-    frozen = after_move (Freeze (λ k. None) (up_devs s.core.leaves)) t
-
-    like : IsLike (after_move (Freeze (λ k. None) (up_devs s.core.leaves)) t).pool (after_moves row.moves.widens (after_move (Freeze (λ k. None) (up_devs s.core.leaves)) t)).pool
-    like = widens_like row.moves.widens (step (Freeze (λ k. None) (up_devs s.core.leaves)) s.core) frozen frozen.pool row.moves.are (frozen.pool.owes, refl)
 
 pub found_walks : (c : Codec) (size : ℕ → ℕ) (s : PoolState) (t : Side) (vs : List Move) (whole : Bool) → Kept c s t → IsSized size t → RowFound c size s vs whole → Walks c t vs
 found_walks c size s t vs whole kept same row = let walks = found_first c s t row.first kept row.freeze in

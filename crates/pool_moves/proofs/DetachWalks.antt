@@ -241,21 +241,18 @@ others_of guid d (Adrift leaf ∷ seats) own off = (own.0, others_of guid d seat
 
 kept_aside : (c : Codec) (t : Side) (part : List Move) → Survives c t.pool → Walks c t part → AreSuspended part
     → IsKeptAside t (after_moves part t)
-kept_aside c t part sv walks are = subst (IsKeptAside t) (sym there) (record {
-  same = aside_along are.body frozen are.within;
-  over = refl;
-  logs = λ d mine top others. aside_burnt (t.pool.owes d) (t.pool.settled d) d (after_moves are.body frozen)
-      (aside_stays c (t.pool.owes d) (t.pool.settled d) d are.body frozen
-      (nothing_more c are.body Burn frozen (subst (Walks c t) are.moves walks).1) are.within
-      (others_still d (Freeze are.cells are.board) t tt others)
-      (aside_frozen c t.pool are.cells are.board d sv mine top));
-})
-  where
-    frozen : Side
-    frozen = after_move (Freeze are.cells are.board) t
-
-    there : after_moves part t ≡ after_move Burn (after_moves are.body frozen)
-    there = ap (λ vs. after_moves vs t) are.moves ∙ moves_more are.body (Burn ∷ []) frozen
+kept_aside c t part sv walks are = let frozen = after_move (Freeze are.cells are.board) t in
+    let there : after_moves part t ≡ after_move Burn (after_moves are.body frozen) = ap (λ vs. after_moves vs t)
+        are.moves ∙ moves_more are.body (Burn ∷ []) frozen in
+    subst (IsKeptAside t) (sym there) (record {
+      same = aside_along are.body frozen are.within;
+      over = refl;
+      logs = λ d mine top others. aside_burnt (t.pool.owes d) (t.pool.settled d) d (after_moves are.body frozen)
+          (aside_stays c (t.pool.owes d) (t.pool.settled d) d are.body frozen
+          (nothing_more c are.body Burn frozen (subst (Walks c t) are.moves walks).1) are.within
+          (others_still d (Freeze are.cells are.board) t tt others)
+          (aside_frozen c t.pool are.cells are.board d sv mine top));
+    })
 
 -- the leaf's own top
 own_top : (f r : Bool) (p : Pool) (leaf : LeafSeen) (d : ℕ) (found : Bool) (own : OwnLeaf) → leaf ≡ leaf_seen f r (told p) (At d found own)

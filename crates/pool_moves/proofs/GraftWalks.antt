@@ -119,18 +119,17 @@ may_join : (c : Codec) (size : ℕ → ℕ) (s : PoolState) (t : Side) (d : ℕ)
     → t.pool.opened ≡ true
     → 320 ≤ size d → t.pool.room top + 256 ≤ size d → m.0 < 2 ^ 64 → s.own.next_member ≤ m.0 → IsPart (stamp_plan d (size d) t.pool.pool m) made None
     → MayJoin (after Rests (with_calls made (after (Loses d) t.pool))) d m top
-may_join c size s t d m top made kept sized opened big rooms range above calls = record {
-  new = lost_member d t.pool.member;
-  in_range = range;
-  big = subst (λ n. 320 ≤ n) (sym same) big;
-  rooms = subst (λ n. t.pool.room top + 256 ≤ n) (sym same) rooms;
-  rings = stamp_blanks d (t.pool.size d) t.pool.pool m made t.pool.sectors (subst (λ n. 320 ≤ n) (sym same) big)
-      (subst (λ n. IsPart (stamp_plan d n t.pool.pool m) made None) (sym same) calls);
-  unknown = λ r is. kept.numbers.known opened r is m above;
-}
-  where
-    same : t.pool.size d ≡ size d
-    same = sized d (omega (arith, big))
+may_join c size s t d m top made kept sized opened big rooms range above calls =
+    let same = sized d (omega (arith, big)) in
+    record {
+      new = lost_member d t.pool.member;
+      in_range = range;
+      big = subst (λ n. 320 ≤ n) (sym same) big;
+      rooms = subst (λ n. t.pool.room top + 256 ≤ n) (sym same) rooms;
+      rings = stamp_blanks d (t.pool.size d) t.pool.pool m made t.pool.sectors (subst (λ n. 320 ≤ n) (sym same) big)
+          (subst (λ n. IsPart (stamp_plan d n t.pool.pool m) made None) (sym same) calls);
+      unknown = λ r is. kept.numbers.known opened r is m above;
+    }
 
 pool_opened : (c : Codec) (s : PoolState) (t : Side) → Kept c s t → s.core.opened ≡ t.pool.opened
 pool_opened c s t kept = ap (λ core. core.opened) kept.core
@@ -139,34 +138,31 @@ pool_opened c s t kept = ap (λ core. core.opened) kept.core
 comes_walk : (c : Codec) (s : PoolState) (t : Side) (i d : ℕ) (m : Guid) (top : ℕ) (own : OwnLeaf) (children : List Child) (made : List Noted) → Kept c s t
     → MayJoin (after Rests (with_calls made (after (Loses d) t.pool))) d m top → s.own.next_member ≤ m.0 → Walks c t (Lose d ∷ as_moves made)
     → Walks c (after_moves (Lose d ∷ as_moves made) t) (Rest ∷ (Comes i d m top own ∷ (Shapes top children ∷ [])))
-comes_walk c s t i d m top own children made kept may above walks = (
-  ((tt, tt), tt),
-  (
-    (
-      (subst (λ p. MayJoin (after Rests p) d m top) (sym (calls_pool made (after_move (Lose d) t))) may, tt),
-      record {
-        elsewhere = elsewhere_still d Rest stamped tt
-            (subst (AllByRecursion (IsElsewhere d)) (sym (calls_seats made (after_move (Lose d) t))) (lose_elsewhere t.pool d t.seats));
-        others =
-            other_numbers (after_move Rest stamped).pool.guid rested.own.next_member m (subst (λ n. n ≤ m.0) (sym same_next) above)
-            (after_move Rest stamped).seats
-            (walk_keeps c (Rest ∷ []) (steps (Lose d ∷ as_moves made) s) stamped (((tt, tt), tt), tt)
-            (walk_keeps c (Lose d ∷ as_moves made) s t walks kept)).numbers.below;
-        at_rest = refl;
-      },
-    ),
-    ((tt, tt), tt),
-  ),
-)
-  where
-    stamped : Side
-    stamped = after_moves (as_moves made) (after_move (Lose d) t)
-
-    rested : PoolState
-    rested = state_step Rest (steps (as_moves made) (state_step (Lose d) s))
-
-    same_next : (state_step Rest (steps (as_moves made) (state_step (Lose d) s))).own.next_member ≡ s.own.next_member
-    same_next = ap (λ x. x.own.next_member) (calls_state made (state_step (Lose d) s))
+comes_walk c s t i d m top own children made kept may above walks =
+    let stamped = after_moves (as_moves made) (after_move (Lose d) t) in
+    let rested = state_step Rest (steps (as_moves made) (state_step (Lose d) s)) in
+    let same_next : rested.own.next_member ≡ s.own.next_member = ap (λ x. x.own.next_member)
+        (calls_state made (state_step (Lose d) s)) in (
+      ((tt, tt), tt),
+      (
+        (
+          (subst (λ p. MayJoin (after Rests p) d m top) (sym (calls_pool made (after_move (Lose d) t))) may, tt),
+          record {
+            elsewhere = elsewhere_still d Rest stamped tt
+                (subst (AllByRecursion (IsElsewhere d)) (sym (calls_seats made (after_move (Lose d) t)))
+                (lose_elsewhere t.pool d t.seats));
+            others =
+                other_numbers (after_move Rest stamped).pool.guid rested.own.next_member m
+                (subst (λ n. n ≤ m.0) (sym same_next) above)
+                (after_move Rest stamped).seats
+                (walk_keeps c (Rest ∷ []) (steps (Lose d ∷ as_moves made) s) stamped (((tt, tt), tt), tt)
+                (walk_keeps c (Lose d ∷ as_moves made) s t walks kept)).numbers.below;
+            at_rest = refl;
+          },
+        ),
+        ((tt, tt), tt),
+      ),
+    )
 
 -- What the moves leave opened.
 opened_calls : (made : List Noted) (t : Side) → (after_moves (as_moves made) t).pool.opened ≡ t.pool.opened
@@ -181,36 +177,29 @@ graft_ends : (c : Codec) (size : ℕ → ℕ) (outcome : Option Fault) (graft : 
 graft_ends c size (Some fault) graft s t name leaf new d made vs reply kept sized opened off big rooms left calls ends =
     subst (Walks c t) (sym ends.0) (stamp_walk c s t d (size d) s.core.pool (new_number graft s) made (Some fault) kept off calls)
 graft_ends c size None graft s t name leaf new d made vs reply kept sized opened off big rooms left calls ends =
+    let first = graft_first graft s name leaf new d made in
+    let stamp = stamp_walk c s t d (size d) s.core.pool (new_number graft s) made None kept off calls in
+    let now_opened : t.pool.opened ≡ true = sym (pool_opened c s t kept) ∙ opened in
+    let walk : Walks c t first = walks_more c (Lose d ∷ as_moves made) (comes_in graft s name leaf new d) t stamp
+    (comes_walk c s t (new_place graft name leaf.top s.core.leaves) d (new_number graft s) leaf.top (new_own graft new)
+    (grafted graft s leaf) made kept
+    (may_join c size s t d (new_number graft s) leaf.top made kept sized now_opened big
+    (subst (λ core. core.room leaf.top + 256 ≤ size d) kept.core rooms)
+    (new_range graft s left) (new_above graft s)
+    (subst (λ core. IsPart (stamp_plan d (size d) core.pool (new_number graft s)) made None) kept.core calls))
+    (new_above graft s) stamp) in
+    let behind = walk_keeps c first s t walk kept in
+    let still_opened : (after_moves first t).pool.opened
+        ≡ true = ap (λ x. x.pool.opened)
+        (moves_more (as_moves made) (comes_in graft s name leaf new d) (after_move (Lose d) t))
+    ∙ (opened_calls made (after_move (Lose d) t) ∙ now_opened) in
+    let all : Walks c t (graft_moves graft s name leaf new d made) = walks_more c first
+        (starts_scan (steps first s) ∷ []) t walk
+    (start_walk c (steps first s) (after_moves first t) behind
+    (pool_opened c (steps first s) (after_moves first t) behind ∙ still_opened)) in
     subst (Walks c t) (sym ends.0.moves) (walks_more c (graft_moves graft s name leaf new d made) ends.0.widens t all
     (widens_walk c ends.0.widens (steps (graft_moves graft s name leaf new d made) s) (after_moves (graft_moves graft s name leaf new d made) t)
     (walk_keeps c (graft_moves graft s name leaf new d made) s t all kept) ends.0.are))
-  where
-    first : List Move
-    first = graft_first graft s name leaf new d made
-
-    stamp : Walks c t (Lose d ∷ as_moves made)
-    stamp = stamp_walk c s t d (size d) s.core.pool (new_number graft s) made None kept off calls
-
-    now_opened : t.pool.opened ≡ true
-    now_opened = sym (pool_opened c s t kept) ∙ opened
-
-    walk : Walks c t (graft_first graft s name leaf new d made)
-    walk = walks_more c (Lose d ∷ as_moves made) (comes_in graft s name leaf new d) t stamp
-        (comes_walk c s t (new_place graft name leaf.top s.core.leaves) d (new_number graft s) leaf.top (new_own graft new) (grafted graft s leaf) made kept
-        (may_join c size s t d (new_number graft s) leaf.top made kept sized now_opened big (subst (λ core. core.room leaf.top + 256 ≤ size d) kept.core rooms)
-        (new_range graft s left) (new_above graft s) (subst (λ core. IsPart (stamp_plan d (size d) core.pool (new_number graft s)) made None) kept.core calls))
-        (new_above graft s) stamp)
-
-    behind : Kept c (steps (graft_first graft s name leaf new d made) s) (after_moves (graft_first graft s name leaf new d made) t)
-    behind = walk_keeps c (graft_first graft s name leaf new d made) s t walk kept
-
-    still_opened : (after_moves (graft_first graft s name leaf new d made) t).pool.opened ≡ true
-    still_opened = ap (λ x. x.pool.opened) (moves_more (as_moves made) (comes_in graft s name leaf new d) (after_move (Lose d) t))
-        ∙ (opened_calls made (after_move (Lose d) t) ∙ now_opened)
-
-    all : Walks c t (graft_moves graft s name leaf new d made)
-    all = walks_more c first (starts_scan (steps first s) ∷ []) t walk
-        (start_walk c (steps first s) (after_moves first t) behind (pool_opened c (steps first s) (after_moves first t) behind ∙ still_opened))
 
 -- `attach` and `replace`
 graft_on : (c : Codec) (small : Bool) (size : ℕ → ℕ) (graft : Graft) (s : PoolState) (t : Side) (name : List ℕ) (leaf : LeafSeen) (new : List ℕ) (d : ℕ)

@@ -124,27 +124,22 @@ counts_make_none sum made [] = refl
 counts_make_none sum made (leaf ∷ leaves) = counts_make_none sum made leaves
 
 exhausted_calls : (s : PoolState) (sum : Sum) (vs : List Move) (row : RowCopies s.core sum vs None) → made_in vs ≡ row.reads
-exhausted_calls s sum vs row = ap made_in row.moves ∙ (made_calls (row.reads ++ row.rewrites) counts
+exhausted_calls s sum vs row =
+    let counts = count_reads sum.sum (row.reads ++ row.rewrites) (filter (stands_under sum.top) s.core.leaves) in
+    ap made_in row.moves ∙ (made_calls (row.reads ++ row.rewrites) counts
     ∙ (ap (λ l. (row.reads ++ row.rewrites) ++ l) (counts_make_none sum.sum (row.reads ++ row.rewrites) (filter (stands_under sum.top) s.core.leaves))
     ∙ (append-nil (row.reads ++ row.rewrites) ∙ (ap (λ l. row.reads ++ l) row.is_healed ∙ append-nil row.reads))))
-  where
-    counts : List Move
-    counts = count_reads sum.sum (row.reads ++ row.rewrites) (filter (stands_under sum.top) s.core.leaves)
 
 exhausted_copies : (c : Codec) (s : PoolState) (t : Side) (a : ℕ) (cell : Cell) (vs : List Move) → Kept c s t → t.pool.reads.cells (key 0 a) ≡ Some cell
     → AllAnswer t.pool.sectors (made_in vs) → RowCopies (seen t) (sum_of_cell cell) vs None
     → AllMissed (Some (sum_of_cell cell)) (made_in vs) (run (made_in vs) t.pool.sectors) (seen t).leaves
-exhausted_copies c s t a cell vs kept at answers row = subst (λ made. AllMissed (Some sum) made (run made t.pool.sectors) (seen t).leaves) (sym calls)
+exhausted_copies c s t a cell vs kept at answers row = let sum = sum_of_cell cell in
+    let calls = exhausted_calls (record { own = s.own; core = seen t }) sum vs row in
+    subst (λ made. AllMissed (Some sum) made (run made t.pool.sectors) (seen t).leaves) (sym calls)
     (missed_leaves sum row.reads (run row.reads t.pool.sectors) (seen t).leaves
     (none_served c t.pool (key 0 a) cell (tries (copies_of sum (seen t).leaves)) row.reads row.wrong kept.survives at
     (tried_all t.pool cell (copies_of sum (seen t).leaves) (copies_on t.pool cell t.pool.group.frozen t.pool.scan.running t.seats kept.away kept.seated))
     (subst (AllAnswer t.pool.sectors) calls answers) row.is_read).each)
-  where
-    sum : Sum
-    sum = sum_of_cell cell
-
-    calls : made_in vs ≡ row.reads
-    calls = exhausted_calls (record { own = s.own; core = seen t }) (sum_of_cell cell) vs row
 
 exhausted_record : (c : Codec) (s : PoolState) (t : Side) (a : ℕ) (sum : Option Sum) (vs : List Move) (shown : List LeafShown) → Kept c s t → sum ≡ sum_of (t.pool.reads.cells (key 0 a))
     → AllAnswer t.pool.sectors (made_in vs) → ReadRecord sum (seen t) vs (Exhausted shown)

@@ -326,25 +326,23 @@ module _ (c : Codec) (size : ℕ → ℕ) (handed : List ℕ → Option ℕ) (na
       → AllByRecursion (λ turn. IsReadTo x (λ k. is_read_before k (page_of turn))) turns → IsOn x r p1
       → AllAnswer p1.sectors (calls_of_turns turns ++ o.row.last) → AreReads o.row.last → MayTurns c p1 r.cells x.found turns o.row.last
   turns_each [] p1 each backs has answers reads = reads_may c p1 o.row.last reads
-  turns_each (turn ∷ turns) p1 each backs has answers reads = (
-    reads_may c p1 turn.reads (tried_reads (data_start + each.0.sum.sector) (IsPageHere x turn.level turn.index each.0.sum)
-        (tries (copies_of each.0.sum x.leaves)) turn.reads turn.wrong (Some each.0.bytes) each.0.tried),
-    λ none. let may = turn_when turn p1 each.0 backs.0 has (answer_first mine (calls_of_turns turns) p1.sectors
-        (answer_first (mine ++ calls_of_turns turns) o.row.last p1.sectors answers)) none in (
-          mays_second c (as_events turn.reads) (as_events turn.rewrites) p1 (subst (Mays c p1) (events_more turn.reads turn.rewrites) may),
-          subst (λ u. MayTurns c u r.cells x.found turns o.row.last) end_is
-              (turns_each turns (with_calls mine p1) each.1 backs.1 (on_behind x r p1 mine has may)
-              (answer_second mine (calls_of_turns turns ++ o.row.last) p1.sectors
-              (subst (AllAnswer p1.sectors) (append_assoc mine (calls_of_turns turns) o.row.last) answers)) reads),
-        ),
-  )
-    where
-      mine : List Noted
-      mine = turn.reads ++ turn.rewrites
-
-      end_is : with_calls mine p1 ≡ pool_after (as_events turn.rewrites) (pool_after (as_events turn.reads) p1)
-      end_is = sym (calls_after mine p1) ∙ (ap (λ vs. pool_after vs p1) (events_more turn.reads turn.rewrites)
-          ∙ pool_more (as_events turn.reads) (as_events turn.rewrites) p1)
+  turns_each (turn ∷ turns) p1 each backs has answers reads = let mine : List Noted = turn.reads ++ turn.rewrites in
+      let end_is : with_calls mine p1 ≡ pool_after (as_events turn.rewrites) (pool_after (as_events turn.reads) p1) =
+          sym (calls_after mine p1) ∙ (ap (λ vs. pool_after vs p1) (events_more turn.reads turn.rewrites)
+      ∙ pool_more (as_events turn.reads) (as_events turn.rewrites) p1) in (
+        reads_may c p1 turn.reads
+        (tried_reads (data_start + each.0.sum.sector) (IsPageHere x turn.level turn.index each.0.sum)
+            (tries (copies_of each.0.sum x.leaves)) turn.reads turn.wrong (Some each.0.bytes) each.0.tried),
+        λ none. let may = turn_when turn p1 each.0 backs.0 has (answer_first mine (calls_of_turns turns) p1.sectors
+            (answer_first (mine ++ calls_of_turns turns) o.row.last p1.sectors answers)) none in (
+              mays_second c (as_events turn.reads) (as_events turn.rewrites) p1
+              (subst (Mays c p1) (events_more turn.reads turn.rewrites) may),
+              subst (λ u. MayTurns c u r.cells x.found turns o.row.last) end_is
+                  (turns_each turns (with_calls mine p1) each.1 backs.1 (on_behind x r p1 mine has may)
+                  (answer_second mine (calls_of_turns turns ++ o.row.last) p1.sectors
+                  (subst (AllAnswer p1.sectors) (append_assoc mine (calls_of_turns turns) o.row.last) answers)) reads),
+            ),
+      )
 
   turns_from : AllByRecursion (IsPageTurn x) o.row.turns → AllByRecursion (λ turn. IsReadTo x (λ k. is_read_before k (page_of turn))) o.row.turns
       → AreReads o.row.last → MayTurns c (pool_after (as_events o.row.ids) q) r.cells o.row.bytes o.row.turns o.row.last
@@ -453,16 +451,16 @@ pub opening_opens : (c : Codec) (size : ℕ → ℕ) (handed : List ℕ → Opti
     → (IsOpened c s (record { pool = after (Opens r) p; seats = opened_seats p roster (c.leaves found.blob.items) row.devs })
     × Walks c (record { pool = after (Opens r) p; seats = opened_seats p roster (c.leaves found.blob.items) row.devs }) (as_moves made))
     ⊎ ClashesAt r.cells row.bytes
-opening_opens c size handed name p r roster found made s sv named is ros row answers home = ⊎_elim
+opening_opens c size handed name p r roster found made s sv named is ros row answers home =
+    let o : Opening c size handed name p r found made (Opens_state s) = record
+        { survives = sv; named = named; is = is; row = row; answers = answers; home = home } in
+    ⊎_elim
     (λ right. ⊎_elim (λ may. inl (
       opened_at c size handed name p r found made (Opens_state s) o roster s ros row.ends.2 right,
       calls_walk c made (side c size handed name p r found made (Opens_state s) o roster) may,
     ))
     (λ clash. inr clash) (map_may c size handed name p r found made (Opens_state s) o row.ends.0 row.ends.1 right))
     (λ clash. inr clash) (map_right c size handed name p r found made (Opens_state s) o row.ends.0.back)
-  where
-    o : Opening c size handed name p r found made (Opens_state s)
-    o = record { survives = sv; named = named; is = is; row = row; answers = answers; home = home }
 
 -- Its calls may be made, however it ends.
 pub opening_may : (c : Codec) (size : ℕ → ℕ) (handed : List ℕ → Option ℕ) (name : List ℕ) (p : Pool) (r : Rec) (found : Found) (made : List Noted)
@@ -471,16 +469,14 @@ pub opening_may : (c : Codec) (size : ℕ → ℕ) (handed : List ℕ → Option
     → HasNoTwin p r (claims_of (c.leaves found.blob.items) row.devs)
     → Mays c (after (Opens r) p) (as_events made) ⊎ ClashesAt r.cells row.bytes
 opening_may c size handed name p r found made (Opens_state s) sv named is row answers home =
+    let o : Opening c size handed name p r found made (Opens_state s) = record
+        { survives = sv; named = named; is = is; row = row; answers = answers; home = home } in
     ⊎_elim (λ right. map_may c size handed name p r found made (Opens_state s) o row.ends.0 row.ends.1 right) (λ clash. inr clash)
     (map_right c size handed name p r found made (Opens_state s) o row.ends.0.back)
-  where
-    o : Opening c size handed name p r found made (Opens_state s)
-    o = record { survives = sv; named = named; is = is; row = row; answers = answers; home = home }
 opening_may c size handed name p r found made (NoPage page shown) sv named is row answers home =
+    let o : Opening c size handed name p r found made (NoPage page shown) = record
+        { survives = sv; named = named; is = is; row = row; answers = answers; home = home } in
     stopped_may c size handed name p r found made (NoPage page shown) o row.ends.0 page.index shown row.ends.2
-  where
-    o : Opening c size handed name p r found made (NoPage page shown)
-    o = record { survives = sv; named = named; is = is; row = row; answers = answers; home = home }
 
 -- So they may be page by page, where only the bytes of the pages so far don't clash.
 pub opening_turns : (c : Codec) (size : ℕ → ℕ) (handed : List ℕ → Option ℕ) (name : List ℕ) (p : Pool) (r : Rec) (found : Found) (made : List Noted)
@@ -489,15 +485,13 @@ pub opening_turns : (c : Codec) (size : ℕ → ℕ) (handed : List ℕ → Opti
     → HasNoTwin p r (claims_of (c.leaves found.blob.items) row.devs)
     → MayTurns c (pool_after (as_events row.ids) (after (Opens r) p)) r.cells row.bytes row.turns row.last
 opening_turns c size handed name p r found made (Opens_state s) sv named is row answers home =
+    let o : Opening c size handed name p r found made (Opens_state s) = record
+        { survives = sv; named = named; is = is; row = row; answers = answers; home = home } in
     whole_turns c size handed name p r found made (Opens_state s) o row.ends.0 row.ends.1
-  where
-    o : Opening c size handed name p r found made (Opens_state s)
-    o = record { survives = sv; named = named; is = is; row = row; answers = answers; home = home }
 opening_turns c size handed name p r found made (NoPage page shown) sv named is row answers home =
+    let o : Opening c size handed name p r found made (NoPage page shown) = record
+        { survives = sv; named = named; is = is; row = row; answers = answers; home = home } in
     lost_turns c size handed name p r found made (NoPage page shown) o row.ends.0 page.index shown row.ends.2
-  where
-    o : Opening c size handed name p r found made (NoPage page shown)
-    o = record { survives = sv; named = named; is = is; row = row; answers = answers; home = home }
 
 -- A page that no good leaf gave.
 pub opening_loses : (c : Codec) (size : ℕ → ℕ) (handed : List ℕ → Option ℕ) (name : List ℕ) (p : Pool) (r : Rec) (found : Found) (made : List Noted)
@@ -506,10 +500,10 @@ pub opening_loses : (c : Codec) (size : ℕ → ℕ) (handed : List ℕ → Opti
     → HasNoTwin p r (claims_of (c.leaves found.blob.items) row.devs)
     → IsLostPage (pool_after (as_events made) (after (Opens r) p)) r page (answers_in (opened_leaves (c.leaves found.blob.items) row.devs) (page_calls row))
     ⊎ ClashesAt r.cells row.bytes
-opening_loses c size handed name p r found made page shown sv named is row answers home = subst
+opening_loses c size handed name p r found made page shown sv named is row answers home =
+    let o : Opening c size handed name p r found made (NoPage page shown) = record
+        { survives = sv; named = named; is = is; row = row; answers = answers; home = home } in
+    subst
     (λ k. IsLostPage (pool_after (as_events made) (after (Opens r) p)) r k (answers_in (opened_leaves (c.leaves found.blob.items) row.devs) (page_calls row))
     ⊎ ClashesAt r.cells row.bytes) (sym row.ends.1)
     (stopped_lost c size handed name p r found made (NoPage page shown) o row.ends.0 page.index shown row.ends.2)
-  where
-    o : Opening c size handed name p r found made (NoPage page shown)
-    o = record { survives = sv; named = named; is = is; row = row; answers = answers; home = home }

@@ -210,7 +210,15 @@ turn_may x r p turn found on is here right answers = subst Goal cell.2 whole is.
     good = page_here x p r turn.level turn.index cell.0 on.of is.low cell.1 right.known
 
     whole : Goal (sum_of_cell cell.0)
-    whole tried healed = same_bytes_or is.bytes cell.0.block
+    whole tried healed =
+        let are : AreRead x.codec p cell.0 turn.reads turn.wrong = tried_read x.codec p (page_of turn) cell.0
+            (IsPageHere x turn.level turn.index (sum_of_cell cell.0))
+        (tries (copies_of (sum_of_cell cell.0) x.leaves)) turn.reads turn.wrong (Some is.bytes) good
+        on.of.survives at (tried_copies p.member p.in_top p.owes cell.0 x.leaves on.leaves)
+        (answer_first turn.reads turn.rewrites p.sectors answers) tried in
+        let survives : Survives x.codec (with_calls turn.reads p) = subst (Survives x.codec) (calls_after turn.reads p)
+            (history_survives x.codec (as_events turn.reads) p on.of.survives are.may) in
+        same_bytes_or is.bytes cell.0.block
         (λ same. inl (subst (Mays x.codec p) (sym (events_more turn.reads turn.rewrites)) (mays_calls x.codec turn.reads (as_events turn.rewrites) p are.may
         (heals_may x.codec (with_calls turn.reads p) (page_of turn) cell.0 turn.wrong turn.rewrites survives at are.are are.hurt
         (healed ∙ ap (λ b. rewrites (data_start + cell.0.sector) b (filter (λ copy. not copy.lacks) turn.wrong)) same)))))
@@ -226,15 +234,6 @@ turn_may x r p turn found on is here right answers = subst Goal cell.2 whole is.
                 (tries (copies_of (sum_of_cell cell.0) x.leaves)) turn.reads turn.wrong is.bytes tried).same_sum;
           };
         }))
-      where
-        are : AreRead x.codec p cell.0 turn.reads turn.wrong
-        are = tried_read x.codec p (page_of turn) cell.0 (IsPageHere x turn.level turn.index (sum_of_cell cell.0))
-            (tries (copies_of (sum_of_cell cell.0) x.leaves)) turn.reads turn.wrong (Some is.bytes) good
-            on.of.survives at (tried_copies p.member p.in_top p.owes cell.0 x.leaves on.leaves)
-            (answer_first turn.reads turn.rewrites p.sectors answers) tried
-
-        survives : Survives x.codec (with_calls turn.reads p)
-        survives = subst (Survives x.codec) (calls_after turn.reads p) (history_survives x.codec (as_events turn.reads) p on.of.survives are.may)
 
 -- One page after another.
 pub turns_may : (x : Reading) (r : Rec) (p : Pool) (turns : List PageTurn) → IsOn x r p → AllByRecursion (IsPageTurn x) turns
@@ -331,7 +330,7 @@ due_copy : (cell : Cell) (d : ℕ) (leaves : List LeafSeen) → HasDue cell.top 
     → HasCopy d (filter (is_due false) (copies_of (sum_of_cell cell) leaves))
 due_copy cell d [] has = absurd has
 due_copy cell d (leaf ∷ leaves) (inl is) =
-    let under : stands_under cell.top leaf ≡ true = same_test leaf.top cell.top is.2 in
+    let under = same_test leaf.top cell.top is.2 in
     subst (λ t. HasCopy d (filter (is_due false)
     (map (copy_of cell.birth) (cond t (leaf ∷ filter (stands_under cell.top) leaves) (filter (stands_under cell.top) leaves))))) (sym under)
     (of (copy_of cell.birth leaf) (copy_shape leaf is.0 is.1 is.3))

@@ -54,7 +54,13 @@ page_right x cells reached level index tree back low on right = of (cells (key (
     of : (cell : Option Cell) → cells (key (suc level) index) ≡ cell → x.got (key (suc level) index) ≡ sum_of cell
         → ((j : ℕ) → j < 64 → x.got (key level (64 * index + j)) ≡ sum_of (cells (key level (64 * index + j)))) ⊎ ClashesAt cells x.found
     of None at is = inl (λ j lt. back.holes level index j low lt on is ∙ sym (ap sum_of (tree.holes level index j low lt at)))
-    of (Some cell) at is = same_bytes_or page.0 cell.block
+    of (Some cell) at is =
+        let page : (bytes : List ℕ) × (x.found (key (suc level) index) ≡ Some bytes)
+            × (sha256 bytes ≡ sha256 cell.block)
+            × ((j : ℕ) → j < 64 → x.got (key level (64 * index + j)) ≡ x.codec.pointer bytes j) = back.pages level
+            index (record { birth = cell.birth; top = cell.top; sector = cell.sector; sum = sha256 cell.block }) low on
+            is in
+        same_bytes_or page.0 cell.block
         (λ same. inl (λ j lt. page.3 j lt ∙ (ap (λ bytes. x.codec.pointer bytes j) same ∙ tree.pages level index cell low at j lt)))
         (λ other. inr (record {
           page = key (suc level) index;
@@ -64,10 +70,6 @@ page_right x cells reached level index tree back low on right = of (cells (key (
           bytes_are = page.1;
           clash = record { other = other; same_sum = page.2 };
         }))
-      where
-        page : (bytes : List ℕ) × (x.found (key (suc level) index) ≡ Some bytes) × (sha256 bytes ≡ sha256 cell.block)
-            × ((j : ℕ) → j < 64 → x.got (key level (64 * index + j)) ≡ x.codec.pointer bytes j)
-        page = back.pages level index (record { birth = cell.birth; top = cell.top; sector = cell.sector; sum = sha256 cell.block }) low on is
 
 -- what is known of a level is right
 abbrev AreRight : Reading → Cells → (reached : Key → Bool) → (level : ℕ) → Type 0
@@ -97,7 +99,7 @@ level_below x cells reached level tree back low inside known above =
     by all index lt (inr b) =
         let level_is : b.level ≡ level = sym (ap (λ k. k.level) b.is) in
         let index_is : 64 * b.index + b.j ≡ index = sym (ap (λ k. k.index) b.is) in
-        let under : b.index < width (suc level) = inside b.index b.j (subst (λ n. n < width level) (sym index_is) lt) in
+        let under = inside b.index b.j (subst (λ n. n < width level) (sym index_is) lt) in
         subst (λ n. x.got (key level n) ≡ sum_of (cells (key level n))) index_is
         (all b.index under (subst (λ l. reached (key (suc l) b.index) ≡ true) level_is b.reaches) b.j b.few)
 

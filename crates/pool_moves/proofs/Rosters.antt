@@ -96,7 +96,8 @@ pub roster_anew : (p : Pool) (was now : ℕ → ℕ) (devs : List ℕ) → IsRos
     → IsRoster (renumbered was p) (map now devs)
 roster_anew p was now devs ros back = record {
   all = λ d is. subst (λ x. IsListed x (map now devs)) (back d is) (listed_map now (was d) devs (ros.all (was d) is));
-  numbers = λ a b mine others same. let one : was a ≡ was b = same_device (was a) (was b) (ros.numbers (was a) (was b) mine others same) in
+  numbers = λ a b mine others same. let one = same_device (was a) (was b)
+      (ros.numbers (was a) (was b) mine others same) in
       let is : a ≡ b = sym (back a mine) ∙ (ap now one ∙ back b others) in subst (λ x. (a == x) ≡ true) is (here a);
 }
 
@@ -104,7 +105,7 @@ roster_anew p was now devs ros back = record {
 pub found_member : (p : Pool) (devs : List ℕ) (m : Guid) (d : ℕ) → member_of p devs m ≡ Some d → (p.member d ≡ true) × (((p.guid d).0 == m.0) ≡ true)
 found_member p [] m d is = absurd (cc)
 found_member p (e ∷ devs) m d is = by_bool (p.member e && ((p.guid e).0 == m.0))
-    (λ yes. let same : e ≡ d = some_same e d (sym (ap (λ t. cond t (Some e) (member_of p devs m)) yes) ∙ is) in
+    (λ yes. let same = some_same e d (sym (ap (λ t. cond t (Some e) (member_of p devs m)) yes) ∙ is) in
     let parts = and_parts (p.member e) ((p.guid e).0 == m.0) yes in subst (λ x. (p.member x ≡ true) × (((p.guid x).0 == m.0) ≡ true)) same (parts.0, parts.1))
     (λ off. found_member p devs m d (sym (ap (λ t. cond t (Some e) (member_of p devs m)) off) ∙ is))
 

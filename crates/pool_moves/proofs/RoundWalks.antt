@@ -116,26 +116,21 @@ ended_along false draft d q ws t same = refl
 thirds_along : (plan : Member → List Ask) (draft : Draft) (q : Rec) (ms : List Member) (was is : List Bool) (vs : List Move) (t : Side) → rec_of t.pool draft ≡ q
     → IsThirdMoves plan draft ms was is vs → IsThirds plan q ms was is (events_along vs t)
 thirds_along plan draft q [] [] [] vs t same r = ap (λ l. events_along l t) r
-thirds_along plan draft q (m ∷ ms) (true ∷ was) (c ∷ is) vs t same r = (
-  r.0,
-  events_along r.1 behind,
-  ap (λ l. events_along l t) r.2 ∙ (ap (λ x. Third x m.dev ∷ events_along (as_moves r.0 ++ (ended c draft m.dev ++ r.1)) begun) same
-      ∙ ap (λ l. Third q m.dev ∷ l) (calls_along r.0 (ended c draft m.dev ++ r.1) begun ∙ ap (λ l. as_events r.0 ++ l) (ended_along c draft m.dev q r.1 called called_same))),
-  r.3,
-  thirds_along plan draft q ms was is r.1 behind (same_rec draft (ended c draft m.dev) called (ended_label c draft m.dev) ∙ called_same) r.4,
-)
-  where
-    begun : Side
-    begun = after_move (Copies draft m.dev) t
-
-    called : Side
-    called = after_moves (as_moves r.0) (after_move (Copies draft m.dev) t)
-
-    called_same : rec_of (after_moves (as_moves r.0) (after_move (Copies draft m.dev) t)).pool draft ≡ q
-    called_same = same_rec draft (as_moves r.0) (after_move (Copies draft m.dev) t) (calls_label r.0) ∙ same
-
-    behind : Side
-    behind = after_moves (ended c draft m.dev) (after_moves (as_moves r.0) (after_move (Copies draft m.dev) t))
+thirds_along plan draft q (m ∷ ms) (true ∷ was) (c ∷ is) vs t same r =
+    let begun = after_move (Copies draft m.dev) t in
+    let called = after_moves (as_moves r.0) begun in
+    let called_same : rec_of called.pool draft ≡ q = same_rec draft (as_moves r.0) begun (calls_label r.0) ∙ same in
+    let behind = after_moves (ended c draft m.dev) called in (
+      r.0,
+      events_along r.1 behind,
+      ap (λ l. events_along l t) r.2
+      ∙ (ap (λ x. Third x m.dev ∷ events_along (as_moves r.0 ++ (ended c draft m.dev ++ r.1)) begun) same
+          ∙ ap (λ l. Third q m.dev ∷ l) (calls_along r.0 (ended c draft m.dev ++ r.1) begun
+          ∙ ap (λ l. as_events r.0 ++ l) (ended_along c draft m.dev q r.1 called called_same))),
+      r.3,
+      thirds_along plan draft q ms was is r.1 behind
+      (same_rec draft (ended c draft m.dev) called (ended_label c draft m.dev) ∙ called_same) r.4,
+    )
 thirds_along plan draft q (m ∷ ms) (false ∷ was) (c ∷ is) vs t same r = (r.0, thirds_along plan draft q ms was is vs t same r.1)
 thirds_along plan draft q [] [] (c ∷ is) vs t same r = absurd r
 thirds_along plan draft q [] (b ∷ was) is vs t same r = absurd r

@@ -74,13 +74,11 @@ not_scanned : (c : Codec) (p : Pool) (k : Key) (cell : Cell) (d : ℕ) → Survi
     → p.in_top d ≡ cell.top
     → NeedsScan p.scan p.reads p.in_top d (data_start + cell.sector) cell.block → ⊥
 not_scanned c p k cell d sv at ahead top n =
+    let one : AreAtOne cell n.cell = (sym top ∙ n.top_is, let there : data_start + cell.sector
+        ≡ data_start + n.cell.sector = n.at.sector_is in omega (arith, there)) in
+    let same : (k ≡ n.k) × (cell ≡ n.cell) = sv.one_key.one p.reads p.reads k n.k cell n.cell sv.order.reads_live
+        sv.order.reads_live at n.cell_is one in
     true_not_false (p.scan.passed k) (subst (λ j. p.scan.passed j ≡ true) (sym same.0) n.is_passed) ahead
-  where
-    one : AreAtOne cell n.cell
-    one = (sym top ∙ n.top_is, let there : data_start + cell.sector ≡ data_start + n.cell.sector = n.at.sector_is in omega (arith, there))
-
-    same : (k ≡ n.k) × (cell ≡ n.cell)
-    same = sv.one_key.one p.reads p.reads k n.k cell n.cell sv.order.reads_live sv.order.reads_live at n.cell_is one
 
 -- Copies to targets.
 copy_first : (c : Codec) (p : Pool) (k : Key) (cell : Cell) (copy : CopyOf) (more : List CopyOf) (made : List Noted) → Survives c p
@@ -198,17 +196,14 @@ was_copied : (p : Pool) (cell : Cell) (d : ℕ) (copy : CopyOf) (noted : Noted) 
     → ask_of noted.call ≡ Writes copy.dev (data_start + cell.sector) cell.block → is_dev (device_of noted.call) (Some d) ≡ true
     → is_none (fault_of noted.call) ≡ true
     → ((copy.dev == d) ≡ true → Untouched (made ++ later) d (data_start + cell.sector)) → WasCopied (pool_after (as_events (noted ∷ (made ++ later))) p) d cell
-was_copied p cell d copy noted made later long ask here ok rest = step_copies p noted (made ++ later) d cell is_write long (rest same)
-  where
-    call : (fault : Option Fault) × (noted.call ≡ Write copy.dev (data_start + cell.sector) cell.block fault)
-    call = write_call noted.call copy.dev (data_start + cell.sector) cell.block ask
-
-    same : (copy.dev == d) ≡ true
-    same = subst (λ call. is_dev (device_of call) (Some d) ≡ true) call.1 here
-
-    is_write : noted.call ≡ Write d (data_start + cell.sector) cell.block None
-    is_write = call.1 ∙ (ap (λ e. Write e (data_start + cell.sector) cell.block call.0) (same_device copy.dev d same)
-        ∙ ap (λ fault. Write d (data_start + cell.sector) cell.block fault) (none_of call.0 (subst (λ call. is_none (fault_of call) ≡ true) call.1 ok)))
+was_copied p cell d copy noted made later long ask here ok rest =
+    let call = write_call noted.call copy.dev (data_start + cell.sector) cell.block ask in
+    let same : (copy.dev == d) ≡ true = subst (λ call. is_dev (device_of call) (Some d) ≡ true) call.1 here in
+    let is_write : noted.call ≡ Write d (data_start + cell.sector) cell.block None = call.1
+        ∙ (ap (λ e. Write e (data_start + cell.sector) cell.block call.0) (same_device copy.dev d same)
+    ∙ ap (λ fault. Write d (data_start + cell.sector) cell.block fault)
+    (none_of call.0 (subst (λ call. is_none (fault_of call) ≡ true) call.1 ok))) in
+    step_copies p noted (made ++ later) d cell is_write long (rest same)
 
 others_at : (d e : ℕ) (copies : List CopyOf) → (d == e) ≡ true → AreOthers d copies → AreOthers e copies
 others_at d e copies same others = subst (λ n. AreOthers n copies) (same_device d e same) others
@@ -219,7 +214,10 @@ pub copied_at : (p : Pool) (cell : Cell) (d : ℕ) (copies : List CopyOf) (made 
 copied_at p cell d [] [] later long apart asks ok u = absurd (cc)
 copied_at p cell d [] (noted ∷ made) later long apart asks ok u = absurd (cc)
 copied_at p cell d (copy ∷ more) [] later long apart asks ok u = absurd (cc)
-copied_at p cell d (copy ∷ more) (noted ∷ made) later long apart asks ok u = ⊎_elim
+copied_at p cell d (copy ∷ more) (noted ∷ made) later long apart asks ok u =
+    let ask : ask_of noted.call ≡ Writes copy.dev (data_start + cell.sector) cell.block = cc in
+    let rest : asks_of made ≡ rewrites (data_start + cell.sector) cell.block more = cc in
+    ⊎_elim
     (λ here. let parts = and_parts (is_dev (device_of noted.call) (Some d)) (is_none (fault_of noted.call)) here in
     was_copied p cell d copy noted made later long ask parts.0 parts.1
     (λ same. untouched_more made later d (data_start + cell.sector) (copies_untouched (data_start + cell.sector) cell.block more made d
@@ -227,12 +225,6 @@ copied_at p cell d (copy ∷ more) (noted ∷ made) later long apart asks ok u =
     (others_at copy.dev d more same apart.0) rest) u))
     (λ deeper. copied_at (after (Calls noted) p) cell d more made later long apart.1 rest deeper u)
     (or_cases (is_dev (device_of noted.call) (Some d) && is_none (fault_of noted.call)) (has_copied (Some d) made) ok)
-  where
-    ask : ask_of noted.call ≡ Writes copy.dev (data_start + cell.sector) cell.block
-    ask = cc
-
-    rest : asks_of made ≡ rewrites (data_start + cell.sector) cell.block more
-    rest = cc
 
 -- Of leaves, those that pass a test, and of their copies those that are due.
 filter_step : {A B : Type 0} (P : List B → Type 0) (test : A → Bool) (g : A → B) (due : B → Bool) (x : A) (xs : List A)

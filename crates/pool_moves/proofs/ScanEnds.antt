@@ -9,7 +9,6 @@ use Rattle.bank_core.specs.Disk.{Call, Flush, Noted, AllAnswer}
 use Rattle.label_store.specs.declared.member.Member.{Member}
 use Rattle.txg_history.specs.Events.{Calls, Clears}
 use Rattle.txg_history.specs.Groups.{at_device}
-use Rattle.txg_history.specs.Moves.{Mays}
 use Rattle.txg_history.specs.Pages.{Codec, sum_of}
 use Rattle.txg_history.specs.Pools.{Pool, after}
 use Rattle.txg_history.specs.Records.{Cell}
@@ -121,37 +120,31 @@ Later c s ms ending rest = (u : PoolState) (t : Side) → u.core ≡ seen_along 
 -- a leaf whose flush answered Ok
 cleared_walk : (c : Codec) (s : PoolState) (t : Side) (m : Member) (ms : List Member) (noted : Noted) (ending rest : List Move) → AreLeft c s t (m ∷ ms)
     → noted.call ≡ Flush m.dev None → IsWidened s.core (Clear m.dev) ending → Later c s.core ms ending rest → Walks c t (Makes noted ∷ (ending ++ rest))
-cleared_walk c s t m ms noted ending rest left call is next = (
-  ((may.0, tt), tt),
-  walks_more c ending rest behind walk (next (steps ending s) (after_moves ending behind) (seen_of ending s) (record {
-    kept = walk_keeps c ending s behind walk kept;
-    running = ap (λ p. p.scan.running) like.1 ∙ left.running;
-    passed = subst IsPassed (sym like.1) left.passed;
-    eligible = subst (λ p. AllByRecursion (λ m. p.scan.eligible m.dev ≡ true) ms) (sym like.1) left.eligible.1;
-    apart = left.apart.1;
-    found = found_mapped (Clear m.dev) t ms (after_moves ending behind).seats
-        (λ which all. subst (λ l. AllByRecursion (IsOfFound which) (after_moves l behind).seats) (sym is.moves)
-        (widens_found which is.widens (step (Clear m.dev) s.core) (after_move (Clear m.dev) behind) is.are
-        (of_found_still which (Clear m.dev) behind tt (λ d found own is. is) all))) left.found.1;
-  })),
-)
-  where
-    may : Mays c t.pool (Calls noted ∷ (Clears m.dev ∷ []))
-    may = clear_may c t.pool m.dev noted left.kept.survives left.running left.eligible.0 left.passed call
-
-    behind : Side
-    behind = after_move (Makes noted) t
-
-    kept : Kept c s (after_move (Makes noted) t)
-    kept = move_keeps c (Makes noted) s t (may.0, tt) tt left.kept
-
-    walk : Walks c (after_move (Makes noted) t) ending
-    walk = widened_walk c (Clear m.dev) ending s behind kept (((may.1.0, tt), (left.running, left.found.0, left.eligible.0)), tt) is
-
-    like : IsLike (after (Clears m.dev) (after (Calls noted) t.pool)) (after_moves ending (after_move (Makes noted) t)).pool
-    like = subst (λ l. IsLike (after (Clears m.dev) (after (Calls noted) t.pool)) (after_moves l behind).pool) (sym is.moves)
-        (widens_like is.widens (step (Clear m.dev) s.core) (after_move (Clear m.dev) behind) (after (Clears m.dev) (after (Calls noted) t.pool)) is.are
-        ((after (Clears m.dev) (after (Calls noted) t.pool)).owes, refl))
+cleared_walk c s t m ms noted ending rest left call is next =
+    let may = clear_may c t.pool m.dev noted left.kept.survives left.running left.eligible.0 left.passed call in
+    let behind = after_move (Makes noted) t in
+    let kept = move_keeps c (Makes noted) s t (may.0, tt) tt left.kept in
+    let walk = widened_walk c (Clear m.dev) ending s behind kept
+        (((may.1.0, tt), (left.running, left.found.0, left.eligible.0)), tt) is in
+    let like : IsLike (after (Clears m.dev) (after (Calls noted) t.pool)) (after_moves ending behind).pool = subst
+        (λ l. IsLike (after (Clears m.dev) (after (Calls noted) t.pool)) (after_moves l behind).pool) (sym is.moves)
+    (widens_like is.widens (step (Clear m.dev) s.core) (after_move (Clear m.dev) behind)
+    (after (Clears m.dev) (after (Calls noted) t.pool)) is.are
+    ((after (Clears m.dev) (after (Calls noted) t.pool)).owes, refl)) in (
+      ((may.0, tt), tt),
+      walks_more c ending rest behind walk
+      (next (steps ending s) (after_moves ending behind) (seen_of ending s) (record {
+        kept = walk_keeps c ending s behind walk kept;
+        running = ap (λ p. p.scan.running) like.1 ∙ left.running;
+        passed = subst IsPassed (sym like.1) left.passed;
+        eligible = subst (λ p. AllByRecursion (λ m. p.scan.eligible m.dev ≡ true) ms) (sym like.1) left.eligible.1;
+        apart = left.apart.1;
+        found = found_mapped (Clear m.dev) t ms (after_moves ending behind).seats
+            (λ which all. subst (λ l. AllByRecursion (IsOfFound which) (after_moves l behind).seats) (sym is.moves)
+            (widens_found which is.widens (step (Clear m.dev) s.core) (after_move (Clear m.dev) behind) is.are
+            (of_found_still which (Clear m.dev) behind tt (λ d found own is. is) all))) left.found.1;
+      })),
+    )
 
 -- one whose flush failed, and its count
 failed_walk : (c : Codec) (s : PoolState) (t : Side) (ms : List Member) (leaf : Option LeafSeen) (rest : List Move) → AreLeft c s t ms
@@ -175,30 +168,26 @@ dropped_walk : (c : Codec) (s : PoolState) (t : Side) (m : Member) (ms : List Me
     → AreLeft c s t (m ∷ ms)
     → ask_of noted.call ≡ Flushes m.dev → fault_of noted.call ≡ Some fault → Later c s.core ms (Drop m.dev ∷ sets_failed leaf) rest
     → Walks c t (Makes noted ∷ ((Drop m.dev ∷ sets_failed leaf) ++ rest))
-dropped_walk c s t m ms noted fault leaf rest left ask fails next = (
-  ((may, tt)),
-  (
-    ((tt, tt), (left.running, left.found.0)),
-    failed_walk c (state_step (Drop m.dev) s) dropped ms leaf rest (record {
-      kept = move_keeps c (Drop m.dev) s behind (tt, tt) (left.running, left.found.0) (move_keeps c (Makes noted) s t may tt left.kept);
-      running = left.running;
-      passed = left.passed;
-      eligible = still_eligible m.dev t.pool.scan.eligible ms left.apart.0 left.eligible.1;
-      apart = left.apart.1;
-      found = found_mapped (Drop m.dev) t ms dropped.seats
-          (λ which all. of_found_still which (Drop m.dev) behind tt (λ d found own is. is) all) left.found.1;
-    }) next,
-  ),
-)
-  where
-    may : Mays c t.pool (Calls noted ∷ [])
-    may = part_may c (Flushes m.dev ∷ []) (noted ∷ []) (Some fault) t.pool (flush_sparing t.pool m.dev) (ask, inr (fault, fails, refl, refl))
-
-    behind : Side
-    behind = after_move (Makes noted) t
-
-    dropped : Side
-    dropped = after_move (Drop m.dev) (after_move (Makes noted) t)
+dropped_walk c s t m ms noted fault leaf rest left ask fails next =
+    let may = part_may c (Flushes m.dev ∷ []) (noted ∷ []) (Some fault) t.pool (flush_sparing t.pool m.dev)
+        (ask, inr (fault, fails, refl, refl)) in
+    let behind = after_move (Makes noted) t in
+    let dropped = after_move (Drop m.dev) behind in (
+      ((may, tt)),
+      (
+        ((tt, tt), (left.running, left.found.0)),
+        failed_walk c (state_step (Drop m.dev) s) dropped ms leaf rest (record {
+          kept = move_keeps c (Drop m.dev) s behind (tt, tt) (left.running, left.found.0)
+              (move_keeps c (Makes noted) s t may tt left.kept);
+          running = left.running;
+          passed = left.passed;
+          eligible = still_eligible m.dev t.pool.scan.eligible ms left.apart.0 left.eligible.1;
+          apart = left.apart.1;
+          found = found_mapped (Drop m.dev) t ms dropped.seats
+              (λ which all. of_found_still which (Drop m.dev) behind tt (λ d found own is. is) all) left.found.1;
+        }) next,
+      ),
+    )
 
 flush_walk : (c : Codec) (ms : List Member) (vs : List Move) (s : PoolState) (t : Side) → AreLeft c s t ms → AreFlushed s.core ms vs → Walks c t vs
 flush_walk c [] vs s t left flushed = subst (Walks c t) (sym flushed) tt
@@ -214,7 +203,9 @@ flush_walk c (m ∷ ms) vs s t left (noted, ending, rest, ask, vs_is, ends, late
 
 -- The end of a scan.
 end_at : (c : Codec) (s : PoolState) (t : Side) (vs : List Move) → Kept c s t → t.pool.scan.running ≡ true → RowScanEnd (scan_core t) vs → Walks c t vs
-end_at c s t vs kept running row = subst (Walks c t) (sym row.moves)
+end_at c s t vs kept running row =
+    let are = eligible_are t.pool.group.frozen t.pool t.seats t.seats kept.away (λ d has. has) in
+    subst (Walks c t) (sym row.moves)
     (walks_more c row.part (Rest ∷ []) t (flush_walk c (eligible_of t.pool.group.frozen t.pool t.seats) row.part s t (record {
       kept = kept;
       running = running;
@@ -225,9 +216,6 @@ end_at c s t vs kept running row = subst (Walks c t) (sym row.moves)
       found = each
           (λ m is. only_found m.dev t.seats kept.apart is.1) (eligible_of t.pool.group.frozen t.pool t.seats) are;
     }) (subst (λ core. AreFlushed core (eligible_of t.pool.group.frozen t.pool t.seats) row.part) (sym (seen_running c s t kept running)) row.flushed)) (((tt, tt), tt), tt))
-  where
-    are : AllByRecursion (IsEligible t.pool t.seats) (eligible_of t.pool.group.frozen t.pool t.seats)
-    are = eligible_are t.pool.group.frozen t.pool t.seats t.seats kept.away (λ d has. has)
 
 end_walks : (c : Codec) (s : PoolState) (t : Side) (vs : List Move) → Kept c s t → s.core.scan.running ≡ true → RowScanEnd s.core vs → Walks c t vs
 end_walks c s t vs kept is row =

@@ -255,56 +255,49 @@ found_good : (c : Codec) (s : PoolState) (t : Side) (k : Key) (cell : Cell) (scr
     → AreCopied (data_start + cell.sector) (Some cell.block) (targets (sum_of_cell cell) (scan_core t).leaves) copied
     → LooksBy scrubs (data_start + cell.sector) (sha256 cell.block) (Some cell.block) (untried (copies_of (sum_of_cell cell) (scan_core t).leaves) reads) looks
     → IsGood c t cell (reads ++ (rewritten ++ (copied ++ looks))) copied
-found_good c s t k cell scrubs reads rewritten copied looks wrong kept at ahead answers is_read is_healed is_copied is_looked = record {
-  may = mays_both c reads (rewritten ++ (copied ++ looks)) p are.may
-      (mays_both c rewritten (copied ++ looks) (with_calls reads p) healed (mays_both c copied looks (with_calls rewritten (with_calls reads p)) copies
-      (looks_by c (with_calls copied (with_calls rewritten (with_calls reads p))) k cell scrubs (untried (copies_of sum (scan_core t).leaves) reads) looks
-      (behind_calls c copied (with_calls rewritten (with_calls reads p)) second copies) at (untried_are p cell (copies_of sum (scan_core t).leaves) reads tried)
-      (untried_have (copies_of sum (scan_core t).leaves) reads)
-      (answer_second copied looks (run rewritten (run reads p.sectors))
-      (answer_second rewritten (copied ++ looks) (run reads p.sectors)
-      (answer_second reads (rewritten ++ (copied ++ looks)) p.sectors answers)))
-      is_looked)));
-  got = λ d owes ok. subst (λ q. WasCopied q d cell) (sym behind)
-      (copied_at (with_calls rewritten (with_calls reads p)) cell d (targets sum (scan_core t).leaves) copied looks
-      (kept.survives.one_key.mapped t.pool.reads k cell kept.survives.order.reads_live at).long
-      (targets_apart p sum t.pool.group.frozen true t.seats kept.away kept.apart) is_copied ok
-      (looks_off cell scrubs (untried (copies_of sum (scan_core t).leaves) reads) looks d
-      (others_of p cell d (untried (copies_of sum (scan_core t).leaves) reads) owes (untried_are p cell (copies_of sum (scan_core t).leaves) reads tried)
-      (untried_have (copies_of sum (scan_core t).leaves) reads)) is_looked));
-}
-  where
-    p : Pool
-    p = t.pool
-
-    sum : Sum
-    sum = sum_of_cell cell
-
-    tried : AllByRecursion (IsCopy t.pool.member t.pool.in_top t.pool.owes cell) (tries (copies_of (sum_of_cell cell) (scan_core t).leaves))
-    tried =
-        tried_all t.pool cell (copies_of (sum_of_cell cell) (scan_core t).leaves) (copies_on t.pool cell t.pool.group.frozen true t.seats kept.away kept.seated)
-
-    are : AreRead c t.pool cell reads wrong
-    are = copies_read c t.pool k cell (tries (copies_of (sum_of_cell cell) (scan_core t).leaves)) reads wrong (Some cell.block) kept.survives at tried
-        (answer_first reads (rewritten ++ (copied ++ looks)) t.pool.sectors answers) is_read
-
-    first : Survives c (with_calls reads t.pool)
-    first = behind_calls c reads t.pool kept.survives are.may
-
-    healed : Mays c (with_calls reads t.pool) (as_events rewritten)
-    healed = heals_may c (with_calls reads t.pool) k cell wrong rewritten first at are.are are.hurt is_healed
-
-    second : Survives c (with_calls rewritten (with_calls reads t.pool))
-    second = behind_calls c rewritten (with_calls reads t.pool) first healed
-
-    copies : Mays c (with_calls rewritten (with_calls reads t.pool)) (as_events copied)
-    copies = copies_may c (with_calls rewritten (with_calls reads t.pool)) k cell (targets sum (scan_core t).leaves) copied second at ahead
-        (targets_are t.pool cell (sum_of_cell cell) t.pool.group.frozen true t.seats refl refl kept.away kept.seated) is_copied
-
-    behind : with_calls (reads ++ (rewritten ++ (copied ++ looks))) t.pool ≡ pool_after (as_events (copied ++ looks))
-        (with_calls rewritten (with_calls reads t.pool))
-    behind = sym (calls_after (reads ++ (rewritten ++ (copied ++ looks))) t.pool) ∙ (more_calls reads (rewritten ++ (copied ++ looks)) t.pool
-        ∙ more_calls rewritten (copied ++ looks) (with_calls reads t.pool))
+found_good c s t k cell scrubs reads rewritten copied looks wrong kept at ahead answers is_read is_healed is_copied
+    is_looked =
+    let p : Pool = t.pool in
+    let sum = sum_of_cell cell in
+    let tried = tried_all t.pool cell (copies_of sum (scan_core t).leaves)
+        (copies_on t.pool cell t.pool.group.frozen true t.seats kept.away kept.seated) in
+    let are : AreRead c t.pool cell reads wrong = copies_read c t.pool k cell
+        (tries (copies_of sum (scan_core t).leaves)) reads wrong (Some cell.block) kept.survives at tried
+    (answer_first reads (rewritten ++ (copied ++ looks)) t.pool.sectors answers) is_read in
+    let first = behind_calls c reads t.pool kept.survives are.may in
+    let healed = heals_may c (with_calls reads t.pool) k cell wrong rewritten first at are.are are.hurt is_healed in
+    let second = behind_calls c rewritten (with_calls reads t.pool) first healed in
+    let copies : Mays c (with_calls rewritten (with_calls reads t.pool)) (as_events copied) = copies_may c
+        (with_calls rewritten (with_calls reads t.pool)) k cell (targets sum (scan_core t).leaves) copied second at
+        ahead
+    (targets_are t.pool cell sum t.pool.group.frozen true t.seats refl refl kept.away kept.seated) is_copied in
+    let behind : with_calls (reads ++ (rewritten ++ (copied ++ looks))) t.pool
+        ≡ pool_after (as_events (copied ++ looks)) (with_calls rewritten (with_calls reads t.pool)) = sym
+        (calls_after (reads ++ (rewritten ++ (copied ++ looks))) t.pool)
+        ∙ (more_calls reads (rewritten ++ (copied ++ looks)) t.pool
+    ∙ more_calls rewritten (copied ++ looks) (with_calls reads t.pool)) in
+    record {
+      may = mays_both c reads (rewritten ++ (copied ++ looks)) p are.may
+          (mays_both c rewritten (copied ++ looks) (with_calls reads p) healed
+          (mays_both c copied looks (with_calls rewritten (with_calls reads p)) copies
+          (looks_by c (with_calls copied (with_calls rewritten (with_calls reads p))) k cell scrubs
+          (untried (copies_of sum (scan_core t).leaves) reads) looks
+          (behind_calls c copied (with_calls rewritten (with_calls reads p)) second copies) at
+          (untried_are p cell (copies_of sum (scan_core t).leaves) reads tried)
+          (untried_have (copies_of sum (scan_core t).leaves) reads)
+          (answer_second copied looks (run rewritten (run reads p.sectors))
+          (answer_second rewritten (copied ++ looks) (run reads p.sectors)
+          (answer_second reads (rewritten ++ (copied ++ looks)) p.sectors answers)))
+          is_looked)));
+      got = λ d owes ok. subst (λ q. WasCopied q d cell) (sym behind)
+          (copied_at (with_calls rewritten (with_calls reads p)) cell d (targets sum (scan_core t).leaves) copied looks
+          (kept.survives.one_key.mapped t.pool.reads k cell kept.survives.order.reads_live at).long
+          (targets_apart p sum t.pool.group.frozen true t.seats kept.away kept.apart) is_copied ok
+          (looks_off cell scrubs (untried (copies_of sum (scan_core t).leaves) reads) looks d
+          (others_of p cell d (untried (copies_of sum (scan_core t).leaves) reads) owes
+          (untried_are p cell (copies_of sum (scan_core t).leaves) reads tried)
+          (untried_have (copies_of sum (scan_core t).leaves) reads)) is_looked));
+    }
 
 -- where none was found, only reads were made
 none_good : (c : Codec) (s : PoolState) (t : Side) (k : Key) (cell : Cell) (reads : List Noted) (wrong : List CopyOf) → Kept c s t
@@ -388,7 +381,14 @@ key_at c s t scrubs k cell calls copied vs kept running at answers next false ro
     (key_walk c s t calls k cell (filter (stands_under cell.top) (scan_core t).leaves)
     (is_scrubbed scrubs (sum_of_cell cell) calls copied (scan_core t).leaves) running at next
     (subst (λ made. Mays c t.pool (as_events made)) (sym row.0) tt) (quiet_brought t cell scrubs calls copied kept.away row.1)))
-key_at c s t scrubs k cell calls copied vs kept running at answers next true row moves = ⊎_elim
+key_at c s t scrubs k cell calls copied vs kept running at answers next true row moves =
+    let rest : List Noted = made_in
+        (count_reads (sha256 cell.block) calls (filter (stands_under cell.top) (scan_core t).leaves)
+    ++ (Pass k cell.birth (is_scrubbed scrubs (sum_of_cell cell) calls copied (scan_core t).leaves) ∷ [])) in
+    let made_is : made_in vs ≡ calls ++ rest = ap made_in moves
+        ∙ made_calls calls (count_reads (sha256 cell.block) calls (filter (stands_under cell.top) (scan_core t).leaves)
+    ++ (Pass k cell.birth (is_scrubbed scrubs (sum_of_cell cell) calls copied (scan_core t).leaves) ∷ [])) in
+    ⊎_elim
     (λ good. inl (subst (Walks c t) (sym moves)
     (key_walk c s t calls k cell (filter (stands_under cell.top) (scan_core t).leaves)
     (is_scrubbed scrubs (sum_of_cell cell) calls copied (scan_core t).leaves) running at next
@@ -403,14 +403,6 @@ key_at c s t scrubs k cell calls copied vs kept running at answers next true row
     }))
     (step_calls c s t k cell scrubs calls copied kept at next.ahead (answer_first calls rest t.pool.sectors
     (subst (AllAnswer t.pool.sectors) made_is answers)) row)
-  where
-    rest : List Noted
-    rest = made_in (count_reads (sha256 cell.block) calls (filter (stands_under cell.top) (scan_core t).leaves)
-        ++ (Pass k cell.birth (is_scrubbed scrubs (sum_of_cell cell) calls copied (scan_core t).leaves) ∷ []))
-
-    made_is : made_in vs ≡ calls ++ rest
-    made_is = ap made_in moves ∙ made_calls calls (count_reads (sha256 cell.block) calls (filter (stands_under cell.top) (scan_core t).leaves)
-        ++ (Pass k cell.birth (is_scrubbed scrubs (sum_of_cell cell) calls copied (scan_core t).leaves) ∷ []))
 
 key_row : (c : Codec) (s : PoolState) (t : Side) (scrubs : Bool) (vs : List Move) → Kept c s t → t.pool.scan.running ≡ true
     → AllAnswer t.pool.sectors (made_in vs)

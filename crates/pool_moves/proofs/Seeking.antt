@@ -124,7 +124,7 @@ shown_in size before slot dev bytes lt few long =
     inside : ((dev == dev) && covers at (sectors_in bytes) (at + slot)) ≡ true
     inside =
         let same : (dev == dev) ≡ true = grind (arith, nat_tests) in
-        let low : nat_le at (at + slot) ≡ true = low_of at slot in
+        let low = low_of at slot in
         let high : nat_lt (at + slot) (at + sectors_in bytes) ≡ true = high_of at slot (sectors_in bytes) few long in rw (same, low, high) refl
       where
         low_of : (n k : ℕ) → nat_le n (n + k) ≡ true

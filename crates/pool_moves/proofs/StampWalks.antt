@@ -48,7 +48,7 @@ all_of P (first ∷ leaves) leaf all (inr more) = all_of P leaves leaf all.1 mor
 pub leaf_found : (d : ℕ) (leaves : List NewLeaf) (leaf : NewLeaf) → leaf_at d leaves ≡ Some leaf → IsOneOf leaf leaves × (leaf.dev ≡ d)
 leaf_found d [] leaf is = absurd (cc)
 leaf_found d (first ∷ leaves) leaf is = by_bool (first.dev == d)
-    (λ yes. let same : leaf ≡ first = some_same leaf first (sym is ∙ ap (λ t. cond t (Some first) (leaf_at d leaves)) yes) in
+    (λ yes. let same = some_same leaf first (sym is ∙ ap (λ t. cond t (Some first) (leaf_at d leaves)) yes) in
     (inl same, ap (λ l. l.dev) same ∙ same_device first.dev d yes))
     (λ off. let more = leaf_found d leaves leaf (sym (ap (λ t. cond t (Some first) (leaf_at d leaves)) off) ∙ is) in (inr more.0, more.1))
 
@@ -327,7 +327,7 @@ stamps_make size name pool blocks tops stamps sectors new range are = record {
       let x = leaf_found d leaves a.0 a.1 in let y = leaf_found e leaves b.0 b.1 in
       let number : a.0.guid.0 ≡ b.0.guid.0 = same_device a.0.guid.0 b.0.guid.0
       (subst (λ at. ((guid_of at).0 == b.0.guid.0) ≡ true) a.1 (subst (λ at. ((guid_of (leaf_at d leaves)).0 == (guid_of at).0) ≡ true) b.1 same)) in
-      let one : a.0 ≡ b.0 = one_number leaves a.0 b.0 (from_rising 1 1 tops) x.0 y.0 number in
+      let one = one_number leaves a.0 b.0 (from_rising 1 1 tops) x.0 y.0 number in
       subst (λ n. (e == n) ≡ true) (sym y.1 ∙ (ap (λ l. l.dev) (sym one) ∙ x.1)) (here e);
   apart = seats_apart leaves new.apart;
   seated = seats_seated leaves leaves new.apart (ones leaves leaves (λ leaf is. is));
@@ -358,17 +358,15 @@ pub create_makes : (c : Codec) (size : ℕ → ℕ) (name : List ℕ) (pool : Gu
     → IsMade (new_state size name pool blocks tops)
     (record { pool = new_pool size name pool (new_leaves tops) (run (calls_of_stamps stamps) sectors); seats = map new_seat (new_leaves tops) })
     × Walks c (record { pool = new_pool size name pool (new_leaves tops) (run (calls_of_stamps stamps) sectors); seats = map new_seat (new_leaves tops) }) vs
-create_makes c size name pool blocks tops stamps vs reply sectors row none = (
-  made,
-  create_by c row.failed size (new_state size name pool blocks tops) side vs reply none
-      (made_kept c (new_state size name pool blocks tops) side made) refl row.ends,
-)
-  where
-    side : Side
-    side = record { pool = new_pool size name pool (new_leaves tops) (run (calls_of_stamps stamps) sectors); seats = map new_seat (new_leaves tops) }
-
-    made : IsMade (new_state size name pool blocks tops) side
-    made = stamps_make size name pool blocks tops stamps sectors row.is_new row.in_range (subst (AreStamps size pool (new_leaves tops) stamps) none row.are)
+create_makes c size name pool blocks tops stamps vs reply sectors row none =
+    let side : Side = record { pool = new_pool size name pool (new_leaves tops) (run (calls_of_stamps stamps) sectors);
+        seats = map new_seat (new_leaves tops) } in
+    let made = stamps_make size name pool blocks tops stamps sectors row.is_new row.in_range
+        (subst (AreStamps size pool (new_leaves tops) stamps) none row.are) in (
+      made,
+      create_by c row.failed size (new_state size name pool blocks tops) side vs reply none
+          (made_kept c (new_state size name pool blocks tops) side made) refl row.ends,
+    )
 
 -- What stamps cost another pool: the devices on which they begin.
 begins_more : (d : ℕ) (made : List Noted) (vs : List Event) → BeginsStamp d (as_events made) → BeginsStamp d (as_events made ++ vs)

@@ -296,16 +296,15 @@ came_shape s i d m top own children = ap (λ fs. record { faces = fs; children =
 graft_shape : (graft : Graft) (s : PoolState) (name : List ℕ) (leaf : LeafSeen) (new : List ℕ) (d : ℕ) (made : List Noted) (scan : Move) → IsCalm scan
     → shape_of (steps (graft_first graft s name leaf new d made ++ (scan ∷ [])) s)
     ≡ with_leaf (new_place graft name leaf.top s.core.leaves) (new_number graft s) leaf.top (grafted graft s leaf) (shape_of s)
-graft_shape graft s name leaf new d made scan calm = ap shape_of (steps_more (graft_first graft s name leaf new d made) (scan ∷ []) s)
+graft_shape graft s name leaf new d made scan calm =
+    let rested = state_step Rest (steps (as_moves made) (state_step (Lose d) s)) in
+    ap shape_of (steps_more (graft_first graft s name leaf new d made) (scan ∷ []) s)
     ∙ (shape_step scan (steps (graft_first graft s name leaf new d made) s) calm
     ∙ (ap shape_of (steps_more (as_moves made) (comes_in graft s name leaf new d) (state_step (Lose d) s))
     ∙ (came_shape rested (new_place graft name leaf.top s.core.leaves) d (new_number graft s) leaf.top (new_own graft new) (grafted graft s leaf)
     ∙ ap (with_leaf (new_place graft name leaf.top s.core.leaves) (new_number graft s) leaf.top (grafted graft s leaf))
     (shape_step Rest (steps (as_moves made) (state_step (Lose d) s)) tt
     ∙ (shape_along (as_moves made) (state_step (Lose d) s) (calls_calm made) ∙ shape_step (Lose d) s tt)))))
-  where
-    rested : PoolState
-    rested = state_step Rest (steps (as_moves made) (state_step (Lose d) s))
 
 -- the tree with the leaf, by where it is put in
 graft_under : (graft : Graft) (s : PoolState) (name : List ℕ) (leaf : LeafSeen) → IsTree (shape_of s) → leaf_named name s.core.leaves ≡ Some leaf
@@ -324,18 +323,20 @@ graft_tree : (graft : Graft) (s : PoolState) (name : List ℕ) (leaf : LeafSeen)
     → has_place graft leaf.guid (s.own.children leaf.top) ≡ true
     → HasNot (new_number graft s) (firsts (map face s.core.leaves))
     → IsTree (with_leaf (new_place graft name leaf.top s.core.leaves) (new_number graft s) leaf.top (grafted graft s leaf) (shape_of s))
-graft_tree graft s name leaf is named placed new = record {
-  tree = λ x. by_bool (leaf.top == x)
-      (λ same. ap (λ t. tree_leaves (cond t (grafted graft s leaf) (s.own.children x))) same
-      ∙ subst (λ n. tree_leaves (grafted graft s leaf) ≡ under n faces) (same_device leaf.top x same)
-      (graft_under graft s name leaf is named placed))
-      (λ off. ap (λ t. tree_leaves (cond t (grafted graft s leaf) (s.own.children x))) off
-      ∙ (is.tree x ∙ sym (under_other x (map face s.core.leaves) (new_place graft name leaf.top s.core.leaves) (new_number graft s) leaf.top off)));
-  different = firsts_insert (map face s.core.leaves) (new_place graft name leaf.top s.core.leaves) (new_number graft s) leaf.top new is.different;
-}
-  where
-    faces : List Face
-    faces = insert (map face s.core.leaves) (new_place graft name leaf.top s.core.leaves) (new_number graft s, leaf.top)
+graft_tree graft s name leaf is named placed new =
+    let faces = insert (map face s.core.leaves) (new_place graft name leaf.top s.core.leaves)
+        (new_number graft s, leaf.top) in
+    record {
+      tree = λ x. by_bool (leaf.top == x)
+          (λ same. ap (λ t. tree_leaves (cond t (grafted graft s leaf) (s.own.children x))) same
+          ∙ subst (λ n. tree_leaves (grafted graft s leaf) ≡ under n faces) (same_device leaf.top x same)
+          (graft_under graft s name leaf is named placed))
+          (λ off. ap (λ t. tree_leaves (cond t (grafted graft s leaf) (s.own.children x))) off
+          ∙ (is.tree x ∙ sym (under_other x (map face s.core.leaves) (new_place graft name leaf.top s.core.leaves)
+          (new_number graft s) leaf.top off)));
+      different = firsts_insert (map face s.core.leaves) (new_place graft name leaf.top s.core.leaves)
+          (new_number graft s) leaf.top new is.different;
+    }
 
 -- the new number is none of the leaves'
 firsts_below : (f r : Bool) (p : Pool) (n : ℕ) (m : Guid) → n ≤ m.0 → (seats : List Seat) → AllByRecursion (HasNumberBelow p.guid n) seats
@@ -448,15 +449,16 @@ same_children false a b x same = refl
 back_tree : (s : PoolState) (name : List ℕ) (leaf : LeafSeen) → IsTree (shape_of s) → leaf_named name s.core.leaves ≡ Some leaf
     → IsTree (back_leaf (place_named name s.core.leaves) (face leaf) leaf.top (s.own.children leaf.top)
     (without_leaf (place_named name s.core.leaves) leaf.top (pruned leaf.guid (s.own.children leaf.top)) (shape_of s)))
-back_tree s name leaf is named = record {
-  tree = λ x. ap tree_leaves (same_children (leaf.top == x) (s.own.children leaf.top) (pruned leaf.guid (s.own.children leaf.top)) (s.own.children x)
-      (λ same. ap s.own.children (same_device leaf.top x same)))
-      ∙ (is.tree x ∙ ap (under x) (sym again));
-  different = subst (λ fs. AreDifferent (firsts fs)) (sym again) is.different;
-}
-  where
-    again : insert (remove (map face s.core.leaves) (place_named name s.core.leaves)) (place_named name s.core.leaves) (face leaf) ≡ map face s.core.leaves
-    again = back_again (λ leaf. bytes_eq leaf.own.name name) s.core.leaves leaf named
+back_tree s name leaf is named =
+    let again = back_again (λ leaf. bytes_eq leaf.own.name name) s.core.leaves leaf named in
+    record {
+      tree = λ x. ap tree_leaves
+          (same_children (leaf.top == x) (s.own.children leaf.top) (pruned leaf.guid (s.own.children leaf.top))
+          (s.own.children x)
+          (λ same. ap s.own.children (same_device leaf.top x same)))
+          ∙ (is.tree x ∙ ap (under x) (sym again));
+      different = subst (λ fs. AreDifferent (firsts fs)) (sym again) is.different;
+    }
 
 cleaned_calm : (there spare : Bool) (dev : Option ℕ) (size : ℕ → ℕ) (vs : List Move) → IsCleaned there dev spare size vs → AllByRecursion IsCalm vs
 cleaned_calm true spare (Some d) size vs (made, outcome, calls, moves) = subst (AllByRecursion IsCalm) (sym moves) (tt, calls_calm made)

@@ -36,7 +36,7 @@ log_at f r p (At e found own) n d g is same = of (n d is)
     of : ((d == e) ≡ true) ⊎ (((p.guid e).0 == (p.guid d).0) ≡ false) → p.owes e g ≡ p.owes d g
     of (inl one) = ap (λ x. p.owes x g) (let back : e ≡ d = grind (arith, nat_tests) in back)
     of (inr other) = absurd (let yes : ((p.guid e).0 == (p.guid d).0) ≡ true = grind (arith, nat_tests) in cc)
-log_at f r p (Adrift leaf) n d g is same = absurd (let other : (leaf.guid.0 == (p.guid d).0) ≡ false = n d is in
+log_at f r p (Adrift leaf) n d g is same = absurd (let other = n d is in
     let yes : (leaf.guid.0 == (p.guid d).0) ≡ true = grind (arith, nat_tests) in cc)
 
 logs_at : (f r : Bool) (p : Pool) (seats : List Seat) → ((d : ℕ) → p.member d ≡ true → AllByRecursion (IsOwnNumber p.guid d) seats)
@@ -201,7 +201,12 @@ calls_pool (noted ∷ made) t = calls_pool made (after_move (Makes noted) t)
 pub turn_walk : (c : Codec) (s : PoolState) (t : Side) (made : List Noted) (ms : List Member) (results : List Bool) (leaving : List Move) (mark : Move) (v : Event) → Kept c s t
     → t.pool.group.frozen ≡ true → IsMark c mark v → AllByRecursion (λ m. AllByRecursion (IsOfFound (λ e. m.dev == e)) t.seats) ms
     → Mays c t.pool (as_events made ++ (leavers ms results ++ (v ∷ []))) → AreLeaves s.core ms results leaving → Walks c t (turn_moves made leaving mark)
-turn_walk c s t made ms results leaving mark v kept f is found may are = walks_more c (as_moves made) (leaving ++ (mark ∷ [])) t walk
+turn_walk c s t made ms results leaving mark v kept f is found may are =
+    let walk : Walks c t (as_moves made) = walk_of c (as_moves made) t
+        (subst (Mays c t.pool) (sym (only_calls made t))
+        (mays_first c (as_events made) (leavers ms results ++ (v ∷ [])) t.pool may))
+    (free_walk (as_moves made) t f (calls_free t.seats made)) in
+    walks_more c (as_moves made) (leaving ++ (mark ∷ [])) t walk
     (leaves_walk c ms results leaving (mark ∷ []) (steps (as_moves made) s) (after_moves (as_moves made) t) (pool_after (as_events made) t.pool)
     (walk_keeps c (as_moves made) s t walk kept) ((pool_after (as_events made) t.pool).owes, calls_pool made t) (frozen_along (as_moves made) t (calls_free t.seats made) ∙ f)
     (each
@@ -209,10 +214,6 @@ turn_walk c s t made ms results leaving mark v kept f is found may are = walks_m
     (subst (λ core. AreLeaves core ms results leaving) (sym (seen_of (as_moves made) s ∙ calls_seen made s.core)) are)
     (λ u like g. mark_walk c u (pool_after (leavers ms results) (pool_after (as_events made) t.pool)) mark v is like g
     (mays_second c (leavers ms results) (v ∷ []) (pool_after (as_events made) t.pool) (mays_second c (as_events made) (leavers ms results ++ (v ∷ [])) t.pool may))))
-  where
-    walk : Walks c t (as_moves made)
-    walk = walk_of c (as_moves made) t (subst (Mays c t.pool) (sym (only_calls made t)) (mays_first c (as_events made) (leavers ms results ++ (v ∷ [])) t.pool may))
-        (free_walk (as_moves made) t f (calls_free t.seats made))
 
 -- a walk without its last move
 pub nothing_more : (c : Codec) (vs : List Move) (last : Move) (t : Side) → Walks c t (vs ++ (last ∷ [])) → Walks c t vs

@@ -112,7 +112,7 @@ bears_known c h name blocks tops pool stamps may are new =
     let s = new_state (size_in h.table) name pool blocks (tops_of h.table tops) in
     let t = side_behind h name pool tops stamps in
     let made = is_made h name blocks tops pool stamps may are in
-    let kept : Kept c s t = made_kept c s t made in
+    let kept = made_kept c s t made in
     let none : (x : PoolState) → IsOpen x (host_stamped h pool.0 stamps).pools → x.core.pool.0 ≢ pool.0 = λ x is. new.number x (subst (IsOpen x) (stamps_pools pool.0 stamps h) is) in
     let only = new_pools pool.0 s (host_stamped h pool.0 stamps).pools none in (
       record {

@@ -207,8 +207,8 @@ create_names c h name blocks tops acts reply device from to (inr (inl row)) caus
     }
 create_names c h name blocks tops acts reply device from to (inr (inr row)) caused says =
     let first = create_from c h name blocks tops acts reply device row says in
-    let answer_is : row.answer ≡ FaultOn device = answer_same row.answer (FaultOn device) (sym row.says ∙ says) in
-    let behind : List Act = commit_acts row.answer row.pool.0 row.moves in
+    let answer_is = answer_same row.answer (FaultOn device) (sym row.says ∙ says) in
+    let behind = commit_acts row.answer row.pool.0 row.moves in
     let calls : calls_along acts ≡ calls_of_stamps row.stamps ++ made_in row.moves =
     ap calls_along row.all
     ∙ (calls_more (stamp_acts row.pool.0 row.stamps)

@@ -121,7 +121,10 @@ record Looked_live (p before : Pool) (found : Found) : Type 0 where
 -- the pool behind the calls of an opening
 opens_behind : (c : Codec) (h : Host) (p : Pool) (name : List ℕ) (known : Known) (found : Found) (acts : List Act) (reply : Reply) (opens : OpensFound c h name known found acts reply) → p.pool.0 ≡ found.pool.0
     → pool_along acts p ≡ pool_along opens.rest (pool_after (as_events opens.made) (after (Opens (read_by (opening_of c h name known found acts reply opens) p)) p))
-opens_behind c h p name known found acts reply opens number = let g = found.pool.0 in let r = read_by (opening_of c h name known found acts reply opens) p in
+opens_behind c h p name known found acts reply opens number =
+    let mark : Act = Marks found.pool.0 (Seeks_by opens.row.ids opens.row.devs) in
+    let turned = map_acts found.pool.0 opens.row.bytes opens.row.turns opens.row.last opens.rest in
+    let g = found.pool.0 in let r = read_by (opening_of c h name known found acts reply opens) p in
     ap (λ a. pool_along a p) opens.are
     ∙ (ap (λ vs. pool_along (bare opens.row.ids ++ (all_shown g (read_in opens.row.ids) opens.row.devs ++ (mark ∷ turned))) (pool_after vs p))
     (ap (λ t. cond t (Opens r ∷ []) []) (same_number p.pool.0 found.pool.0 number))
@@ -130,12 +133,6 @@ opens_behind c h p name known found acts reply opens number = let g = found.pool
     ∙ (map_more g opens.row.bytes opens.row.turns opens.row.last opens.rest (pool_after (as_events opens.row.ids) (after (Opens r) p))
     ∙ ap (pool_along opens.rest) (sym (ap (λ vs. pool_after vs (after (Opens r) p)) (ap as_events opens.row.calls ∙ events_more opens.row.ids (page_calls opens.row))
     ∙ pool_more (as_events opens.row.ids) (as_events (page_calls opens.row)) (after (Opens r) p)))))))
-  where
-    mark : Act
-    mark = Marks found.pool.0 (Seeks_by opens.row.ids opens.row.devs)
-
-    turned : List Act
-    turned = map_acts found.pool.0 opens.row.bytes opens.row.turns opens.row.last opens.rest
 
 -- the pool that enters and makes its moves is the open one of its name
 pub does_head : (g : ℕ) (vs : List Move) (s : PoolState) (pools : List PoolState) (h : Host) → h.pools ≡ s ∷ pools → s.core.pool.0 ≡ g
@@ -212,9 +209,10 @@ opens_live c h p before name known found acts reply n knows live titled made fai
     committed s vs m out row rest answers =
         let has = facts.seats s out in
         let t : Side = record { pool = q; seats = has.0 } in
-        let kept : Kept c (steps vs s) (after_moves vs t) = walk_keeps c vs s t (resume_walks c (size_in h.table) s t vs (Committed m) has.1 q_sized row) has.1 in
+        let kept = walk_keeps c vs s t (resume_walks c (size_in h.table) s t vs (Committed m) has.1 q_sized row)
+            has.1 in
         let end = resumed_by (lacking_of s.core.leaves s.core.leaves) c (size_in h.table) s t vs m kept row in
-        let same : m ≡ n = opened_number m n (sym answers ∙ says) in
+        let same = opened_number m n (sym answers ∙ says) in
         let pool_is : pool_along acts p ≡ (after_moves vs t).pool = behind ∙ (ap (λ a. pool_along a q) rest ∙ does_pool g vs t q_number) in
         let s_number : s.core.number ≡ number_of r = ap (λ core. core.number) has.1.core ∙ q_highest in
         let mine : s.core.pool.0 ≡ g = ap (λ core. core.pool.0) has.1.core ∙ q_number in

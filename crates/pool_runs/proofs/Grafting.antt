@@ -298,9 +298,7 @@ entry_row c h e p d asked is row = inl (row_keeps c h asked e.acts e.reply (reco
 pub entry_keeps : (c : Codec) (h : Host) (e : Entry) (d : ℕ) (p : Pool) → HostRow c h e → p.member d ≡ true → ((pool_along e.acts p).member d ≡ true) ⊎ IsTakenBy p h e d
 entry_keeps c h e d p (inl row) is = ⊎_elim (λ keeps. inl (acts_held (record { pool = p.pool.0; d = d; guid = p.guid d }) e.acts p keeps (record { number = refl; member = is; guid_is = refl })).member)
     (λ taken. inr taken) (entry_row c h e p d e.asked refl row.0)
-entry_keeps c h e d p (inr out) is = inl (acts_held x e.acts p
+entry_keeps c h e d p (inr out) is = let x : Held = record { pool = p.pool.0; d = d; guid = p.guid d } in
+    inl (acts_held x e.acts p
     (⊎_elim (λ early. none_keeps x e.acts early.0) (λ rewrites. rewrite_front c h e.asked e.acts out.rest out.reply x rewrites out.goes_on) out.early)
     (record { number = refl; member = is; guid_is = refl })).member
-  where
-    x : Held
-    x = record { pool = p.pool.0; d = d; guid = p.guid d }

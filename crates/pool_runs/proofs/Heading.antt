@@ -14,11 +14,10 @@ use Rattle.txg_history.proofs.Folding.{mays_second, pool_more}
 use Rattle.txg_history.proofs.ScansBring.{cleared_copied, groups_leave}
 use Rattle.txg_history.proofs.Surviving.{survives_sound}
 use Rattle.pool_moves.specs.AwayRows.{OfflineReply, Gone, Required, LeastOut, is_offline, is_spare, leaf_named, siblings, OfflineLeaf, OfflineHere, OfflineBy}
-use Rattle.pool_moves.specs.Keeping.{Kept}
 use Rattle.pool_moves.specs.Leaves.{LeafSeen, Seat}
 use Rattle.pool_moves.specs.LineRows.{TurnReply, SyncReply, Ended, Committed, Suspended, RowTurn, SyncBy, RowSync}
 use Rattle.pool_moves.specs.Missing.{AllMissed}
-use Rattle.pool_moves.specs.Moves.{Move, steps, after_moves}
+use Rattle.pool_moves.specs.Moves.{Move}
 use Rattle.pool_moves.specs.ReadRow.{ReadReply, Gives, Exhausted, NoAddress, RowRead, made_in}
 use Rattle.pool_moves.specs.Showing.{LeafShown}
 use Rattle.pool_moves.specs.StampRow.{FaultOn}
@@ -241,7 +240,8 @@ line_syncs c h p e name s n met asked at is = of met.row
         let t : Side = record { pool = p; seats = has.0 } in
         let vs = line.2.moves in
         let done : RowSync c (size_in h.table) s vs (Ended (Committed n)) = subst (RowSync c (size_in h.table) s vs) (sync_reply line.0 (Ended (Committed n)) (sym line.1 ∙ is)) line.2.row in
-        let kept : Kept c (steps vs s) (after_moves vs t) = walk_keeps c vs s t (sync_walks c (size_in h.table) s t vs (Ended (Committed n)) has.1 met.knows.sizes done) has.1 in
+        let kept = walk_keeps c vs s t
+            (sync_walks c (size_in h.table) s t vs (Ended (Committed n)) has.1 met.knows.sizes done) has.1 in
         subst (λ q. CommitsAll p q n) (sym (ap (λ a. pool_along a p) line.2.are ∙ does_pool s.core.pool.0 vs t (sym at.ours)))
         (sync_all c (size_in h.table) s t vs n has.1 kept done)
     of (inr out) = sync_not_memory (Ended (Committed n)) (sym is ∙ out.says)

@@ -9,7 +9,6 @@ use Rattle.mp_base.specs.declared.place.Key.{Key}
 use Rattle.bank_core.specs.Calls.{device_of}
 use Rattle.bank_core.specs.Disk.{Noted, AllAnswer, run}
 use Rattle.label_store.proofs.Reading.{look_reads}
-use Rattle.label_store.specs.Newest.{AreReads}
 use Rattle.label_store.specs.declared.found.Found.{Found}
 use Rattle.label_store.specs.Rounds.{config_of}
 use Rattle.txg_history.specs.Events.{Known, Calls, Looks, Opens, as_events}
@@ -86,7 +85,7 @@ record_found found (q ∷ live) other r is same = by_bool (is_record_of found q)
 pub record_live : (p : Pool) (found : Found) (r : Rec) → IsLiveOne p found r → IsLiveOne p found (record_of found p.live p.reads)
 record_live p found r is =
     let config : bytes_eq found.blob.items (config_of r.commit) ≡ true = (bytes_eq-Decides found.blob.items (config_of r.commit)).1 is.config_is in
-    let number : (found.number.0 == number_of r) ≡ true = same_number found.number.0 (number_of r) (ap (λ n. n.0) is.number_is) in
+    let number = same_number found.number.0 (number_of r) (ap (λ n. n.0) is.number_is) in
     let same : is_record_of found r ≡ true = ap (λ t. t && (found.number.0 == number_of r)) config ∙ number in
     let has = record_found found p.live p.reads r is.is_live same in
     let parts = and_parts (bytes_eq found.blob.items (config_of (record_of found p.live p.reads).commit)) (found.number.0 == number_of (record_of found p.live p.reads)) has.1 in
@@ -239,15 +238,12 @@ opening_of c h name known found acts reply opens = record { name = name; known =
 opens_twin : (c : Codec) (h : Host) (p : Pool) (name : List ℕ) (found : Found) (r : Rec) (made : List Noted) (outcome : OpenReply)
     → (row : RowOpen c (size_in h.table) (free_in h) name found made outcome) → Knows c h p → IsLiveOne p found r
     → IsFairMark (pool_after (as_events row.ids) (after (Opens r) p)) (Seeks_by row.ids row.devs) → HasNoTwin p r (claims_of (c.leaves found.blob.items) row.devs)
-opens_twin c h p name found r made outcome row knows is fair = row_no_twin c (size_in h.table) (free_in h) name p r found made outcome knows.survives knows.sizes is row
+opens_twin c h p name found r made outcome row knows is fair = let q = after (Opens r) p in
+    let reads = sought_reads found.pool (size_in h.table) (c.room found.blob.items) (free_in h)
+        (c.leaves found.blob.items) row.ids row.devs row.sought in
+    row_no_twin c (size_in h.table) (free_in h) name p r found made outcome knows.survives knows.sizes is row
     (whole_before row.ids row.ids q reads fair.0)
     (λ d m claim. ap (λ x. x.member d) (sym (calls_after row.ids q)) ∙ claimed_member (pool_after (as_events row.ids) q) (c.leaves found.blob.items) row.devs d m fair.1 claim)
-  where
-    q : Pool
-    q = after (Opens r) p
-
-    reads : AreReads row.ids
-    reads = sought_reads found.pool (size_in h.table) (c.room found.blob.items) (free_in h) (c.leaves found.blob.items) row.ids row.devs row.sought
 
 -- What is fair of an opening, and what follows from it.
 pub record FairOpening (c : Codec) (h : Host) (p : Pool) (name : List ℕ) (known : Known) (found : Found) (acts : List Act) (reply : Reply) (opens : OpensFound c h name known found acts reply) : Type 0 where
@@ -285,35 +281,29 @@ opening_front c h name known found acts reply opens = (
     pages = mark ∷ map_acts found.pool.0 opens.row.bytes opens.row.turns opens.row.last []
 
 pub opening_calls : (c : Codec) (h : Host) (name : List ℕ) (known : Known) (found : Found) (acts : List Act) (reply : Reply) → (opens : OpensFound c h name known found acts reply) → calls_along acts ≡ opens.made ++ calls_along opens.rest
-opening_calls c h name known found acts reply opens =
+opening_calls c h name known found acts reply opens = let g : ℕ = found.pool.0 in
+    let more : List Act = Marks g (Seeks_by opens.row.ids opens.row.devs) ∷ map_acts g opens.row.bytes opens.row.turns
+        opens.row.last opens.rest in
     ap calls_along opens.are ∙ (bare_calls opens.row.ids (all_shown g (read_in opens.row.ids) opens.row.devs ++ more)
     ∙ (ap (λ l. opens.row.ids ++ l) (shown_calls g (read_in opens.row.ids) opens.row.devs more
     ∙ map_calls_along g opens.row.bytes opens.row.turns opens.row.last opens.rest)
     ∙ (sym (append_assoc opens.row.ids (page_calls opens.row) (calls_along opens.rest)) ∙ ap (λ l. l ++ calls_along opens.rest) (sym opens.row.calls))))
-  where
-    g : ℕ
-    g = found.pool.0
-
-    more : List Act
-    more = Marks g (Seeks_by opens.row.ids opens.row.devs) ∷ map_acts g opens.row.bytes opens.row.turns opens.row.last opens.rest
 
 pub opening_facts : (c : Codec) (h : Host) (p : Pool) (name : List ℕ) (known : Known) (found : Found) (acts : List Act) (reply : Reply) (one : Rec) → (opens : OpensFound c h name known found acts reply) → Knows c h p → IsLiveOne p found one
     → AreMade h (calls_along acts) → FairOpening c h p name known found acts reply opens → OpeningFacts c h p name known found acts reply opens
-opening_facts c h p name known found acts reply one opens knows found_one made fair = record {
-  is = is;
-  seats = opens_seats c h p name found r opens.made opens.outcome opens.row knows fair.named is answers fair.twin fair.pages;
-  pages = λ page shown out. ⊎_elim (λ lost. lost) (λ clash. absurd (fair.pages clash))
-      (opens_lost c h p name found r opens.made opens.outcome opens.row knows fair.named is answers fair.twin page shown out);
-}
-  where
-    r : Rec
-    r = read_by (opening_of c h name known found acts reply opens) p
-
-    is : IsLiveOne p found (read_by (opening_of c h name known found acts reply opens) p)
-    is = record_live p found one found_one
-
-    answers : AllAnswer p.sectors opens.made
-    answers = opening_answers h p opens.made (calls_along opens.rest) (subst (AreMade h) (opening_calls c h name known found acts reply opens) made) knows.disk
+opening_facts c h p name known found acts reply one opens knows found_one made fair =
+    let r = read_by (opening_of c h name known found acts reply opens) p in
+    let is = record_live p found one found_one in
+    let answers = opening_answers h p opens.made (calls_along opens.rest)
+        (subst (AreMade h) (opening_calls c h name known found acts reply opens) made) knows.disk in
+    record {
+      is = is;
+      seats = opens_seats c h p name found r opens.made opens.outcome opens.row knows fair.named is answers fair.twin
+          fair.pages;
+      pages = λ page shown out. ⊎_elim (λ lost. lost) (λ clash. absurd (fair.pages clash))
+          (opens_lost c h p name found r opens.made opens.outcome opens.row knows fair.named is answers fair.twin page
+          shown out);
+    }
 
 -- what was fair of an opening's acts
 pub opening_fair : (c : Codec) (h : Host) (p : Pool) (name : List ℕ) (known : Known) (found : Found) (acts : List Act) (reply : Reply) (one : Rec) → (opens : OpensFound c h name known found acts reply) → Knows c h p → IsLiveOne p found one
@@ -507,24 +497,31 @@ calls_known c [] h p may knows = knows
 calls_known c (noted ∷ made) h p may knows = calls_known c made (record h { disk = run (noted ∷ []) h.disk }) (after (Calls noted) p) may.1 (call_known c h p noted (may.0, tt) knows)
 
 pub look_facts : (c : Codec) (h : Host) (p : Pool) (name : List ℕ) (acts : List Act) (reply : Reply) → Knows c h p → AreMade h (calls_along acts) → (row : Imports c h name acts reply) → LookFacts c h p name acts reply row
-look_facts c h p name acts reply knows made row = record {
-  knows = calls_known c row.made h p (reads_may c p row.made (look_reads (size_in h.table) (handed h.table) row.row.looks row.made row.row.look)) knows;
-  looked = true_look c h name row.made row.seek row.row (answer_first row.made (calls_along row.rest) h.disk all.answer);
-  made = record {
-    here = all_second (λ noted. 1 ≤ size_in h.table (device_of noted.call)) row.made (calls_along row.rest) all.here;
-    answer = answer_second row.made (calls_along row.rest) h.disk all.answer;
-  };
-  seeks = λ same premises. seeks_live c (size_in h.table) (handed h.table) name row.made p row.seek knows.survives knows.sizes same
-      (opening_answers h p row.made (calls_along row.rest) all knows.disk) row.row premises;
-}
-  where
-    all : AreMade h (row.made ++ calls_along row.rest)
-    all = subst (AreMade h) (ap calls_along row.are ∙ bare_calls row.made (Looked name (known_by (size_in h.table) (handed h.table) row.row.looks) ∷ row.rest)) made
+look_facts c h p name acts reply knows made row =
+    let all : AreMade h (row.made ++ calls_along row.rest) = subst (AreMade h)
+        (ap calls_along row.are
+        ∙ bare_calls row.made (Looked name (known_by (size_in h.table) (handed h.table) row.row.looks) ∷ row.rest))
+        made in
+    record {
+      knows = calls_known c row.made h p
+          (reads_may c p row.made (look_reads (size_in h.table) (handed h.table) row.row.looks row.made row.row.look))
+          knows;
+      looked = true_look c h name row.made row.seek row.row
+          (answer_first row.made (calls_along row.rest) h.disk all.answer);
+      made = record {
+        here = all_second (λ noted. 1 ≤ size_in h.table (device_of noted.call)) row.made (calls_along row.rest)
+            all.here;
+        answer = answer_second row.made (calls_along row.rest) h.disk all.answer;
+      };
+      seeks = λ same premises. seeks_live c (size_in h.table) (handed h.table) name row.made p row.seek knows.survives
+          knows.sizes same
+          (opening_answers h p row.made (calls_along row.rest) all knows.disk) row.row premises;
+    }
 
 pub taken_live : (c : Codec) (p : Pool) (made : List Noted) (known : Known) (seek : SeekReply) (found : Found) → SeeksLive c p made known seek → seek ≡ TakesRecord found
     → (r : Rec) × IsLiveOne (pool_after (as_events made) p) found r × (number_of p.acked ≤ number_of r)
 taken_live c p made known seek found seeks is =
-    let one : found ≡ seeks.found = taken_same (nat_le last_numbers seeks.found.number.0) found seeks.found (sym is ∙ seeks.says) in
+    let one = taken_same (nat_le last_numbers seeks.found.number.0) found seeks.found (sym is ∙ seeks.says) in
     (seeks.r, subst (λ f. IsLiveOne (pool_after (as_events made) p) f seeks.r) (sym one) seeks.is, seeks.not_below)
 
 -- so the record that they found is a live one, where it was asked for by the pool's name and has the premises

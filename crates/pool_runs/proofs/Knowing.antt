@@ -265,8 +265,8 @@ looked_acted c h p known false look knows = (tt, knows)
 
 does_acted : (c : Codec) (h : Host) (p : Pool) (g : ℕ) (v : Move) → g ≢ p.pool.0 → IsOwnMove g h.owner v → Knows c h p → Acted c h p (Does g v)
 does_acted c h p g v off own knows =
-    let may : Mays c p (as_events (made_in (v ∷ []))) = calls_may v own in
-    let events : events_for (Does g v) p ≡ as_events (made_in (v ∷ [])) = other_events g v p (λ e. off (sym e)) in
+    let may = calls_may v own in
+    let events = other_events g v p (λ e. off (sym e)) in
     let behind : Knows c (record h { disk = run (made_in (v ∷ [])) h.disk }) (pool_after (as_events (made_in (v ∷ []))) p) = calls_known c (made_in (v ∷ [])) h p may knows in (
       subst (Mays c p) (sym events) may,
       subst (λ vs. Knows c (host_by (Does g v) h) (pool_after vs p)) (sym events)
@@ -296,12 +296,12 @@ other_act c h p g (Does k v) off own fair knows = does_acted c h p k v (λ e. of
 other_act c h p g (Looked name known) off own fair knows = looked_acted c h p known (bytes_eq p.name name) own knows
 other_act c h p g (Shows k d known) off own fair knows = (tt, owned_known c h p k d (shown_other c h p g d known knows fair own.1 off) knows)
 other_act c h p g (Reads_as opening) off own fair knows =
-    let away : (p.pool.0 == opening.found.pool.0) ≡ false = other_number p.pool.0 opening.found.pool.0 (λ e. off (sym own ∙ sym e)) in
+    let away = other_number p.pool.0 opening.found.pool.0 (λ e. off (sym own ∙ sym e)) in
     let events : events_for (Reads_as opening) p ≡ [] = ap (λ t. cond t (Opens (read_by opening p) ∷ []) []) away in
     (subst (Mays c p) (sym events) tt, subst (λ vs. Knows c h (pool_after vs p)) (sym events) knows)
 other_act c h p g (Enters s) off own fair knows = (tt, pools_known c h p (s ∷ h.pools) (other_first p.pool.0 g s h.pools own off) knows)
 other_act c h p g (Takes k d) off own fair knows =
-    let away : (p.pool.0 == k) ≡ false = other_number p.pool.0 k (λ e. off (sym own.0 ∙ sym e)) in
+    let away = other_number p.pool.0 k (λ e. off (sym own.0 ∙ sym e)) in
     let events : events_for (Takes k d) p ≡ Loses d ∷ [] = ap (λ t. cond t [] (Loses d ∷ [])) away in (
       subst (Mays c p) (sym events) (tt, tt),
       subst (λ vs. Knows c (host_by (Takes k d) h) (pool_after vs p)) (sym events)
@@ -347,7 +347,7 @@ move_apart v h p own apart d k is off = apart d k is off
 pub own_does : (c : Codec) (h : Host) (s : PoolState) (t : Side) (g : ℕ) (v : Move) → Knows c h t.pool → IsOpen s h.pools → t.pool.pool.0 ≡ g → Kept c s t → Mays c t.pool (events_of v t.pool) → Admits t v
     → IsOwnMove g h.owner v → Knows c (host_by (Does g v) h) (after_move v t).pool
 own_does c h s t g v knows is number kept may ok own =
-    let behind : Kept c (state_step v s) (after_move v t) = move_keeps c v s t may ok kept in
+    let behind = move_keeps c v s t may ok kept in
     let mine : s.core.pool.0 ≡ t.pool.pool.0 = ap (λ n. n.0) (kept_number c s t kept) in
     let only : (x : PoolState) → IsOpen x (map (moved g v) h.pools) → x.core.pool.0 ≡ (after_move v t).pool.pool.0 → x ≡ state_step v s =
     λ x at same. let was = was_open g v x h.pools at in
@@ -367,9 +367,9 @@ pub walk_may : (c : Codec) (h : Host) (s : PoolState) (t : Side) (g : ℕ) (vs :
     → MayActs c h t.pool (does g vs)
 walk_may c h s t g [] knows is number kept walks own = tt
 walk_may c h s t g (v ∷ vs) knows is number kept walks own = λ fair.
-    let events : events_for (Does g v) t.pool ≡ events_of v t.pool = own_events g v t.pool number in
+    let events = own_events g v t.pool number in
     let pool_is : pool_by (Does g v) t.pool ≡ (after_move v t).pool = ap (λ vs. pool_after vs t.pool) events in
-    let behind : Knows c (host_by (Does g v) h) (after_move v t).pool = own_does c h s t g v knows is number kept walks.0.0 walks.0.1 own.0.1 in
+    let behind = own_does c h s t g v knows is number kept walks.0.0 walks.0.1 own.0.1 in
     let mine : s.core.pool.0 ≡ g = ap (λ n. n.0) (kept_number c s t kept) ∙ number in (
       subst (Mays c t.pool) (sym events) walks.0.0,
       subst (Knows c (host_by (Does g v) h)) (sym pool_is) behind,

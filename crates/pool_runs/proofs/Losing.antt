@@ -226,29 +226,23 @@ module _ (Fails : ℕ → Type 0) where
       → IsWidened s.core (Freeze cells (up_devs s.core.leaves)) first
       → IsLostFor (steps first s) group top faults → (s.core.number < group)
       × LosesTop is_writable s.core.leaves s.own.top_number Fails top
-  top_frozen cells s first group top faults w lost = (
-    above s.core.number group one.0,
-    record {
-      at = one.1.at;
-      number_is = one.1.number_is;
-      some = sym (any_map (is_under one.1.at) (leaf_step v s.core.number s.core.group.first s.core.scan.hi)
-          (λ leaf. refl) s.core.leaves) ∙ one.1.some;
-      lost = up_back one.1.at cells
-          (up_devs s.core.leaves) s.core.number s.core.group.first s.core.scan.hi s.core.leaves
-          (all_up (up_devs s.core.leaves) s.core.leaves (λ d is. is)) one.1.lost;
-    },
-  )
-    where
-      v : Move
-      v = Freeze cells (up_devs s.core.leaves)
-
-      frozen : PoolState
-      frozen = state_step v s
-
-      one : (frozen.core.group.first ≡ group) × LosesTop is_on frozen.core.leaves frozen.own.top_number Fails top
-      one = top_loses frozen group top faults (lost_more Fails AnySet ⊥ w.widens frozen (Suspended group top faults)
-          (just_widens Fails AnySet ⊥ (step v s.core) w.widens w.are)
-          (subst (λ l. IsLostFor (steps l s) group top faults) w.moves lost))
+  top_frozen cells s first group top faults w lost = let v : Move = Freeze cells (up_devs s.core.leaves) in
+      let frozen = state_step v s in
+      let one : (frozen.core.group.first ≡ group) × LosesTop is_on frozen.core.leaves frozen.own.top_number Fails top =
+          top_loses frozen group top faults (lost_more Fails AnySet ⊥ w.widens frozen (Suspended group top faults)
+      (just_widens Fails AnySet ⊥ (step v s.core) w.widens w.are)
+      (subst (λ l. IsLostFor (steps l s) group top faults) w.moves lost)) in (
+        above s.core.number group one.0,
+        record {
+          at = one.1.at;
+          number_is = one.1.number_is;
+          some = sym (any_map (is_under one.1.at) (leaf_step v s.core.number s.core.group.first s.core.scan.hi)
+              (λ leaf. refl) s.core.leaves) ∙ one.1.some;
+          lost = up_back one.1.at cells
+              (up_devs s.core.leaves) s.core.number s.core.group.first s.core.scan.hi s.core.leaves
+              (all_up (up_devs s.core.leaves) s.core.leaves (λ d is. is)) one.1.lost;
+        },
+      )
 
   pub commits_lose : (c : Codec) (size : ℕ → ℕ) (s : PoolState) (vs : List Move) (group : ℕ) (top : Guid) (faults : ℕ)
       → unwritable s.core.leaves ≡ None → IsCaught Fails vs

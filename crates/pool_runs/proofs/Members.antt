@@ -392,21 +392,18 @@ keep_follows (NoPage page shown) c size d g acts reply row = subst (Keep d) (sym
 keep_follows (Opens_state s) c size d g acts reply row = keep_opens row.1 d g s row.0 acts reply (line_resume KeepsMembers kept_line (lacking_of s.core.leaves s.core.leaves) c size s row.0 row.1 row.2) row.3
 
 keep_import_by : (seek : SeekReply) (c : Codec) (h : Host) (name : List ℕ) (known : Known) (acts : List Act) (reply : Reply) (d : Held) → ImportBy seek c h name known acts reply → Keep d acts
-keep_import_by (TakesRecord found) c h name known acts reply d row = subst (Keep d) (sym row.are) (
-  tt,
-  keep_bare d row.row.ids (all_shown found.pool.0 (read_in row.row.ids) row.row.devs ++ (mark ∷ turned))
-      (keep_shown d found.pool.0 (read_in row.row.ids) row.row.devs (mark ∷ turned) (
-        tt,
-        keep_map d found.pool.0 row.row.bytes row.row.turns row.row.last row.rest
-            (keep_follows row.outcome c (size_in h.table) d found.pool.0 row.rest reply row.follows),
-      )),
-)
-  where
-    mark : Act
-    mark = Marks found.pool.0 (Seeks_by row.row.ids row.row.devs)
-
-    turned : List Act
-    turned = map_acts found.pool.0 row.row.bytes row.row.turns row.row.last row.rest
+keep_import_by (TakesRecord found) c h name known acts reply d row =
+    let mark : Act = Marks found.pool.0 (Seeks_by row.row.ids row.row.devs) in
+    let turned = map_acts found.pool.0 row.row.bytes row.row.turns row.row.last row.rest in
+    subst (Keep d) (sym row.are) (
+      tt,
+      keep_bare d row.row.ids (all_shown found.pool.0 (read_in row.row.ids) row.row.devs ++ (mark ∷ turned))
+          (keep_shown d found.pool.0 (read_in row.row.ids) row.row.devs (mark ∷ turned) (
+            tt,
+            keep_map d found.pool.0 row.row.bytes row.row.turns row.row.last row.rest
+                (keep_follows row.outcome c (size_in h.table) d found.pool.0 row.rest reply row.follows),
+          )),
+    )
 keep_import_by seek c h name known acts reply d row = subst (Keep d) (sym row.0) tt
 
 keep_for : (full : Bool) (c : Codec) (h : Host) (name : List ℕ) (acts : List Act) (reply : Reply) (d : Held) → ImportFor full c h name acts reply → Keep d acts

@@ -178,18 +178,14 @@ page_fair c g bytes (turn ∷ turns) more p fair =
 pub map_fair : (c : Codec) (g : ℕ) (bytes : Key → Option (List ℕ)) (turns : List PageTurn) (last : List Noted) (more : List Act) (p : Pool) (r : Rec)
     → p.pool.0 ≡ g → p.reads ≡ r → AreFair c p (map_acts g bytes turns last more) → ClashesAt r.cells bytes → ⊥
 map_fair c g bytes turns last more p r number reads fair clash =
+    let end = pool_after (as_events last) (pool_turned turns p) in
+    let end_number : end.pool ≡ p.pool = ap (λ q. q.pool) (map_end turns last p)
+        ∙ calls_number (calls_of_turns turns ++ last) p in
+    let end_reads : end.reads
+        ≡ p.reads = ap (λ q. q.reads) (map_end turns last p ∙ calls_after (calls_of_turns turns ++ last) p) in
     (bare_fair c last (Marks g (Reads_pages bytes) ∷ more) (pool_turned turns p)
     (page_fair c g bytes turns (bare last ++ (Marks g (Reads_pages bytes) ∷ more)) p fair)).0
     (ap (λ n. n.0) (end_number) ∙ number) (subst (λ q. ClashesAt q.cells bytes) (sym (end_reads ∙ reads)) clash)
-  where
-    end : Pool
-    end = pool_after (as_events last) (pool_turned turns p)
-
-    end_number : end.pool ≡ p.pool
-    end_number = ap (λ q. q.pool) (map_end turns last p) ∙ calls_number (calls_of_turns turns ++ last) p
-
-    end_reads : end.reads ≡ p.reads
-    end_reads = ap (λ q. q.reads) (map_end turns last p ∙ calls_after (calls_of_turns turns ++ last) p)
 
 page_own : (g : ℕ) (h : Host) (bytes : Key → Option (List ℕ)) (turns : List PageTurn) (more : List Act)
     → AreOwnActs g h (page_acts g bytes turns more) → AreOwnActs g (host_turned turns h) more
@@ -208,13 +204,10 @@ map_own g h bytes turns last more own =
 pub map_split : (g : ℕ) (bytes : Key → Option (List ℕ)) (turns : List PageTurn) (last : List Noted) (more : List Act)
     → map_acts g bytes turns last more ≡ map_acts g bytes turns last [] ++ more
 map_split g bytes [] last more = sym (append_assoc (bare last) (Marks g (Reads_pages bytes) ∷ []) more)
-map_split g bytes (turn ∷ turns) last more =
+map_split g bytes (turn ∷ turns) last more = let mark : Act = Marks g (Reads_pages (up_to (page_of turn) bytes)) in
     ap (λ l. bare turn.reads ++ (mark ∷ (bare turn.rewrites ++ l))) (map_split g bytes turns last more)
     ∙ (ap (λ l. bare turn.reads ++ (mark ∷ l)) (sym (append_assoc (bare turn.rewrites) (map_acts g bytes turns last []) more))
     ∙ sym (append_assoc (bare turn.reads) (mark ∷ (bare turn.rewrites ++ map_acts g bytes turns last [])) more))
-  where
-    mark : Act
-    mark = Marks g (Reads_pages (up_to (page_of turn) bytes))
 
 -- Pages may be read back, each rewritten where its bytes are fair.
 page_then : (c : Codec) (g : ℕ) (bytes : Key → Option (List ℕ)) (turns : List PageTurn) (last : List Noted) (more : List Act) (h : Host) (p : Pool) (r : Rec)
@@ -223,6 +216,10 @@ page_then : (c : Codec) (g : ℕ) (bytes : Key → Option (List ℕ)) (turns : L
     → MayActs c (host_turned turns h) (pool_turned turns p) more) → MayActs c h p (page_acts g bytes turns more)
 page_then c g bytes [] last more h p r number reads may knows then = then knows may
 page_then c g bytes (turn ∷ turns) last more h p r number reads may knows then =
+    let p1 = pool_after (as_events turn.reads) p in
+    let p2 = pool_after (as_events turn.rewrites) p1 in
+    let number1 : p1.pool.0 ≡ g = ap (λ n. n.0) (calls_number turn.reads p) ∙ number in
+    let reads1 : p1.reads ≡ r = ap (λ q. q.reads) (calls_after turn.reads p) ∙ reads in
     bare_then c turn.reads (Marks g (Reads_pages (up_to (page_of turn) bytes)) ∷ (bare turn.rewrites ++ page_acts g bytes turns more)) h p may.0 knows
     (λ before known. λ fair. let next = may.1 (λ clash. fair number1 (subst (λ q. ClashesAt q.cells (up_to (page_of turn) bytes)) (sym reads1) clash)) in (
       tt,
@@ -231,18 +228,6 @@ page_then c g bytes (turn ∷ turns) last more h p r number reads may knows then
           (λ before known2. page_then c g bytes turns last more (host_behind turn.rewrites (host_behind turn.reads h)) p2 r
           (ap (λ n. n.0) (calls_number turn.rewrites p1) ∙ number1) (ap (λ q. q.reads) (calls_after turn.rewrites p1) ∙ reads1) next.1 known2 then),
     ))
-  where
-    p1 : Pool
-    p1 = pool_after (as_events turn.reads) p
-
-    p2 : Pool
-    p2 = pool_after (as_events turn.rewrites) p1
-
-    number1 : p1.pool.0 ≡ g
-    number1 = ap (λ n. n.0) (calls_number turn.reads p) ∙ number
-
-    reads1 : p1.reads ≡ r
-    reads1 = ap (λ q. q.reads) (calls_after turn.reads p) ∙ reads
 
 pub map_then : (c : Codec) (g : ℕ) (bytes : Key → Option (List ℕ)) (turns : List PageTurn) (last : List Noted) (more : List Act) (h : Host) (p : Pool) (r : Rec)
     → p.pool.0 ≡ g → p.reads ≡ r → MayTurns c p r.cells bytes turns last → Knows c h p
@@ -250,6 +235,7 @@ pub map_then : (c : Codec) (g : ℕ) (bytes : Key → Option (List ℕ)) (turns 
     → MayActs c (host_behind last (host_turned turns h)) (pool_after (as_events (calls_of_turns turns ++ last)) p) more)
     → MayActs c h p (map_acts g bytes turns last more)
 map_then c g bytes turns last more h p r number reads may knows then =
+    let end_is = map_end turns last p in
     page_then c g bytes turns last (bare last ++ (Marks g (Reads_pages bytes) ∷ more)) h p r number reads may knows
     (λ known may_last. bare_then c last (Marks g (Reads_pages bytes) ∷ more) (host_turned turns h) (pool_turned turns p) may_last known
     (λ before known2. λ fair. (
@@ -260,6 +246,3 @@ map_then c g bytes turns last more h p r number reads may knows then =
           (λ clash. fair (ap (λ q. q.pool.0) end_is ∙ (ap (λ n. n.0) (calls_number (calls_of_turns turns ++ last) p) ∙ number))
           (subst (λ q. ClashesAt q.cells bytes) (sym (ap (λ q. q.reads) (end_is ∙ calls_after (calls_of_turns turns ++ last) p) ∙ reads)) clash))),
     )))
-  where
-    end_is : pool_after (as_events last) (pool_turned turns p) ≡ pool_after (as_events (calls_of_turns turns ++ last)) p
-    end_is = map_end turns last p

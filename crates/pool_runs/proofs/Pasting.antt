@@ -155,24 +155,21 @@ module _ (past : Past) (was : ℕ → ℕ) (called : ℕ → List ℕ) (h : Host
 pub next_begins : (c : Codec) (past : Past) (was : ℕ → ℕ) (called : ℕ → List ℕ) (images : ℕ → ℕ → List ℕ) (h : Host) (other : ℕ) → IsAllowed c past
     → AreNamed past was called h → (pool_of past).member other ≡ false → IsNext (renumbered (in_size past was other h) (pool_of past)) images h
     → BeginsRun c (next_past past (in_size past was other h) called images h) h
-next_begins c past was called images h other ok are none next = record {
-  left = record {
-    allowed = ((ok, names.numbers, names.kept), may_stop behind images h next);
-    names = names.here;
-    sizes = λ d one. size_next past was called h other none d one;
-    disk = λ d s one. met_here behind images h d s one;
-    stands = λ s is number. absurd (subst (IsOpen s) next.closed is);
-  };
-  closed = next.closed;
-  unknown = next.unknown;
-  at_rest = refl;
-}
-  where
-    behind : Pool
-    behind = renumbered (in_size past was other h) (pool_of past)
-
-    names : AreNamed past (in_size past was other h) called h
-    names = named_now past was called h other none are
+next_begins c past was called images h other ok are none next =
+    let behind = renumbered (in_size past was other h) (pool_of past) in
+    let names = named_now past was called h other none are in
+    record {
+      left = record {
+        allowed = ((ok, names.numbers, names.kept), may_stop behind images h next);
+        names = names.here;
+        sizes = λ d one. size_next past was called h other none d one;
+        disk = λ d s one. met_here behind images h d s one;
+        stands = λ s is number. absurd (subst (IsOpen s) next.closed is);
+      };
+      closed = next.closed;
+      unknown = next.unknown;
+      at_rest = refl;
+    }
 
 -- What live records contain.
 same_frozen : (f g : ℕ → List ℕ) (past : Past) → ((a : ℕ) → f a ≡ g a) → WasFrozen f past → WasFrozen g past

@@ -86,9 +86,9 @@ marked_may : (reading : Bool) (c : Codec) (h : Host) (s : PoolState) (t : Side) 
     → MarkedMay c h s t g mark (v ∷ vs) (marked_behind reading (Marks g mark) g v vs (marked (Marks g mark) g vs))
 marked_may true c h s t g mark (Makes noted) vs reads was rest knows is number kept walks own = λ fair.
     let may : Mays c t.pool (Calls noted ∷ []) = (untouched_sparing t.pool noted.call (read_plain noted.call reads) (λ d x member. read_untouched noted.call d x reads), tt) in
-    let events : events_for (Does g (Makes noted)) t.pool ≡ Calls noted ∷ [] = own_events g (Makes noted) t.pool number in
+    let events = own_events g (Makes noted) t.pool number in
     let pool_is : pool_by (Does g (Makes noted)) t.pool ≡ (after_move (Makes noted) t).pool = ap (λ vs. pool_after vs t.pool) events in
-    let behind : Knows c (host_by (Does g (Makes noted)) h) (after_move (Makes noted) t).pool = own_does c h s t g (Makes noted) knows is number kept may tt own.0.1 in
+    let behind = own_does c h s t g (Makes noted) knows is number kept may tt own.0.1 in
     let mine : s.core.pool.0 ≡ g = ap (λ core. core.pool.0) kept.core ∙ number in (
       subst (Mays c t.pool) (sym events) may,
       subst (Knows c (host_by (Does g (Makes noted)) h)) (sym pool_is) behind,

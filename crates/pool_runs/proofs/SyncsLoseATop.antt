@@ -181,17 +181,16 @@ sync_loses c size s p e vs group top faults from to seats ours are caused row =
         ⊎ LosesSince p s e from to group top
     of (inl board) = inl (board_more (λ d. FailedOn d (made_in vs)) (HasRisen from to) s group top
         (caught_rose vs (calls_along e.acts) from to (ap calls_along are ∙ does_calls g vs) caused) board)
-    of (inr x) = inr (record {
-      mid = mid.0;
-      at = mid.1;
-      idle = ap (λ q. q.group.frozen) (ap (λ acts. pool_along acts p) mid.2 ∙ does_pool g x.first t (sym ours))
-          ∙ x.idle;
-      lost = freeze_more (λ d. FailedOn d (made_in x.rest)) (HasRisen mid.0 to) s s.core.leaves group top
-          (caught_rose x.rest (calls_along mid.1.behind) mid.0 to
-          (ap calls_along mid.3 ∙ does_calls g x.rest) mid.1.comes) x.lost;
-    })
-      where
-        mid : (mid : ℕ → ℕ) × (at : IsMidway e.acts from mid to) × (at.before ≡ does g x.first)
-            × (at.behind ≡ does g x.rest)
-        mid = midway_at e.acts (does g x.first) (does g x.rest) from to
-            (are ∙ (ap (does g) x.moves ∙ does_more g x.first x.rest)) caused
+    of (inr x) =
+        let mid : (mid : ℕ → ℕ) × (at : IsMidway e.acts from mid to) × (at.before ≡ does g x.first)
+            × (at.behind ≡ does g x.rest) = midway_at e.acts (does g x.first) (does g x.rest) from to
+        (are ∙ (ap (does g) x.moves ∙ does_more g x.first x.rest)) caused in
+        inr (record {
+          mid = mid.0;
+          at = mid.1;
+          idle = ap (λ q. q.group.frozen) (ap (λ acts. pool_along acts p) mid.2 ∙ does_pool g x.first t (sym ours))
+              ∙ x.idle;
+          lost = freeze_more (λ d. FailedOn d (made_in x.rest)) (HasRisen mid.0 to) s s.core.leaves group top
+              (caught_rose x.rest (calls_along mid.1.behind) mid.0 to
+              (ap calls_along mid.3 ∙ does_calls g x.rest) mid.1.comes) x.lost;
+        })
