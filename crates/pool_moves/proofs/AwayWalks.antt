@@ -95,8 +95,7 @@ leave_walk c s t true None vs kept is leaves = subst (Walks c t) (sym leaves) tt
 leave_walk c s t false dev vs kept is leaves = subst (Walks c t) (sym leaves) tt
 
 drop_walk : (c : Codec) (t : Side) (on : Bool) (dev : Option ℕ) → (on ≡ true → (d : ℕ) → dev ≡ Some d
-    → (t.pool.scan.running ≡ true) × AllByRecursion (IsOfFound (λ e. d == e)) t.seats)
-    → Walks c t (drop_if on dev)
+    → (t.pool.scan.running ≡ true) × AllByRecursion (IsOfFound (λ e. d == e)) t.seats) → Walks c t (drop_if on dev)
 drop_walk c t true (Some d) is = (((tt, tt), is refl d refl), tt)
 drop_walk c t true None is = tt
 drop_walk c t false dev is = tt
@@ -117,7 +116,7 @@ away_walk : (c : Codec) (s : PoolState) (t : Side) (leaf : LeafSeen) (temporary 
     → GoesAway s leaf temporary vs → Walks c t vs
 away_walk c s t leaf temporary vs kept at goes =
     let dropped = drop_walk c t leaf.eligible leaf.dev
-        (λ on d dev. ((at.1 on d dev).0, only_found d t.seats kept.apart (at.1 on d dev).1)) in
+    (λ on d dev. ((at.1 on d dev).0, only_found d t.seats kept.apart (at.1 on d dev).1)) in
     let behind = after_moves (drop_if leaf.eligible leaf.dev) t in
     subst (Walks c t) (sym goes.moves)
     (walks_more c (drop_if leaf.eligible leaf.dev) (goes.leaving ++ (Sets leaf.guid (gone temporary leaf.own) ∷ [])) t dropped

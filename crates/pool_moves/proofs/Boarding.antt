@@ -89,8 +89,7 @@ others_apart which p d (At e found own ∷ seats) away off =
     (others_apart which p d seats away.1 off.1)
     (λ x is dev. (
       subst (λ n. d ≢ n) (dev_is found e x dev).1 (not_same d e off.0),
-      others_apart which p d seats away.1
-          off.1,
+      others_apart which p d seats away.1 off.1,
     ))
 others_apart which p d (Adrift leaf ∷ seats) away off =
     before_all (AllByRecursion (λ n. d ≢ n.dev)) (which leaf) leaf.dev leaf.guid (members_where which (leaves_of p seats))

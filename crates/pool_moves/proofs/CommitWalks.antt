@@ -55,7 +55,7 @@ empty_flush b p like frozen none = subst MayFlush (sym like.1) (record {
 found_first : (c : Codec) (s : PoolState) (t : Side) (first : List Move) → Kept c s t → RowEmptyFreeze s first → Walks c t (first ++ (Flushed_all ∷ []))
 found_first c s t first kept row = let frozen = after_move (Freeze (λ k. None) (up_devs s.core.leaves)) t in
     let like = widens_like row.moves.widens (step (Freeze (λ k. None) (up_devs s.core.leaves)) s.core) frozen
-        frozen.pool row.moves.are (frozen.pool.owes, refl) in
+    frozen.pool row.moves.are (frozen.pool.owes, refl) in
     walks_more c first (Flushed_all ∷ []) t (empty_freeze_walks c s t first kept row)
     (subst (λ vs. Walks c (after_moves vs t) (Flushed_all ∷ [])) (sym row.moves.moves)
     (((empty_flush frozen.pool (after_moves row.moves.widens frozen).pool like refl refl, tt), ap (λ p. p.group.frozen) like.1), tt))

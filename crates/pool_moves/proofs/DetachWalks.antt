@@ -222,8 +222,7 @@ commit_calm c size s part turn commit = commits_hold c size (λ s vs. AllByRecur
     (kind_parts c size (Unit {0}) IsCalm calm_kind (λ ack draft. tt)) (Unit {0})
     (λ any s vs all frozen. all_append _ vs (Burn ∷ []) all (tt, tt))
     (λ s vs row. all_widened AnyLeaf AnySet IsCalm calm_kind s.core (Freeze row.cells (up_devs s.core.leaves)) vs tt
-    row.moves)
-    s part turn (λ lost. tt) commit
+    row.moves) s part turn (λ lost. tt) commit
 
 -- what such a commit leaves of a leaf that was put aside
 record IsKeptAside (t behind : Side) : Type 0 where
@@ -243,7 +242,7 @@ kept_aside : (c : Codec) (t : Side) (part : List Move) → Survives c t.pool →
     → IsKeptAside t (after_moves part t)
 kept_aside c t part sv walks are = let frozen = after_move (Freeze are.cells are.board) t in
     let there : after_moves part t ≡ after_move Burn (after_moves are.body frozen) = ap (λ vs. after_moves vs t)
-        are.moves ∙ moves_more are.body (Burn ∷ []) frozen in
+    are.moves ∙ moves_more are.body (Burn ∷ []) frozen in
     subst (IsKeptAside t) (sym there) (record {
       same = aside_along are.body frozen are.within;
       over = refl;
@@ -297,8 +296,7 @@ commits_walk c size s t name leaf seat vs reply kept sized idle there row =
     calm = commit_calm c size (steps (goes_out s name leaf) s) row.part row.turn row.commit
 
     off_dev : (d : ℕ) → leaf.dev ≡ Some d → AllByRecursion (IsElsewhere d) (after_moves row.part (after_moves (goes_out s name leaf) t)).seats
-    off_dev d dev =
-        elsewhere_along row.part without d calm
+    off_dev d dev = elsewhere_along row.part without d calm
         (dev_found t.pool.group.frozen t.pool.scan.running t.pool t.seats i seat d kept.away kept.apart there.at
         (sym (ap (λ x. x.dev) there.leaf_is) ∙ dev))
 
@@ -308,8 +306,7 @@ commits_walk c size s t name leaf seat vs reply kept sized idle there row =
         (apart_others t.seats i d found own kept.apart (there.at ∙ ap Some is))
 
     top_one : (d : ℕ) (found : Bool) (own : OwnLeaf) → seat ≡ At d found own → 1 ≤ t.pool.in_top d
-    top_one d found own is =
-        subst (λ n. 1 ≤ n) (own_top t.pool.group.frozen t.pool.scan.running t.pool leaf d found own
+    top_one d found own is = subst (λ n. 1 ≤ n) (own_top t.pool.group.frozen t.pool.scan.running t.pool leaf d found own
         (there.leaf_is ∙ ap (leaf_seen t.pool.group.frozen t.pool.scan.running (told t.pool)) is))
         (top_is_one t.pool.group.frozen t.pool.scan.running t.pool leaf.top (remove t.seats i) there.left
         (subst (λ core. AllByRecursion (λ leaf. 1 ≤ leaf.top) core.leaves) kept_without.core row.commit.freeze.tops))
@@ -360,6 +357,5 @@ detach_by c size (Some leaf) s t name seat vs reply kept sized named at row =
     detach_leaf c size s.core.group.frozen s t name leaf seat vs reply kept sized refl named (at leaf named) row
 
 pub detach_walks : (c : Codec) (size : ℕ → ℕ) (s : PoolState) (t : Side) (name : List ℕ) (seat : Seat) (vs : List Move) (reply : DetachReply) → Kept c s t
-    → IsSized size t → IsSeatOf s t name seat
-    → RowDetach c size s name seat vs reply → Walks c t vs
+    → IsSized size t → IsSeatOf s t name seat → RowDetach c size s name seat vs reply → Walks c t vs
 detach_walks c size s t name seat vs reply kept sized at row = detach_by c size (leaf_named name s.core.leaves) s t name seat vs reply kept sized refl at row

@@ -160,8 +160,7 @@ empty_at c s t vs kept idle row = widened_walk c (Freeze (λ k. None) (up_devs (
     freeze_admitted c s t (λ k. None) kept,
   ),
   tt,
-)
-    (subst (λ core. IsWidened core (Freeze (λ k. None) (up_devs (seen t).leaves)) vs) (sym kept.core) row.moves)
+) (subst (λ core. IsWidened core (Freeze (λ k. None) (up_devs (seen t).leaves)) vs) (sym kept.core) row.moves)
 
 pub empty_freeze_walks : (c : Codec) (s : PoolState) (t : Side) (vs : List Move) → Kept c s t → RowEmptyFreeze s vs → Walks c t vs
 empty_freeze_walks c s t vs kept row = empty_at c s t vs kept (is_idle c s t kept row.idle)

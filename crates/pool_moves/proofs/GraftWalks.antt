@@ -142,7 +142,7 @@ comes_walk c s t i d m top own children made kept may above walks =
     let stamped = after_moves (as_moves made) (after_move (Lose d) t) in
     let rested = state_step Rest (steps (as_moves made) (state_step (Lose d) s)) in
     let same_next : rested.own.next_member ≡ s.own.next_member = ap (λ x. x.own.next_member)
-        (calls_state made (state_step (Lose d) s)) in (
+    (calls_state made (state_step (Lose d) s)) in (
       ((tt, tt), tt),
       (
         (
@@ -151,10 +151,8 @@ comes_walk c s t i d m top own children made kept may above walks =
             elsewhere = elsewhere_still d Rest stamped tt
                 (subst (AllByRecursion (IsElsewhere d)) (sym (calls_seats made (after_move (Lose d) t)))
                 (lose_elsewhere t.pool d t.seats));
-            others =
-                other_numbers (after_move Rest stamped).pool.guid rested.own.next_member m
-                (subst (λ n. n ≤ m.0) (sym same_next) above)
-                (after_move Rest stamped).seats
+            others = other_numbers (after_move Rest stamped).pool.guid rested.own.next_member m
+                (subst (λ n. n ≤ m.0) (sym same_next) above) (after_move Rest stamped).seats
                 (walk_keeps c (Rest ∷ []) (steps (Lose d ∷ as_moves made) s) stamped (((tt, tt), tt), tt)
                 (walk_keeps c (Lose d ∷ as_moves made) s t walks kept)).numbers.below;
             at_rest = refl;
@@ -182,19 +180,16 @@ graft_ends c size None graft s t name leaf new d made vs reply kept sized opened
     let now_opened : t.pool.opened ≡ true = sym (pool_opened c s t kept) ∙ opened in
     let walk : Walks c t first = walks_more c (Lose d ∷ as_moves made) (comes_in graft s name leaf new d) t stamp
     (comes_walk c s t (new_place graft name leaf.top s.core.leaves) d (new_number graft s) leaf.top (new_own graft new)
-    (grafted graft s leaf) made kept
-    (may_join c size s t d (new_number graft s) leaf.top made kept sized now_opened big
-    (subst (λ core. core.room leaf.top + 256 ≤ size d) kept.core rooms)
-    (new_range graft s left) (new_above graft s)
+    (grafted graft s leaf) made kept (may_join c size s t d (new_number graft s) leaf.top made kept sized now_opened big
+    (subst (λ core. core.room leaf.top + 256 ≤ size d) kept.core rooms) (new_range graft s left) (new_above graft s)
     (subst (λ core. IsPart (stamp_plan d (size d) core.pool (new_number graft s)) made None) kept.core calls))
     (new_above graft s) stamp) in
     let behind = walk_keeps c first s t walk kept in
-    let still_opened : (after_moves first t).pool.opened
-        ≡ true = ap (λ x. x.pool.opened)
-        (moves_more (as_moves made) (comes_in graft s name leaf new d) (after_move (Lose d) t))
+    let still_opened : (after_moves first t).pool.opened ≡ true = ap (λ x. x.pool.opened)
+    (moves_more (as_moves made) (comes_in graft s name leaf new d) (after_move (Lose d) t))
     ∙ (opened_calls made (after_move (Lose d) t) ∙ now_opened) in
     let all : Walks c t (graft_moves graft s name leaf new d made) = walks_more c first
-        (starts_scan (steps first s) ∷ []) t walk
+    (starts_scan (steps first s) ∷ []) t walk
     (start_walk c (steps first s) (after_moves first t) behind
     (pool_opened c (steps first s) (after_moves first t) behind ∙ still_opened)) in
     subst (Walks c t) (sym ends.0.moves) (walks_more c (graft_moves graft s name leaf new d made) ends.0.widens t all
@@ -228,7 +223,6 @@ graft_for c None size graft s t name new d vs reply kept sized is row =
     graft_at c (leaf_named name s.core.leaves) size graft s t name new d vs reply kept sized is row
 
 pub graft_walks : (c : Codec) (size : ℕ → ℕ) (graft : Graft) (s : PoolState) (t : Side) (name new : List ℕ) (d : ℕ) (vs : List Move) (reply : GraftReply)
-    → Kept c s t → IsSized size t
-    → RowGraft size graft s name new d vs reply → Walks c t vs
+    → Kept c s t → IsSized size t → RowGraft size graft s name new d vs reply → Walks c t vs
 graft_walks c size graft s t name new d vs reply kept sized row =
     graft_for c (graft_refusal graft s name (leaf_named name s.core.leaves)) size graft s t name new d vs reply kept sized refl row

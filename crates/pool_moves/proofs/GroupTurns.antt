@@ -38,8 +38,7 @@ pub record HasParts (c : Codec) (size : ℕ → ℕ) (Ack : Type 0) (A : PoolSta
   pub flush : (s : PoolState) (vs : List Move) (row : RowFlushTurn s.core vs)
       → A s (vs ++ count_moves s.core.leaves (board_of s.core.leaves) row.results)
   pub round : (s : PoolState) (vs : List Move) (whole : Bool) (row : RowRound c size s.core vs whole)
-      → (whole ≡ true → Ack)
-      → A s (vs ++ count_moves s.core.leaves (board_of s.core.leaves) row.results)
+      → (whole ≡ true → Ack) → A s (vs ++ count_moves s.core.leaves (board_of s.core.leaves) row.results)
   pub draw : (s : PoolState) (vs : List Move) → s.core.group.frozen ≡ true → IsWidened s.core Draw vs → A s vs
 
 -- so each move may be of a kind
@@ -78,8 +77,7 @@ module _ (c : Codec) (size : ℕ → ℕ) (Ack : Type 0) (A : PoolState → List
     Comes s vs reply = IsLostBehind s vs reply ⊎ (A s vs × (IsLost reply → ⊥))
 
     pub lost_more : (s : PoolState) (vs ws : List Move) (reply : TurnReply) → A s vs
-        → IsLostBehind (steps vs s) ws reply
-        → IsLostBehind s (vs ++ ws) reply
+        → IsLostBehind (steps vs s) ws reply → IsLostBehind s (vs ++ ws) reply
     lost_more s vs ws reply first lost = record {
       moves = vs ++ lost.moves;
       holds = k.more s vs lost.moves first lost.holds;
@@ -91,8 +89,7 @@ module _ (c : Codec) (size : ℕ → ℕ) (Ack : Type 0) (A : PoolState → List
     }
 
     ends_come : (s : PoolState) (behind vs ending : List Move) (found : Option ℕ) (draws : Bool)
-        (going reply : TurnReply)
-        → (IsLost going → ⊥) → emptied (steps behind s).core.leaves ≡ found → A s behind
+        (going reply : TurnReply) → (IsLost going → ⊥) → emptied (steps behind s).core.leaves ≡ found → A s behind
         → (steps behind s).core.group.frozen ≡ true → vs ≡ behind ++ ending
         → EndsBy found (steps behind s) draws going ending reply → Comes s vs reply
     ends_come s behind vs ending (Some at) draws going reply plain is holds frozen moves ends = inl (record {
@@ -117,8 +114,7 @@ module _ (c : Codec) (size : ℕ → ℕ) (Ack : Type 0) (A : PoolState → List
         ends_come s behind vs w.turn.ending (emptied (steps behind s).core.leaves) false Write reply (λ bad. bad) refl
         (k.write s w.part w.row) (frozen_within behind s (counted_within w.part s.core.leaves ms w.row.results
         (all_write AnyLeaf AnySet IsWithin within_kind s.core w.part w.row (any_failing ms w.row.results)))
-        ∙ w.row.frozen)
-        w.turn.moves w.turn.ends
+        ∙ w.row.frozen) w.turn.moves w.turn.ends
 
     flush_comes : (s : PoolState) (vs : List Move) (reply : TurnReply) → IsFlushPart s vs reply → Comes s vs reply
     flush_comes s vs reply w = let ms = board_of s.core.leaves in
@@ -126,12 +122,10 @@ module _ (c : Codec) (size : ℕ → ℕ) (Ack : Type 0) (A : PoolState → List
         ends_come s behind vs w.turn.ending (emptied (steps behind s).core.leaves) false Flush reply (λ bad. bad) refl
         (k.flush s w.part w.row) (frozen_within behind s (counted_within w.part s.core.leaves ms w.row.results
         (all_flush AnyLeaf AnySet IsWithin within_kind s.core w.part w.row (any_failing ms w.row.results)))
-        ∙ w.row.frozen)
-        w.turn.moves w.turn.ends
+        ∙ w.row.frozen) w.turn.moves w.turn.ends
 
     round_comes : (s : PoolState) (vs : List Move) (reply : TurnReply) → (IsAcked reply → Ack)
-        → IsRoundPart c size s vs reply
-        → Comes s vs reply
+        → IsRoundPart c size s vs reply → Comes s vs reply
     round_comes s vs reply ack w = of w.whole w.row w.ends w.counted
       where
         of : (whole : Bool) (row : RowRound c size s.core w.part whole)
@@ -143,8 +137,7 @@ module _ (c : Codec) (size : ℕ → ℕ) (Ack : Type 0) (A : PoolState → List
           (λ bad. subst IsLost ends.1 bad),
         )
         of false row ends counted = ends_come s w.behind vs w.ending (emptied (steps w.behind s).core.leaves) true
-            (Round s.core.number) reply (λ bad. bad) refl
-            (rw counted (k.round s w.part false row (λ on. absurd (cc))))
+            (Round s.core.number) reply (λ bad. bad) refl (rw counted (k.round s w.part false row (λ on. absurd (cc))))
             (frozen_within w.behind s
             (rw counted (counted_within w.part s.core.leaves (board_of s.core.leaves) row.results
             (all_round AnyLeaf AnySet IsWithin within_kind c size s.core w.part false row (λ on. absurd (cc))
@@ -172,8 +165,7 @@ module _ (c : Codec) (size : ℕ → ℕ) (Ack : Type 0) (A : PoolState → List
     turn_by_comes true s vs reply f ack row = starts_come (emptied s.core.leaves) s vs reply refl f ack row
 
     pub turn_comes : (s : PoolState) (vs : List Move) (reply : TurnReply) → (IsAcked reply → Ack)
-        → RowTurn c size s vs reply
-        → Comes s vs reply
+        → RowTurn c size s vs reply → Comes s vs reply
     turn_comes s vs reply ack row = turn_by_comes s.core.group.frozen s vs reply refl ack row
 
     -- a turn that isn't the last
@@ -197,8 +189,7 @@ module _ (c : Codec) (size : ℕ → ℕ) (Ack : Type 0) (A : PoolState → List
         (turns_come (steps turn.0 s) (next ∷ turns) reply ack are.2)
 
     pub group_comes : (s : PoolState) (vs : List Move) (reply : TurnReply) → (IsAcked reply → Ack)
-        → EndsGroup c size s vs reply
-        → Comes s vs reply
+        → EndsGroup c size s vs reply → Comes s vs reply
     group_comes s vs reply ack g = rw g.moves (turns_come s g.turns reply ack g.are)
 
     -- Where such moves may be burned, all of it holds.
@@ -212,19 +203,16 @@ module _ (c : Codec) (size : ℕ → ℕ) (Ack : Type 0) (A : PoolState → List
 
 -- So it is of lines that end a group and freeze one, where a suspended group's moves may be burned.
 module _ (c : Codec) (size : ℕ → ℕ) (A : PoolState → List Move → Type 0) (k : HasParts c size (Unit {0}) A)
-    (Lost : Type 0)
-    (burns : Lost → (s : PoolState) (vs : List Move) → A s vs → (steps vs s).core.group.frozen ≡ true
+    (Lost : Type 0) (burns : Lost → (s : PoolState) (vs : List Move) → A s vs → (steps vs s).core.group.frozen ≡ true
     → A s (vs ++ (Burn ∷ [])))
   where
     pub turn_holds : (s : PoolState) (vs : List Move) (reply : TurnReply) → (IsLost reply → Lost)
-        → RowTurn c size s vs reply
-        → A s vs
+        → RowTurn c size s vs reply → A s vs
     turn_holds s vs reply bad row = settled c size (Unit {0}) A k s vs reply (λ lost. burns (bad lost) s)
         (turn_comes c size (Unit {0}) A k s vs reply (λ is. tt) row)
 
     pub group_holds : (s : PoolState) (vs : List Move) (reply : TurnReply) → (IsLost reply → Lost)
-        → EndsGroup c size s vs reply
-        → A s vs
+        → EndsGroup c size s vs reply → A s vs
     group_holds s vs reply bad ends = settled c size (Unit {0}) A k s vs reply (λ lost. burns (bad lost) s)
         (group_comes c size (Unit {0}) A k s vs reply (λ is. tt) ends)
 
@@ -247,8 +235,7 @@ module _ (c : Codec) (size : ℕ → ℕ) (A : PoolState → List Move → Type 
           by false row = for row.0 row.2
 
       open_holds : (s : PoolState) (vs : List Move) (reply : SyncReply) → (LosesSync reply → Lost)
-          → SyncOpen c size s vs reply
-          → A s vs
+          → SyncOpen c size s vs reply → A s vs
       open_holds s vs reply bad row = for row.0 row.2
         where
           for : (refusal : Option FreezeRefusal) → CommitsFor refusal c size s vs reply → A s vs
@@ -263,16 +250,14 @@ module _ (c : Codec) (size : ℕ → ℕ) (A : PoolState → List Move → Type 
 
       -- where the first group was suspended, so was the line
       first_lost : (turn : TurnReply) (s : PoolState) (vs : List Move) (reply : SyncReply)
-          → SyncBehind turn c size s vs reply
-          → IsLost turn → LosesSync reply
+          → SyncBehind turn c size s vs reply → IsLost turn → LosesSync reply
       first_lost (Suspended group top faults) s vs reply row lost = rw row.1 tt
       first_lost turn s vs reply row lost = absurd lost
 
       pub sync_holds : (frozen : Bool) (s : PoolState) (vs : List Move) (reply : SyncReply) → (LosesSync reply → Lost)
           → SyncBy frozen c size s vs reply → A s vs
       sync_holds false s vs reply bad row = open_holds s vs reply bad row
-      sync_holds true s vs reply bad row = rw row.moves (k.more s row.first row.rest
-          (group_holds s row.first row.turn
+      sync_holds true s vs reply bad row = rw row.moves (k.more s row.first row.rest (group_holds s row.first row.turn
           (λ lost. bad (first_lost row.turn (steps row.first s) row.rest reply row.behind lost))
           row.ends) (behind_holds row.turn (steps row.first s) row.rest reply bad row.behind))
 

@@ -143,8 +143,7 @@ apart_insert seats zero seat apart = apart
 apart_insert [] (suc i) seat apart = apart
 apart_insert (At d found own ∷ seats) (suc i) (At e was is) apart = (
   all_insert (IsElsewhere d) seats i (At e was is) (other_back e d apart.0.0) apart.1.0,
-  apart_insert seats i
-      (At e was is) (apart.0.1, apart.1.1),
+  apart_insert seats i (At e was is) (apart.0.1, apart.1.1),
 )
 apart_insert (At d found own ∷ seats) (suc i) (Adrift leaf) apart = (all_insert (IsElsewhere d) seats i (Adrift leaf) tt apart.0, apart_insert seats i (Adrift leaf) apart.1)
 apart_insert (Adrift leaf ∷ seats) (suc i) (At e was is) apart = apart_insert seats i (At e was is) (apart.0.1, apart.1)
@@ -257,8 +256,7 @@ not_lost e d member is = by_bool (e == d)
     (λ away. (away, sym (at_away e d false member away) ∙ is))
 
 lose_number : (p : Pool) (e d : ℕ) → (e == d) ≡ false → (x : ℕ) (found : Bool) (own : OwnLeaf)
-    → IsOwnNumber p.guid d (At x found own)
-    → IsOwnNumber p.guid d (seat_step (Lose e) p (At x found own))
+    → IsOwnNumber p.guid d (At x found own) → IsOwnNumber p.guid d (seat_step (Lose e) p (At x found own))
 lose_number p e d off x found own is = lose_step (IsOwnNumber p.guid d) p e x found own
     (λ lost. ⊎_elim (λ one. absurd (let no : (e == d) ≡ true = grind (arith, nat_tests) in cc)) (λ other. other) is)
     (λ there. is)
@@ -286,8 +284,7 @@ come_away : (p : Pool) (e d : ℕ) (m : Guid) → (e == d) ≡ false → (seats 
     → AllByRecursion (IsOwnNumber (at_device e m p.guid) d) seats
 come_away p e d m away [] off others = tt
 come_away p e d m away (At x found own ∷ seats) off others = (
-  ⊎_elim (λ same. inl same)
-      (λ other. inr (ap (λ n. (n.0 == (at_device e m p.guid d).0)) (at_away e x m p.guid off.0)
+  ⊎_elim (λ same. inl same) (λ other. inr (ap (λ n. (n.0 == (at_device e m p.guid d).0)) (at_away e x m p.guid off.0)
       ∙ (ap (λ n. ((p.guid x).0 == n.0)) (at_away e d m p.guid away) ∙ other))) others.0,
   come_away p e d m away seats off.1 others.1,
 )
@@ -298,8 +295,7 @@ come_numbers : (t : Side) (i e : ℕ) (m : Guid) (own : OwnLeaf) → MayCome t e
     → ((d : ℕ) → t.pool.member d ≡ true → AllByRecursion (IsOwnNumber t.pool.guid d) t.seats)
     → (d : ℕ) → at_device e true (other_than m t.pool.guid t.pool.member) d ≡ true
     → AllByRecursion (IsOwnNumber (at_device e m t.pool.guid) d) (insert t.seats i (At e true own))
-come_numbers t i e m own ok numbered d is = by_bool (e == d)
-    (λ same. all_insert _ t.seats i (At e true own)
+come_numbers t i e m own ok numbered d is = by_bool (e == d) (λ same. all_insert _ t.seats i (At e true own)
     (inl (let back : (d == e) ≡ true = grind (arith, nat_tests) in back))
     (come_here t.pool e d m same t.seats ok.elsewhere ok.others))
     (λ away. let was = other_members m t.pool.guid t.pool.member d
@@ -410,8 +406,7 @@ commit_under t draft top all has = one_map _ (seat_step (Commits draft) t.pool) 
     stands (Adrift leaf) is = is
 
 come_under : (p : Pool) (d top new : ℕ) (seats : List Seat) → AllByRecursion (IsElsewhere d) seats
-    → HasUnder p.in_top top seats
-    → HasUnder (at_device d new p.in_top) top seats
+    → HasUnder p.in_top top seats → HasUnder (at_device d new p.in_top) top seats
 come_under p d top new seats off has = one_each one seats off has
   where
     one : (seat : Seat) → IsElsewhere d seat → IsUnder p.in_top top seat → IsUnder (at_device d new p.in_top) top seat
@@ -436,8 +431,7 @@ come_topped t i e m top own ok topped d is one = by (e == d) refl is one
 topped_kept : (c : Codec) (v : Move) (s : PoolState) (t : Side) → Mays c t.pool (events_of v t.pool) → Admits t v → Kept c s t
     → (d : ℕ) → (after_move v t).pool.member d ≡ true → 1 ≤ (after_move v t).pool.in_top d
     → HasUnder (after_move v t).pool.in_top ((after_move v t).pool.in_top d) (seats_by v t)
-topped_kept c (Commits draft) s t may ok kept d is one =
-    ⊎_elim (λ same. subst
+topped_kept c (Commits draft) s t may ok kept d is one = ⊎_elim (λ same. subst
     (λ top. HasUnder (λ d. draft.tops (t.pool.guid d)) top (map (seat_step (Commits draft) t.pool) t.seats)) (sym same)
     (commit_under t draft (t.pool.in_top d) ok.1 (kept.topped d is (subst (λ n. 1 ≤ n) same one))))
     (λ none. absurd (omega (arith, one, none)))
@@ -478,8 +472,7 @@ scanned_kept (Returns i seat leaf) t ok all r = all_insert _ t.seats i seat (ok.
 scanned_kept (Scan_from hi eligible) t ok all r = of_found_still eligible (Scan_from hi eligible) t tt
     (λ d found own is. is) ok
 scanned_kept (Drop e) t ok all r = of_found_still (at_device e false t.pool.scan.eligible) (Drop e) t tt
-    (λ d found own is. is)
-    (drop_of_found t.pool.scan.eligible e t.seats (all r))
+    (λ d found own is. is) (drop_of_found t.pool.scan.eligible e t.seats (all r))
 scanned_kept Rest t ok all r = never_both false refl r
 scanned_kept v t ok all r = of_found_still (after_move v t).pool.scan.eligible v t tt (λ d found own is. is) (all r)
 

@@ -35,8 +35,7 @@ pub leaf_there : (test : LeafSeen → Bool) (f r : Bool) (p : Pool) (seats : Lis
 leaf_there test f r p [] leaf seat found at = absurd (cc)
 leaf_there test f r p (x ∷ seats) leaf seat found at = by_bool (test (leaf_seen f r (told p) x))
     (λ is. sym (some_same (leaf_seen f r (told p) x) leaf
-    (sym (ap (λ t. cond t (Some (leaf_seen f r (told p) x)) (find test (seen_as f r p seats))) is)
-    ∙ found))
+    (sym (ap (λ t. cond t (Some (leaf_seen f r (told p) x)) (find test (seen_as f r p seats))) is) ∙ found))
     ∙ ap (leaf_seen f r (told p))
     (some_same x seat (sym (ap (λ t. slice_get (x ∷ seats) (cond t 0 (suc (place_where test (seen_as f r p seats)))))
     is) ∙ at)))
@@ -118,8 +117,7 @@ others_off d e (x ∷ seats) (suc i) found own at off = others_off d e seats i f
 pub apart_others : (seats : List Seat) (i d : ℕ) (found : Bool) (own : OwnLeaf) → AreSeatsApart seats → slice_get seats i ≡ Some (At d found own)
     → AllByRecursion (IsElsewhere d) (remove seats i)
 apart_others [] i d found own apart at = absurd (cc)
-apart_others (At e was is ∷ seats) zero d found own apart at =
-    subst (λ n. AllByRecursion (IsElsewhere n) seats)
+apart_others (At e was is ∷ seats) zero d found own apart at = subst (λ n. AllByRecursion (IsElsewhere n) seats)
     (dev_same (At e was is) (At d found own) (some_same (At e was is) (At d found own) at)) apart.0
   where
     dev_of : Seat → ℕ
@@ -141,8 +139,7 @@ calm_still (Returns i seat leaf) is = is
 calm_still v is = tt
 
 pub elsewhere_along : (vs : List Move) (t : Side) (d : ℕ) → AllByRecursion IsCalm vs
-    → AllByRecursion (IsElsewhere d) t.seats
-    → AllByRecursion (IsElsewhere d) (after_moves vs t).seats
+    → AllByRecursion (IsElsewhere d) t.seats → AllByRecursion (IsElsewhere d) (after_moves vs t).seats
 elsewhere_along [] t d are all = all
 elsewhere_along (v ∷ vs) t d are all =
     elsewhere_along vs (after_move v t) d are.1 (elsewhere_still d v t (calm_still v are.0) all)
@@ -256,8 +253,7 @@ pub aside_stays : (c : Codec) (log settled : ℕ → Bool) (d : ℕ) (vs : List 
     → AllByRecursion (HasOtherNumber t.pool.guid (t.pool.guid d)) t.seats → AsideIn log settled d t.pool → AsideIn log settled d (after_moves vs t).pool
 aside_stays c log settled d [] t walks all others a = a
 aside_stays c log settled d (v ∷ vs) t walks all others a = aside_stays c log settled d vs (after_move v t) walks.1
-    all.1 (others_still d v t (within_still v all.0) others)
-    (aside_within log settled d v t all.0 walks.0.1 others a)
+    all.1 (others_still d v t (within_still v all.0) others) (aside_within log settled d v t all.0 walks.0.1 others a)
 
 -- at the freeze
 pub aside_frozen : (c : Codec) (p : Pool) (cells : Cells) (board : ℕ → Bool) (d : ℕ) → Survives c p → p.member d ≡ true → 1 ≤ p.in_top d

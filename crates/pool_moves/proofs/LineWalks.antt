@@ -43,14 +43,12 @@ abbrev MayMake : Codec → (size : ℕ → ℕ) → PoolState → List Move → 
 MayMake c size s vs = (t : Side) → Kept c s t → IsSized size t → Walks c t vs
 
 more_made : (c : Codec) (size : ℕ → ℕ) (s : PoolState) (vs ws : List Move) → MayMake c size s vs
-    → MayMake c size (steps vs s) ws
-    → MayMake c size s (vs ++ ws)
+    → MayMake c size (steps vs s) ws → MayMake c size s (vs ++ ws)
 more_made c size s vs ws first rest t kept same = let walks = first t kept same in
     walks_more c vs ws t walks (rest (after_moves vs t) (walk_keeps c vs s t walks kept) (sized_along size vs t same))
 
 counted : (c : Codec) (t : Side) (s : PoolState) (part : List Move) (ms : List Member) (results : List Bool)
-    → Walks c t part
-    → Walks c t (part ++ count_moves s.core.leaves ms results)
+    → Walks c t part → Walks c t (part ++ count_moves s.core.leaves ms results)
 counted c t s part ms results walks = walks_more c part (count_moves s.core.leaves ms results) t walks
     (sets_walk c (count_moves s.core.leaves ms results) (after_moves part t) (counts_set s.core.leaves ms results))
 
@@ -100,9 +98,7 @@ sync_walks c size s t vs reply kept same row = sync_holds c size (MayMake c size
     (burns c size) (freezes c size) s.core.group.frozen s vs reply (λ lost. tt) row t kept same
 
 pub reopen_walks : (c : Codec) (size : ℕ → ℕ) (s : PoolState) (t : Side) (vs : List Move) (reply : TurnReply)
-    → Kept c s t
-    → IsSized size t → RowReopen c size s vs reply → Walks c t vs
+    → Kept c s t → IsSized size t → RowReopen c size s vs reply → Walks c t vs
 reopen_walks c size s t vs reply kept same row = reopen_holds c size (MayMake c size) (made_parts c size) (Unit {0})
     (burns c size) (λ s vs row t kept same. empty_freeze_walks c s t vs kept row)
-    (λ s vs all t kept same. sets_walk c vs t all)
-    s vs reply (λ lost. tt) row t kept same
+    (λ s vs all t kept same. sets_walk c vs t all) s vs reply (λ lost. tt) row t kept same

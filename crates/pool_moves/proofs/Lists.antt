@@ -76,8 +76,7 @@ all_at P (y ∷ xs) zero x all e = subst P (let same : y ≡ x = cc in same) all
 all_at P (y ∷ xs) (suc i) x all e = all_at P xs i x all.1 e
 
 pub all_filter : {X : Type 0} {P Q : X → Type 0} (test : X → Bool) → ((x : X) → P x → test x ≡ true → Q x)
-    → (xs : List X)
-    → AllByRecursion P xs → AllByRecursion Q (filter test xs)
+    → (xs : List X) → AllByRecursion P xs → AllByRecursion Q (filter test xs)
 all_filter test one [] all = tt
 all_filter {Q = Q} test one (x ∷ xs) all = let rest = all_filter {Q = Q} test one xs all.1 in
     cond_both (test x) (x ∷ filter test xs) (filter test xs) (AllByRecursion Q) (λ is. (one x all.0 is, rest))

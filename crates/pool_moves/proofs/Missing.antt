@@ -97,8 +97,7 @@ due_leaf up owes a b = rw (a, b) refl
 
 missed_leaf : (sum : Sum) (made : List Noted) (sectors : Sectors) (leaf : LeafSeen)
     → (stands_under sum.top leaf ≡ true → is_due false (copy_of sum.birth leaf) ≡ true
-    → IsLacked sectors (data_start + sum.sector) made (copy_of sum.birth leaf))
-    → Missed sum made sectors leaf
+    → IsLacked sectors (data_start + sum.sector) made (copy_of sum.birth leaf)) → Missed sum made sectors leaf
 missed_leaf sum made sectors leaf one top up d dev = by_bool (leaf.owes sum.birth) (λ owes. inl owes)
     (λ has. inr (subst Shows dev (one (same_test leaf.top sum.top top))
     (due_leaf (is_up leaf.own.mode) (leaf.owes sum.birth) up has) has))
@@ -115,8 +114,7 @@ missed_leaves sum made sectors leaves all = each (λ leaf one. missed_leaf sum m
     (unmapped (λ copy. is_due false copy ≡ true → IsLacked sectors (data_start + sum.sector) made copy) (copy_of sum.birth)
     (filter (stands_under sum.top) leaves)
     (unfiltered (IsLacked sectors (data_start + sum.sector) made) (is_due false) (copies_of sum leaves)
-    (all_front _ (filter (is_due false) (copies_of sum leaves))
-    (filter (is_due true) (copies_of sum leaves)) all))))
+    (all_front _ (filter (is_due false) (copies_of sum leaves)) (filter (is_due true) (copies_of sum leaves)) all))))
 
 -- The calls of an exhausted read are its reads alone.
 counts_make_none : (sum : List ℕ) (made : List Noted) (leaves : List LeafSeen) → made_in (count_reads sum made leaves) ≡ []

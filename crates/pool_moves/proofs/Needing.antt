@@ -51,8 +51,7 @@ dirty_is c s cells (suc level) index dirty low = of (cells (key (suc level) inde
     of (Some page) is each = let child = dirty.only level index page below is in
         ap is_some is ∙ sym (any_true 64 (λ j. dirty_at level (is_written s) (64 * index + j)) child.j child.below
         (sym (each child.j) ∙ ap is_some child.cell_is))
-    of None is each =
-        ap is_some is ∙ sym (any_false 64 (λ j. dirty_at level (is_written s) (64 * index + j))
+    of None is each = ap is_some is ∙ sym (any_false 64 (λ j. dirty_at level (is_written s) (64 * index + j))
         (λ j less. by_bool (dirty_at level (is_written s) (64 * index + j))
         (λ yes. let there = is_some_of (cells (key level (64 * index + j))) (each j ∙ yes) in
         let page = dirty.up level index j there.0 below less there.1 in none_some (cells (key (suc level) index)) page.0 is page.1) (λ off. off)))

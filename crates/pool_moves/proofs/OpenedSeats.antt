@@ -162,8 +162,7 @@ opened_apart p (leaf ∷ leaves) (At d found own ∷ seats) apart are =
 opened_apart p (leaf ∷ leaves) (Adrift other ∷ seats) apart are = opened_apart p leaves seats apart.1 are.1
 
 pub opened_numbered : (p : Pool) (roster : List ℕ) (leaves : List LeafKept) (seats : List Seat) (d : ℕ) → IsRoster p roster
-    → AreSeatsOf p leaves seats → p.member d ≡ true
-    → AllByRecursion (IsOwnNumber p.guid d) seats
+    → AreSeatsOf p leaves seats → p.member d ≡ true → AllByRecursion (IsOwnNumber p.guid d) seats
 opened_numbered p roster [] [] d ros are mine = tt
 opened_numbered p roster [] (seat ∷ seats) d ros are mine = absurd are
 opened_numbered p roster (leaf ∷ leaves) [] d ros are mine = absurd are
@@ -213,8 +212,7 @@ seen_at r leaf m dev own is same = ap (λ m. shape m dev own (r.tops m) (r.owes 
     ∙ (ap (λ top. shape leaf.guid dev own top (r.owes leaf.guid)) is.top_is ∙ ap (λ log. shape leaf.guid dev own leaf.top log) is.log_is)
 
 seat_seen : (p : Pool) (r : Rec) (roster : List ℕ) (board eligible : ℕ → Bool) (scrub : ℕ → ℕ → Bool) (leaf : LeafKept) (dev : Option ℕ)
-    → IsIn r.tops r.owes leaf
-    → IsSeatOf p leaf (opened_seat p roster leaf dev)
+    → IsIn r.tops r.owes leaf → IsSeatOf p leaf (opened_seat p roster leaf dev)
     → leaf_seen false false (opened_told p r board eligible scrub) (opened_seat p roster leaf dev) ≡ opened_leaf leaf dev
 seat_seen p r roster board eligible scrub leaf (Some d) is seat = seen_at r leaf (p.guid d) (Some d) (opened_own leaf (Some d)) is seat.1
 seat_seen p r roster board eligible scrub leaf None is seat = by (member_of p roster leaf.guid) seat

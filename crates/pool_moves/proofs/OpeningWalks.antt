@@ -315,8 +315,7 @@ module _ (c : Codec) (size : ℕ → ℕ) (handed : List ℕ → Option ℕ) (na
   turn_when : (turn : PageTurn) (p1 : Pool) → IsPageTurn x turn → IsReadTo x (λ k. is_read_before k (page_of turn)) → IsOn x r p1
       → AllAnswer p1.sectors (turn.reads ++ turn.rewrites) → (ClashesAt r.cells (up_to (page_of turn) x.found) → ⊥)
       → Mays c p1 (as_events (turn.reads ++ turn.rewrites))
-  turn_when turn p1 is back on answers none = ⊎_elim
-      (λ right. ⊎_elim (λ may. may) (λ clash. absurd (none clash))
+  turn_when turn p1 is back on answers none = ⊎_elim (λ right. ⊎_elim (λ may. may) (λ clash. absurd (none clash))
       (turn_may x r p1 turn (up_to (page_of turn) x.found) on is
       (ap (λ t. cond t None (x.found (page_of turn))) (not_before_itself (page_of turn)) ∙ is.bytes_are)
       (stop_turn turn.level turn.index back right is.sum is.low is.sum_is) answers))
@@ -328,15 +327,15 @@ module _ (c : Codec) (size : ℕ → ℕ) (handed : List ℕ → Option ℕ) (na
   turns_each [] p1 each backs has answers reads = reads_may c p1 o.row.last reads
   turns_each (turn ∷ turns) p1 each backs has answers reads = let mine : List Noted = turn.reads ++ turn.rewrites in
       let end_is : with_calls mine p1 ≡ pool_after (as_events turn.rewrites) (pool_after (as_events turn.reads) p1) =
-          sym (calls_after mine p1) ∙ (ap (λ vs. pool_after vs p1) (events_more turn.reads turn.rewrites)
+      sym (calls_after mine p1) ∙ (ap (λ vs. pool_after vs p1) (events_more turn.reads turn.rewrites)
       ∙ pool_more (as_events turn.reads) (as_events turn.rewrites) p1) in (
         reads_may c p1 turn.reads
-        (tried_reads (data_start + each.0.sum.sector) (IsPageHere x turn.level turn.index each.0.sum)
+            (tried_reads (data_start + each.0.sum.sector) (IsPageHere x turn.level turn.index each.0.sum)
             (tries (copies_of each.0.sum x.leaves)) turn.reads turn.wrong (Some each.0.bytes) each.0.tried),
         λ none. let may = turn_when turn p1 each.0 backs.0 has (answer_first mine (calls_of_turns turns) p1.sectors
             (answer_first (mine ++ calls_of_turns turns) o.row.last p1.sectors answers)) none in (
               mays_second c (as_events turn.reads) (as_events turn.rewrites) p1
-              (subst (Mays c p1) (events_more turn.reads turn.rewrites) may),
+                  (subst (Mays c p1) (events_more turn.reads turn.rewrites) may),
               subst (λ u. MayTurns c u r.cells x.found turns o.row.last) end_is
                   (turns_each turns (with_calls mine p1) each.1 backs.1 (on_behind x r p1 mine has may)
                   (answer_second mine (calls_of_turns turns ++ o.row.last) p1.sectors
@@ -437,8 +436,7 @@ module _ (c : Codec) (size : ℕ → ℕ) (handed : List ℕ → Option ℕ) (na
           (λ other at. subst (λ u. HasGoodLeaf u r other (answers_in x.leaves (page_calls o.row) (data_start + cell.0.sector))) end_is
           (subst (λ a. HasGoodLeaf (pool_after (as_events made) q) r a (answers_in x.leaves (page_calls o.row) (data_start + cell.0.sector)))
           (same_cell cell.0 other (sym cell.1 ∙ at)) good));
-    }))
-        (λ clash. inr clash) (first_may right)) (λ clash. inr clash) right_or
+    })) (λ clash. inr clash) (first_may right)) (λ clash. inr clash) right_or
       where
         same_cell : (a b : Cell) → Some a ≡ Some b → a ≡ b
         same_cell a b e = cc
@@ -453,13 +451,12 @@ pub opening_opens : (c : Codec) (size : ℕ → ℕ) (handed : List ℕ → Opti
     ⊎ ClashesAt r.cells row.bytes
 opening_opens c size handed name p r roster found made s sv named is ros row answers home =
     let o : Opening c size handed name p r found made (Opens_state s) = record
-        { survives = sv; named = named; is = is; row = row; answers = answers; home = home } in
+    { survives = sv; named = named; is = is; row = row; answers = answers; home = home } in
     ⊎_elim
     (λ right. ⊎_elim (λ may. inl (
       opened_at c size handed name p r found made (Opens_state s) o roster s ros row.ends.2 right,
       calls_walk c made (side c size handed name p r found made (Opens_state s) o roster) may,
-    ))
-    (λ clash. inr clash) (map_may c size handed name p r found made (Opens_state s) o row.ends.0 row.ends.1 right))
+    )) (λ clash. inr clash) (map_may c size handed name p r found made (Opens_state s) o row.ends.0 row.ends.1 right))
     (λ clash. inr clash) (map_right c size handed name p r found made (Opens_state s) o row.ends.0.back)
 
 -- Its calls may be made, however it ends.
@@ -470,12 +467,12 @@ pub opening_may : (c : Codec) (size : ℕ → ℕ) (handed : List ℕ → Option
     → Mays c (after (Opens r) p) (as_events made) ⊎ ClashesAt r.cells row.bytes
 opening_may c size handed name p r found made (Opens_state s) sv named is row answers home =
     let o : Opening c size handed name p r found made (Opens_state s) = record
-        { survives = sv; named = named; is = is; row = row; answers = answers; home = home } in
+    { survives = sv; named = named; is = is; row = row; answers = answers; home = home } in
     ⊎_elim (λ right. map_may c size handed name p r found made (Opens_state s) o row.ends.0 row.ends.1 right) (λ clash. inr clash)
     (map_right c size handed name p r found made (Opens_state s) o row.ends.0.back)
 opening_may c size handed name p r found made (NoPage page shown) sv named is row answers home =
     let o : Opening c size handed name p r found made (NoPage page shown) = record
-        { survives = sv; named = named; is = is; row = row; answers = answers; home = home } in
+    { survives = sv; named = named; is = is; row = row; answers = answers; home = home } in
     stopped_may c size handed name p r found made (NoPage page shown) o row.ends.0 page.index shown row.ends.2
 
 -- So they may be page by page, where only the bytes of the pages so far don't clash.
@@ -486,11 +483,11 @@ pub opening_turns : (c : Codec) (size : ℕ → ℕ) (handed : List ℕ → Opti
     → MayTurns c (pool_after (as_events row.ids) (after (Opens r) p)) r.cells row.bytes row.turns row.last
 opening_turns c size handed name p r found made (Opens_state s) sv named is row answers home =
     let o : Opening c size handed name p r found made (Opens_state s) = record
-        { survives = sv; named = named; is = is; row = row; answers = answers; home = home } in
+    { survives = sv; named = named; is = is; row = row; answers = answers; home = home } in
     whole_turns c size handed name p r found made (Opens_state s) o row.ends.0 row.ends.1
 opening_turns c size handed name p r found made (NoPage page shown) sv named is row answers home =
     let o : Opening c size handed name p r found made (NoPage page shown) = record
-        { survives = sv; named = named; is = is; row = row; answers = answers; home = home } in
+    { survives = sv; named = named; is = is; row = row; answers = answers; home = home } in
     lost_turns c size handed name p r found made (NoPage page shown) o row.ends.0 page.index shown row.ends.2
 
 -- A page that no good leaf gave.
@@ -502,7 +499,7 @@ pub opening_loses : (c : Codec) (size : ℕ → ℕ) (handed : List ℕ → Opti
     ⊎ ClashesAt r.cells row.bytes
 opening_loses c size handed name p r found made page shown sv named is row answers home =
     let o : Opening c size handed name p r found made (NoPage page shown) = record
-        { survives = sv; named = named; is = is; row = row; answers = answers; home = home } in
+    { survives = sv; named = named; is = is; row = row; answers = answers; home = home } in
     subst
     (λ k. IsLostPage (pool_after (as_events made) (after (Opens r) p)) r k (answers_in (opened_leaves (c.leaves found.blob.items) row.devs) (page_calls row))
     ⊎ ClashesAt r.cells row.bytes) (sym row.ends.1)

@@ -40,8 +40,7 @@ use Rattle.txg_history.proofs.LookedParts.{answer_first, answer_second}
 hurt_by : (c : Codec) (p : Pool) (k : Key) (cell : Cell) (copy : CopyOf) (noted : Noted) (bytes : List ℕ) → Survives c p
     → p.reads.cells k ≡ Some cell → IsCopy p.member p.in_top p.owes cell copy
     → noted.call ≡ Read copy.dev (data_start + cell.sector) bytes None → length bytes ≡ 4096 → bytes ≢ cell.block
-    → Answers (as_found noted p.sectors) noted.call
-    → IsHurt cell (after (Calls noted) p).sectors copy
+    → Answers (as_found noted p.sectors) noted.call → IsHurt cell (after (Calls noted) p).sectors copy
 hurt_by c p k cell copy noted bytes sv at is call long other answers lacks =
     read_damage c p noted copy.dev (data_start + cell.sector) bytes cell.block sv is.is_member
     (inr (record {
@@ -71,8 +70,7 @@ tried_read c p k cell Good (copy ∷ more) (noted ∷ made) wrong outcome good s
     answers.1 rest in
     record {
       may = (sparing, later.may);
-      only =
-          (plain_one noted copy.dev (data_start + cell.sector) fails.bytes (Some fails.fault) call, later.only);
+      only = (plain_one noted copy.dev (data_start + cell.sector) fails.bytes (Some fails.fault) call, later.only);
       hurt = later.hurt;
       are = later.are;
     }
@@ -149,8 +147,7 @@ abbrev CopyIs : (member : ℕ → Bool) (in_top : ℕ → ℕ) (owes : Logs) →
 CopyIs member in_top owes cell copy = copy.readable ≡ true → IsCopy member in_top owes cell copy
 
 copy_is : (member : ℕ → Bool) (in_top : ℕ → ℕ) (owes : Logs) (cell : Cell) (leaf : LeafSeen) → IsTrueLeaf member in_top owes leaf
-    → stands_under cell.top leaf ≡ true
-    → CopyIs member in_top owes cell (copy_of cell.birth leaf)
+    → stands_under cell.top leaf ≡ true → CopyIs member in_top owes cell (copy_of cell.birth leaf)
 copy_is member in_top owes cell leaf is under = by leaf.dev refl
   where
     by : (dev : Option ℕ) → leaf.dev ≡ dev → CopyIs member in_top owes cell (copy_at (is_up leaf.own.mode) dev (leaf.owes cell.birth))
@@ -177,10 +174,8 @@ tried_copies : (member : ℕ → Bool) (in_top : ℕ → ℕ) (owes : Logs) (cel
 tried_copies member in_top owes cell leaves all =
     let copies = copies_of (sum_of_cell cell) leaves in
     let are = copies_are member in_top owes cell leaves all in
-    all_append _ (filter (is_due false) copies) (filter (is_due true) copies)
-    (all_filter (is_due false)
-    (λ copy is due. is (and_parts copy.readable (not copy.lacks) due).0) copies are)
-    (all_filter (is_due true)
+    all_append _ (filter (is_due false) copies) (filter (is_due true) copies) (all_filter (is_due false)
+    (λ copy is due. is (and_parts copy.readable (not copy.lacks) due).0) copies are) (all_filter (is_due true)
     (λ copy is due. is (and_parts copy.readable copy.lacks due).0) copies are)
 
 -- The pointer of a page, and what is known before it is read, are right.
@@ -199,8 +194,7 @@ turn_may x r p turn found on is here right answers = subst Goal cell.2 whole is.
 
     Goal : Sum → Type 0
     Goal sum = AreTried (data_start + sum.sector) (IsPageHere x turn.level turn.index sum) (tries (copies_of sum x.leaves)) turn.reads turn.wrong
-        (Some is.bytes)
-        → IsHealed (data_start + sum.sector) (Some is.bytes) turn.wrong turn.rewrites
+        (Some is.bytes) → IsHealed (data_start + sum.sector) (Some is.bytes) turn.wrong turn.rewrites
         → Mays x.codec p (as_events (turn.reads ++ turn.rewrites)) ⊎ ClashesAt r.cells found
 
     at : p.reads.cells (page_of turn) ≡ Some cell.0
@@ -212,12 +206,12 @@ turn_may x r p turn found on is here right answers = subst Goal cell.2 whole is.
     whole : Goal (sum_of_cell cell.0)
     whole tried healed =
         let are : AreRead x.codec p cell.0 turn.reads turn.wrong = tried_read x.codec p (page_of turn) cell.0
-            (IsPageHere x turn.level turn.index (sum_of_cell cell.0))
+        (IsPageHere x turn.level turn.index (sum_of_cell cell.0))
         (tries (copies_of (sum_of_cell cell.0) x.leaves)) turn.reads turn.wrong (Some is.bytes) good
         on.of.survives at (tried_copies p.member p.in_top p.owes cell.0 x.leaves on.leaves)
         (answer_first turn.reads turn.rewrites p.sectors answers) tried in
         let survives : Survives x.codec (with_calls turn.reads p) = subst (Survives x.codec) (calls_after turn.reads p)
-            (history_survives x.codec (as_events turn.reads) p on.of.survives are.may) in
+        (history_survives x.codec (as_events turn.reads) p on.of.survives are.may) in
         same_bytes_or is.bytes cell.0.block
         (λ same. inl (subst (Mays x.codec p) (sym (events_more turn.reads turn.rewrites)) (mays_calls x.codec turn.reads (as_events turn.rewrites) p are.may
         (heals_may x.codec (with_calls turn.reads p) (page_of turn) cell.0 turn.wrong turn.rewrites survives at are.are are.hurt
@@ -245,8 +239,7 @@ turns_may x r p (turn ∷ turns) on each right answers = ⊎_elim
     (mays_calls x.codec (turn.reads ++ turn.rewrites) (as_events (calls_of_turns turns)) p may more)))
     (λ clash. inr clash)
     (turns_may x r (with_calls (turn.reads ++ turn.rewrites) p) turns (on_behind x r p (turn.reads ++ turn.rewrites) on may) each.1 right.1
-    (answer_second (turn.reads ++ turn.rewrites) (calls_of_turns turns) p.sectors answers)))
-    (λ clash. inr clash)
+    (answer_second (turn.reads ++ turn.rewrites) (calls_of_turns turns) p.sectors answers))) (λ clash. inr clash)
     (turn_may x r p turn x.found on each.0 each.0.bytes_are right.0
     (answer_first (turn.reads ++ turn.rewrites) (calls_of_turns turns) p.sectors answers))
 
@@ -407,6 +400,4 @@ stop_never x r p level index sum reads wrong answering on low sum_is right answe
         (tried_copies p.member p.in_top p.owes cell.0 x.leaves on.leaves) answers tried
         (copy_first good.d (filter (is_due false) (copies_of (sum_of_cell cell.0) x.leaves)) (filter (is_due true) (copies_of (sum_of_cell cell.0) x.leaves))
         (due_copy cell.0 good.d x.leaves (up_due p r cell.0 good.d x.leaves on.leaves (up good.d good.answers).0 (on.tops good.d ∙ good.top_is)
-        (on.logs good.d cell.0.birth ∙ good.has))))
-        good.unhurt)
-        (up good.d good.answers).1
+        (on.logs good.d cell.0.birth ∙ good.has)))) good.unhurt) (up good.d good.answers).1

@@ -46,20 +46,18 @@ same_bytes_or a b same other = by_bool (bytes_eq a b) (λ is. same ((bytes_eq-De
 
 -- A page whose pointer is right gives the right pointers below it, or other bytes with its sum.
 page_right : (x : Reading) (cells : Cells) (reached : Key → Bool) (level index : ℕ) → IsTree x.codec cells → IsReadTo x reached → level < 3
-    → reached (key (suc level) index) ≡ true
-    → x.got (key (suc level) index) ≡ sum_of (cells (key (suc level) index))
+    → reached (key (suc level) index) ≡ true → x.got (key (suc level) index) ≡ sum_of (cells (key (suc level) index))
     → ((j : ℕ) → j < 64 → x.got (key level (64 * index + j)) ≡ sum_of (cells (key level (64 * index + j)))) ⊎ ClashesAt cells x.found
 page_right x cells reached level index tree back low on right = of (cells (key (suc level) index)) refl right
   where
     of : (cell : Option Cell) → cells (key (suc level) index) ≡ cell → x.got (key (suc level) index) ≡ sum_of cell
         → ((j : ℕ) → j < 64 → x.got (key level (64 * index + j)) ≡ sum_of (cells (key level (64 * index + j)))) ⊎ ClashesAt cells x.found
     of None at is = inl (λ j lt. back.holes level index j low lt on is ∙ sym (ap sum_of (tree.holes level index j low lt at)))
-    of (Some cell) at is =
-        let page : (bytes : List ℕ) × (x.found (key (suc level) index) ≡ Some bytes)
-            × (sha256 bytes ≡ sha256 cell.block)
-            × ((j : ℕ) → j < 64 → x.got (key level (64 * index + j)) ≡ x.codec.pointer bytes j) = back.pages level
-            index (record { birth = cell.birth; top = cell.top; sector = cell.sector; sum = sha256 cell.block }) low on
-            is in
+    of (Some cell) at is = let page : (bytes : List ℕ) × (x.found (key (suc level) index) ≡ Some bytes)
+        × (sha256 bytes ≡ sha256 cell.block)
+        × ((j : ℕ) → j < 64 → x.got (key level (64 * index + j)) ≡ x.codec.pointer bytes j) = back.pages level
+        index (record { birth = cell.birth; top = cell.top; sector = cell.sector; sum = sha256 cell.block }) low on
+        is in
         same_bytes_or page.0 cell.block
         (λ same. inl (λ j lt. page.3 j lt ∙ (ap (λ bytes. x.codec.pointer bytes j) same ∙ tree.pages level index cell low at j lt)))
         (λ other. inr (record {
@@ -87,8 +85,7 @@ level_below : (x : Reading) (cells : Cells) (reached : Key → Bool) (level : �
 level_below x cells reached level tree back low inside known above =
     ⊎_elim (λ all. inl (λ index lt is. by all index lt is)) (λ clash. inr clash)
     (all_or (λ i. reached (key (suc level) i) ≡ true → (j : ℕ) → j < 64 → x.got (key level (64 * i + j)) ≡ sum_of (cells (key level (64 * i + j))))
-    (ClashesAt cells x.found) (width (suc level))
-    (λ i lt. by_bool (reached (key (suc level) i))
+    (ClashesAt cells x.found) (width (suc level)) (λ i lt. by_bool (reached (key (suc level) i))
     (λ on. ⊎_elim (λ right. inl (λ on. right)) (λ clash. inr clash) (page_right x cells reached level i tree back low on (above i lt (known i lt on))))
     (λ off. inl (λ on. true_not_false (reached (key (suc level) i)) on off))))
   where

@@ -124,12 +124,12 @@ thirds_along plan draft q (m ∷ ms) (true ∷ was) (c ∷ is) vs t same r =
       r.0,
       events_along r.1 behind,
       ap (λ l. events_along l t) r.2
-      ∙ (ap (λ x. Third x m.dev ∷ events_along (as_moves r.0 ++ (ended c draft m.dev ++ r.1)) begun) same
+          ∙ (ap (λ x. Third x m.dev ∷ events_along (as_moves r.0 ++ (ended c draft m.dev ++ r.1)) begun) same
           ∙ ap (λ l. Third q m.dev ∷ l) (calls_along r.0 (ended c draft m.dev ++ r.1) begun
           ∙ ap (λ l. as_events r.0 ++ l) (ended_along c draft m.dev q r.1 called called_same))),
       r.3,
       thirds_along plan draft q ms was is r.1 behind
-      (same_rec draft (ended c draft m.dev) called (ended_label c draft m.dev) ∙ called_same) r.4,
+          (same_rec draft (ended c draft m.dev) called (ended_label c draft m.dev) ∙ called_same) r.4,
     )
 thirds_along plan draft q (m ∷ ms) (false ∷ was) (c ∷ is) vs t same r = (r.0, thirds_along plan draft q ms was is vs t same r.1)
 thirds_along plan draft q [] [] (c ∷ is) vs t same r = absurd r

@@ -71,19 +71,20 @@ pub record IsTarget (member : ℕ → Bool) (in_top : ℕ → ℕ) (owes settled
 
 -- a scan that hasn't come past the key needs nothing at its place
 not_scanned : (c : Codec) (p : Pool) (k : Key) (cell : Cell) (d : ℕ) → Survives c p → p.reads.cells k ≡ Some cell → p.scan.passed k ≡ false
-    → p.in_top d ≡ cell.top
-    → NeedsScan p.scan p.reads p.in_top d (data_start + cell.sector) cell.block → ⊥
+    → p.in_top d ≡ cell.top → NeedsScan p.scan p.reads p.in_top d (data_start + cell.sector) cell.block → ⊥
 not_scanned c p k cell d sv at ahead top n =
-    let one : AreAtOne cell n.cell = (sym top ∙ n.top_is, let there : data_start + cell.sector
-        ≡ data_start + n.cell.sector = n.at.sector_is in omega (arith, there)) in
+    let one : AreAtOne cell n.cell = (
+      sym top ∙ n.top_is,
+      let there : data_start + cell.sector
+          ≡ data_start + n.cell.sector = n.at.sector_is in omega (arith, there),
+    ) in
     let same : (k ≡ n.k) × (cell ≡ n.cell) = sv.one_key.one p.reads p.reads k n.k cell n.cell sv.order.reads_live
-        sv.order.reads_live at n.cell_is one in
+    sv.order.reads_live at n.cell_is one in
     true_not_false (p.scan.passed k) (subst (λ j. p.scan.passed j ≡ true) (sym same.0) n.is_passed) ahead
 
 -- Copies to targets.
 copy_first : (c : Codec) (p : Pool) (k : Key) (cell : Cell) (copy : CopyOf) (more : List CopyOf) (made : List Noted) → Survives c p
-    → p.reads.cells k ≡ Some cell → p.scan.passed k ≡ false
-    → IsTarget p.member p.in_top p.owes p.settled cell copy
+    → p.reads.cells k ≡ Some cell → p.scan.passed k ≡ false → IsTarget p.member p.in_top p.owes p.settled cell copy
     → asks_of made ≡ Writes copy.dev (data_start + cell.sector) cell.block ∷ rewrites (data_start + cell.sector) cell.block more
     → ((noted : Noted) (made : List Noted) → Survives c (after (Calls noted) p) → asks_of made ≡ rewrites (data_start + cell.sector) cell.block more
     → Mays c (after (Calls noted) p) (as_events made)) → Mays c p (as_events made)
@@ -167,8 +168,7 @@ looks_untouched at sum block (copy ∷ more) (noted ∷ made) d s others (inr (i
   read_off noted.call copy.dev at differs.bytes None d s differs.gives.is,
   subst (λ made. Untouched made d s) (sym made_is) (
     write_off rewrite.call copy.dev at block d s ask others.0,
-    looks_untouched at sum block more rest d s
-        others.1 later,
+    looks_untouched at sum block more rest d s others.1 later,
   ),
 )
 
@@ -200,7 +200,7 @@ was_copied p cell d copy noted made later long ask here ok rest =
     let call = write_call noted.call copy.dev (data_start + cell.sector) cell.block ask in
     let same : (copy.dev == d) ≡ true = subst (λ call. is_dev (device_of call) (Some d) ≡ true) call.1 here in
     let is_write : noted.call ≡ Write d (data_start + cell.sector) cell.block None = call.1
-        ∙ (ap (λ e. Write e (data_start + cell.sector) cell.block call.0) (same_device copy.dev d same)
+    ∙ (ap (λ e. Write e (data_start + cell.sector) cell.block call.0) (same_device copy.dev d same)
     ∙ ap (λ fault. Write d (data_start + cell.sector) cell.block fault)
     (none_of call.0 (subst (λ call. is_none (fault_of call) ≡ true) call.1 ok))) in
     step_copies p noted (made ++ later) d cell is_write long (rest same)
@@ -221,8 +221,7 @@ copied_at p cell d (copy ∷ more) (noted ∷ made) later long apart asks ok u =
     (λ here. let parts = and_parts (is_dev (device_of noted.call) (Some d)) (is_none (fault_of noted.call)) here in
     was_copied p cell d copy noted made later long ask parts.0 parts.1
     (λ same. untouched_more made later d (data_start + cell.sector) (copies_untouched (data_start + cell.sector) cell.block more made d
-    (data_start + cell.sector)
-    (others_at copy.dev d more same apart.0) rest) u))
+    (data_start + cell.sector) (others_at copy.dev d more same apart.0) rest) u))
     (λ deeper. copied_at (after (Calls noted) p) cell d more made later long apart.1 rest deeper u)
     (or_cases (is_dev (device_of noted.call) (Some d) && is_none (fault_of noted.call)) (has_copied (Some d) made) ok)
 

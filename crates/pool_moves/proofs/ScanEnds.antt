@@ -54,8 +54,7 @@ eligible_are f p all (At d found own ∷ seats) away up =
     (eligible_are f p all seats away.1 (λ e has. up e (inr has)))
     (λ e on dev. let at = dev_is found d e dev in (
       (subst (λ n. p.scan.eligible n ≡ true) at.1 on, up e (inl (same_test e d (sym at.1), at.0))),
-      eligible_are f p all
-          seats away.1 (λ e has. up e (inr has)),
+      eligible_are f p all seats away.1 (λ e has. up e (inr has)),
     ))
 eligible_are f p all (Adrift leaf ∷ seats) away up = before_all (AllByRecursion (IsEligible p all)) leaf.eligible leaf.dev leaf.guid (eligible_of f p seats)
     (eligible_are f p all seats away.1 (λ e has. up e (inr has))) (λ e on dev. no_dev leaf.dev e away.0.0 dev)
@@ -103,13 +102,10 @@ found_mapped : (v : Move) (t : Side) (ms : List Member) (seats : List Seat)
     → ((which : ℕ → Bool) → AllByRecursion (IsOfFound which) t.seats → AllByRecursion (IsOfFound which) seats)
     → AllByRecursion (λ m. AllByRecursion (IsOfFound (λ e. m.dev == e)) t.seats) ms
     → AllByRecursion (λ m. AllByRecursion (IsOfFound (λ e. m.dev == e)) seats) ms
-found_mapped v t ms seats step all =
-    each
-    (λ m is. step (λ e. m.dev == e) is) ms all
+found_mapped v t ms seats step all = each (λ m is. step (λ e. m.dev == e) is) ms all
 
 still_eligible : (d : ℕ) (eligible : ℕ → Bool) (ms : List Member) → AllByRecursion (λ n. (d == n.dev) ≡ false) ms
-    → AllByRecursion (λ m. eligible m.dev ≡ true) ms
-    → AllByRecursion (λ m. at_device d false eligible m.dev ≡ true) ms
+    → AllByRecursion (λ m. eligible m.dev ≡ true) ms → AllByRecursion (λ m. at_device d false eligible m.dev ≡ true) ms
 still_eligible d eligible [] off all = tt
 still_eligible d eligible (m ∷ ms) off all = (ap (λ t. cond t false (eligible m.dev)) off.0 ∙ all.0, still_eligible d eligible ms off.1 all.1)
 
@@ -125,25 +121,25 @@ cleared_walk c s t m ms noted ending rest left call is next =
     let behind = after_move (Makes noted) t in
     let kept = move_keeps c (Makes noted) s t (may.0, tt) tt left.kept in
     let walk = widened_walk c (Clear m.dev) ending s behind kept
-        (((may.1.0, tt), (left.running, left.found.0, left.eligible.0)), tt) is in
+    (((may.1.0, tt), (left.running, left.found.0, left.eligible.0)), tt) is in
     let like : IsLike (after (Clears m.dev) (after (Calls noted) t.pool)) (after_moves ending behind).pool = subst
-        (λ l. IsLike (after (Clears m.dev) (after (Calls noted) t.pool)) (after_moves l behind).pool) (sym is.moves)
+    (λ l. IsLike (after (Clears m.dev) (after (Calls noted) t.pool)) (after_moves l behind).pool) (sym is.moves)
     (widens_like is.widens (step (Clear m.dev) s.core) (after_move (Clear m.dev) behind)
     (after (Clears m.dev) (after (Calls noted) t.pool)) is.are
     ((after (Clears m.dev) (after (Calls noted) t.pool)).owes, refl)) in (
       ((may.0, tt), tt),
       walks_more c ending rest behind walk
-      (next (steps ending s) (after_moves ending behind) (seen_of ending s) (record {
-        kept = walk_keeps c ending s behind walk kept;
-        running = ap (λ p. p.scan.running) like.1 ∙ left.running;
-        passed = subst IsPassed (sym like.1) left.passed;
-        eligible = subst (λ p. AllByRecursion (λ m. p.scan.eligible m.dev ≡ true) ms) (sym like.1) left.eligible.1;
-        apart = left.apart.1;
-        found = found_mapped (Clear m.dev) t ms (after_moves ending behind).seats
-            (λ which all. subst (λ l. AllByRecursion (IsOfFound which) (after_moves l behind).seats) (sym is.moves)
-            (widens_found which is.widens (step (Clear m.dev) s.core) (after_move (Clear m.dev) behind) is.are
-            (of_found_still which (Clear m.dev) behind tt (λ d found own is. is) all))) left.found.1;
-      })),
+          (next (steps ending s) (after_moves ending behind) (seen_of ending s) (record {
+            kept = walk_keeps c ending s behind walk kept;
+            running = ap (λ p. p.scan.running) like.1 ∙ left.running;
+            passed = subst IsPassed (sym like.1) left.passed;
+            eligible = subst (λ p. AllByRecursion (λ m. p.scan.eligible m.dev ≡ true) ms) (sym like.1) left.eligible.1;
+            apart = left.apart.1;
+            found = found_mapped (Clear m.dev) t ms (after_moves ending behind).seats
+                (λ which all. subst (λ l. AllByRecursion (IsOfFound which) (after_moves l behind).seats) (sym is.moves)
+                (widens_found which is.widens (step (Clear m.dev) s.core) (after_move (Clear m.dev) behind) is.are
+                (of_found_still which (Clear m.dev) behind tt (λ d found own is. is) all))) left.found.1;
+          })),
     )
 
 -- one whose flush failed, and its count
@@ -170,7 +166,7 @@ dropped_walk : (c : Codec) (s : PoolState) (t : Side) (m : Member) (ms : List Me
     → Walks c t (Makes noted ∷ ((Drop m.dev ∷ sets_failed leaf) ++ rest))
 dropped_walk c s t m ms noted fault leaf rest left ask fails next =
     let may = part_may c (Flushes m.dev ∷ []) (noted ∷ []) (Some fault) t.pool (flush_sparing t.pool m.dev)
-        (ask, inr (fault, fails, refl, refl)) in
+    (ask, inr (fault, fails, refl, refl)) in
     let behind = after_move (Makes noted) t in
     let dropped = after_move (Drop m.dev) behind in (
       ((may, tt)),
@@ -210,8 +206,7 @@ end_at c s t vs kept running row =
       kept = kept;
       running = running;
       passed = λ k cell is low. row.none k (sum_of_cell cell) (ap sum_of is) low;
-      eligible = each (λ m is. is.0)
-          (eligible_of t.pool.group.frozen t.pool t.seats) are;
+      eligible = each (λ m is. is.0) (eligible_of t.pool.group.frozen t.pool t.seats) are;
       apart = eligible_apart t.pool.group.frozen t.pool t.seats kept.away kept.apart;
       found = each
           (λ m is. only_found m.dev t.seats kept.apart is.1) (eligible_of t.pool.group.frozen t.pool t.seats) are;
@@ -230,8 +225,7 @@ step_by c true s t vs reply kept is answers (inl row) = key_walks c s t s.own.sc
 step_by c true s t vs reply kept is answers (inr row) = inl (end_walks c s t vs kept is row.0)
 
 pub step_walks : (c : Codec) (s : PoolState) (t : Side) (vs : List Move) (reply : StepReply) → Kept c s t → AllAnswer t.pool.sectors (made_in vs)
-    → RowStep s vs reply
-    → Walks c t vs ⊎ FoundClash t.pool (first_reads (made_in vs))
+    → RowStep s vs reply → Walks c t vs ⊎ FoundClash t.pool (first_reads (made_in vs))
 step_walks c s t vs reply kept answers row = step_by c s.core.scan.running s t vs reply kept refl answers row
 
 -- A scan starts for the readable leaves, over the record that the pool reads.

@@ -146,8 +146,7 @@ has_or_copied true copied is = inr is
 has_or_copied false copied is = inl refl
 
 spared_here : (owes copied rest : Bool) (a b : ℕ) → a ≡ b → (not (a == b) || (cond owes copied true && rest)) ≡ true → (owes ≡ false) ⊎ (copied ≡ true)
-spared_here owes copied rest a b same is = has_or_copied owes copied
-    (and_parts (cond owes copied true) rest
+spared_here owes copied rest a b same is = has_or_copied owes copied (and_parts (cond owes copied true) rest
     (sym (ap (λ t. not t || (cond owes copied true && rest)) (same_test a b same)) ∙ is)).0
 
 abbrev HasOrGot : Pool → Cell → (copied : List Noted) → (d : ℕ) → Type 0
@@ -199,8 +198,7 @@ not_lacks false is = refl
 
 untried_are : (p : Pool) (cell : Cell) (copies : List CopyOf) (reads : List Noted) → AllByRecursion (IsCopy p.member p.in_top p.owes cell) (tries copies)
     → AllByRecursion (IsCopy p.member p.in_top p.owes cell) (untried copies reads)
-untried_are p cell copies reads all =
-    all_filter (λ copy. not copy.lacks) (λ copy is has. is)
+untried_are p cell copies reads all = all_filter (λ copy. not copy.lacks) (λ copy is has. is)
     (drop (length reads) (tries copies)) (all_drop (IsCopy p.member p.in_top p.owes cell) (length reads) (tries copies) all)
 
 all_any : {A : Type 0} (xs : List A) → AllByRecursion (λ x. Unit {0}) xs
@@ -260,21 +258,21 @@ found_good c s t k cell scrubs reads rewritten copied looks wrong kept at ahead 
     let p : Pool = t.pool in
     let sum = sum_of_cell cell in
     let tried = tried_all t.pool cell (copies_of sum (scan_core t).leaves)
-        (copies_on t.pool cell t.pool.group.frozen true t.seats kept.away kept.seated) in
+    (copies_on t.pool cell t.pool.group.frozen true t.seats kept.away kept.seated) in
     let are : AreRead c t.pool cell reads wrong = copies_read c t.pool k cell
-        (tries (copies_of sum (scan_core t).leaves)) reads wrong (Some cell.block) kept.survives at tried
+    (tries (copies_of sum (scan_core t).leaves)) reads wrong (Some cell.block) kept.survives at tried
     (answer_first reads (rewritten ++ (copied ++ looks)) t.pool.sectors answers) is_read in
     let first = behind_calls c reads t.pool kept.survives are.may in
     let healed = heals_may c (with_calls reads t.pool) k cell wrong rewritten first at are.are are.hurt is_healed in
     let second = behind_calls c rewritten (with_calls reads t.pool) first healed in
     let copies : Mays c (with_calls rewritten (with_calls reads t.pool)) (as_events copied) = copies_may c
-        (with_calls rewritten (with_calls reads t.pool)) k cell (targets sum (scan_core t).leaves) copied second at
-        ahead
+    (with_calls rewritten (with_calls reads t.pool)) k cell (targets sum (scan_core t).leaves) copied second at
+    ahead
     (targets_are t.pool cell sum t.pool.group.frozen true t.seats refl refl kept.away kept.seated) is_copied in
     let behind : with_calls (reads ++ (rewritten ++ (copied ++ looks))) t.pool
-        ≡ pool_after (as_events (copied ++ looks)) (with_calls rewritten (with_calls reads t.pool)) = sym
-        (calls_after (reads ++ (rewritten ++ (copied ++ looks))) t.pool)
-        ∙ (more_calls reads (rewritten ++ (copied ++ looks)) t.pool
+    ≡ pool_after (as_events (copied ++ looks)) (with_calls rewritten (with_calls reads t.pool)) = sym
+    (calls_after (reads ++ (rewritten ++ (copied ++ looks))) t.pool)
+    ∙ (more_calls reads (rewritten ++ (copied ++ looks)) t.pool
     ∙ more_calls rewritten (copied ++ looks) (with_calls reads t.pool)) in
     record {
       may = mays_both c reads (rewritten ++ (copied ++ looks)) p are.may
@@ -287,8 +285,7 @@ found_good c s t k cell scrubs reads rewritten copied looks wrong kept at ahead 
           (untried_have (copies_of sum (scan_core t).leaves) reads)
           (answer_second copied looks (run rewritten (run reads p.sectors))
           (answer_second rewritten (copied ++ looks) (run reads p.sectors)
-          (answer_second reads (rewritten ++ (copied ++ looks)) p.sectors answers)))
-          is_looked)));
+          (answer_second reads (rewritten ++ (copied ++ looks)) p.sectors answers))) is_looked)));
       got = λ d owes ok. subst (λ q. WasCopied q d cell) (sym behind)
           (copied_at (with_calls rewritten (with_calls reads p)) cell d (targets sum (scan_core t).leaves) copied looks
           (kept.survives.one_key.mapped t.pool.reads k cell kept.survives.order.reads_live at).long
@@ -303,8 +300,7 @@ found_good c s t k cell scrubs reads rewritten copied looks wrong kept at ahead 
 none_good : (c : Codec) (s : PoolState) (t : Side) (k : Key) (cell : Cell) (reads : List Noted) (wrong : List CopyOf) → Kept c s t
     → t.pool.reads.cells k ≡ Some cell
     → AllAnswer t.pool.sectors reads → IsReads (data_start + cell.sector) (sha256 cell.block)
-    (tries (copies_of (sum_of_cell cell) (scan_core t).leaves)) reads wrong None
-    → Mays c t.pool (as_events reads)
+    (tries (copies_of (sum_of_cell cell) (scan_core t).leaves)) reads wrong None → Mays c t.pool (as_events reads)
 none_good c s t k cell reads wrong kept at answers is_read =
     (copies_read c t.pool k cell (tries (copies_of (sum_of_cell cell) (scan_core t).leaves)) reads wrong None kept.survives at
     (tried_all t.pool cell (copies_of (sum_of_cell cell) (scan_core t).leaves) (copies_on t.pool cell t.pool.group.frozen true t.seats kept.away kept.seated))
@@ -383,13 +379,12 @@ key_at c s t scrubs k cell calls copied vs kept running at answers next false ro
     (subst (λ made. Mays c t.pool (as_events made)) (sym row.0) tt) (quiet_brought t cell scrubs calls copied kept.away row.1)))
 key_at c s t scrubs k cell calls copied vs kept running at answers next true row moves =
     let rest : List Noted = made_in
-        (count_reads (sha256 cell.block) calls (filter (stands_under cell.top) (scan_core t).leaves)
+    (count_reads (sha256 cell.block) calls (filter (stands_under cell.top) (scan_core t).leaves)
     ++ (Pass k cell.birth (is_scrubbed scrubs (sum_of_cell cell) calls copied (scan_core t).leaves) ∷ [])) in
     let made_is : made_in vs ≡ calls ++ rest = ap made_in moves
-        ∙ made_calls calls (count_reads (sha256 cell.block) calls (filter (stands_under cell.top) (scan_core t).leaves)
+    ∙ made_calls calls (count_reads (sha256 cell.block) calls (filter (stands_under cell.top) (scan_core t).leaves)
     ++ (Pass k cell.birth (is_scrubbed scrubs (sum_of_cell cell) calls copied (scan_core t).leaves) ∷ [])) in
-    ⊎_elim
-    (λ good. inl (subst (Walks c t) (sym moves)
+    ⊎_elim (λ good. inl (subst (Walks c t) (sym moves)
     (key_walk c s t calls k cell (filter (stands_under cell.top) (scan_core t).leaves)
     (is_scrubbed scrubs (sum_of_cell cell) calls copied (scan_core t).leaves) running at next
     good.may (good_brought c t cell scrubs calls copied kept.away good))))
@@ -400,8 +395,7 @@ key_at c s t scrubs k cell calls copied vs kept running at answers next true row
       bytes = clash.bytes;
       read = subst (λ made. WereRead clash.bytes (first_reads made)) (sym made_is) (first_longer clash.bytes calls rest clash.read);
       clash = clash.clash;
-    }))
-    (step_calls c s t k cell scrubs calls copied kept at next.ahead (answer_first calls rest t.pool.sectors
+    })) (step_calls c s t k cell scrubs calls copied kept at next.ahead (answer_first calls rest t.pool.sectors
     (subst (AllAnswer t.pool.sectors) made_is answers)) row)
 
 key_row : (c : Codec) (s : PoolState) (t : Side) (scrubs : Bool) (vs : List Move) → Kept c s t → t.pool.scan.running ≡ true

@@ -43,8 +43,7 @@ module _ (v : Move) (t : Side) (f r g q : Bool) where
 
   abbrev AreStepped : List Seat → Type 0
   AreStepped seats = map (leaf_seen g q (told (pool_after (events_of v t.pool) t.pool)))
-      (map (seat_step v t.pool) seats)
-      ≡ map on_leaf (map before seats)
+      (map (seat_step v t.pool) seats) ≡ map on_leaf (map before seats)
 
   each_seat : (Fits : Seat → Type 0) → ((seat : Seat) → Fits seat → IsStepped seat) → (seats : List Seat)
       → AllByRecursion Fits seats → AreStepped seats
@@ -64,20 +63,17 @@ module _ (v : Move) (t : Side) (f r g q : Bool) where
       one (Adrift leaf) fits = adrift leaf fits
 
   by_any : ((d : ℕ) (found : Bool) (own : OwnLeaf) → IsStepped (At d found own))
-      → ((leaf : LeafSeen) → IsStepped (Adrift leaf))
-      → AreStepped t.seats
+      → ((leaf : LeafSeen) → IsStepped (Adrift leaf)) → AreStepped t.seats
   by_any at adrift = by_seats (λ seat. Unit {0}) (λ d found own fits. at d found own) (λ leaf fits. adrift leaf)
       (any_seat t.seats)
 
   -- by whether the run has found the leaf
   by_found : (which : ℕ → Bool) → ((d : ℕ) (own : OwnLeaf) → IsStepped (At d true own))
       → ((d : ℕ) (own : OwnLeaf) → which d ≡ false → IsStepped (At d false own))
-      → ((leaf : LeafSeen) → IsStepped (Adrift leaf))
-      → AllByRecursion (IsOfFound which) t.seats → AreStepped t.seats
+      → ((leaf : LeafSeen) → IsStepped (Adrift leaf)) → AllByRecursion (IsOfFound which) t.seats → AreStepped t.seats
   by_found which up down adrift = by_seats (IsOfFound which) (λ d found own. either
       (λ x. IsOfFound which (At d x own) → IsStepped (At d x own)) (λ fits. up d own) (λ fits. down d own (fits refl))
-      found)
-      (λ leaf fits. adrift leaf)
+      found) (λ leaf fits. adrift leaf)
 
 burnt : (begun : Bool) (cells : Cells) (pinned : List Cells) → map sums (cond begun (cells ∷ pinned) pinned) ≡ cond begun (sums cells ∷ map sums pinned) (map sums pinned)
 burnt true cells pinned = refl
@@ -226,8 +222,7 @@ module _ (t : Side) where
   sets : (m : Guid) (own : OwnLeaf) → IsSeen (Sets m own) f r f r
   sets m own = ap (with_leaves (seen t)) (by_any (Sets m own) t f r f r (λ d found was. either
       (λ x. leaf_at f r d found (cond x own was) ≡ cond x (record (leaf_at f r d found was) { own = own })
-      (leaf_at f r d found was))
-      refl refl ((p.guid d).0 == m.0)) (λ leaf. refl))
+      (leaf_at f r d found was)) refl refl ((p.guid d).0 == m.0)) (λ leaf. refl))
 
   finds : (m : Guid) (e : ℕ) → AllByRecursion (IsOneAt p.guid m e) t.seats → IsSeen (Finds m e) f r f r
   finds m e fits = ap (with_leaves (seen t)) (by_seats (Finds m e) t f r f r (IsOneAt p.guid m e) (λ d found own. either
@@ -239,18 +234,15 @@ module _ (t : Side) where
   loses : (e : ℕ) → IsSeen (Lose e) f r f r
   loses e = ap (with_leaves (seen t)) (by_any (Lose e) t f r f r (λ d found own. either
       (λ x. leaf_seen f r (told p) (cond x (Adrift (leaf_at f r d found own)) (At d found own))
-      ≡ leaf_at f r d found own)
-      refl refl (e == d)) (λ leaf. refl))
+      ≡ leaf_at f r d found own) refl refl (e == d)) (λ leaf. refl))
 
   scans : (high : ℕ) (eligible : ℕ → Bool) → AllByRecursion (IsOfFound eligible) t.seats
       → IsSeen (Scan_from high eligible) f r f true
   scans high eligible fits = ap (with_leaves (step (Scan_from high eligible) (seen t)))
       (by_found (Scan_from high eligible) t f r f true eligible
       (λ d own. ap (λ log. record (leaf_at f false d true own) { eligible = eligible d; scrub = log })
-      (same_log (eligible d) d))
-      (λ d own off. ap (λ x. record (leaf_at f false d false own)
-      { eligible = x; scrub = cond x (no_log d) (no_log d) }) off)
-      (λ leaf. refl) fits)
+      (same_log (eligible d) d)) (λ d own off. ap (λ x. record (leaf_at f false d false own)
+      { eligible = x; scrub = cond x (no_log d) (no_log d) }) off) (λ leaf. refl) fits)
 
   passes : (k : Key) (birth : ℕ) (which : ℕ → Bool) → r ≡ true → AllByRecursion (IsOfFound p.scan.eligible) t.seats
       → IsSeen (Pass k birth which) f r f r
@@ -258,20 +250,17 @@ module _ (t : Side) where
       (ap (with_leaves (step (Pass k birth which) (seen_by f true t.seats p)))
       (by_found (Pass k birth which) t f true f true p.scan.eligible
       (λ d own. either (Passed d true own) refl refl (p.scan.eligible d))
-      (λ d own off. subst (Passed d false own) (sym off) refl)
-      (λ leaf. refl) fits))
+      (λ d own off. subst (Passed d false own) (sym off) refl) (λ leaf. refl) fits))
     where
       Passed : (d : ℕ) (found : Bool) (own : OwnLeaf) → Bool → Type 0
-      Passed d found own x =
-          record (leaf_at f false d found own)
+      Passed d found own x = record (leaf_at f false d found own)
           { eligible = x; scrub = cond x (grown which birth birth p.scan.scrub d) (no_log d) }
           ≡ leaf_step (Pass k birth which) p.highest 0 p.scan.hi
           (record (leaf_at f false d found own) { eligible = x; scrub = cond x (p.scan.scrub d) (no_log d) })
 
   drops : (d : ℕ) → r ≡ true → AllByRecursion (IsOfFound (λ e. d == e)) t.seats → IsSeen (Drop d) f r f r
   drops d is fits = subst (λ r. IsSeen (Drop d) f r f r) (sym is)
-      (ap (with_leaves (step (Drop d) (seen_by f true t.seats p)))
-      (by_found (Drop d) t f true f true (λ e. d == e)
+      (ap (with_leaves (step (Drop d) (seen_by f true t.seats p))) (by_found (Drop d) t f true f true (λ e. d == e)
       (λ e own. either (λ x. dropped e true own x ≡ record (leaf_at f true e true own) {
         eligible = cond x false (p.scan.eligible e);
         scrub = cond x (no_log 0) (cond (p.scan.eligible e) (p.scan.scrub e) (no_log e));
@@ -286,16 +275,14 @@ module _ (t : Side) where
   clears : (d : ℕ) → r ≡ true → AllByRecursion (IsOfFound (λ e. d == e)) t.seats → p.scan.eligible d ≡ true
       → IsSeen (Clear d) f r f r
   clears d is fits on = subst (λ r. IsSeen (Clear d) f r f r) (sym is)
-      (ap (with_leaves (step (Clear d) (seen_by f true t.seats p)))
-      (by_found (Clear d) t f true f true (λ e. d == e)
+      (ap (with_leaves (step (Clear d) (seen_by f true t.seats p))) (by_found (Clear d) t f true f true (λ e. d == e)
       (λ e own. either (λ x. (x ≡ true → d ≡ e) → cleared e true own x
       ≡ cond x (leaf_cleared p.scan.hi (leaf_at f true e true own)) (leaf_at f true e true own))
       (λ same. subst (λ x. scanned e own (scanned_log p.scan x (p.owes x)) (p.settled x)
       ≡ leaf_cleared p.scan.hi (leaf_at f true e true own))
       (sym (same refl)) (ap (λ scrub. scanned e own (log_scanned p.scan.hi scrub (p.owes e)) (p.settled e))
       (sym (ap (λ u. cond u (p.scan.scrub e) (no_log e)) (subst (λ x. p.scan.eligible x ≡ true) (same refl) on)))))
-      (λ same. refl)
-      (d == e) (same_device d e)) (λ e own off. ap (cleared e false own) off) (λ leaf. refl) fits))
+      (λ same. refl) (d == e) (same_device d e)) (λ e own off. ap (cleared e false own) off) (λ leaf. refl) fits))
     where
       scanned : (e : ℕ) (own : OwnLeaf) (owes settled : ℕ → Bool) → LeafSeen
       scanned e own owes settled = record (leaf_at f true e true own) { owes = owes; settled = kept_in owes settled }

@@ -58,8 +58,7 @@ misses_read pool member dev (at ∷ rings) (noted ∷ made) m = (asked_read note
 
 pub search_reads : (pool member : Guid) (dev size : ℕ) (made : List Noted) (result : Result Bool Fault) → IsSearch pool member dev size made result
     → AreReads made
-search_reads pool member dev size made (Ok true) s =
-    subst AreReads (sym s.all) (are_reads_more s.misses (s.hit ∷ [])
+search_reads pool member dev size made (Ok true) s = subst AreReads (sym s.all) (are_reads_more s.misses (s.hit ∷ [])
     (misses_read pool member dev (take s.before (rings_of size)) s.misses s.are_misses) (asked_read s.hit.call dev _ _ s.ask, tt))
 search_reads pool member dev size made result s = misses_read pool member dev (rings_of size) made s.0
 
@@ -122,8 +121,7 @@ shown_in size before slot dev bytes lt few long =
         more n k = omega arith
 
     inside : ((dev == dev) && covers at (sectors_in bytes) (at + slot)) ≡ true
-    inside =
-        let same : (dev == dev) ≡ true = grind (arith, nat_tests) in
+    inside = let same : (dev == dev) ≡ true = grind (arith, nat_tests) in
         let low = low_of at slot in
         let high : nat_lt (at + slot) (at + sectors_in bytes) ≡ true = high_of at slot (sectors_in bytes) few long in rw (same, low, high) refl
       where

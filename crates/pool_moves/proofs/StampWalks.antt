@@ -80,8 +80,7 @@ rising_more : (mid low high : ℕ) (first second : List NewLeaf) → AreRising f
     → AllByRecursion (IsNumbered mid high) second → AreRising (first ++ second)
 rising_more mid low high [] second a below b above = b
 rising_more mid low high (leaf ∷ first) second a below b above = (
-  all_append _ first second a.0
-      (each (λ other is. let x = below.0.1 in let y = is.0 in omega (arith, x, y))
+  all_append _ first second a.0 (each (λ other is. let x = below.0.1 in let y = is.0 in omega (arith, x, y))
       second above),
   rising_more mid low high first second a.1 below.1 b above,
 )
@@ -90,16 +89,14 @@ top_numbered : (next top : ℕ) (ms : List NewMember) → AllByRecursion (IsNumb
 top_numbered next top [] = tt
 top_numbered next top (m ∷ ms) = (
   (omega arith, omega arith),
-  each
-      (λ leaf is. let x = is.0 in let y = is.1 in (omega (arith, x), omega (arith, y)))
+  each (λ leaf is. let x = is.0 in let y = is.1 in (omega (arith, x), omega (arith, y)))
       (top_leaves (suc next) top ms) (top_numbered (suc next) top ms),
 )
 
 top_rising : (next top : ℕ) (ms : List NewMember) → AreRising (top_leaves next top ms)
 top_rising next top [] = tt
 top_rising next top (m ∷ ms) = (
-  each (λ leaf is. let x = is.0 in omega (arith, x))
-      (top_leaves (suc next) top ms) (top_numbered (suc next) top ms),
+  each (λ leaf is. let x = is.0 in omega (arith, x)) (top_leaves (suc next) top ms) (top_numbered (suc next) top ms),
   top_rising (suc next) top ms,
 )
 
@@ -110,11 +107,9 @@ next_up next (members ∷ tops) = let up = next_up (suc next + length members) t
 from_numbered : (next top : ℕ) (tops : List (List NewMember)) → AllByRecursion (IsNumbered (suc next) (next_from next tops)) (leaves_from next top tops)
 from_numbered next top [] = tt
 from_numbered next top (members ∷ tops) = all_append _
-    (top_leaves (suc next) top members) (leaves_from (suc next + length members) (suc top) tops)
-    (each
+    (top_leaves (suc next) top members) (leaves_from (suc next + length members) (suc top) tops) (each
     (λ leaf is. let x = is.0 in let y = is.1 in let up = next_up (suc next + length members) tops in (x, omega (arith, y, up)))
-    (top_leaves (suc next) top members) (top_numbered (suc next) top members))
-    (each
+    (top_leaves (suc next) top members) (top_numbered (suc next) top members)) (each
     (λ leaf is. let x = is.0 in (omega (arith, x), is.1)) (leaves_from (suc next + length members) (suc top) tops)
     (from_numbered (suc next + length members) (suc top) tops))
 
@@ -123,8 +118,7 @@ from_rising next top [] = tt
 from_rising next top (members ∷ tops) = rising_more (suc next + length members) (suc next) (next_from (suc next + length members) tops)
     (top_leaves (suc next) top members)
     (leaves_from (suc next + length members) (suc top) tops) (top_rising (suc next) top members) (top_numbered (suc next) top members)
-    (from_rising (suc next + length members) (suc top) tops)
-    (each
+    (from_rising (suc next + length members) (suc top) tops) (each
     (λ leaf is. let x = is.0 in (omega (arith, x), is.1)) (leaves_from (suc next + length members) (suc top) tops)
     (from_numbered (suc next + length members) (suc top) tops))
 
@@ -152,8 +146,7 @@ from_tops : (next top : ℕ) (tops : List (List NewMember)) → AllByRecursion (
 from_tops next top [] = tt
 from_tops next top (members ∷ tops) = all_append _ (top_leaves (suc next) top members)
     (leaves_from (suc next + length members) (suc top) tops)
-    (each (λ leaf is. omega (arith, is)) (top_leaves (suc next) top members)
-    (top_is (suc next) top members))
+    (each (λ leaf is. omega (arith, is)) (top_leaves (suc next) top members) (top_is (suc next) top members))
     (each (λ leaf is. omega (arith, is))
     (leaves_from (suc next + length members) (suc top) tops) (from_tops (suc next + length members) (suc top) tops))
 
@@ -206,8 +199,7 @@ new_roomy size leaves leaf is big = let room = room_of size leaves leaf is in
 
 -- Stamps leave the rings of each leaf's device blank, and other devices as they were.
 stamps_off : (size : ℕ → ℕ) (pool : Guid) (leaves : List NewLeaf) (stamps : List Stamp) (d s : ℕ) → AreStamps size pool leaves stamps None
-    → AllByRecursion (λ other. (d == other.dev) ≡ false) leaves
-    → Untouched (calls_of_stamps stamps) d s
+    → AllByRecursion (λ other. (d == other.dev) ≡ false) leaves → Untouched (calls_of_stamps stamps) d s
 stamps_off size pool [] [] d s are off = tt
 stamps_off size pool [] (stamp ∷ stamps) d s are off = absurd are
 stamps_off size pool (leaf ∷ leaves) [] d s are off = absurd are
@@ -293,8 +285,7 @@ leaves_seen size name pool all (leaf ∷ leaves) sectors apart are =
 
 -- A create whose stamps all answered makes a pool.
 pub stamps_make : (size : ℕ → ℕ) (name : List ℕ) (pool : Guid) (blocks : ℕ) (tops : List (List NewMember)) (stamps : List Stamp) (sectors : Sectors)
-    → IsNew size blocks tops → pool.0 < 2 ^ 64
-    → AreStamps size pool (new_leaves tops) stamps None
+    → IsNew size blocks tops → pool.0 < 2 ^ 64 → AreStamps size pool (new_leaves tops) stamps None
     → IsMade (new_state size name pool blocks tops)
     (record { pool = new_pool size name pool (new_leaves tops) (run (calls_of_stamps stamps) sectors); seats = map new_seat (new_leaves tops) })
 stamps_make size name pool blocks tops stamps sectors new range are = record {
@@ -359,10 +350,12 @@ pub create_makes : (c : Codec) (size : ℕ → ℕ) (name : List ℕ) (pool : Gu
     (record { pool = new_pool size name pool (new_leaves tops) (run (calls_of_stamps stamps) sectors); seats = map new_seat (new_leaves tops) })
     × Walks c (record { pool = new_pool size name pool (new_leaves tops) (run (calls_of_stamps stamps) sectors); seats = map new_seat (new_leaves tops) }) vs
 create_makes c size name pool blocks tops stamps vs reply sectors row none =
-    let side : Side = record { pool = new_pool size name pool (new_leaves tops) (run (calls_of_stamps stamps) sectors);
-        seats = map new_seat (new_leaves tops) } in
+    let side : Side = record {
+      pool = new_pool size name pool (new_leaves tops) (run (calls_of_stamps stamps) sectors);
+      seats = map new_seat (new_leaves tops);
+    } in
     let made = stamps_make size name pool blocks tops stamps sectors row.is_new row.in_range
-        (subst (AreStamps size pool (new_leaves tops) stamps) none row.are) in (
+    (subst (AreStamps size pool (new_leaves tops) stamps) none row.are) in (
       made,
       create_by c row.failed size (new_state size name pool blocks tops) side vs reply none
           (made_kept c (new_state size name pool blocks tops) side made) refl row.ends,
@@ -389,8 +382,7 @@ stamp_one c p size pool leaf stamp outcome vs same part more just =
     )
 
 pub stamps_allowed : (c : Codec) (p : Pool) (size : ℕ → ℕ) (pool : Guid) (leaves : List NewLeaf) (stamps : List Stamp) (failed : Option NewLeaf)
-    → AreStamps size pool leaves stamps failed
-    → Mays c p (stamp_events stamps) × LoseJust (stamp_events stamps)
+    → AreStamps size pool leaves stamps failed → Mays c p (stamp_events stamps) × LoseJust (stamp_events stamps)
 stamps_allowed c p size pool [] [] failed are = (tt, tt)
 stamps_allowed c p size pool [] (stamp ∷ stamps) failed are = absurd are
 stamps_allowed c p size pool (leaf ∷ leaves) [] failed are = absurd are

@@ -184,13 +184,11 @@ spares_out m v first spare None off = by_bool (same_number m spare)
     ∙ sym (taken_later m (branch_leaves first) (spare ∷ []) off ∙ ap (λ t. branch_leaves first ++ cond t [] (spare ∷ [])) other))
 spares_out m v first spare (Some second) off = by_bool (same_number m spare)
     (λ is. ap (λ t. child_leaves (cond t (Spared v first second None) (cond (same_number m second) (Spared v first spare None)
-    (Spared v first spare (Some second))))) is
-    ∙ sym (taken_later m (branch_leaves first) (spare ∷ (second ∷ [])) off
+    (Spared v first spare (Some second))))) is ∙ sym (taken_later m (branch_leaves first) (spare ∷ (second ∷ [])) off
     ∙ ap (λ t. branch_leaves first ++ cond t (second ∷ []) (spare ∷ cond (same_number m second) [] (second ∷ []))) is))
     (λ other. ap (λ t. child_leaves (cond t (Spared v first second None)
     (cond (same_number m second) (Spared v first spare None) (Spared v first spare (Some second))))) other
-    ∙ (last (same_number m second)
-    ∙ sym (taken_later m (branch_leaves first) (spare ∷ (second ∷ [])) off
+    ∙ (last (same_number m second) ∙ sym (taken_later m (branch_leaves first) (spare ∷ (second ∷ [])) off
     ∙ ap (λ t. branch_leaves first ++ cond t (second ∷ []) (spare ∷ cond (same_number m second) [] (second ∷ []))) other)))
   where
     last : (t : Bool) → child_leaves (cond t (Spared v first spare None) (Spared v first spare (Some second))) ≡ branch_leaves first
@@ -268,5 +266,4 @@ pruned_leaves m (child ∷ children) different = tree_more (pruned_child m child
     (has_first m (child_leaves child) (tree_leaves children) different has))
     ∙ sym (taken_first m (child_leaves child) (tree_leaves children) has))
     (λ none. ap (λ l. l ++ taken_out m (tree_leaves children)) (taken_none m (child_leaves child) none)
-    ∙ sym (taken_later m (child_leaves child) (tree_leaves children) none))
-    (has_or_not m (child_leaves child))))
+    ∙ sym (taken_later m (child_leaves child) (tree_leaves children) none)) (has_or_not m (child_leaves child))))

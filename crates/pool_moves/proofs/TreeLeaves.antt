@@ -78,8 +78,7 @@ faces_map v number first hi (leaf ∷ leaves) =
     ap (λ g. (g, (leaf_step v number first hi leaf).top) ∷ map face (map (leaf_step v number first hi) leaves))
     (leaf_stays v number first hi leaf).0
     ∙ (ap (λ t. (leaf.guid, t) ∷ map face (map (leaf_step v number first hi) leaves))
-    (leaf_stays v number first hi leaf).1
-    ∙ ap (λ l. face leaf ∷ l) (faces_map v number first hi leaves))
+    (leaf_stays v number first hi leaf).1 ∙ ap (λ l. face leaf ∷ l) (faces_map v number first hi leaves))
 
 abbrev with_faces : PoolState → List Face → Shape
 with_faces s fs = record { faces = fs; children = s.own.children }
@@ -278,11 +277,9 @@ back_again : (test : LeafSeen → Bool) (leaves : List LeafSeen) (leaf : LeafSee
 back_again test [] leaf found = absurd (cc)
 back_again test (x ∷ leaves) leaf found = by_bool (test x)
     (λ is. ap (λ t. insert (remove (map face (x ∷ leaves)) (cond t 0 (suc (place_where test leaves)))) (cond t 0 (suc (place_where test leaves))) (face leaf))
-    is
-    ∙ ap (λ y. face y ∷ map face leaves) (sym (found_first test x leaf leaves is found)))
+    is ∙ ap (λ y. face y ∷ map face leaves) (sym (found_first test x leaf leaves is found)))
     (λ off. ap (λ t. insert (remove (map face (x ∷ leaves)) (cond t 0 (suc (place_where test leaves)))) (cond t 0 (suc (place_where test leaves))) (face leaf))
-    off
-    ∙ ap (λ l. face x ∷ l) (back_again test leaves leaf (found_later test x leaf leaves off found)))
+    off ∙ ap (λ l. face x ∷ l) (back_again test leaves leaf (found_later test x leaf leaves off found)))
 
 -- A leaf is brought in.
 abbrev with_leaf : (i : ℕ) → Guid → (top : ℕ) → List Child → Shape → Shape
@@ -325,7 +322,7 @@ graft_tree : (graft : Graft) (s : PoolState) (name : List ℕ) (leaf : LeafSeen)
     → IsTree (with_leaf (new_place graft name leaf.top s.core.leaves) (new_number graft s) leaf.top (grafted graft s leaf) (shape_of s))
 graft_tree graft s name leaf is named placed new =
     let faces = insert (map face s.core.leaves) (new_place graft name leaf.top s.core.leaves)
-        (new_number graft s, leaf.top) in
+    (new_number graft s, leaf.top) in
     record {
       tree = λ x. by_bool (leaf.top == x)
           (λ same. ap (λ t. tree_leaves (cond t (grafted graft s leaf) (s.own.children x))) same
@@ -403,8 +400,7 @@ graft_for_tree c None size graft s t name new d vs reply kept is none row =
     graft_at_tree c (leaf_named name s.core.leaves) size graft s t name new d vs reply kept is refl none row
 
 pub graft_leaves : (c : Codec) (size : ℕ → ℕ) (graft : Graft) (s : PoolState) (t : Side) (name new : List ℕ) (d : ℕ) (vs : List Move) (reply : GraftReply)
-    → Kept c s t → AreTreeLeaves s
-    → RowGraft size graft s name new d vs reply → AreTreeLeaves (steps vs s)
+    → Kept c s t → AreTreeLeaves s → RowGraft size graft s name new d vs reply → AreTreeLeaves (steps vs s)
 graft_leaves c size graft s t name new d vs reply kept are row = of_shape (steps vs s)
     (graft_for_tree c (graft_refusal graft s name (leaf_named name s.core.leaves)) size graft s t name new d vs reply kept (to_shape s are) refl row)
 
@@ -454,8 +450,7 @@ back_tree s name leaf is named =
     record {
       tree = λ x. ap tree_leaves
           (same_children (leaf.top == x) (s.own.children leaf.top) (pruned leaf.guid (s.own.children leaf.top))
-          (s.own.children x)
-          (λ same. ap s.own.children (same_device leaf.top x same)))
+          (s.own.children x) (λ same. ap s.own.children (same_device leaf.top x same)))
           ∙ (is.tree x ∙ ap (under x) (sym again));
       different = subst (λ fs. AreDifferent (firsts fs)) (sym again) is.different;
     }
@@ -477,9 +472,7 @@ commit_tree c size s name leaf seat vs reply is named row = subst (λ l. IsTree 
 
     committed : shape_of (steps row.part (steps (goes_out s name leaf) s))
         ≡ without_leaf (place_named name s.core.leaves) leaf.top (pruned leaf.guid (s.own.children leaf.top)) (shape_of s)
-    committed =
-        shape_along row.part gone (commit_calm c size gone row.part row.turn row.commit)
-        ∙ out_shape s name leaf
+    committed = shape_along row.part gone (commit_calm c size gone row.part row.turn row.commit) ∙ out_shape s name leaf
 
     behind : (turn : TurnReply) → DetachBehind turn size s name leaf seat row.rest reply
         → IsTree (shape_of (steps row.rest (steps row.part (steps (goes_out s name leaf) s))))

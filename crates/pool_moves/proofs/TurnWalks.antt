@@ -26,8 +26,7 @@ write_at : (c : Codec) (s : PoolState) (t : Side) (vs : List Move) → Kept c s 
 write_at c s t vs kept f row = let ms = board_under row.cell.top (frozen_core t).leaves in
     subst (Walks c t) (sym row.moves)
     (turn_walk c s t row.made ms row.results row.leaving (Wrote_key row.key) (Wrote row.key) kept f
-    (wrote_mark c row.key)
-    (under_found c s t row.cell.top kept)
+    (wrote_mark c row.key) (under_found c s t row.cell.top kept)
     (write_turn_may c t.pool row.key row.cell ms row.results (as_events row.made ++ (leavers ms row.results ++ (Wrote row.key ∷ []))) kept.survives f row.unflushed row.cell_is row.undone
     (under_just c s t row.cell.top kept f) (under_apart c s t row.cell.top kept) (record { made = row.made; phase = row.calls; all = refl }))
     (subst (λ core. AreLeaves core ms row.results row.leaving) (sym (seen_frozen c s t kept f)) row.leaves))

@@ -164,8 +164,7 @@ leaves_walk c [] results vs tail s t b kept like f found are more = subst (λ l.
 leaves_walk c (m ∷ ms) [] vs tail s t b kept like f found are more = subst (λ l. Walks c t (l ++ tail)) (sym are) (more t like f)
 leaves_walk c (m ∷ ms) (true ∷ results) vs tail s t b kept like f found are more = leaves_walk c ms results vs tail s t b kept like f found.1 are more
 leaves_walk c (m ∷ ms) (false ∷ results) vs tail s t b kept like f found are more =
-    subst (λ l. Walks c t (l ++ tail)) (sym are.2)
-    (subst (Walks c t) (sym (append_assoc are.0 are.1 tail))
+    subst (λ l. Walks c t (l ++ tail)) (sym are.2) (subst (Walks c t) (sym (append_assoc are.0 are.1 tail))
     (walks_more c are.0 (are.1 ++ tail) t walk
     (leaves_walk c ms results are.1 tail (steps are.0 s) (after_moves are.0 t) (after (Leaves m.dev) b) (walk_keeps c are.0 s t walk kept)
     (subst (λ l. IsLike (after (Leaves m.dev) b) (after_moves l t).pool) (sym are.3.moves)
@@ -202,15 +201,13 @@ pub turn_walk : (c : Codec) (s : PoolState) (t : Side) (made : List Noted) (ms :
     → t.pool.group.frozen ≡ true → IsMark c mark v → AllByRecursion (λ m. AllByRecursion (IsOfFound (λ e. m.dev == e)) t.seats) ms
     → Mays c t.pool (as_events made ++ (leavers ms results ++ (v ∷ []))) → AreLeaves s.core ms results leaving → Walks c t (turn_moves made leaving mark)
 turn_walk c s t made ms results leaving mark v kept f is found may are =
-    let walk : Walks c t (as_moves made) = walk_of c (as_moves made) t
-        (subst (Mays c t.pool) (sym (only_calls made t))
-        (mays_first c (as_events made) (leavers ms results ++ (v ∷ [])) t.pool may))
+    let walk : Walks c t (as_moves made) = walk_of c (as_moves made) t (subst (Mays c t.pool) (sym (only_calls made t))
+    (mays_first c (as_events made) (leavers ms results ++ (v ∷ [])) t.pool may))
     (free_walk (as_moves made) t f (calls_free t.seats made)) in
     walks_more c (as_moves made) (leaving ++ (mark ∷ [])) t walk
     (leaves_walk c ms results leaving (mark ∷ []) (steps (as_moves made) s) (after_moves (as_moves made) t) (pool_after (as_events made) t.pool)
     (walk_keeps c (as_moves made) s t walk kept) ((pool_after (as_events made) t.pool).owes, calls_pool made t) (frozen_along (as_moves made) t (calls_free t.seats made) ∙ f)
-    (each
-    (λ n there. free_along (as_moves made) (Leave n.dev) t (calls_free t.seats made) there) ms found)
+    (each (λ n there. free_along (as_moves made) (Leave n.dev) t (calls_free t.seats made) there) ms found)
     (subst (λ core. AreLeaves core ms results leaving) (sym (seen_of (as_moves made) s ∙ calls_seen made s.core)) are)
     (λ u like g. mark_walk c u (pool_after (leavers ms results) (pool_after (as_events made) t.pool)) mark v is like g
     (mays_second c (leavers ms results) (v ∷ []) (pool_after (as_events made) t.pool) (mays_second c (as_events made) (leavers ms results ++ (v ∷ [])) t.pool may))))

@@ -93,8 +93,7 @@ names_own (leaf ∷ leaves) rising = (
   of_both {P = λ other. leaf.guid.0 < other.guid.0}
       {Q = λ other. name_in (map new_leaf_seen leaves) other.guid ≡ other.name}
       (λ other below own. ap (λ t. cond t leaf.name (name_in (map new_leaf_seen leaves) other.guid))
-      (below_other leaf.guid.0 other.guid.0 below) ∙ own)
-      leaves rising.0 (names_own leaves rising.1),
+      (below_other leaf.guid.0 other.guid.0 below) ∙ own) leaves rising.0 (names_own leaves rising.1),
 )
 
 module _ (table : List Device) (tops : List (List (List ℕ))) where
@@ -181,8 +180,7 @@ create_from c h name blocks tops acts reply device row says = by (first_failed m
         fault_same (name_in s.core.leaves m) device
         (ap (λ m. found_reply m s.core.leaves) (sym is) ∙ answer_is) in (
           first.0.dev,
-          subst (λ name. IsNamedAs h.table tops name first.0.dev)
-              (ap (name_in s.core.leaves) first.1 ∙ same) first.2,
+          subst (λ name. IsNamedAs h.table tops name first.0.dev) (ap (name_in s.core.leaves) first.1 ∙ same) first.2,
           first.3,
         )
 
@@ -194,8 +192,7 @@ create_names c h name blocks tops acts reply device from to (inl row) caused say
     absurd (let no = sym row.3 ∙ says in cc)
 create_names c h name blocks tops acts reply device from to (inr (inl row)) caused says =
     let first = stamp_failed (HasName h.table (all_names tops)) (size_in h.table) row.pool
-    (leaves_of h.table tops) row.stamps row.leaf
-    (all_have h name blocks tops row.may.none) row.are in
+    (leaves_of h.table tops) row.stamps row.leaf (all_have h name blocks tops row.may.none) row.are in
     let same : row.leaf.name ≡ device =
     fault_same row.leaf.name device
     (answer_same (FaultOn row.leaf.name) (FaultOn device) (sym row.says ∙ says)) in record {
@@ -210,8 +207,7 @@ create_names c h name blocks tops acts reply device from to (inr (inr row)) caus
     let answer_is = answer_same row.answer (FaultOn device) (sym row.says ∙ says) in
     let behind = commit_acts row.answer row.pool.0 row.moves in
     let calls : calls_along acts ≡ calls_of_stamps row.stamps ++ made_in row.moves =
-    ap calls_along row.all
-    ∙ (calls_more (stamp_acts row.pool.0 row.stamps)
+    ap calls_along row.all ∙ (calls_more (stamp_acts row.pool.0 row.stamps)
     (Bears (new_birth name row.pool blocks h.table tops) ∷ behind)
     ∙ (ap (λ made. made ++ calls_along behind) (stamp_calls row.pool.0 row.stamps)
     ∙ ap (λ made. calls_of_stamps row.stamps ++ made)
@@ -220,7 +216,6 @@ create_names c h name blocks tops acts reply device from to (inr (inr row)) caus
       d = first.0;
       is_named = first.1.0;
       number = first.1.1;
-      rose = failed_rose first.0 (calls_along acts) from to caused
-          (subst (FailedOn first.0) (sym calls)
+      rose = failed_rose first.0 (calls_along acts) from to caused (subst (FailedOn first.0) (sym calls)
           (failed_right first.0 (calls_of_stamps row.stamps) (made_in row.moves) first.2));
     }

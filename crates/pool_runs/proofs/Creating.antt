@@ -53,8 +53,7 @@ few limit count is = by_bool (nat_lt limit count) (λ yes. absurd (let no : Some
     (λ no. let low : count ≤ limit = grind (arith, nat_tests) in low)
 
 big_of : (n : ℕ) (rest : Option Refusal) → or_else (cond (nat_lt n 320) (Some (TooSmall 320 n)) None) rest ≡ None → 320 ≤ n
-big_of n rest is = by_bool (nat_lt n 320)
-    (λ yes. absurd (let no : Some (TooSmall 320 n) ≡ None =
+big_of n rest is = by_bool (nat_lt n 320) (λ yes. absurd (let no : Some (TooSmall 320 n) ≡ None =
     sym (ap (λ t. cond t (Some (TooSmall 320 n)) None) yes) ∙ or_first (cond (nat_lt n 320) (Some (TooSmall 320 n)) None) rest is in cc))
     (λ no. let high : 320 ≤ n = grind (arith, nat_tests) in high)
 

@@ -39,8 +39,7 @@ pub failed_rose : (d : ℕ) (made : List Noted) (from to : ℕ → ℕ) → AllC
 failed_rose d [] from to caused failed = absurd failed
 failed_rose d (noted ∷ made) from to caused (inl failed) = subst (λ e. Rose (from e) (to e)) failed.0
     (rose_more (from (device_of noted.call)) (caused.0 (device_of noted.call)) (to (device_of noted.call))
-    (caused.1.cause failed.1 failed.2)
-    (caused_up made caused.0 to caused.2 (device_of noted.call)))
+    (caused.1.cause failed.1 failed.2) (caused_up made caused.0 to caused.2 (device_of noted.call)))
 failed_rose d (noted ∷ made) from to caused (inr more) =
     rose_since (from d) (caused.0 d) (to d) (caused.1.counts d) (failed_rose d made caused.0 to caused.2 more)
 
@@ -69,8 +68,7 @@ asked_on (Admit dev holds) d is = is
 asked_on (Eject dev) d is = is
 
 pub part_failed : (d : ℕ) (asks : List Ask) (made : List Noted) (fault : Fault) → AllByRecursion (IsAskOn d) asks
-    → IsPart asks made (Some fault)
-    → FailedOn d made
+    → IsPart asks made (Some fault) → FailedOn d made
 part_failed d [] [] fault on part = absurd (let no : Some fault ≡ None = part in cc)
 part_failed d [] (noted ∷ made) fault on part = absurd part
 part_failed d (ask ∷ asks) [] fault on part = absurd part
@@ -93,8 +91,7 @@ IsPlanOn plan = (m : Member) → AllByRecursion (IsAskOn m.dev) (plan m)
 
 pub phase_failing : (Fails : ℕ → Type 0) (plan : Member → List Ask) → IsPlanOn plan
     → (ms : List Member) (was is : List Bool) (made : List Noted)
-    → ((d : ℕ) → FailedOn d made → Fails d) → IsPhase plan ms was is made
-    → Failing Fails ms was → Failing Fails ms is
+    → ((d : ℕ) → FailedOn d made → Fails d) → IsPhase plan ms was is made → Failing Fails ms was → Failing Fails ms is
 phase_failing Fails plan on [] was is made fails phase before = tt
 phase_failing Fails plan on (m ∷ ms) [] is made fails phase before = absurd phase
 phase_failing Fails plan on (m ∷ ms) (b ∷ was) [] made fails phase before = tt
@@ -143,10 +140,8 @@ third_failing Fails plan draft on [] was is vs fails third before = tt
 third_failing Fails plan draft on (m ∷ ms) [] is vs fails third before = absurd third
 third_failing Fails plan draft on (m ∷ ms) (b ∷ was) [] vs fails third before = tt
 third_failing Fails plan draft on (m ∷ ms) (true ∷ was) (c ∷ is) vs fails (mine, rest, whole, turn, more) before =
-    by c turn
-    (third_failing Fails plan draft on ms was is rest
-    (λ d failed. fails d (subst (FailedOn d) (sym calls) (failed_right d mine (made_in rest) failed))) more
-    before)
+    by c turn (third_failing Fails plan draft on ms was is rest
+    (λ d failed. fails d (subst (FailedOn d) (sym calls) (failed_right d mine (made_in rest) failed))) more before)
   where
     calls : made_in vs ≡ mine ++ made_in rest
     calls = ap made_in whole
@@ -155,8 +150,7 @@ third_failing Fails plan draft on (m ∷ ms) (true ∷ was) (c ∷ is) vs fails 
     by : (c : Bool) → IsTurn (plan m) true c mine → Failing Fails ms is → Failing Fails (m ∷ ms) (c ∷ is)
     by true turn more = more
     by false turn more = (
-      fails m.dev
-          (subst (FailedOn m.dev) (sym calls)
+      fails m.dev (subst (FailedOn m.dev) (sym calls)
           (failed_left m.dev mine (made_in rest) (turn_failed m.dev (plan m) mine (on m) turn))),
       more,
     )

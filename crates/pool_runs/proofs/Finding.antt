@@ -146,8 +146,7 @@ steps_name [] s = refl
 steps_name (v ∷ vs) s = steps_name vs (state_step v s) ∙ step_name v s
 
 enters_named : (name : List ℕ) (g : ℕ) (first acts : List Act) (s : PoolState) (vs : List Move) (h : Host) → acts ≡ first ++ (Enters s ∷ does g vs)
-    → s.core.pool.0 ≡ g → s.core.name ≡ name
-    → named name (host_along acts h).pools ≡ Some (steps vs s)
+    → s.core.pool.0 ≡ g → s.core.name ≡ name → named name (host_along acts h).pools ≡ Some (steps vs s)
 enters_named name g first acts s vs h is number called =
     let at = host_along first h in
     let head = does_head g vs s at.pools (host_by (Enters s) at) refl number in
@@ -210,7 +209,7 @@ opens_live c h p before name known found acts reply n knows live titled made fai
         let has = facts.seats s out in
         let t : Side = record { pool = q; seats = has.0 } in
         let kept = walk_keeps c vs s t (resume_walks c (size_in h.table) s t vs (Committed m) has.1 q_sized row)
-            has.1 in
+        has.1 in
         let end = resumed_by (lacking_of s.core.leaves s.core.leaves) c (size_in h.table) s t vs m kept row in
         let same = opened_number m n (sym answers ∙ says) in
         let pool_is : pool_along acts p ≡ (after_moves vs t).pool = behind ∙ (ap (λ a. pool_along a q) rest ∙ does_pool g vs t q_number) in
@@ -343,8 +342,7 @@ opens_loses c h p before name known found acts reply page shown knows live made 
 
 -- By what the looks found.
 not_opened : (c : Codec) (start : Host) (before behind : Pool) (after : Host) (acts : List Act) (reply : Reply) (other : ImportReply) → reply ≡ To_import other
-    → (other ≡ NothingFound → ⊥)
-    → ((n : ℕ) → other ≡ Opened n → ⊥)
+    → (other ≡ NothingFound → ⊥) → ((n : ℕ) → other ≡ Opened n → ⊥)
     → ((page : Key) (shown : List LeafShown) → other ≡ PageLost page shown → ⊥)
     → (other ≡ NameOpen → (s : PoolState) × (named before.name start.pools ≡ Some s))
     → ((limit count : ℕ) → other ≡ TooManyPools limit count → (limit ≡ 16) × (16 ≤ length start.pools) × (count ≡ length start.pools + 1))
@@ -446,8 +444,7 @@ found_finds (TakesRecord found) c h before p name known acts reply knows titled 
 }
 
 pub import_finds : (c : Codec) (h : Host) (p : Pool) (name : List ℕ) (acts : List Act) (reply : Reply) → Knows c h p → p.name ≡ name → AreMade h (calls_along acts) → AreFair c p acts → AreFairLooks c p acts
-    → RowImport c h name acts reply
-    → FindsPool c h p (pool_along acts p) (host_along acts h) acts reply
+    → RowImport c h name acts reply → FindsPool c h p (pool_along acts p) (host_along acts h) acts reply
 import_finds c h p name acts reply knows titled made fair looks row = unless (named_in h.pools) refl row
   where
     named_in : List PoolState → Option PoolState

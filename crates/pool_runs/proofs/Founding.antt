@@ -110,7 +110,7 @@ founds c h name blocks tops acts reply k new says = of k.answer (answered k.answ
     whole false is row = absurd (cc)
     whole true is row =
         let kept = walk_keeps c k.moves s t
-            (found_walks c (size_in h.table) s t k.moves true begun (λ d one. refl) row) begun in
+        (found_walks c (size_in h.table) s t k.moves true begun (λ d one. refl) row) begun in
         let acked = ends_acked k.moves 1 t (founds_in c (size_in h.table) s k.moves row) in
         let pool_is = does_pool k.pool.0 k.moves t refl in
         let head = does_head k.pool.0 k.moves s (host_stamped h k.pool.0 k.stamps).pools start refl refl in

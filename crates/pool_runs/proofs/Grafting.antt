@@ -132,8 +132,7 @@ graft_keeps h e p d graft name leaf new s asked stands row = refused (graft_refu
         wrote begins same = subst (λ calls. HasWriteTo d calls) (sym (ap calls_along line.are ∙ graft_calls s.core.pool.0 k line.moves)) (subst (λ x. HasWriteTo x (made_in line.moves)) same begins.wrote)
 
         stays : Begins x g k (new_number graft s) line.moves r → (k == d) ≡ false → Keep x e.acts ⊎ IsGraftedOn p h e d
-        stays begins away = by_bool (p.pool.0 == g)
-            (λ mine. by_bool ((p.guid d).0 == (new_number graft s).0)
+        stays begins away = by_bool (p.pool.0 == g) (λ mine. by_bool ((p.guid d).0 == (new_number graft s).0)
             (λ same. ⊎_elim
             (λ came. inr (taken begins.begun (inr (came, sym (same_device p.pool.0 g mine), same_guid (p.guid d) (new_number graft s) same))))
             (λ failed. inl (kept (λ came ours. absurd (not_both came failed)))) begins.begun)
@@ -166,8 +165,7 @@ graft_keeps h e p d graft name leaf new s asked stands row = refused (graft_refu
 cleaned_keeps : (there : Bool) (dev : Option ℕ) (spare : Bool) (size : ℕ → ℕ) (x : Held) (g : ℕ) (vs : List Move) → is_dev x.d dev ≡ false → IsCleaned there dev spare size vs → KeepAll x g vs
 cleaned_keeps true (Some k) spare size x g vs away row = subst (KeepAll x g) (sym row.3) (
   (λ mine. let back : (k == x.d) ≡ false = other_back x.d k away in back),
-  all_plain x g (as_moves row.0)
-      (all_calls KeepsMembers kept_kind row.0),
+  all_plain x g (as_moves row.0) (all_calls KeepsMembers kept_kind row.0),
 )
 cleaned_keeps true None spare size x g vs away row = subst (KeepAll x g) (sym row) tt
 cleaned_keeps false dev spare size x g vs away row = subst (KeepAll x g) (sym row) tt
@@ -187,8 +185,7 @@ cleans true (Some k) spare size x g vs row = by_bool (x.d == k)
       here,
       subst (λ l. HasWriteTo x.d (made_in l)) (sym row.3) (subst (λ l. HasWriteTo x.d (made_in (Lose k ∷ l))) (append-nil (as_moves row.0))
           (wrote_made x.d row.0 [] (subst (λ d. HasWriteTo d row.0) (sym (same_device x.d k here)) (clean_wrote spare k (size k) row.0 row.1 row.2)))),
-    ))
-    (λ away. inl (cleaned_keeps true (Some k) spare size x g vs away row))
+    )) (λ away. inl (cleaned_keeps true (Some k) spare size x g vs away row))
 cleans true None spare size x g vs row = inl (cleaned_keeps true None spare size x g vs refl row)
 cleans false dev spare size x g vs row = inl (subst (KeepAll x g) (sym row) tt)
 

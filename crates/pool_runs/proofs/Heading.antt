@@ -241,7 +241,7 @@ line_syncs c h p e name s n met asked at is = of met.row
         let vs = line.2.moves in
         let done : RowSync c (size_in h.table) s vs (Ended (Committed n)) = subst (RowSync c (size_in h.table) s vs) (sync_reply line.0 (Ended (Committed n)) (sym line.1 ∙ is)) line.2.row in
         let kept = walk_keeps c vs s t
-            (sync_walks c (size_in h.table) s t vs (Ended (Committed n)) has.1 met.knows.sizes done) has.1 in
+        (sync_walks c (size_in h.table) s t vs (Ended (Committed n)) has.1 met.knows.sizes done) has.1 in
         subst (λ q. CommitsAll p q n) (sym (ap (λ a. pool_along a p) line.2.are ∙ does_pool s.core.pool.0 vs t (sym at.ours)))
         (sync_all c (size_in h.table) s t vs n has.1 kept done)
     of (inr out) = sync_not_memory (Ended (Committed n)) (sym is ∙ out.says)
@@ -283,8 +283,7 @@ line_second c h p e name s group top faults met asked at frozen other is = of me
 
 -- A turn acknowledges its group.
 line_turns : (c : Codec) (h : Host) (p : Pool) (e : Entry) (name : List ℕ) (s : PoolState) (n : ℕ) → Meets c h p e → e.asked ≡ Asks_turn name
-    → IsOpenAs p h name s
-    → e.reply ≡ To_turn (Committed n) → CommitsGroup p (pool_along e.acts p) n
+    → IsOpenAs p h name s → e.reply ≡ To_turn (Committed n) → CommitsGroup p (pool_along e.acts p) n
 line_turns c h p e name s n met asked at is = of met.row
   where
     of : HostRow c h e → CommitsGroup p (pool_along e.acts p) n
@@ -418,8 +417,7 @@ line_counts c h p e from to met caused = record {
     turns name s asks found bad (inr out) asked = absurd (subst Suspends out.says bad)
 
     tops : (name : List ℕ) (s : PoolState) (group : ℕ) (top : Guid) (faults : ℕ) → e.asked ≡ Asks_turn name → named name h.pools ≡ Some s
-        → e.reply ≡ To_turn (Suspended group top faults) → HostRow c h e
-        → LosesBoard s (HasRisen from to) group top
+        → e.reply ≡ To_turn (Suspended group top faults) → HostRow c h e → LosesBoard s (HasRisen from to) group top
     tops name s group top faults asked found says (inl row) =
         let line = on_open h name s (TurnLine c h) e.acts e.reply found (subst (λ x. RowOf c h x e.acts e.reply) asked row.0) in
         turn_loses (HasRisen from to) c (size_in h.table) s line.2.moves group top faults
@@ -429,8 +427,7 @@ line_counts c h p e from to met caused = record {
     tops name s group top faults asked found says (inr out) = turn_not_memory (Suspended group top faults) (sym says ∙ out.says)
 
     syncs : (name : List ℕ) (s : PoolState) (group : ℕ) (top : Guid) (faults : ℕ) → e.asked ≡ Asks_sync name
-        → IsOpenAs p h name s
-        → e.reply ≡ To_sync (Ended (Suspended group top faults)) → HostRow c h e
+        → IsOpenAs p h name s → e.reply ≡ To_sync (Ended (Suspended group top faults)) → HostRow c h e
         → LosesBoard s (HasRisen from to) group top ⊎ LosesSince p s e from to group top
     syncs name s group top faults asked at says (inl row) =
         let line = on_open h name s (SyncLine c h) e.acts e.reply at.named
@@ -489,8 +486,7 @@ line_counts c h p e from to met caused = record {
 
     imports : (name : List ℕ) (group : ℕ) (top : Guid) (faults : ℕ) → e.asked ≡ Asks_import name
         → e.reply ≡ To_import (Unopened group top faults) → HostRow c h e → FailsOpening c e.acts from to top
-    imports name group top faults asked says (inl row) =
-        import_loses c h name e.acts e.reply group top faults from to
+    imports name group top faults asked says (inl row) = import_loses c h name e.acts e.reply group top faults from to
         (subst (λ x. RowOf c h x e.acts e.reply) asked row.0) caused says
     imports name group top faults asked says (inr out) = import_not_memory (Unopened group top faults) (sym says ∙ out.says)
 

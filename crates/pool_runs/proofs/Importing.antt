@@ -240,7 +240,7 @@ opens_twin : (c : Codec) (h : Host) (p : Pool) (name : List ℕ) (found : Found)
     → IsFairMark (pool_after (as_events row.ids) (after (Opens r) p)) (Seeks_by row.ids row.devs) → HasNoTwin p r (claims_of (c.leaves found.blob.items) row.devs)
 opens_twin c h p name found r made outcome row knows is fair = let q = after (Opens r) p in
     let reads = sought_reads found.pool (size_in h.table) (c.room found.blob.items) (free_in h)
-        (c.leaves found.blob.items) row.ids row.devs row.sought in
+    (c.leaves found.blob.items) row.ids row.devs row.sought in
     row_no_twin c (size_in h.table) (free_in h) name p r found made outcome knows.survives knows.sizes is row
     (whole_before row.ids row.ids q reads fair.0)
     (λ d m claim. ap (λ x. x.member d) (sym (calls_after row.ids q)) ∙ claimed_member (pool_after (as_events row.ids) q) (c.leaves found.blob.items) row.devs d m fair.1 claim)
@@ -283,7 +283,7 @@ opening_front c h name known found acts reply opens = (
 pub opening_calls : (c : Codec) (h : Host) (name : List ℕ) (known : Known) (found : Found) (acts : List Act) (reply : Reply) → (opens : OpensFound c h name known found acts reply) → calls_along acts ≡ opens.made ++ calls_along opens.rest
 opening_calls c h name known found acts reply opens = let g : ℕ = found.pool.0 in
     let more : List Act = Marks g (Seeks_by opens.row.ids opens.row.devs) ∷ map_acts g opens.row.bytes opens.row.turns
-        opens.row.last opens.rest in
+    opens.row.last opens.rest in
     ap calls_along opens.are ∙ (bare_calls opens.row.ids (all_shown g (read_in opens.row.ids) opens.row.devs ++ more)
     ∙ (ap (λ l. opens.row.ids ++ l) (shown_calls g (read_in opens.row.ids) opens.row.devs more
     ∙ map_calls_along g opens.row.bytes opens.row.turns opens.row.last opens.rest)
@@ -295,7 +295,7 @@ opening_facts c h p name known found acts reply one opens knows found_one made f
     let r = read_by (opening_of c h name known found acts reply opens) p in
     let is = record_live p found one found_one in
     let answers = opening_answers h p opens.made (calls_along opens.rest)
-        (subst (AreMade h) (opening_calls c h name known found acts reply opens) made) knows.disk in
+    (subst (AreMade h) (opening_calls c h name known found acts reply opens) made) knows.disk in
     record {
       is = is;
       seats = opens_seats c h p name found r opens.made opens.outcome opens.row knows fair.named is answers fair.twin
@@ -498,10 +498,9 @@ calls_known c (noted ∷ made) h p may knows = calls_known c made (record h { di
 
 pub look_facts : (c : Codec) (h : Host) (p : Pool) (name : List ℕ) (acts : List Act) (reply : Reply) → Knows c h p → AreMade h (calls_along acts) → (row : Imports c h name acts reply) → LookFacts c h p name acts reply row
 look_facts c h p name acts reply knows made row =
-    let all : AreMade h (row.made ++ calls_along row.rest) = subst (AreMade h)
-        (ap calls_along row.are
-        ∙ bare_calls row.made (Looked name (known_by (size_in h.table) (handed h.table) row.row.looks) ∷ row.rest))
-        made in
+    let all : AreMade h (row.made ++ calls_along row.rest) = subst (AreMade h) (ap calls_along row.are
+    ∙ bare_calls row.made (Looked name (known_by (size_in h.table) (handed h.table) row.row.looks) ∷ row.rest))
+    made in
     record {
       knows = calls_known c row.made h p
           (reads_may c p row.made (look_reads (size_in h.table) (handed h.table) row.row.looks row.made row.row.look))
@@ -514,8 +513,7 @@ look_facts c h p name acts reply knows made row =
         answer = answer_second row.made (calls_along row.rest) h.disk all.answer;
       };
       seeks = λ same premises. seeks_live c (size_in h.table) (handed h.table) name row.made p row.seek knows.survives
-          knows.sizes same
-          (opening_answers h p row.made (calls_along row.rest) all knows.disk) row.row premises;
+          knows.sizes same (opening_answers h p row.made (calls_along row.rest) all knows.disk) row.row premises;
     }
 
 pub taken_live : (c : Codec) (p : Pool) (made : List Noted) (known : Known) (seek : SeekReply) (found : Found) → SeeksLive c p made known seek → seek ≡ TakesRecord found

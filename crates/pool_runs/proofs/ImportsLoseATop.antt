@@ -47,12 +47,10 @@ lacking_under top all [] is = absurd (cc)
 lacking_under top all (leaf ∷ leaves) is = by_bool (list_any (is_up_under leaf.top) all)
     (λ has. let more = lacking_under top all leaves
     (sym (ap (λ t. cond t (lacking_of all leaves) (Some leaf.top)) has) ∙ is) in
-    (or_right (is_under top leaf) (list_any (is_under top) leaves) more.0, more.1))
-    (λ off. let same : leaf.top ≡ top =
+    (or_right (is_under top leaf) (list_any (is_under top) leaves) more.0, more.1)) (λ off. let same : leaf.top ≡ top =
     some_same leaf.top top (sym (ap (λ t. cond t (lacking_of all leaves) (Some leaf.top)) off) ∙ is) in (
       or_left (is_under top leaf) (list_any (is_under top) leaves) (same_test leaf.top top same),
-      subst
-          (λ n. list_any (is_up_under n) all ≡ false) same off,
+      subst (λ n. list_any (is_up_under n) all ≡ false) same off,
     ))
 
 none_up : (Fails : ℕ → Type 0) (top : ℕ) (leaves : List LeafSeen) → list_any (is_up_under top) leaves ≡ false
@@ -106,8 +104,7 @@ opened_is : (c : Codec) (size : ℕ → ℕ) (handed : List ℕ → Option ℕ) 
     × (s.own.top_number ≡ c.top_number found.blob.items)
 opened_is c size handed name found made (Opens_state x) row s out = (
   ap (λ y. y.core.leaves) (sym (one x s out) ∙ row.ends.2),
-  ap (λ y. y.own.top_number)
-      (sym (one x s out) ∙ row.ends.2),
+  ap (λ y. y.own.top_number) (sym (one x s out) ∙ row.ends.2),
 )
   where
     one : (a b : PoolState) → Opens_state a ≡ Opens_state b → a ≡ b
@@ -154,8 +151,7 @@ fails_opening c size opening acts group top faults from to reads caused x =
     let rest = does x.g x.vs ++ (Closes x.g ∷ []) in
     let mid = midway_at acts x.front (Enters x.s ∷ rest) from to x.all caused in
     let lost : LosesTop is_writable x.s.core.leaves x.s.own.top_number (HasRisen mid.0 to) top =
-    resume_loses (HasRisen mid.0 to)
-    (lacking_of x.s.core.leaves x.s.core.leaves) c size x.s x.vs group top faults
+    resume_loses (HasRisen mid.0 to) (lacking_of x.s.core.leaves x.s.core.leaves) c size x.s x.vs group top faults
     (caught_rose x.vs (calls_along mid.1.behind) mid.0 to (ap calls_along mid.3 ∙ closed_calls x.g x.vs) mid.1.comes)
     refl x.row in record {
       opening = opening;
@@ -166,10 +162,8 @@ fails_opening c size opening acts group top faults from to reads caused x =
       rest = rest;
       enters = mid.3;
       lost = subst (λ number. LosesTop is_writable
-          (opened_leaves (c.leaves opening.found.blob.items) opening.devs) number (HasRisen mid.0 to) top)
-          x.numbers
-          (subst (λ leaves. LosesTop is_writable leaves x.s.own.top_number (HasRisen mid.0 to) top) x.leaves
-          lost);
+          (opened_leaves (c.leaves opening.found.blob.items) opening.devs) number (HasRisen mid.0 to) top) x.numbers
+          (subst (λ leaves. LosesTop is_writable leaves x.s.own.top_number (HasRisen mid.0 to) top) x.leaves lost);
     }
 
 -- The line.
@@ -181,8 +175,7 @@ seek_unopened : (seek : SeekReply) (c : Codec) (h : Host) (name : List ℕ) (kno
 seek_unopened (TakesRecord found) c h name known acts reply group top faults row says = (
   opening_of c h name known found acts reply row,
   ap opening_in row.are,
-  opens_unopened c h name known found acts reply group
-      top faults row says,
+  opens_unopened c h name known found acts reply group top faults row says,
 )
 seek_unopened seek c h name known acts reply group top faults row says = absurd (let no = sym row.1 ∙ says in cc)
 

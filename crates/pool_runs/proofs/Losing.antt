@@ -38,8 +38,7 @@ emptied_under top all [] is = absurd (cc)
 emptied_under top all (leaf ∷ leaves) is = by_bool (has_on leaf.top all)
     (λ on. or_right (is_under top leaf) (list_any (is_under top) leaves)
     (emptied_under top all leaves (sym (ap (λ t. cond t (emptied_of all leaves) (Some leaf.top)) on) ∙ is)))
-    (λ off. or_left (is_under top leaf) (list_any (is_under top) leaves)
-    (same_test leaf.top top
+    (λ off. or_left (is_under top leaf) (list_any (is_under top) leaves) (same_test leaf.top top
     (some_same leaf.top top (sym (ap (λ t. cond t (emptied_of all leaves) (Some leaf.top)) off) ∙ is))))
 
 pub writable_one : (top : ℕ) (all leaves : List LeafSeen) → unwritable_of all leaves ≡ None
@@ -49,8 +48,7 @@ writable_one top all (leaf ∷ leaves) none some = by_bool (list_any (is_writabl
     (λ has. by_bool (leaf.top == top)
     (λ here. subst (λ n. list_any (is_writable_under n) all ≡ true) (same_device leaf.top top here) has)
     (λ away. writable_one top all leaves (sym (ap (λ t. cond t (unwritable_of all leaves) (Some leaf.top)) has) ∙ none)
-    (sym (ap (λ t. t || list_any (is_under top) leaves) away) ∙ some)))
-    (λ off. absurd (let no : Some leaf.top ≡ None =
+    (sym (ap (λ t. t || list_any (is_under top) leaves) away) ∙ some))) (λ off. absurd (let no : Some leaf.top ≡ None =
     sym (ap (λ t. cond t (unwritable_of all leaves) (Some leaf.top)) off) ∙ none in cc))
 
 -- where nothing refuses a freeze each top has a writable leaf
@@ -70,8 +68,7 @@ up_one board up None on is = absurd (let no : false ≡ true = sym (none up) ∙
     none : (t : Bool) → (t && false) ≡ false
     none true = refl
     none false = refl
-up_one board up (Some d) on is =
-    on d (and_from up (d == d) (and_parts up true is).0
+up_one board up (Some d) on is = on d (and_from up (d == d) (and_parts up true is).0
     (let same : (d == d) ≡ true = grind (arith, nat_tests) in same))
 
 pub all_up : (board : ℕ → Bool) (leaves : List LeafSeen) → ((d : ℕ) → up_devs leaves d ≡ true → board d ≡ true)
@@ -94,8 +91,7 @@ module _ (Fails : ℕ → Type 0) where
       (λ here. true_not_false (is_on_under top leaf || has_on top leaves) (ap (λ t. t || has_on top leaves) here) none)
       (λ away. (
         (λ under on. absurd (let no : true ≡ false = on_off top leaf away under on in cc)),
-        none_on top leaves
-            (sym (ap (λ t. t || has_on top leaves) away) ∙ none),
+        none_on top leaves (sym (ap (λ t. t || has_on top leaves) away) ∙ none),
       ))
 
   -- Back through just moves: a leaf that was on the board failed, where each that is left did.
@@ -124,8 +120,7 @@ module _ (Fails : ℕ → Type 0) where
       → AllByRecursion (IsLostBy is_on Fails top) (steps vs s).core.leaves
       → AllByRecursion (IsLostBy is_on Fails top) s.core.leaves
   steps_back top [] s just lost = lost
-  steps_back top (v ∷ vs) s just lost =
-      step_leaves Fails AnySet ⊥
+  steps_back top (v ∷ vs) s just lost = step_leaves Fails AnySet ⊥
       (λ l. AllByRecursion (IsLostBy is_on Fails top) l → AllByRecursion (IsLostBy is_on Fails top) s.core.leaves)
       v s just.0 (map_back _ (leaf_step v s.core.number s.core.group.first s.core.scan.hi)
       (λ leaf lost. leaf_back top v s.core.number s.core.group.first s.core.scan.hi leaf just.0 lost) s.core.leaves)
@@ -161,8 +156,7 @@ module _ (Fails : ℕ → Type 0) where
           number_is = sym (ap (λ f. f lost.at) (steps_tops lost.moves s).0) ∙ sym tells.1;
           some = sym (steps_any Fails AnySet ⊥ (λ m dev top. top == lost.at) lost.moves s lost.just)
               ∙ emptied_under lost.at behind.core.leaves behind.core.leaves lost.empty;
-          lost = steps_back lost.at lost.moves s lost.just
-              (none_on lost.at behind.core.leaves
+          lost = steps_back lost.at lost.moves s lost.just (none_on lost.at behind.core.leaves
               (emptied_none lost.at behind.core.leaves behind.core.leaves lost.empty));
         },
       )
@@ -173,8 +167,7 @@ module _ (Fails : ℕ → Type 0) where
       record { frozen = frozen; first_is = one.0; lost = one.1 }
 
   turn_frozen : (frozen : Bool) (c : Codec) (size : ℕ → ℕ) (s : PoolState) (vs : List Move) (group : ℕ) (top : Guid)
-      (faults : ℕ)
-      → TurnBy frozen c size s vs (Suspended group top faults) → frozen ≡ true
+      (faults : ℕ) → TurnBy frozen c size s vs (Suspended group top faults) → frozen ≡ true
   turn_frozen false c size s vs group top faults row = absurd (let no = row.1 in cc)
   turn_frozen true c size s vs group top faults row = refl
 
@@ -182,8 +175,7 @@ module _ (Fails : ℕ → Type 0) where
   keeps_any vs s just may = any_may (steps vs s).core.leaves
 
   pub turn_loses : (c : Codec) (size : ℕ → ℕ) (s : PoolState) (vs : List Move) (group : ℕ) (top : Guid) (faults : ℕ)
-      → IsCaught Fails vs
-      → RowTurn c size s vs (Suspended group top faults) → LosesBoard s Fails group top
+      → IsCaught Fails vs → RowTurn c size s vs (Suspended group top faults) → LosesBoard s Fails group top
   turn_loses c size s vs group top faults caught row =
       of (turn_comes Fails AnySet ⊥ keeps_any c size s vs (Suspended group top faults) (λ is. is)
       (any_may s.core.leaves) caught row)
@@ -194,8 +186,7 @@ module _ (Fails : ℕ → Type 0) where
       of (inr just) = absurd (just.1 tt)
 
   pub group_lost : (c : Codec) (size : ℕ → ℕ) (s : PoolState) (vs : List Move) (group : ℕ) (top : Guid) (faults : ℕ)
-      → IsCaught Fails vs
-      → EndsGroup c size s vs (Suspended group top faults) → IsLostFor s group top faults
+      → IsCaught Fails vs → EndsGroup c size s vs (Suspended group top faults) → IsLostFor s group top faults
   group_lost c size s vs group top faults caught ends =
       of (group_comes Fails AnySet ⊥ keeps_any c size s vs (Suspended group top faults) (λ is. is)
       (any_may s.core.leaves) caught ends)
@@ -229,7 +220,7 @@ module _ (Fails : ℕ → Type 0) where
   top_frozen cells s first group top faults w lost = let v : Move = Freeze cells (up_devs s.core.leaves) in
       let frozen = state_step v s in
       let one : (frozen.core.group.first ≡ group) × LosesTop is_on frozen.core.leaves frozen.own.top_number Fails top =
-          top_loses frozen group top faults (lost_more Fails AnySet ⊥ w.widens frozen (Suspended group top faults)
+      top_loses frozen group top faults (lost_more Fails AnySet ⊥ w.widens frozen (Suspended group top faults)
       (just_widens Fails AnySet ⊥ (step v s.core) w.widens w.are)
       (subst (λ l. IsLostFor (steps l s) group top faults) w.moves lost)) in (
         above s.core.number group one.0,

@@ -249,8 +249,7 @@ first_stamp P d size pool leaf stamp stamps outcome dev has part rest = by_bool 
       has = has;
       dev = same;
       wrote = wrote_bare d.d stamp.made (stamp_acts pool.0 stamps) (subst (λ e. HasWriteTo e stamp.made) same (stamp_wrote leaf.dev size pool leaf.guid stamp.made outcome part));
-    }))
-    (λ away. ⊎_elim (λ keeps. inl (away, keep_bare d stamp.made (stamp_acts pool.0 stamps) keeps))
+    })) (λ away. ⊎_elim (λ keeps. inl (away, keep_bare d stamp.made (stamp_acts pool.0 stamps) keeps))
     (λ on. inr (record { leaf = on.leaf; has = on.has; dev = on.dev; wrote = wrote_behind d.d stamp.made (stamp_acts pool.0 stamps) on.wrote })) rest)
 
 keep_stamps : (P : NewLeaf → Type 0) (d : Held) (pool : Guid) (size : ℕ → ℕ) (leaves : List NewLeaf) (stamps : List Stamp) (failed : Option NewLeaf)
@@ -358,8 +357,7 @@ create_keeps c h e d name blocks tops asked (inr (inr row)) =
         keep_commit row.answer d row.pool.0 row.moves
             (all_found KeepsMembers kept_kind (λ cells board. tt) c (size_in h.table) (new_state (size_in h.table) name row.pool blocks (tops_of h.table tops)) row.moves row.row.whole row.row.row),
       ),
-    )))
-    (λ on. inr (taken_by h e d.d name blocks tops row.answer asked
+    ))) (λ on. inr (taken_by h e d.d name blocks tops row.answer asked
     (record {
       leaf = on.leaf;
       has = on.has;

@@ -74,10 +74,8 @@ module _ (leaves : List LeafSeen) where
       → Mild leaf.guid (write_failed leaf.own)
       → Mild (leaf_step v number first hi leaf).guid (write_failed (leaf_step v number first hi leaf).own)
   leaf_mild (Sets m own) number first hi leaf just mild = cond_both (leaf.guid.0 == m.0) (record leaf { own = own })
-      leaf
-      (λ x. Mild x.guid (write_failed x.own))
-      (λ same. subst (λ n. IsMild n own) (sym (same_device leaf.guid.0 m.0 same)) just)
-      (λ away. mild)
+      leaf (λ x. Mild x.guid (write_failed x.own))
+      (λ same. subst (λ n. IsMild n own) (sym (same_device leaf.guid.0 m.0 same)) just) (λ away. mild)
   leaf_mild (Freeze cells board) number first hi leaf just mild = absurd just
   leaf_mild Burn number first hi leaf just mild = absurd just
   leaf_mild (Finds m d) number first hi leaf just mild = absurd just
@@ -128,8 +126,7 @@ module _ (leaves : List LeafSeen) where
       (λ same. ap (λ t. (t, leaf.dev, leaf.top)) (writable (same_device leaf.guid.0 m.0 same))) (λ away. refl)
     where
       writable : leaf.guid.0 ≡ m.0 → (is_up own.mode && is_some leaf.dev) ≡ is_writable leaf
-      writable same = by_bool (is_some leaf.dev)
-          (λ some. ap (λ mode. is_up mode && is_some leaf.dev)
+      writable same = by_bool (is_some leaf.dev) (λ some. ap (λ mode. is_up mode && is_some leaf.dev)
           (one_mode leaf.guid.0 own leaf.own leaves (carried some) (subst (λ n. IsMild n own) (sym same) just) mild))
           (λ none. ap (λ t. is_up own.mode && t) none
           ∙ (none_and (is_up own.mode) (is_up leaf.own.mode) ∙ ap (λ t. is_up leaf.own.mode && t) (sym none)))
@@ -139,14 +136,11 @@ module _ (leaves : List LeafSeen) where
   leaf_written (Clear d) number first hi leaf just mild carried = absurd just
   leaf_written v number first hi leaf just mild carried = refl
 
-  all_written : (f : LeafSeen → LeafSeen)
-      → ((leaf : LeafSeen) → Mild leaf.guid (write_failed leaf.own) → IsCarried leaf
-      → written_as (f leaf) ≡ written_as leaf)
-      → (xs : List LeafSeen) → MaySet Mild xs → AllByRecursion IsCarried xs
+  all_written : (f : LeafSeen → LeafSeen) → ((leaf : LeafSeen) → Mild leaf.guid (write_failed leaf.own) → IsCarried leaf
+      → written_as (f leaf) ≡ written_as leaf) → (xs : List LeafSeen) → MaySet Mild xs → AllByRecursion IsCarried xs
       → map written_as (map f xs) ≡ map written_as xs
   all_written f same [] mild carried = refl
-  all_written f same (leaf ∷ xs) mild carried =
-      ap (λ one. one ∷ map written_as (map f xs)) (same leaf mild.0 carried.0)
+  all_written f same (leaf ∷ xs) mild carried = ap (λ one. one ∷ map written_as (map f xs)) (same leaf mild.0 carried.0)
       ∙ ap (λ more. written_as leaf ∷ more) (all_written f same xs mild.1 carried.1)
 
   step_written : (v : Move) (s : PoolState) → IsJust AnyLeaf Mild (Unit {0}) v → MaySet Mild s.core.leaves
@@ -158,11 +152,9 @@ module _ (leaves : List LeafSeen) where
       (λ leaf. leaf_written v s.core.number s.core.group.first s.core.scan.hi leaf just) s.core.leaves mild carried)
 
   steps_written : (vs : List Move) (s : PoolState) → AreJust AnyLeaf Mild (Unit {0}) vs → MaySet Mild s.core.leaves
-      → AllByRecursion IsCarried s.core.leaves
-      → map written_as (steps vs s).core.leaves ≡ map written_as s.core.leaves
+      → AllByRecursion IsCarried s.core.leaves → map written_as (steps vs s).core.leaves ≡ map written_as s.core.leaves
   steps_written [] s just mild carried = refl
-  steps_written (v ∷ vs) s just mild carried =
-      steps_written vs (state_step v s) just.1 (step_mild v s just.0 mild)
+  steps_written (v ∷ vs) s just mild carried = steps_written vs (state_step v s) just.1 (step_mild v s just.0 mild)
       (steps_places AnyLeaf Mild (Unit {0}) HasDevice (v ∷ []) s (just.0, tt) carried)
       ∙ step_written v s just.0 mild carried
 
@@ -187,14 +179,11 @@ abbrev IsAlone : (leaf other : LeafSeen) → Type 0
 IsAlone leaf other = is_some leaf.dev ≡ true → (leaf.guid.0 == other.guid.0) ≡ true → other.own.mode ≡ leaf.own.mode
 
 at_alone : (f r : Bool) (p : Pool) (d : ℕ) (found : Bool) (own : OwnLeaf) (other : Seat) → IsOwnNumber p.guid d other
-    → IsSameAt d own other
-    → IsAlone (leaf_seen f r (told p) (At d found own)) (leaf_seen f r (told p) other)
+    → IsSameAt d own other → IsAlone (leaf_seen f r (told p) (At d found own)) (leaf_seen f r (told p) other)
 at_alone f r p d found own (At e was mine) (inl here) same = λ some number. ap (λ x. x.mode) (same here)
-at_alone f r p d found own (At e was mine) (inr off) same = λ some number.
-    true_not_false ((p.guid e).0 == (p.guid d).0)
+at_alone f r p d found own (At e was mine) (inr off) same = λ some number. true_not_false ((p.guid e).0 == (p.guid d).0)
     (same_test (p.guid e).0 (p.guid d).0 (sym (same_device (p.guid d).0 (p.guid e).0 number))) off
-at_alone f r p d found own (Adrift leaf) off same = λ some number.
-    true_not_false (leaf.guid.0 == (p.guid d).0)
+at_alone f r p d found own (Adrift leaf) off same = λ some number. true_not_false (leaf.guid.0 == (p.guid d).0)
     (same_test leaf.guid.0 (p.guid d).0 (sym (same_device (p.guid d).0 leaf.guid.0 number))) off
 
 seat_alone : (f r : Bool) (p : Pool) (seats : List Seat)
@@ -233,8 +222,7 @@ pub record IsLeftWritable (s behind : PoolState) : Type 0 where
   pub number : s.core.number ≤ behind.core.number
 
 pub group_leaves : (c : Codec) (size : ℕ → ℕ) (s : PoolState) (p : Pool) (vs : List Move) (number : ℕ)
-    → HasSeats c s p → EndsGroup c size s vs (Committed number)
-    → IsLeftWritable s (steps vs s)
+    → HasSeats c s p → EndsGroup c size s vs (Committed number) → IsLeftWritable s (steps vs s)
 group_leaves c size s p vs number seats ends =
     of (group_comes AnyLeaf may (Unit {0}) (steps_mild s.core.leaves) c size s vs (Committed number) (λ is. tt)
     (state_mild c s p seats) (λ d failed. tt) ends)

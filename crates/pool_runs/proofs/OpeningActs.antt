@@ -180,9 +180,9 @@ pub map_fair : (c : Codec) (g : ℕ) (bytes : Key → Option (List ℕ)) (turns 
 map_fair c g bytes turns last more p r number reads fair clash =
     let end = pool_after (as_events last) (pool_turned turns p) in
     let end_number : end.pool ≡ p.pool = ap (λ q. q.pool) (map_end turns last p)
-        ∙ calls_number (calls_of_turns turns ++ last) p in
+    ∙ calls_number (calls_of_turns turns ++ last) p in
     let end_reads : end.reads
-        ≡ p.reads = ap (λ q. q.reads) (map_end turns last p ∙ calls_after (calls_of_turns turns ++ last) p) in
+    ≡ p.reads = ap (λ q. q.reads) (map_end turns last p ∙ calls_after (calls_of_turns turns ++ last) p) in
     (bare_fair c last (Marks g (Reads_pages bytes) ∷ more) (pool_turned turns p)
     (page_fair c g bytes turns (bare last ++ (Marks g (Reads_pages bytes) ∷ more)) p fair)).0
     (ap (λ n. n.0) (end_number) ∙ number) (subst (λ q. ClashesAt q.cells bytes) (sym (end_reads ∙ reads)) clash)
@@ -197,8 +197,7 @@ page_own g h bytes (turn ∷ turns) more own =
 
 pub map_own : (g : ℕ) (h : Host) (bytes : Key → Option (List ℕ)) (turns : List PageTurn) (last : List Noted) (more : List Act)
     → AreOwnActs g h (map_acts g bytes turns last more) → AreOwnActs g (host_behind last (host_turned turns h)) more
-map_own g h bytes turns last more own =
-    (bare_own g (host_turned turns h) last (Marks g (Reads_pages bytes) ∷ more)
+map_own g h bytes turns last more own = (bare_own g (host_turned turns h) last (Marks g (Reads_pages bytes) ∷ more)
     (page_own g h bytes turns (bare last ++ (Marks g (Reads_pages bytes) ∷ more)) own)).1
 
 pub map_split : (g : ℕ) (bytes : Key → Option (List ℕ)) (turns : List PageTurn) (last : List Noted) (more : List Act)

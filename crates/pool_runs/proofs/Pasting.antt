@@ -132,8 +132,7 @@ module _ (past : Past) (was : ℕ → ℕ) (called : ℕ → List ℕ) (h : Host
       of false is = absurd (let no : true ≡ false = sym is ∙ none in cc)
 
   size_next : (d : ℕ) → 1 ≤ size_in h.table d → cond ((pool_of past).member (now d)) ((pool_of past).size (now d)) (size_in h.table d) ≡ size_in h.table d
-  size_next d one = by_bool ((pool_of past).member (now d))
-      (λ is. let at = is_in_size d is in
+  size_next d one = by_bool ((pool_of past).member (now d)) (λ is. let at = is_in_size d is in
       ap (λ t. cond t ((pool_of past).size (now d)) (size_in h.table d)) is ∙ (ap (pool_of past).size at.0 ∙ same ((pool_of past).size (was d)) (size_in h.table d) one at.1))
       (λ no. ap (λ t. cond t ((pool_of past).size (now d)) (size_in h.table d)) no)
     where

@@ -791,8 +791,7 @@ small_stops block other long none = let left = small_left block long in
       numbers = (λ d. d, λ d is. refl);
       kept = λ d is. sym (ap (λ called. called d) (then_called small_born (history (small_rest block) (pool_of small_born))));
       here = one_name;
-    })
-    none
+    }) none
     (record {
       crash = λ d is s clean. ap (λ n. (p.sectors n s).stable) (sym (at d is));
       unforged = λ d place u member inside correct. inl (ap (λ n. (p.sectors n (place_at (p.size (now d)) place)).stable) (sym (at d member)));

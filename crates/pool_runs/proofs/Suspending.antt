@@ -49,8 +49,7 @@ some_fails which Fails top (leaf ∷ leaves) some lost = by_bool (which leaf && 
 some_empty : (top : ℕ) (all leaves : List LeafSeen) → list_any (is_under top) leaves ≡ true → has_on top all ≡ false
     → (at : ℕ) × (emptied_of all leaves ≡ Some at)
 some_empty top all [] some none = absurd (cc)
-some_empty top all (leaf ∷ leaves) some none = by_bool (has_on leaf.top all)
-    (λ on. by_bool (is_under top leaf)
+some_empty top all (leaf ∷ leaves) some none = by_bool (has_on leaf.top all) (λ on. by_bool (is_under top leaf)
     (λ here. true_not_false (has_on leaf.top all) on
     (subst (λ n. has_on n all ≡ false) (sym (same_device leaf.top top here)) none))
     (λ away. let more = some_empty top all leaves
@@ -82,8 +81,7 @@ module _ (c : Codec) (size : ℕ → ℕ) (s : PoolState) where
   -- behind a group each device is still a leaf's
   still_at : (vs : List Move) (number d : ℕ) → EndsGroup c size s vs (Committed number)
       → at_leaves (steps vs s).core.leaves d ≡ true → at_leaves s.core.leaves d ≡ true
-  still_at vs number d ends is =
-      of (group_comes (λ d. Unit {0}) AnySet (Unit {0})
+  still_at vs number d ends is = of (group_comes (λ d. Unit {0}) AnySet (Unit {0})
       (λ vs s just may. any_may (steps vs s).core.leaves) c size s vs (Committed number) (λ is. tt)
       (any_may s.core.leaves) (λ d failed. tt) ends)
     where
@@ -107,8 +105,7 @@ module _ (c : Codec) (size : ℕ → ℕ) (s : PoolState) where
           inl (
             one.0,
             still_at e.first number one.0 ends one.1,
-            caught_second
-                (λ d. FailedOn d (made_in vs)) e.first e.rest parts one.0 one.2,
+            caught_second (λ d. FailedOn d (made_in vs)) e.first e.rest parts one.0 one.2,
           )
       by (Suspended g t k) ends row = board_fails (λ d. FailedOn d (made_in vs)) s group top
           (group_loses (λ d. FailedOn d (made_in vs)) c size s e.first group top faults frozen
@@ -117,8 +114,7 @@ module _ (c : Codec) (size : ℕ → ℕ) (s : PoolState) where
       by turn ends row = absurd (let no = row.1 in cc)
 
   sync_by_fails : (frozen : Bool) (vs : List Move) (group : ℕ) (top : Guid) (faults : ℕ)
-      → s.core.group.frozen ≡ frozen → SyncBy frozen c size s vs (Ended (Suspended group top faults))
-      → FailsIn vs
+      → s.core.group.frozen ≡ frozen → SyncBy frozen c size s vs (Ended (Suspended group top faults)) → FailsIn vs
   sync_by_fails false vs group top faults is row =
       inl (freeze_fails (λ d. FailedOn d (made_in vs)) s s.core.leaves group top
       (open_loses c size s vs group top faults row))
@@ -135,11 +131,9 @@ module _ (c : Codec) (size : ℕ → ℕ) (s : PoolState) where
   rose_in vs from to caused (inr lost) = inr lost
 
   pub turn_counts : (vs : List Move) (reply : TurnReply) (from to : ℕ → ℕ) → RowTurn c size s vs reply
-      → AllCaused (made_in vs) from to → IsSuspended reply
-      → RoseAt (λ d. has_leaf_at d s) from to ⊎ HasLostBoard s
+      → AllCaused (made_in vs) from to → IsSuspended reply → RoseAt (λ d. has_leaf_at d s) from to ⊎ HasLostBoard s
   turn_counts vs reply from to row caused bad = rose_in vs from to caused (turn_fails vs reply row bad)
 
   pub sync_counts : (vs : List Move) (reply : SyncReply) (from to : ℕ → ℕ) → RowSync c size s vs reply
-      → AllCaused (made_in vs) from to → SuspendsSync reply
-      → RoseAt (λ d. has_leaf_at d s) from to ⊎ HasLostBoard s
+      → AllCaused (made_in vs) from to → SuspendsSync reply → RoseAt (λ d. has_leaf_at d s) from to ⊎ HasLostBoard s
   sync_counts vs reply from to row caused bad = rose_in vs from to caused (sync_fails vs reply row bad)

@@ -46,16 +46,14 @@ abbrev IsLostAs : (Fails : ℕ → Type 0) → (top : ℕ) → Written → Type 
 IsLostAs Fails top one = one.2 ≡ top → one.0 ≡ true → (d : ℕ) × (one.1 ≡ Some d) × Fails d
 
 freeze_before : (Fails : ℕ → Type 0) (s behind : PoolState) (group : ℕ) (top : Guid) → IsLeftWritable s behind
-    → LosesFreeze behind behind.core.leaves Fails group top
-    → LosesFreeze s s.core.leaves Fails group top
+    → LosesFreeze behind behind.core.leaves Fails group top → LosesFreeze s s.core.leaves Fails group top
 freeze_before Fails s behind group top left x = record {
   later = up_below s.core.number behind.core.number group left.number x.later;
   lost = record {
     at = x.lost.at;
     number_is = sym (ap (λ f. f x.lost.at) left.tops) ∙ x.lost.number_is;
     some = any_same (λ one. one.2 == x.lost.at) behind.core.leaves s.core.leaves left.leaves x.lost.some;
-    lost = map_back (IsLostAs Fails x.lost.at) written_as
-        (λ leaf lost. lost) s.core.leaves
+    lost = map_back (IsLostAs Fails x.lost.at) written_as (λ leaf lost. lost) s.core.leaves
         (subst (AllByRecursion (IsLostAs Fails x.lost.at)) left.leaves
         (map_forth (IsLostAs Fails x.lost.at) written_as behind.core.leaves x.lost.lost));
   };
@@ -63,8 +61,7 @@ freeze_before Fails s behind group top left x = record {
 }
 
 freeze_more : (F G : ℕ → Type 0) (s : PoolState) (leaves : List LeafSeen) (group : ℕ) (top : Guid)
-    → ((d : ℕ) → F d → G d) → LosesFreeze s leaves F group top
-    → LosesFreeze s leaves G group top
+    → ((d : ℕ) → F d → G d) → LosesFreeze s leaves F group top → LosesFreeze s leaves G group top
 freeze_more F G s leaves group top more x = record {
   later = x.later;
   lost = record {
@@ -114,8 +111,7 @@ first_loses c size s t vs group top faults kept frozen e = by e.turn e.ends e.be
         (subst (IsCaught (λ d. FailedOn d (made_in vs))) e.moves (λ d failed. failed))
 
     by : (turn : TurnReply) → EndsGroup c size s e.first turn
-        → SyncBehind turn c size (steps e.first s) e.rest (Ended (Suspended group top faults))
-        → Loses s t vs group top
+        → SyncBehind turn c size (steps e.first s) e.rest (Ended (Suspended group top faults)) → Loses s t vs group top
     by (Committed number) ends (inl row) = absurd (let no = row.1 in cc)
     by (Committed number) ends (inr row) = let done = group_commits c size s e.first number ends in inr (record {
       first = e.first;
@@ -177,13 +173,11 @@ sync_loses c size s p e vs group top faults from to seats ours are caused row =
     t : Side
     t = record { pool = p; seats = seats.0 }
 
-    of : Loses s t vs group top → LosesBoard s (HasRisen from to) group top
-        ⊎ LosesSince p s e from to group top
+    of : Loses s t vs group top → LosesBoard s (HasRisen from to) group top ⊎ LosesSince p s e from to group top
     of (inl board) = inl (board_more (λ d. FailedOn d (made_in vs)) (HasRisen from to) s group top
         (caught_rose vs (calls_along e.acts) from to (ap calls_along are ∙ does_calls g vs) caused) board)
-    of (inr x) =
-        let mid : (mid : ℕ → ℕ) × (at : IsMidway e.acts from mid to) × (at.before ≡ does g x.first)
-            × (at.behind ≡ does g x.rest) = midway_at e.acts (does g x.first) (does g x.rest) from to
+    of (inr x) = let mid : (mid : ℕ → ℕ) × (at : IsMidway e.acts from mid to) × (at.before ≡ does g x.first)
+        × (at.behind ≡ does g x.rest) = midway_at e.acts (does g x.first) (does g x.rest) from to
         (are ∙ (ap (does g) x.moves ∙ does_more g x.first x.rest)) caused in
         inr (record {
           mid = mid.0;
