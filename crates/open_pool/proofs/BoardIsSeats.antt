@@ -5,7 +5,6 @@ use Rattle.std.specs.List.{filter_map, cons_option, list_any, AllByRecursion}
 use Rattle.std.specs.Option.{option_map}
 use Rattle.std.proofs.lemmas.Bool.Decides.{nat_tests}
 use Rattle.mp_base.specs.declared.number.Guid.{Guid}
-use Rattle.label_store.specs.declared.member.Member.{Member}
 use Rattle.vdev_tree.specs.declared.vdev.LeafVdev.{LeafVdev}
 use Rattle.txg_engine.specs.declared.seat.Seat.{Seat}
 use Rattle.txg_engine.specs.Boards as engine
@@ -29,7 +28,7 @@ same_top a b c is = by (a == b) refl
     by true e = grind (arith, nat_tests)
     by false e = grind (arith, nat_tests)
 
-seat_member : (seats : List Seat) (leaf : LeafVdev) (seat : Seat) → seat_in seats leaf.guid ≡ Some seat
+pub seat_member : (seats : List Seat) (leaf : LeafVdev) (seat : Seat) → seat_in seats leaf.guid ≡ Some seat
     → record { dev = seat.member.dev; guid = leaf.guid } ≡ seat.member
 seat_member seats leaf seat is = ap (λ n. record { dev = seat.member.dev; guid = record { 0 = n } })
     (sym (seat_numbered seats leaf.guid seat is))

@@ -139,7 +139,7 @@ fault_keeps m = record {
 pub same_keeps : KeepsSeats (λ seat. seat)
 same_keeps = record { member = λ seat. refl; top = λ seat. refl; on = λ seat e. e }
 
-same_leaves : (leaves : List LeafVdev) → AreSameLeaves leaves leaves
+pub same_leaves : (leaves : List LeafVdev) → AreSameLeaves leaves leaves
 same_leaves [] = tt
 same_leaves (leaf ∷ leaves) = (record { guid = refl; dev = refl; state = refl }, same_leaves leaves)
 

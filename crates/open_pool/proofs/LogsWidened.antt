@@ -19,7 +19,7 @@ use Rattle.pool_moves.specs.Leaves.{LeafSeen}
 use Rattle.pool_moves.specs.Moves.{Move, Widen, leaf_step, step, log_grown}
 use Rattle.pool_moves.specs.States.{PoolSeen}
 use Rattle.pool_moves.specs.Widening.{ranges_in, ranges_together, widest_of, widest, IsSpanned, IsWidening, AreWidens, seen_along}
-use Rattle.open_pool.proofs.NumbersApart.{Differ, leaf_numbers}
+use Rattle.open_pool.proofs.NumbersApart.{Differ, leaf_numbers, itself, turned_test}
 
 -- a leaf of the state has this leaf's number and log
 pub record IsLogged (leaf : LeafSeen) (vdev : LeafVdev) : Type 0 where
@@ -329,10 +329,6 @@ widened_ranged number old new some w ranged =
 abbrev IsOther : Guid → LeafVdev → Type 0
 IsOther m vdev = (vdev.guid.0 == m.0) ≡ false
 
-turned_test : (a b : ℕ) → (a == b) ≡ false → (b == a) ≡ false
-turned_test a b off = false_from_ne_true (b == a)
-    (λ yes. true≢false (sym (let same : (a == b) ≡ true = grind (arith, nat_tests) in same) ∙ off))
-
 behind_others : (vdev : LeafVdev) (behind : List LeafVdev)
     → AllByRecursion (λ k. (vdev.guid.0 == k) ≡ false) (leaf_numbers behind) → AllByRecursion (IsOther vdev.guid) behind
 behind_others vdev [] differ = tt
@@ -372,9 +368,6 @@ others_stay m low high number first hi (leaf ∷ leaves) (vdev ∷ vdevs) logged
     (other_stays m low high number first hi leaf vdev logged.0 others.0)
     ∙ ap (λ ls. with_log vdev leaf ∷ ls) (others_stay m low high number first hi leaves vdevs logged.1 others.1)
 
-itself : (n : ℕ) → (n == n) ≡ true
-itself n = grind (arith, nat_tests)
-
 leaf_widens : (low high number first hi : ℕ) (leaf : LeafSeen) (old new : LeafVdev) → IsLogged leaf old
     → IsSpanned (holds old.log) low high → IsWidened old.log new.log
     → leaf_step (Widen old.guid low high) number first hi leaf ≡ with_log new leaf
@@ -389,20 +382,20 @@ leaves_widen : (low high number first hi : ℕ) (before behind : List LeafVdev) 
     → IsSpanned (holds old.log) low high → IsWidened old.log new.log → AllByRecursion (IsOther old.guid) before
     → AllByRecursion (IsOther old.guid) behind
     → map (leaf_step (Widen old.guid low high) number first hi) leaves ≡ with_logs (before ++ new ∷ behind) leaves
-leaves_widen low high number first hi [] behind old new [] logged spans widened before_others behind_others = absurd logged
+leaves_widen low high number first hi [] behind old new [] logged spans widened others others_too = absurd logged
 leaves_widen low high number first hi [] behind old new
-    (leaf ∷ leaves) logged spans widened before_others behind_others =
+    (leaf ∷ leaves) logged spans widened others others_too =
     ap (λ l. l ∷ map (leaf_step (Widen old.guid low high) number first hi) leaves)
     (leaf_widens low high number first hi leaf old new logged.0 spans widened)
     ∙ ap (λ ls. with_log new leaf ∷ ls)
-    (others_stay old.guid low high number first hi leaves behind logged.1 behind_others)
-leaves_widen low high number first hi (x ∷ before) behind old new [] logged spans widened before_others behind_others = absurd logged
+    (others_stay old.guid low high number first hi leaves behind logged.1 others_too)
+leaves_widen low high number first hi (x ∷ before) behind old new [] logged spans widened others others_too = absurd logged
 leaves_widen low high number first hi (x ∷ before) behind old new
-    (leaf ∷ leaves) logged spans widened before_others behind_others =
+    (leaf ∷ leaves) logged spans widened others others_too =
     ap (λ l. l ∷ map (leaf_step (Widen old.guid low high) number first hi) leaves)
-    (other_stays old.guid low high number first hi leaf x logged.0 before_others.0)
+    (other_stays old.guid low high number first hi leaf x logged.0 others.0)
     ∙ ap (λ ls. with_log x leaf ∷ ls)
-    (leaves_widen low high number first hi before behind old new leaves logged.1 spans widened before_others.1 behind_others)
+    (leaves_widen low high number first hi before behind old new leaves logged.1 spans widened others.1 others_too)
 
 -- What one widening keeps of leaves.
 ranged_widened : (number : ℕ) (before behind : List LeafVdev) (old new : LeafVdev)
@@ -419,18 +412,18 @@ ranged_there number (x ∷ before) behind vdev all = ranged_there number before 
 abbrev pub AreLikeThem : List LeafVdev → List LeafVdev → Type 0
 AreLikeThem old new = AllZip IsLikeIt old new
 
-like_same : (vdevs : List LeafVdev) → AreLikeThem vdevs vdevs
+pub like_same : (vdevs : List LeafVdev) → AreLikeThem vdevs vdevs
 like_same [] = tt
 like_same (vdev ∷ vdevs) = ((λ log. refl), like_same vdevs)
 
-like_widened : (all before behind : List LeafVdev) (old new : LeafVdev) → IsLikeIt old new
+pub like_widened : (all before behind : List LeafVdev) (old new : LeafVdev) → IsLikeIt old new
     → AreLikeThem all (before ++ old ∷ behind) → AreLikeThem all (before ++ new ∷ behind)
 like_widened [] [] behind old new like are = absurd are
 like_widened (y ∷ all) [] behind old new like are = ((λ log. are.0 log ∙ like log), are.1)
 like_widened [] (x ∷ before) behind old new like are = absurd are
 like_widened (y ∷ all) (x ∷ before) behind old new like are = (are.0, like_widened all before behind old new like are.1)
 
-like_numbers : (old new : List LeafVdev) → AreLikeThem old new → leaf_numbers old ≡ leaf_numbers new
+pub like_numbers : (old new : List LeafVdev) → AreLikeThem old new → leaf_numbers old ≡ leaf_numbers new
 like_numbers [] [] like = refl
 like_numbers [] (y ∷ new) like = absurd like
 like_numbers (x ∷ old) [] like = absurd like
@@ -438,7 +431,7 @@ like_numbers (x ∷ old) (y ∷ new) like =
     ap (λ (v : LeafVdev). v.guid.0 ∷ leaf_numbers old) (like.0 nothing)
     ∙ ap (λ ns. y.guid.0 ∷ ns) (like_numbers old new like.1)
 
-like_length : (old new : List LeafVdev) → AreLikeThem old new → length old ≡ length new
+pub like_length : (old new : List LeafVdev) → AreLikeThem old new → length old ≡ length new
 like_length [] [] like = refl
 like_length [] (y ∷ new) like = absurd like
 like_length (x ∷ old) [] like = absurd like

@@ -2,7 +2,7 @@
 use Rattle.std.proofs.Common.{◌≡◌, ◌≢◌, ℕ, suc, ◌==◌, ◌&&◌, ◌||◌, cond, Bool, true, false, List, [], ◌∷◌, map, Option, Some, None, refl, sym, ap, ◌∙◌, subst, arith}
 use Rattle.std.specs.Prelude.{All, AllPairs}
 use Rattle.std.specs.List.{AllByRecursion, filter_map, cons_option}
-use Rattle.std.proofs.lemmas.Bool.{ne_eqb}
+use Rattle.std.proofs.lemmas.Bool.{true≢false, ne_eqb}
 use Rattle.std.proofs.lemmas.Bool.Decides.{nat_tests}
 use Rattle.mp_base.specs.declared.number.Guid.{Guid}
 use Rattle.vdev_tree.specs.declared.vdev.LeafVdev.{LeafVdev}
@@ -41,8 +41,19 @@ leaves_differ (leaf ∷ leaves) apart = (
   leaves_differ leaves (λ i j d lt within. apart (suc i) (suc j) d (omega arith) (omega arith)),
 )
 
-same_number : (a b : ℕ) → (a == b) ≡ true → a ≡ b
+-- tests of numbers
+pub same_number : (a b : ℕ) → (a == b) ≡ true → a ≡ b
 same_number a b e = grind (arith, nat_tests)
+
+pub itself : (n : ℕ) → (n == n) ≡ true
+itself n = grind (arith, nat_tests)
+
+pub turned_test : (a b : ℕ) → (a == b) ≡ false → (b == a) ≡ false
+turned_test a b off = by (b == a) refl
+  where
+    by : (t : Bool) → (b == a) ≡ t → (b == a) ≡ false
+    by true e = absurd (true≢false (sym (let same : (a == b) ≡ true = grind (arith, nat_tests) in same) ∙ off))
+    by false e = e
 
 -- a leaf's seat has its number
 pub seat_numbered : (seats : List Seat) (m : Guid) (seat : Seat) → seat_in seats m ≡ Some seat
