@@ -1,5 +1,5 @@
 -- The copies on the leaves of a top are those that a pool's state has under it.
-use Rattle.std.proofs.Common.{◌≡◌, ◌≢◌, ℕ, zero, suc, ◌+◌, ◌≤◌, ◌<◌, ◌==◌, Bool, true, false, cond, List, [], ◌∷◌, ◌++◌, map, length, take, get_or, Some, refl, sym, ap, ap₂, ◌∙◌, subst, arith, append-nil}
+use Rattle.std.proofs.Common.{◌≡◌, ◌≢◌, ℕ, zero, suc, ◌+◌, ◌≤◌, ◌<◌, ◌==◌, true, false, List, [], ◌∷◌, ◌++◌, map, length, take, Some, refl, sym, ap, ap₂, ◌∙◌, arith, append-nil}
 use Rattle.std.specs.Prelude.{slice_get}
 use Rattle.std.specs.List.{filter}
 use Rattle.std.proofs.lemmas.Bool.Decides.{nat_tests}
@@ -11,7 +11,6 @@ use Rattle.mirror_io.specs.declared.copies.CopyOf.{CopyOf}
 use Rattle.txg_history.specs.Pages.{Sum}
 use Rattle.txg_engine.specs.declared.seat.Seat.{Seat}
 use Rattle.txg_engine.proofs.Seating.{got_inside, got_there}
-use Rattle.pool_moves.specs.Leaves.{LeafSeen}
 use Rattle.pool_moves.specs.ReadRow.{copy_of, copies_of, stands_under}
 use Rattle.open_pool.specs.Copies.{copy_on, copies_on}
 use Rattle.open_pool.specs.State.{leaf_of, leaves_from}

@@ -1,7 +1,10 @@
 pub mod BoardIsSeats
 pub mod BoardKept
 pub mod CopiesOfTops
+pub mod CountsBelow
+pub mod DirtyWithOne
 pub mod FaultsCounted
+pub mod FewKeys
 pub mod FreezesAreRows
 pub mod GroupBlocks
 pub mod KeysDirty
@@ -11,8 +14,16 @@ pub mod LeavesByTops
 pub mod LeavesStay
 pub mod LogsWidened
 pub mod MembersAgree
+pub mod NeedCounted
 pub mod NumbersApart
+pub mod OpenChanged
+pub mod OpenPlaces
+pub mod PagesDirty
 pub mod PagesFormed
 pub mod PlacesGiven
+pub mod RisingCounted
 pub mod SeatsOfFreeze
+pub mod StatesStand
 pub mod TurnLeaves
+pub mod WriteRows
+pub mod WritesCounted

@@ -3,9 +3,12 @@
 #![tactic(auto)]
 
 mod copies;
-mod dirty;
+mod form;
 mod laws;
 mod pool;
+mod space;
+mod write;
 
 pub use laws::freezes_are_rows;
 pub use pool::Pool;
+pub use write::WriteFault;
