@@ -337,6 +337,7 @@ counts_all (m ∷ ms) (false ∷ done) s all numbers seats F tops old new finals
         (ap (find (has_number m.guid)) (sym seen) ∙ here)) in
         rest (state_step (Sets o.guid (write_failed o.own)) s)
         (ap (map (leaf_step (Sets o.guid (write_failed o.own)) s.core.number s.core.group.first s.core.scan.hi)) seen
-        ∙ halves_counted m.guid o.guid o.own seats F tops s.core.number s.core.group.first s.core.scan.hi old are.1.counted are.0 finals number three final own_is are.1.count like)
+        ∙ halves_counted m.guid o.guid o.own seats F tops s.core.number s.core.group.first s.core.scan.hi
+        old are.1.counted are.0 finals number three final own_is are.1.count like)
         (all_found_still o.guid m
         (write_failed o.own) s.core.number s.core.group.first s.core.scan.hi all s.core.leaves ms number apart.0 found.1)

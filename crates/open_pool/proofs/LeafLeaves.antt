@@ -318,7 +318,10 @@ one_leaves s ws was seats tops m old new seen three differ low high fit agree fa
         differ = subst Differ (like_numbers grown new widened.like)
             (subst Differ (sym (same_numbers old grown all)) fit.differ);
         within = widened.within;
-        few = (let long = same_length old grown all in let longer = like_length grown new widened.like in let few = fit.few in omega (arith, long, longer, few));
+        few = (
+            let long = same_length old grown all in
+            let longer = like_length grown new widened.like in
+            let few = fit.few in omega (arith, long, longer, few));
       };
     }
 

@@ -44,7 +44,7 @@ open_changed p group dirty pool has = record {
     listed = pool.places.listed;
     inside = pool.places.inside;
   };
-  leaves = record { apart = pool.leaves.apart; writable = pool.leaves.writable; settled = pool.leaves.settled };
+  leaves = record { apart = pool.leaves.apart; writable = pool.leaves.writable; settled = pool.leaves.settled; within = pool.leaves.within };
   board = record { order = pool.board.order; seated = pool.board.seated };
   group = group_kept p group dirty p.frozen pool.group;
   unfrozen = has;

@@ -51,15 +51,6 @@ three_first (top ∷ tops) [] is same three = absurd three
 three_first (top ∷ tops) (x ∷ was) [] same three = absurd same
 three_first (top ∷ tops) (x ∷ was) (y ∷ is) same three = three_first tops was is same.1 three
 
-three_last : (tops : List ℕ) (was is : List LeafVdev) → AreSameLeaves was is → AreThree tops was was
-    → AreThree tops is is
-three_last [] [] [] same three = tt
-three_last [] [] (y ∷ is) same three = absurd same
-three_last [] (x ∷ was) is same three = absurd three
-three_last (top ∷ tops) [] is same three = absurd three
-three_last (top ∷ tops) (x ∷ was) [] same three = absurd same
-three_last (top ∷ tops) (x ∷ was) (y ∷ is) same three = three_last tops was is same.1 three
-
 -- logs and the board don't matter to what is found of a leaf
 found_alike : (m : Guid) (ws one two : List Seat) (tops : List ℕ) (was first second : List LeafVdev)
     → AreSameLeaves first second
@@ -90,13 +81,16 @@ all_found [] all seats F tops was is first same = tt
 all_found (m ∷ ms) all seats F tops was is first same =
     (ap (own_found m.guid) first ∙ found_alike m.guid seats seats F tops was was is same, all_found ms all seats F tops was is first same)
 
--- The moves of a turn's leavers, and what all of them and the counts behind them leave of the leaves.
-pub record TurnsLeaves (s : PoolSeen) (ms : List Member) (done : List Bool) (new : List LeafSeen) : Type 0 where
+-- The moves of a turn's leavers. These and the counts behind them leave the leaves of this pool, with these seats.
+pub record TurnsLeaves (s : PoolSeen) (ms : List Member) (done : List Bool) (seats : List Seat)
+    (q : PoolParts) : Type 0 where
   pub leaving : List Move
   pub are : AreLeaves s ms done leaving
   pub between : List LeafSeen
   pub leads : seen_along leaving s ≡ record s { leaves = between }
-  pub counted : (t : PoolState) → t.core.leaves ≡ between → steps (count_moves s.leaves ms done) t ≡ with_leaves new t
+  pub counted : (t : PoolState) → t.core.leaves ≡ between
+      → steps (count_moves s.leaves ms done) t ≡ with_leaves (leaves_from seats 1 (leaves_under q.tops)) t
+  pub within : AllByRecursion (IsWithin s.number) (all_leaves q)
 
 -- A turn of a group with these numbers, over members of its board.
 pub turns_leaves : (s : PoolSeen) (seats : List Seat) (p q : PoolParts) (numbers : Numbers) (ms : List Member)
@@ -106,7 +100,7 @@ pub turns_leaves : (s : PoolSeen) (seats : List Seat) (p q : PoolParts) (numbers
     → HasBoard seats p → AreInForm p → IsCrew (all_leaves p) ms
     → sizes (leaves_under q.tops) ≡ sizes (leaves_under p.tops)
     → AreBehind numbers ms done (all_leaves p) (all_leaves q)
-    → TurnsLeaves s ms done (leaves_from (behind_turn ms done seats) 1 (leaves_under q.tops))
+    → TurnsLeaves s ms done (behind_turn ms done seats) q
 turns_leaves s seats p q numbers ms done seen number last first low board form crew built behind =
     let tops = tops_from 1 (leaves_under p.tops) in
     let was = all_leaves p in
@@ -147,4 +141,5 @@ turns_leaves s seats p q numbers ms done seen number last first low board form c
           (subst (λ ls. AllByRecursion (λ m. own_found m.guid s.leaves ≡ own_found m.guid ls) ms) (sym there)
           (all_found ms s.leaves seats (behind_turn ms done seats) tops was is start same)) behind
           ∙ ap (λ ls. with_leaves ls t) ends;
+      within = left.fit.within;
     }

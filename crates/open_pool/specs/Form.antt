@@ -1,5 +1,5 @@
 -- What holds of each open pool between two lines.
-use Rattle.std.specs.Prelude.{◌≡◌, ℕ, suc, ◌+◌, ◌≤◌, ◌<◌, ◌⊎◌, ◌||◌, Bool, true, false, List, [], ◌∷◌, length, map, All, AllPairs, Contains, Some, is_some, IfSome}
+use Rattle.std.specs.Prelude.{◌≡◌, ℕ, suc, ◌+◌, ◌≤◌, ◌<◌, ◌⊎◌, ◌||◌, Bool, true, false, List, [], ◌∷◌, length, map, All, AllPairs, Contains, Option, Some, None, is_some, IfSome}
 use Rattle.std.specs.List.{filter_map, flat_map}
 use Rattle.mp_base.specs.declared.number.Group.{Group}
 use Rattle.mp_base.specs.declared.place.Key.{Key}
@@ -15,6 +15,7 @@ use Rattle.block_map.specs.Pointers.{IsPointer}
 use Rattle.pool_config.specs.Seen.{ConfigSeen, TopSeen}
 use Rattle.pool_config.specs.Validity.{IsValid}
 use Rattle.txg_history.specs.Records.{key}
+use Rattle.txg_engine.specs.declared.item.Item.{Item}
 use Rattle.txg_engine.specs.declared.seat.Seat.{Seat}
 use Rattle.txg_engine.specs.Frozen.{FrozenGroup}
 use Rattle.txg_engine.specs.Logs.{IsReady}
@@ -78,8 +79,10 @@ pub record HasBoard (seats : List Seat) (p : PoolParts) : Type 0 where
   pub order : filter_map (λ leaf. seat_in seats leaf.guid) (all_leaves p) ≡ seats
   pub seated : AreSeated seats 1 (leaves_under p.tops)
 
--- The leaves: no two have one device, each that is readable has one, and what is settled is within the highest number.
+-- The leaves: no two have one device, each that is readable has one, and logs and what is settled there are within the highest
+-- number. Of a log a configuration has the groups from 1 to 2^62 alone, so it doesn't say that there are no others.
 pub record HasLeaves (p : PoolParts) : Type 0 where
+  pub within : All (λ leaf. (g : ℕ) → holds leaf.log g ≡ true → (1 ≤ g) × (g ≤ p.highest)) (all_leaves p)
   pub apart : AllPairs (λ a b. (d : ℕ) → a.dev ≡ Some d → b.dev ≡ Some d → ⊥) (all_leaves p)
   pub writable : All (λ leaf. is_readable leaf ≡ true → is_some leaf.dev ≡ true) (all_leaves p)
   pub settled : All (λ leaf. (g : ℕ) → p.highest < g → holds leaf.settled g ≡ false) (all_leaves p)
