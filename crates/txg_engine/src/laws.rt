@@ -1,25 +1,13 @@
 //! What follows of the definitions alone: the clauses of functions with empty bodies.
-ghost use Rattle.std.specs.Prelude.{◌≡◌, ℕ, ◌+◌, ◌≤◌, ◌==◌, false, List, [], length, Contains, Some, is_some, if◌then◌else◌};
-ghost use Rattle.mp_base.specs.declared.number.Group.{Group};
-ghost use Rattle.mp_base.specs.declared.number.Guid.{Guid};
+ghost use Rattle.std.specs.Prelude.{◌≡◌, ℕ, ◌+◌, ◌==◌, List, [], length, Some, is_some, if◌then◌else◌};
 ghost use Rattle.block_map.specs.Map.{Map};
 ghost use Rattle.txg_engine.specs.declared.item.Item.{Item};
-ghost use Rattle.txg_engine.specs.declared.seat.Seat.{Seat};
-ghost use Rattle.txg_engine.specs.declared.seat.Suspended.{Suspended};
 ghost use Rattle.txg_engine.specs.declared.write.Write.{Write};
 ghost use Rattle.txg_engine.specs.Ending.{fresh_count};
 ghost use Rattle.txg_engine.specs.Freezing.{IsFreeze};
 ghost use Rattle.txg_engine.specs.Frozen.{KeysRise};
 ghost use Rattle.txg_engine.specs.Items.{frozen_block};
-ghost use Rattle.txg_engine.specs.Turns.{IsTold};
 ghost use Rattle.txg_engine.specs.Writes.{block_at, is_written};
-
-/// A suspension tells of a call that failed, where some leaf of the top that was on the board at the freeze wasn't taken off
-/// by the pool.
-pub fn suspensions_tell_their_faults()
-    ensures { (tops : List Guid) (first : Group) (seats : List Seat) (top : ℕ) (told : Suspended) (seat : Seat)
-        → IsTold tops first seats top told → Contains seats seat → seat.top ≡ top → seat.taken ≡ false → 1 ≤ told.faults }
-{}
 
 /// How many addresses an open group and a frozen one have together is the open one's count of writes, and `fresh_count` of the
 /// blocks of the frozen one that it lacks. A group that was just frozen has as many as were written. A write that takes an
