@@ -1,15 +1,15 @@
 -- Where nobody takes off the last leaf of a top, a suspension tells a call that failed.
 use Rattle.std.proofs.Common.{◌≡◌, ℕ, zero, suc, ◌+◌, ◌<◌, ◌≤◌, ◌==◌, ◌&&◌, ◌||◌, not, cond, Bool, true, false, List}
-use Rattle.std.proofs.Common.{[], ◌∷◌, length, get_or, map, Contains, refl, sym, ap, ◌∙◌, subst, arith}
+use Rattle.std.proofs.Common.{[], ◌∷◌, length, get_or, map, Some, None, refl, sym, ap, ◌∙◌, ◌⊎◌, ⊎_elim, subst, arith}
 use Rattle.std.specs.Prelude.{All}
 use Rattle.std.specs.List.{list_any}
-use Rattle.std.proofs.lemmas.Bool.{true≢false}
+use Rattle.std.proofs.lemmas.Bool.{cases_Bool, eqb-true, eqb-false, true≢false}
 use Rattle.std.proofs.lemmas.Bool.Decides.{nat_tests}
-use Rattle.std.proofs.lemmas.List.Elements.{All-map, All-weaker}
+use Rattle.std.proofs.lemmas.List.Elements.{All-head, All-map, All-tail, All-weaker}
 use Rattle.mp_base.specs.declared.number.Guid.{Guid}
 use Rattle.label_store.specs.declared.member.Member.{Member}
 use Rattle.txg_engine.specs.declared.seat.Seat.{Seat}
-use Rattle.txg_engine.specs.Boards.{AreServed, behind_turn, count_up, failed, faults_under, has_on, serves, without}
+use Rattle.txg_engine.specs.Boards.{AreServed, as_taken, behind_turn, count_up, emptied, emptied_from, failed, faults_under, has_on, has_seat, is_on_as, serves, without}
 
 -- a change of seats, each of which keeps its top and serves as it did
 module _ (f : Seat → Seat) (top_is : (seat : Seat) → (f seat).top ≡ seat.top)
@@ -150,8 +150,83 @@ served_faults top (seat ∷ seats) is none = one (served_faults top seats) (seat
     one later false true t on is none = rest later is none
     one later false false t on is none = rest later is none
 
-pub some_failed : (top : ℕ) (seats : List Seat) (seat : Seat) → AreServed seats → has_on top seats ≡ false → Contains seats seat
-    → seat.top ≡ top → 1 ≤ faults_under top seats
-some_failed top seats seat all none (k, lt, there) here =
-    served_faults top seats
-    (subst (λ n. list_any (serves n) seats ≡ true) (ap (λ (s : Seat). s.top) there ∙ here) (all k seat lt)) none
+-- who has a seat is served
+served_top : (top : ℕ) (seats all : List Seat) → has_seat top seats ≡ true → All (λ seat. list_any (serves seat.top) all ≡ true) seats
+    → list_any (serves top) all ≡ true
+served_top top [] all has each = absurd (true≢false (sym has))
+served_top top (seat ∷ seats) all has each =
+    one (seat.top == top) refl has
+    (λ later. served_top top seats all later (All-tail (λ (s : Seat). list_any (serves s.top) all ≡ true) seat seats each))
+  where
+    one : (t : Bool) → (seat.top == top) ≡ t → (t || has_seat top seats) ≡ true
+        → (has_seat top seats ≡ true → list_any (serves top) all ≡ true) → list_any (serves top) all ≡ true
+    one true is has rest =
+        subst (λ n. list_any (serves n) all ≡ true) (eqb-true seat.top top is)
+        (All-head (λ (s : Seat). list_any (serves s.top) all ≡ true) seat seats each)
+    one false is has rest = rest has
+
+pub some_failed : (top : ℕ) (seats : List Seat) → AreServed seats → has_on top seats ≡ false → has_seat top seats ≡ true
+    → 1 ≤ faults_under top seats
+some_failed top seats all none has = served_faults top seats (served_top top seats seats has all) none
+
+-- at a freeze each top has a seat, and no change of seats that keeps their tops takes it
+
+seated_on : (top : ℕ) (seats : List Seat) → has_on top seats ≡ true → has_seat top seats ≡ true
+seated_on top [] is = is
+seated_on top (seat ∷ seats) is = one seat.on (seat.top == top) is (seated_on top seats)
+  where
+    one : (on t : Bool) → ((on && t) || has_on top seats) ≡ true → (has_on top seats ≡ true → has_seat top seats ≡ true)
+        → (t || has_seat top seats) ≡ true
+    one on true is rest = refl
+    one true false is rest = rest is
+    one false false is rest = rest is
+
+on_from : (first count : ℕ) (seats : List Seat) → emptied_from first count seats ≡ None → (top : ℕ) → first ≤ top → top < first + count
+    → has_on top seats ≡ true
+on_from first zero seats none top low high = absurd (omega arith)
+on_from first (suc count) seats none top low high =
+    one (has_on first seats) refl none (cases_Bool (first == top)) (on_from (first + 1) count seats)
+  where
+    one : (b : Bool) → has_on first seats ≡ b → cond b (emptied_from (first + 1) count seats) (Some first) ≡ None
+        → ((first == top) ≡ true) ⊎ ((first == top) ≡ false)
+        → (emptied_from (first + 1) count seats ≡ None → (t : ℕ) → first + 1 ≤ t → t < first + 1 + count → has_on t seats ≡ true)
+        → has_on top seats ≡ true
+    one true is none here rest = ⊎_elim (λ same. ap (λ n. has_on n seats) (sym (eqb-true first top same)) ∙ is)
+        (λ other. let off = eqb-false first top other in rest none top (omega (arith, off)) (omega arith)) here
+    one false is none here rest = absurd (let no : Some first ≡ None = none in cc)
+
+pub each_seated : (count : ℕ) (seats : List Seat) → emptied count seats ≡ None → (top : ℕ) → top < count → has_seat top seats ≡ true
+each_seated count seats none top low = seated_on top seats (on_from 0 count seats none top (omega arith) (omega arith))
+
+still_seated : (f : Seat → Seat) → ((seat : Seat) → (f seat).top ≡ seat.top) → (top : ℕ) (seats : List Seat)
+    → has_seat top (map f seats) ≡ has_seat top seats
+still_seated f same top [] = refl
+still_seated f same top (seat ∷ seats) =
+    ap (λ t. (t == top) || has_seat top (map f seats)) (same seat)
+    ∙ ap (λ b. (seat.top == top) || b) (still_seated f same top seats)
+
+pub counted_seated : (m : Guid) (top : ℕ) (seats : List Seat) → has_seat top (map (failed m) seats) ≡ has_seat top seats
+counted_seated m top seats = still_seated (failed m) (top_of_failed m) top seats
+
+off_seated : (m : Guid) (top : ℕ) (seats : List Seat) → has_seat top (map (without m) seats) ≡ has_seat top seats
+off_seated m top seats = still_seated (without m) (λ seat. refl) top seats
+
+pub taken_seated : (m : Guid) (top : ℕ) (seats : List Seat)
+    → has_seat top (map (without m) (map (as_taken m) seats)) ≡ has_seat top seats
+taken_seated m top seats = off_seated m top (map (as_taken m) seats) ∙ still_seated (as_taken m) same top seats
+  where
+    same : (seat : Seat) → (as_taken m seat).top ≡ seat.top
+    same seat = one (is_on_as m seat)
+      where
+        one : (b : Bool) → (cond b (record seat { taken = true }) seat).top ≡ seat.top
+        one true = refl
+        one false = refl
+
+pub behind_seated : (ms : List Member) (done : List Bool) (top : ℕ) (seats : List Seat)
+    → has_seat top (behind_turn ms done seats) ≡ has_seat top seats
+behind_seated [] done top seats = refl
+behind_seated (m ∷ ms) [] top seats = refl
+behind_seated (m ∷ ms) (true ∷ done) top seats = behind_seated ms done top seats
+behind_seated (m ∷ ms) (false ∷ done) top seats =
+    behind_seated ms done top (map (without m.guid) (map (failed m.guid) seats))
+    ∙ off_seated m.guid top (map (failed m.guid) seats) ∙ counted_seated m.guid top seats

@@ -92,11 +92,15 @@ HasCause seat = (1 ≤ seat.faults) ⊎ (seat.taken ≡ true)
 abbrev pub LeftByCause : Seat → Type 0
 LeftByCause seat = seat.on ≡ false → HasCause seat
 
+-- some leaf of this top was on the board at the freeze
+abbrev pub has_seat : (top : ℕ) → List Seat → Bool
+has_seat top seats = list_any (λ seat. seat.top == top) seats
+
 -- a leaf of this top that is on the board, or a call on which failed since the freeze
 abbrev pub serves : (top : ℕ) → Seat → Bool
 serves top seat = (seat.top == top) && (seat.on || not (seat.faults == 0))
 
--- Of each top that has a leaf here some leaf serves: nobody took off a top's last leaf.
+-- Of each top that has a leaf here some leaf serves: nobody took off a top's last leaf before a call on the top's leaves failed.
 abbrev pub AreServed : List Seat → Type 0
 AreServed seats = All (λ seat. list_any (serves seat.top) seats ≡ true) seats
 

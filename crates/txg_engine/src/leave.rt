@@ -18,8 +18,9 @@ impl Frozen {
     ghost use Rattle.txg_engine.specs.Turns.{Answers, emptied_top, is_suspended};
 
     /// The leaf of this number leaves the board, where it is on it, and owes each number that was drawn for the group: it is
-    /// taken offline, or faulted, or its device is gone. Nothing happens where it isn't on the board. A pool takes off no leaf that
-    /// is required, so the last one of a top leaves the board by a failed call alone (`kept`).
+    /// taken offline, or faulted, or its device is gone. Nothing happens where it isn't on the board. Behind it each top keeps
+    /// somebody on the board, or had a failed call (`kept`): a leaf that isn't required leaves somebody there, and of one whose
+    /// device is gone the failed call is told first, by `count_fault`.
     pub fn leave(&mut self, tops: &mut [Top], member: Guid)
         requires kept { on_board self.old.board member ≡ true → AreServed (map (without member) (map (as_taken member) self.old.board)) }
         requires ready { All (IsReady self.old.board self.old.numbers.last.0) (leaves_of tops.old) }
@@ -38,7 +39,8 @@ impl Frozen {
         }
     }
 
-    /// A call on this leaf's device failed outside of the group's own turns, as in a read.
+    /// A call on this leaf's device failed outside of the group's own turns, as in a read. It is told once for each such call, and
+    /// for nothing else.
     pub fn count_fault(&mut self, member: Guid)
         ensures group { self.new ≡ record self.old { board = map (failed member) self.old.board } }
         ensures ready { (leaves : List LeafVdev) → All (IsReady self.old.board self.old.numbers.last.0) leaves

@@ -16,9 +16,8 @@ returns c =
       top_is = c.number_of_top.ensures;
       faults_are = c.faults_under.ensures;
       left = all_left count c.in-Some.top seats here c.requires.left;
-      some = λ seat among under.
-          let none = emptied_none 0 count seats c.in-Some.top here in
-          let one = some_failed c.in-Some.top seats seat c.requires.served none among under in
+      some = λ has.
+          let one = some_failed c.in-Some.top seats c.requires.served (emptied_none 0 count seats c.in-Some.top here) has in
           let faults = c.faults_under.ensures in
           omega arith;
     })
