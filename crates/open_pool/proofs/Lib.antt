@@ -1,6 +1,7 @@
 pub mod BoardIsSeats
 pub mod BoardKept
 pub mod CopiesOfTops
+pub mod CopiesOnDevices
 pub mod CountsBelow
 pub mod DirtyWithOne
 pub mod FaultsCounted
@@ -16,8 +17,10 @@ pub mod LeavesAtEnd
 pub mod LeavesByTops
 pub mod LeavesInForm
 pub mod LeavesOwe
+pub mod LeavesShown
 pub mod LeavesStay
 pub mod LogsWidened
+pub mod MapsRead
 pub mod MembersAgree
 pub mod NeedCounted
 pub mod NumbersApart
@@ -26,7 +29,11 @@ pub mod OpenChanged
 pub mod OpenPlaces
 pub mod PagesDirty
 pub mod PagesFormed
+pub mod PagesTurned
+pub mod PartsRead
 pub mod PlacesGiven
+pub mod ReadingsGoOn
+pub mod RightPages
 pub mod RisingCounted
 pub mod SeatsOfFreeze
 pub mod StatesStand

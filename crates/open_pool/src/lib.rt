@@ -5,6 +5,7 @@
 mod copies;
 mod form;
 mod laws;
+mod pages;
 mod pool;
 mod space;
 mod write;
