@@ -22,6 +22,7 @@ pub mod LeavesStay
 pub mod LogsWidened
 pub mod MapsRead
 pub mod MembersAgree
+pub mod NamesFound
 pub mod NeedCounted
 pub mod NumbersApart
 pub mod NumbersOwed

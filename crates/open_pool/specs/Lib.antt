@@ -3,6 +3,7 @@ pub mod Copies
 pub mod Form
 pub mod Freezing
 pub mod Here
+pub mod Naming
 pub mod Pages
 pub mod Parts
 pub mod Space

@@ -5,6 +5,7 @@
 mod copies;
 mod form;
 mod laws;
+mod named;
 mod pages;
 mod pool;
 mod space;
