@@ -6,6 +6,13 @@ pub mod DirtyWithOne
 pub mod FaultsCounted
 pub mod FewKeys
 pub mod FormKept
+pub mod FreezeAnswered
+pub mod FreezeBegins
+pub mod FreezeForm
+pub mod FreezeNeeds
+pub mod FreezeRefused
+pub mod FreezeRows
+pub mod FreezeSeats
 pub mod FreezesAreRows
 pub mod GroupBlocks
 pub mod KeysDirty
@@ -15,6 +22,7 @@ pub mod LeafLeaves
 pub mod LeavesAtEnd
 pub mod LeavesByTops
 pub mod LeavesInForm
+pub mod LeavesKept
 pub mod LeavesOwe
 pub mod LeavesStay
 pub mod LogsWidened
@@ -27,11 +35,14 @@ pub mod OpenPlaces
 pub mod PagesDirty
 pub mod PagesFormed
 pub mod PlacesGiven
+pub mod RecordStill
 pub mod RisingCounted
 pub mod SeatsOfFreeze
 pub mod StatesStand
 pub mod TreesBuilt
 pub mod TreesStay
 pub mod TurnLeaves
+pub mod UnwritableTops
+pub mod VdevNumbers
 pub mod WriteRows
 pub mod WritesCounted

@@ -4,11 +4,13 @@
 
 mod copies;
 mod form;
+mod freeze;
 mod laws;
 mod pool;
 mod space;
 mod write;
 
+pub use freeze::{FreezeFault, LAST_NUMBER};
 pub use laws::freezes_are_rows;
 pub use pool::Pool;
 pub use write::WriteFault;
