@@ -4,12 +4,14 @@
 
 mod copies;
 mod form;
+mod freeze;
 mod laws;
 mod pages;
 mod pool;
 mod space;
 mod write;
 
+pub use freeze::{FreezeFault, LAST_NUMBER};
 pub use laws::freezes_are_rows;
 pub use pool::Pool;
 pub use write::WriteFault;
