@@ -71,7 +71,7 @@ numbered (leaf ∷ leaves) differ =
     (numbered leaves differ.1)
 
 -- The vdevs of a configuration are those of the trees.
-vdevs_of_trees : (tops : List Top) → flat_map top_vdevs (map top_of (all_parts tops)) ≡ flat_map mirror_vdevs tops
+pub vdevs_of_trees : (tops : List Top) → flat_map top_vdevs (map top_of (all_parts tops)) ≡ flat_map mirror_vdevs tops
 vdevs_of_trees [] = refl
 vdevs_of_trees (top ∷ tops) = ap (λ vs. mirror_vdevs top ++ vs) (vdevs_of_trees tops)
 
@@ -79,7 +79,7 @@ no_leaves : leaves_among [] ≡ []
 unfolding leaves_among
 no_leaves = refl
 
-leaves_of_trees : (tops : List Top) → leaves_among (flat_map mirror_vdevs tops) ≡ map leaf_seen (leaves_of tops)
+pub leaves_of_trees : (tops : List Top) → leaves_among (flat_map mirror_vdevs tops) ≡ map leaf_seen (leaves_of tops)
 leaves_of_trees [] = no_leaves
 leaves_of_trees (top ∷ tops) =
     leaves-append (mirror_vdevs top) (flat_map mirror_vdevs tops)

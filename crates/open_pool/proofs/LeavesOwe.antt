@@ -13,12 +13,13 @@ use Rattle.pool_moves.specs.Widening.{IsWidened, seen_along}
 use Rattle.open_pool.specs.Form.{all_leaves}
 use Rattle.open_pool.specs.Parts.{PoolParts, all_parts}
 use Rattle.open_pool.specs.State.{leaves_from, leaves_under}
+use Rattle.open_pool.proofs.FreezeSeats.{on_if_writable}
 use Rattle.open_pool.proofs.LeafLeaves.{IsFit}
-use Rattle.open_pool.proofs.LeavesByTops.{leaves_at, by_tops, tops_from, under_all, all_are_under, HaveTops, have_tops, sizes, same_tops}
+use Rattle.open_pool.proofs.LeavesByTops.{leaves_at, by_tops, tops_from, all_are_under, HaveTops, have_tops, sizes, same_tops}
 use Rattle.open_pool.proofs.LogsWidened.{IsWithin}
-use Rattle.open_pool.proofs.NumbersApart.{Differ, leaves_differ, seat_numbers, seats_differ}
+use Rattle.open_pool.proofs.NumbersApart.{leaves_differ}
 use Rattle.open_pool.proofs.NumbersOwed.{Owes, draws_owe, freezes_owe}
-use Rattle.open_pool.proofs.SeatsOfFreeze.{seats_at, seats_of_tops, have_seats, in_order, on_if_up, up_are, may_write, HaveSeats}
+use Rattle.open_pool.proofs.SeatsOfFreeze.{up_are, may_write}
 use Rattle.open_pool.proofs.TurnLeaves.{AreInForm}
 
 -- A move that draws a number, and the widenings behind it, with what they leave of the leaves.
@@ -70,31 +71,6 @@ module _ (s : PoolSeen) (p q : PoolParts) (number : s.number ≡ p.highest) (for
       (subst (λ n. AreGrown (is_off seats) (n + 1) (n + 1) (all_leaves p) (all_leaves q)) (sym number) grown))
 
   module _ (trees : List Top) (parts : p.tops ≡ all_parts trees) where
-    frozen_at : (tops_from 0 (leaves_under p.tops) ≡ tops_from 0 (leaves_under (all_parts trees))) ×
-        (all_leaves p ≡ under_all (leaves_under (all_parts trees)))
-    frozen_at = (
-      ap (λ ts. tops_from 0 (leaves_under ts)) parts,
-      all_are_under p.tops ∙ ap
-          (λ ts. under_all (leaves_under ts)) parts,
-    )
-
-    seats_are : seats_of 0 trees ≡ seats_at (tops_from 0 (leaves_under p.tops)) (all_leaves p)
-    seats_are = seats_of_tops 0 trees
-        ∙ ap (λ ts. seats_at ts (under_all (leaves_under (all_parts trees)))) (sym frozen_at.0)
-        ∙ ap (seats_at (tops_from 0 (leaves_under p.tops))) (sym frozen_at.1)
-
-    seated : HaveSeats (seats_of 0 trees) (tops_from 0 (leaves_under p.tops)) (all_leaves p)
-    seated = subst (λ seats. HaveSeats seats (tops_from 0 (leaves_under p.tops)) (all_leaves p)) (sym seats_are)
-        (have_seats (tops_from 0 (leaves_under p.tops)) (all_leaves p)
-        (subst (HaveTops (tops_from 0 (leaves_under p.tops))) (sym (all_are_under p.tops))
-        (have_tops 0 (leaves_under p.tops)))
-        (leaves_differ (all_leaves p) form.numbers))
-
-    differ : Differ (seat_numbers (seats_of 0 trees))
-    differ = subst (λ seats. Differ (seat_numbers seats))
-        (in_order (seats_of 0 trees) (tops_from 0 (leaves_under p.tops)) (all_leaves p) seated ∙ sym seats_are)
-        (seats_differ (seats_of 0 trees) (all_leaves p) (leaves_differ (all_leaves p) form.numbers))
-
     -- The leaves' part of a freeze over these trees.
     pub freezes_number : (cells : Cells) → s.leaves ≡ leaves_from [] 1 (leaves_under p.tops)
         → AreOwing (is_off (seats_of 0 trees)) (p.highest + 1) (all_leaves p) (all_leaves q)
@@ -103,7 +79,7 @@ module _ (s : PoolSeen) (p q : PoolParts) (number : s.number ≡ p.highest) (for
         owes (Freeze cells (up_devs s.leaves)) (seats_of 0 trees)
         (freezes_owe s (seats_of 0 trees) cells (tops_from 1 (leaves_under p.tops)) (all_leaves p) (all_leaves q)
         (was_at [] seen) have (omega (arith, number, more)) fit
-        (on_if_up (seats_of 0 trees) (tops_from 0 (leaves_under p.tops)) (all_leaves p) differ seated)
+        (on_if_writable trees p parts form)
         (subst (λ ls. AllByRecursion (λ leaf. on_dev (up_devs ls) leaf.dev ≡ may_write leaf) (all_leaves p))
         (sym (was_at [] seen))
         (up_are [] (tops_from 1 (leaves_under p.tops)) (all_leaves p) have form.devices))

@@ -7,6 +7,13 @@ pub mod DirtyWithOne
 pub mod FaultsCounted
 pub mod FewKeys
 pub mod FormKept
+pub mod FreezeAnswered
+pub mod FreezeBegins
+pub mod FreezeForm
+pub mod FreezeNeeds
+pub mod FreezeRefused
+pub mod FreezeRows
+pub mod FreezeSeats
 pub mod FreezesAreRows
 pub mod GroupBlocks
 pub mod KeysDirty
@@ -16,6 +23,7 @@ pub mod LeafLeaves
 pub mod LeavesAtEnd
 pub mod LeavesByTops
 pub mod LeavesInForm
+pub mod LeavesKept
 pub mod LeavesOwe
 pub mod LeavesShown
 pub mod LeavesStay
@@ -34,6 +42,7 @@ pub mod PagesTurned
 pub mod PartsRead
 pub mod PlacesGiven
 pub mod ReadingsGoOn
+pub mod RecordStill
 pub mod RightPages
 pub mod RisingCounted
 pub mod SeatsOfFreeze
@@ -41,5 +50,7 @@ pub mod StatesStand
 pub mod TreesBuilt
 pub mod TreesStay
 pub mod TurnLeaves
+pub mod UnwritableTops
+pub mod VdevNumbers
 pub mod WriteRows
 pub mod WritesCounted

@@ -222,7 +222,7 @@ leaves_owe seats all cells (top ∷ tops) number first hi (x ∷ old) (y ∷ roo
     ∙ ap (λ ls. leaf_of seats top z ∷ ls)
     (leaves_owe seats all cells tops number first hi old roomy grown on.1 up.1 keeps.1 grow.1)
 
-within_kept : (number : ℕ) (old roomy : List LeafVdev) → AllZip KeepsSets old roomy
+pub within_kept : (number : ℕ) (old roomy : List LeafVdev) → AllZip KeepsSets old roomy
     → AllByRecursion (IsWithin number) old → AllByRecursion (IsWithin number) roomy
 within_kept number [] [] keeps within = tt
 within_kept number [] (y ∷ roomy) keeps within = absurd keeps

@@ -158,7 +158,7 @@ place_before other cell place top sector (inl l) = inl (omega (arith, l, sector)
 place_before other cell place top sector (inr l) = inr (l.0 ∙ sector, omega (arith, l.1, top))
 
 -- where a key isn't the first one of these it is among the rest
-behind_first : (item : Item) (items : List Item) (k : Key) (cell : Cell) → same_key item.key k ≡ false
+pub behind_first : (item : Item) (items : List Item) (k : Key) (cell : Cell) → same_key item.key k ≡ false
     → cells_of items k ≡ Some cell → cells_of (item ∷ items) k ≡ Some cell
 behind_first item items k cell other is = ap (λ b. cond b (Some (cell_of item)) (cells_of items k)) other ∙ is
 
@@ -166,7 +166,7 @@ not_itself : (j k : Key) → IsBefore j k → j ≡ k → ⊥
 not_itself j k (inl l) same = omega (arith, l, ap (λ (i : Key). i.level) same)
 not_itself j k (inr l) same = omega (arith, l.1, ap (λ (i : Key). i.index) same)
 
-differ : (j k : Key) → IsBefore j k → same_key j k ≡ false
+pub differ : (j k : Key) → IsBefore j k → same_key j k ≡ false
 differ j k before = ⊎_elim (λ same. absurd (not_itself j k before (one_key j k same))) (λ other. other) (cases_Bool (same_key j k))
 
 pub keys_rise_on : (item : Item) (items : List Item) → KeysRise (item ∷ items) → KeysRise items

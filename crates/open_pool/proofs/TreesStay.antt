@@ -24,7 +24,7 @@ use Rattle.open_pool.specs.State.{leaves_under, vdevs_in}
 use Rattle.open_pool.proofs.BoardKept.{AreSameLeaves}
 use Rattle.open_pool.proofs.LeavesByTops.{under_all, sizes}
 
-abbrev leaf_guids : List LeafVdev → List Guid
+abbrev pub leaf_guids : List LeafVdev → List Guid
 leaf_guids leaves = map (λ leaf. leaf.guid) leaves
 
 -- an inner vdev that is being read, and what stands before it
@@ -140,7 +140,7 @@ told_alike a b built same =
     ∙ ap nodes (append-nil (vdevs_of b))
 
 -- Of tops.
-same_guids : (old new : List LeafVdev) → AreSameLeaves old new → leaf_guids new ≡ leaf_guids old
+pub same_guids : (old new : List LeafVdev) → AreSameLeaves old new → leaf_guids new ≡ leaf_guids old
 same_guids [] [] same = refl
 same_guids [] (y ∷ new) same = absurd same
 same_guids (x ∷ old) [] same = absurd same

@@ -4,6 +4,7 @@
 
 mod copies;
 mod form;
+mod freeze;
 mod laws;
 mod named;
 mod pages;
@@ -11,6 +12,7 @@ mod pool;
 mod space;
 mod write;
 
+pub use freeze::{FreezeFault, LAST_NUMBER};
 pub use laws::freezes_are_rows;
 pub use pool::Pool;
 pub use write::WriteFault;
