@@ -8,18 +8,19 @@ use Rattle.std.proofs.lemmas.Bool.Decides.{nat_tests}
 use Rattle.mp_base.specs.declared.number.Guid.{Guid}
 use Rattle.group_set.specs.Groups.{holds}
 use Rattle.label_store.specs.declared.member.Member.{Member}
+use Rattle.vdev_tree.specs.declared.vdev.Counts.{Counts}
 use Rattle.vdev_tree.specs.declared.vdev.LeafVdev.{LeafVdev}
 use Rattle.txg_history.specs.Groups.{between}
 use Rattle.txg_engine.specs.declared.seat.Numbers.{Numbers}
 use Rattle.txg_engine.specs.declared.seat.Seat.{Seat}
 use Rattle.txg_engine.specs.Boards.{on_board, without, failed, behind_turn, count_up}
-use Rattle.txg_engine.specs.Logs.{Grows, Counted, count_write, is_leaf, Fails, AreBehind}
+use Rattle.txg_engine.specs.Logs.{AreGrown, Grows, Counted, count_write, is_leaf, Fails, AreBehind}
 use Rattle.pool_moves.specs.Leaves.{LeafSeen}
 use Rattle.pool_moves.specs.Moves.{Move, Leave, leaf_step, step, on_dev, log_grown}
 use Rattle.pool_moves.specs.States.{PoolSeen}
 use Rattle.pool_moves.specs.Widening.{IsWidened, AreLeaves, seen_along}
 use Rattle.open_pool.specs.State.{seat_in, own_of, leaf_of}
-use Rattle.open_pool.proofs.BoardKept.{AreSameLeaves, mapped_seat, leave_keeps, fault_keeps}
+use Rattle.open_pool.proofs.BoardKept.{AreSameLeaves, IsSameLeaf, KeepsSeats, mapped_seat, leave_keeps, fault_keeps}
 use Rattle.open_pool.proofs.LeavesByTops.{leaves_at}
 use Rattle.open_pool.proofs.LeavesStay.{same_twice, counted_same, fails_same, grown_like, like_leaves}
 use Rattle.open_pool.proofs.LogsWidened.{AreLogged, IsWithin, AreLikeThem, like_numbers, like_length, with_logs, widens_to}
@@ -63,27 +64,43 @@ pub record IsFit (number : ℕ) (leaves : List LeafVdev) : Type 0 where
 abbrev pub numbers_in : PoolSeen → Numbers
 numbers_in s = record { first = record { 0 = s.group.first }; last = record { 0 = s.number } }
 
--- who is on the board behind a leaf that left it
-seats_left : Guid → List Seat → List Seat
-seats_left m seats = map (without m) (map (failed m) seats)
+-- What is done to seats besides that one leaves: each keeps its leaf, and whether it is on the board.
+pub record KeepsOn (f : Seat → Seat) : Type 0 where
+  pub seats : KeepsSeats f
+  pub on : (seat : Seat) → (f seat).on ≡ seat.on
+
+pub fault_keeps_on : (m : Guid) → KeepsOn (failed m)
+fault_keeps_on m = record { seats = fault_keeps m; on = λ seat. one seat (seat.member.guid.0 == m.0) }
+  where
+    one : (seat : Seat) (t : Bool) → (cond t (record seat { faults = count_up seat.faults }) seat).on ≡ seat.on
+    one seat true = refl
+    one seat false = refl
+
+numbers_left : (f : Seat → Seat) → KeepsSeats f → (m : Guid) (seats : List Seat) → seat_numbers (map (without m) (map f seats)) ≡ seat_numbers seats
+numbers_left f keeps m [] = refl
+numbers_left f keeps m (seat ∷ seats) =
+    ap (λ (k : Member). k.guid.0 ∷ seat_numbers (map (without m) (map f seats))) (keeps.member seat)
+    ∙ ap (λ ns. seat.member.guid.0 ∷ ns) (numbers_left f keeps m seats)
 
 pub left_numbers : (m : Guid) (seats : List Seat)
     → seat_numbers (map (without m) (map (failed m) seats)) ≡ seat_numbers seats
-left_numbers m [] = refl
-left_numbers m (seat ∷ seats) = ap (λ (k : Member). k.guid.0 ∷ seat_numbers (map (without m) (map (failed m) seats)))
-    ((fault_keeps m).member seat) ∙ ap (λ ns. seat.member.guid.0 ∷ ns) (left_numbers m seats)
+left_numbers m seats = numbers_left (failed m) (fault_keeps m) m seats
+
+seat_left : (f : Seat → Seat) → KeepsSeats f → (m : Guid) (seats : List Seat) (x : Guid)
+    → seat_in (map (without m) (map f seats)) x ≡ option_map (without m) (option_map f (seat_in seats x))
+seat_left f keeps m seats x =
+    mapped_seat (without m) (leave_keeps m) (map f seats) x ∙ ap (option_map (without m)) (mapped_seat f keeps seats x)
 
 pub left_seat : (m : Guid) (seats : List Seat) (x : Guid)
     → seat_in (map (without m) (map (failed m) seats)) x ≡ option_map (without m)
     (option_map (failed m) (seat_in seats x))
-left_seat m seats x = mapped_seat (without m) (leave_keeps m) (map (failed m) seats) x
-    ∙ ap (option_map (without m)) (mapped_seat (failed m) (fault_keeps m) seats x)
+left_seat m seats x = seat_left (failed m) (fault_keeps m) m seats x
 
-left_on : (m : Guid) (seats : List Seat) (x : Guid) → Differ (seat_numbers seats)
-    → on_board (map (without m) (map (failed m) seats)) x ≡ cond (x.0 == m.0) false (on_board seats x)
-left_on m seats x differ =
-    on_is_seats (map (without m) (map (failed m) seats)) x (subst Differ (sym (left_numbers m seats)) differ)
-    ∙ ap on_of (left_seat m seats x)
+left_on : (f : Seat → Seat) → KeepsOn f → (m : Guid) (seats : List Seat) (x : Guid) → Differ (seat_numbers seats)
+    → on_board (map (without m) (map f seats)) x ≡ cond (x.0 == m.0) false (on_board seats x)
+left_on f keeps m seats x differ =
+    on_is_seats (map (without m) (map f seats)) x (subst Differ (sym (numbers_left f keeps.seats m seats)) differ)
+    ∙ ap on_of (seat_left f keeps.seats m seats x)
     ∙ one (seat_in seats x) refl ∙ ap (cond (x.0 == m.0) false) (sym (on_is_seats seats x differ))
   where
     off : (t b : Bool) → (b && not t) ≡ cond t false b
@@ -92,21 +109,17 @@ left_on m seats x differ =
     off false true = refl
     off false false = refl
 
-    faulty : (seat : Seat) (t : Bool)
-        → on_of (Some (without m (cond t (record seat { faults = count_up seat.faults }) seat))) ≡
-        (seat.on && not (seat.member.guid.0 == m.0))
-    faulty seat true = refl
-    faulty seat false = refl
-
     one : (o : Option Seat) → seat_in seats x ≡ o
-        → on_of (option_map (without m) (option_map (failed m) o)) ≡ cond (x.0 == m.0) false (on_of o)
+        → on_of (option_map (without m) (option_map f o)) ≡ cond (x.0 == m.0) false (on_of o)
     one None is = none (x.0 == m.0)
       where
         none : (t : Bool) → false ≡ cond t false false
         none true = refl
         none false = refl
     one (Some seat) is =
-        faulty seat (seat.member.guid.0 == m.0) ∙ ap (λ n. seat.on && not (n == m.0)) (seat_numbered seats x seat is)
+        ap (λ on. on && not ((f seat).member.guid.0 == m.0)) (keeps.on seat)
+        ∙ ap (λ (k : Member). seat.on && not (k.guid.0 == m.0)) (keeps.seats.member seat)
+        ∙ ap (λ n. seat.on && not (n == m.0)) (seat_numbered seats x seat is)
         ∙ off (x.0 == m.0) seat.on
 
 -- What a member's leaf and another are behind it, before logs are widened.
@@ -118,28 +131,28 @@ grown_log true false false = refl
 grown_log false b true = refl
 grown_log false b false = refl
 
-abbrev counted_if : Bool → LeafVdev → LeafVdev
-counted_if t leaf = cond t (record leaf { counts = record (leaf.counts) { writes = count_up leaf.counts.writes } }) leaf
+-- another leaf in its counts alone
+abbrev pub IsRecounted : LeafVdev → LeafVdev → Type 0
+IsRecounted old new = new ≡ record old { counts = new.counts }
 
-counted_half : (ws : List Seat) (w : LeafVdev) (seats : List Seat) (top : ℕ) (leaf : LeafVdev) (t : Bool)
-    → half_of ws w seats top (counted_if t leaf) ≡ half_of ws w seats top leaf
-counted_half ws w seats top leaf true = refl
-counted_half ws w seats top leaf false = refl
+recounted_leaf : (m : Guid) (old new : LeafVdev) → new ≡ count_write m old → IsRecounted old new
+recounted_leaf m old new is = subst (IsRecounted old) (sym is) (one (old.guid.0 == m.0))
+  where
+    one : (t : Bool) → IsRecounted old (cond t (record old { counts = record (old.counts) { writes = count_up old.counts.writes } }) old)
+    one true = refl
+    one false = refl
 
-counted_number : (leaf : LeafVdev) (t : Bool) → (counted_if t leaf).guid ≡ leaf.guid
-counted_number leaf true = refl
-counted_number leaf false = refl
+recounted : (m : Guid) (old new : List LeafVdev) → Counted m old new → AllZip IsRecounted old new
+recounted m [] [] are = tt
+recounted m [] (y ∷ new) are = absurd are
+recounted m (x ∷ old) [] are = absurd are
+recounted m (x ∷ old) (y ∷ new) are = (recounted_leaf m x y are.0, recounted m old new are.1)
 
-counted_log : (leaf : LeafVdev) (t : Bool) → (counted_if t leaf).log ≡ leaf.log
-counted_log leaf true = refl
-counted_log leaf false = refl
-
-half_leaves : (ws : List Seat) (w : LeafVdev) (seats : List Seat) (top : ℕ) (m : Member) (number first hi : ℕ)
+half_leaves : (f : Seat → Seat) → KeepsOn f → (ws : List Seat) (w : LeafVdev) (seats : List Seat) (top : ℕ) (m : Member) (number first hi : ℕ)
     (old counted grown : LeafVdev) → Differ (seat_numbers seats)
-    → Agrees m old → counted ≡ count_write m.guid old → Grows (is_leaf m.guid) first number counted grown
-    → leaf_step (Leave m.dev) number first hi (half_of ws w seats top old) ≡ half_of ws w
-    (map (without m.guid) (map (failed m.guid) seats)) top grown
-half_leaves ws w seats top m number first hi old counted grown differ agrees count grow =
+    → Agrees m old → IsRecounted old counted → Grows (is_leaf m.guid) first number counted grown
+    → leaf_step (Leave m.dev) number first hi (half_of ws w seats top old) ≡ half_of ws w (map (without m.guid) (map f seats)) top grown
+half_leaves f keeps ws w seats top m number first hi old counted grown differ agrees count grow =
     ap (λ t. record (half_of ws w seats top old) {
       owes = log_grown t first number (holds old.log);
       on = cond t false
@@ -151,41 +164,35 @@ half_leaves ws w seats top m number first hi old counted grown differ agrees cou
           (on_board seats old.guid);
     }) (fun_ext logs)
     ∙ ap (λ b. record (half_of ws w seats top old) { owes = holds grown.log; on = b })
-    (sym (left_on m.guid seats old.guid differ))
-    ∙ ap (λ (h : LeafSeen). record h { owes = holds grown.log })
-    (sym (counted_half ws w (map (without m.guid) (map (failed m.guid) seats)) top old (old.guid.0 == m.guid.0)))
-    ∙ ap (λ (v : LeafVdev). record (half_of ws w (map (without m.guid) (map (failed m.guid) seats)) top v) { owes = holds grown.log }) (sym count)
-    ∙ ap (half_of ws w (map (without m.guid) (map (failed m.guid) seats)) top) (sym (grow.rest grown.log))
+    (sym (left_on f keeps m.guid seats old.guid differ))
+    ∙ ap (λ (v : LeafVdev). record (half_of ws w (map (without m.guid) (map f seats)) top v) { owes = holds grown.log }) (sym count)
+    ∙ ap (half_of ws w (map (without m.guid) (map f seats)) top) (sym (grow.rest grown.log))
   where
     logs : (g : ℕ) → log_grown (old.guid.0 == m.guid.0) first number (holds old.log) g ≡ holds grown.log g
     logs g =
         grown_log (old.guid.0 == m.guid.0) (between first number g) (holds old.log g)
-        ∙ ap (λ log. holds log g || ((old.guid.0 == m.guid.0) && between first number g))
-        (sym (counted_log old (old.guid.0 == m.guid.0)))
-        ∙ ap (λ (n : Guid). holds (counted_if (old.guid.0 == m.guid.0) old).log g ||
-        ((n.0 == m.guid.0) && between first number g)) (sym (counted_number old (old.guid.0 == m.guid.0)))
         ∙ ap (λ (v : LeafVdev). holds v.log g || ((v.guid.0 == m.guid.0) && between first number g)) (sym count)
         ∙ sym (grow.groups g)
 
-halves_leave : (ws : List Seat) (was : List LeafVdev) (seats : List Seat) (tops : List ℕ) (m : Member)
+halves_leave : (f : Seat → Seat) → KeepsOn f → (ws : List Seat) (was : List LeafVdev) (seats : List Seat) (tops : List ℕ) (m : Member)
     (number first hi : ℕ) (old counted grown : List LeafVdev) → Differ (seat_numbers seats)
-    → AllByRecursion (Agrees m) old → Counted m.guid old counted
+    → AllByRecursion (Agrees m) old → AllZip IsRecounted old counted
     → AllZip (Grows (is_leaf m.guid) first number) counted grown
-    → map (leaf_step (Leave m.dev) number first hi) (halves_at ws was seats tops old) ≡ halves_at ws was
-    (map (without m.guid) (map (failed m.guid) seats)) tops grown
-halves_leave ws was seats [] m number first hi old counted grown differ agree count grow = refl
-halves_leave ws [] seats (top ∷ tops) m number first hi old counted grown differ agree count grow = refl
-halves_leave ws (w ∷ was) seats (top ∷ tops) m number first hi [] [] [] differ agree count grow = refl
-halves_leave ws (w ∷ was) seats (top ∷ tops) m number first hi [] [] (z ∷ grown) differ agree count grow = absurd grow
-halves_leave ws (w ∷ was) seats (top ∷ tops) m number first hi [] (y ∷ counted) grown differ agree count grow = absurd count
-halves_leave ws (w ∷ was) seats (top ∷ tops) m number first hi (x ∷ old) [] grown differ agree count grow = absurd count
-halves_leave ws (w ∷ was) seats (top ∷ tops) m number first hi (x ∷ old) (y ∷ counted) [] differ agree count grow = absurd grow
-halves_leave ws (w ∷ was) seats (top ∷ tops) m number first hi (x ∷ old) (y ∷ counted)
+    → map (leaf_step (Leave m.dev) number first hi) (halves_at ws was seats tops old)
+    ≡ halves_at ws was (map (without m.guid) (map f seats)) tops grown
+halves_leave f keeps ws was seats [] m number first hi old counted grown differ agree count grow = refl
+halves_leave f keeps ws [] seats (top ∷ tops) m number first hi old counted grown differ agree count grow = refl
+halves_leave f keeps ws (w ∷ was) seats (top ∷ tops) m number first hi [] [] [] differ agree count grow = refl
+halves_leave f keeps ws (w ∷ was) seats (top ∷ tops) m number first hi [] [] (z ∷ grown) differ agree count grow = absurd grow
+halves_leave f keeps ws (w ∷ was) seats (top ∷ tops) m number first hi [] (y ∷ counted) grown differ agree count grow = absurd count
+halves_leave f keeps ws (w ∷ was) seats (top ∷ tops) m number first hi (x ∷ old) [] grown differ agree count grow = absurd count
+halves_leave f keeps ws (w ∷ was) seats (top ∷ tops) m number first hi (x ∷ old) (y ∷ counted) [] differ agree count grow = absurd grow
+halves_leave f keeps ws (w ∷ was) seats (top ∷ tops) m number first hi (x ∷ old) (y ∷ counted)
     (z ∷ grown) differ agree count grow =
     ap (λ l. l ∷ map (leaf_step (Leave m.dev) number first hi) (halves_at ws was seats tops old))
-    (half_leaves ws w seats top m number first hi x y z differ agree.0 count.0 grow.0)
-    ∙ ap (λ ls. half_of ws w (map (without m.guid) (map (failed m.guid) seats)) top z ∷ ls)
-    (halves_leave ws was seats tops m number first hi old counted grown differ agree.1 count.1 grow.1)
+    (half_leaves f keeps ws w seats top m number first hi x y z differ agree.0 count.0 grow.0)
+    ∙ ap (λ ls. half_of ws w (map (without m.guid) (map f seats)) top z ∷ ls)
+    (halves_leave f keeps ws was seats tops m number first hi old counted grown differ agree.1 count.1 grow.1)
 
 -- they have their logs, and with others they are others in these alone
 halves_logged : (ws : List Seat) (was : List LeafVdev) (seats : List Seat) (tops : List ℕ) (leaves : List LeafVdev)
@@ -253,7 +260,7 @@ all_agree_still [] old new same agree = tt
 all_agree_still (m ∷ ms) old new same agree = (agree_still m old new same agree.0, all_agree_still ms old new same agree.1)
 
 -- logs that grow by numbers of the group stay within the numbers
-within_grown : (m : Guid) (number first : ℕ) (old counted grown : List LeafVdev) → 1 ≤ first → Counted m old counted
+within_grown : (m : Guid) (number first : ℕ) (old counted grown : List LeafVdev) → 1 ≤ first → AllZip IsRecounted old counted
     → AllZip (Grows (is_leaf m) first number) counted grown
     → AllByRecursion (IsWithin number) old → AllByRecursion (IsWithin number) grown
 within_grown m number first [] [] [] low count grow within = tt
@@ -272,42 +279,47 @@ within_grown m number first (x ∷ old) (y ∷ counted) (z ∷ grown) low count 
 
     either : (g : ℕ) (h t b : Bool) → holds y.log g ≡ h → between first number g ≡ b → (h || (t && b)) ≡ true
         → (1 ≤ g) × (g ≤ number)
-    either g true t b had is e =
-        within.0 g (ap (λ log. holds log g)
-        (sym (counted_log x (x.guid.0 == m.0)) ∙ ap (λ (v : LeafVdev). v.log) (sym count.0)) ∙ had)
+    either g true t b had is e = within.0 g (ap (λ (v : LeafVdev). holds v.log g) (sym count.0) ∙ had)
     either g false true b had is e = here g (is ∙ e)
     either g false false b had is e = absurd (true≢false (sym e))
 
 -- What one leaf's leaving makes of the state.
-record OneLeft (s : PoolSeen) (ws : List Seat) (was : List LeafVdev) (seats : List Seat) (tops : List ℕ) (m : Member)
-    (old new : List LeafVdev) : Type 0 where
-  first : List Move
-  are : IsWidened s (Leave m.dev) first
-  leads : seen_along first s ≡ record s {
-    leaves = halves_at ws was
-        (map (without m.guid) (map (failed m.guid) seats)) tops new;
-  }
-  fit : IsFit s.number new
+pub record OneLeft (f : Seat → Seat) (s : PoolSeen) (ws : List Seat) (was : List LeafVdev) (seats : List Seat) (tops : List ℕ) (m : Member)
+    (new : List LeafVdev) : Type 0 where
+  pub first : List Move
+  pub are : IsWidened s (Leave m.dev) first
+  pub leads : seen_along first s ≡ record s { leaves = halves_at ws was (map (without m.guid) (map f seats)) tops new }
+  pub fit : IsFit s.number new
 
-one_leaves : (s : PoolSeen) (ws : List Seat) (was : List LeafVdev) (seats : List Seat) (tops : List ℕ) (m : Member)
-    (old new : List LeafVdev)
+recounted_same : (old new : List LeafVdev) → AllZip IsRecounted old new → AreSameLeaves old new
+recounted_same [] [] are = tt
+recounted_same [] (y ∷ new) are = absurd are
+recounted_same (x ∷ old) [] are = absurd are
+recounted_same (x ∷ old) (y ∷ new) are = (subst (IsSameLeaf x) (sym are.0) (same_but_counts x y.counts), recounted_same old new are.1)
+  where
+    same_but_counts : (leaf : LeafVdev) (counts : Counts) → IsSameLeaf leaf (record leaf { counts = counts })
+    same_but_counts leaf counts = record { guid = refl; dev = refl; state = refl }
+
+pub one_leaves : (f : Seat → Seat) → KeepsOn f → (s : PoolSeen) (ws : List Seat) (was : List LeafVdev) (seats : List Seat) (tops : List ℕ) (m : Member)
+    (old counted new : List LeafVdev)
     → s.leaves ≡ halves_at ws was seats tops old → AreThree tops was old → Differ (seat_numbers seats)
     → 1 ≤ s.group.first → s.number ≤ 2 ^ 62 → IsFit s.number old
-    → AllByRecursion (Agrees m) old → Fails (numbers_in s) m.guid old new → OneLeft s ws was seats tops m old new
-one_leaves s ws was seats tops m old new seen three differ low high fit agree fails =
-    let grown = fails.grown.grown in
-    let left = map (without m.guid) (map (failed m.guid) seats) in
-    let same = counted_same m.guid old fails.counted fails.count in
-    let like = grown_like (is_leaf m.guid) s.group.first s.number fails.counted grown fails.grown.grow in
-    let all = same_twice old fails.counted grown same (like_leaves fails.counted grown like) in
+    → AllByRecursion (Agrees m) old → AllZip IsRecounted old counted
+    → AreGrown (is_leaf m.guid) s.group.first s.number counted new → OneLeft f s ws was seats tops m new
+one_leaves f keeps s ws was seats tops m old counted new seen three differ low high fit agree count grows =
+    let grown = grows.grown in
+    let left = map (without m.guid) (map f seats) in
+    let same = recounted_same old counted count in
+    let like = grown_like (is_leaf m.guid) s.group.first s.number counted grown grows.grow in
+    let all = same_twice old counted grown same (like_leaves counted grown like) in
     let stepped : (step (Leave m.dev) s).leaves ≡ halves_at ws was left tops grown =
     ap (map (leaf_step (Leave m.dev) s.number s.group.first s.scan.hi)) seen
-    ∙ halves_leave ws was seats tops m s.number s.group.first s.scan.hi old fails.counted grown differ agree fails.count fails.grown.grow in
+    ∙ halves_leave f keeps ws was seats tops m s.number s.group.first s.scan.hi old counted grown differ agree count grows.grow in
     let three' = three_numbers tops was old grown all three in
     let widened = widens_to (step (Leave m.dev) s) grown new high
     (subst (λ ls. AreLogged ls grown) (sym stepped) (halves_logged ws was left tops grown three'))
-    (within_grown m.guid s.number s.group.first old fails.counted grown low fails.count fails.grown.grow fit.within)
-    (subst Differ (sym (same_numbers old grown all)) fit.differ) fails.grown.counted fails.grown.widened fails.grown.small
+    (within_grown m.guid s.number s.group.first old counted grown low count grows.grow fit.within)
+    (subst Differ (sym (same_numbers old grown all)) fit.differ) grows.counted grows.widened grows.small
     (let long = same_length old grown all in let few = fit.few in omega (arith, long, few)) in
     record {
       first = Leave m.dev ∷ widened.widens;
@@ -369,7 +381,8 @@ all_leave (m ∷ ms) (true ∷ done) s ws was seats tops old new seen three diff
     let r = all_leave ms done s ws was seats tops old new seen three differ low high fit agree.1 are in
     record { leaving = r.leaving; are = r.are; leads = r.leads; fit = r.fit }
 all_leave (m ∷ ms) (false ∷ done) s ws was seats tops old new seen three differ low high fit agree are =
-    let one = one_leaves s ws was seats tops m old are.0 seen three differ low high fit agree.0 are.1 in
+    let one = one_leaves (failed m.guid) (fault_keeps_on m.guid) s ws was seats tops m old are.1.counted are.0 seen three differ low high fit agree.0
+    (recounted m.guid old are.1.counted are.1.count) are.1.grown in
     let left = map (without m.guid) (map (failed m.guid) seats) in
     let same = fails_same (numbers_in s) m.guid old are.0 are.1 in
     let s' = record s { leaves = halves_at ws was left tops are.0 } in

@@ -22,6 +22,7 @@ pub mod KeysFound
 pub mod LeafLeaves
 pub mod LeavesAtEnd
 pub mod LeavesByTops
+pub mod LeavesGoOffline
 pub mod LeavesInForm
 pub mod LeavesKept
 pub mod LeavesOwe

@@ -9,6 +9,7 @@ mod laws;
 mod named;
 mod pages;
 mod pool;
+mod scratch;
 mod space;
 mod write;
 
