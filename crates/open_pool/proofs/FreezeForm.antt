@@ -1,17 +1,16 @@
 -- Behind a freeze the pool has its form.
-use Rattle.std.proofs.Common.{◌≡◌, ◌⊎◌, inl, inr, ⊎_elim, ℕ, suc, ◌+◌, ◌<◌, ◌≤◌, ◌^◌, ◌||◌, cond, Bool, true, false, List, [], ◌∷◌, length, map, All, Contains, Option, Some, None, refl, sym, ap, ◌∙◌, subst, arith}
+use Rattle.std.proofs.Common.{◌≡◌, ◌⊎◌, inl, inr, ⊎_elim, ℕ, suc, ◌+◌, ◌<◌, ◌≤◌, ◌^◌, ◌||◌, ◌&&◌, not, cond, Bool, true, false, List, [], ◌∷◌, length, map, All, Contains, Option, Some, None, refl, sym, ap, ◌∙◌, subst, arith}
 use Rattle.std.specs.Prelude.{is_some, sum}
 use Rattle.std.specs.List.{AllByRecursion}
 use Rattle.std.proofs.lemmas.List.{get_or-map, length-map}
 use Rattle.std.proofs.lemmas.List.Elements.{recursion_from_All, All-from_recursion, All-nil, All-weaker, Contains-append_cases}
-use Rattle.mp_base.specs.declared.number.Group.{Group}
 use Rattle.mp_base.specs.declared.place.Key.{Key}
 use Rattle.mp_base.specs.declared.place.Place.{Place}
 use Rattle.mp_base.specs.declared.place.Pointer.{Pointer}
 use Rattle.sha2.specs.Sha256.{sha256}
 use Rattle.group_set.specs.Groups.{holds}
 use Rattle.block_map.specs.Keys.{IsKey, root}
-use Rattle.block_map.specs.Map.{pointer_at, is_free}
+use Rattle.block_map.specs.Map.{pointer_at, is_free, is_pinned}
 use Rattle.block_map.specs.Places.{IsPlace}
 use Rattle.block_map.specs.Pointers.{IsPointer}
 use Rattle.vdev_tree.specs.declared.vdev.LeafVdev.{LeafVdev}
@@ -38,7 +37,7 @@ use Rattle.pool_moves.specs.Moves.{Move, Widen, step}
 use Rattle.pool_moves.specs.Refusing.{count_below}
 use Rattle.pool_moves.specs.States.{sums, PoolSeen}
 use Rattle.pool_moves.specs.Widening.{AreWidens, ranges_together, seen_along}
-use Rattle.open_pool.specs.Form.{IsPool, HasPlaces, HasLeaves, HasBoard, HasGroup, HasOpen, IsRecordable, all_leaves, config_of, is_dirty}
+use Rattle.open_pool.specs.Form.{IsPool, ArePlacesApart, HasPlaces, HasLeaves, HasBoard, HasGroup, HasOpen, IsRecordable, all_leaves, config_of, is_dirty}
 use Rattle.open_pool.specs.Freezing.{FreezeParts, FreezesParts, group_at}
 use Rattle.open_pool.specs.Parts.{PoolParts, all_parts}
 use Rattle.open_pool.specs.State.{cells_of, leaves_from, leaves_under, seen_of, sums_of}
@@ -54,7 +53,7 @@ use Rattle.open_pool.proofs.LeavesInForm.{leaves_are, leaves_numbered}
 use Rattle.open_pool.proofs.LeavesKept.{AreKept, owing_kept}
 use Rattle.open_pool.proofs.LogsWidened.{IsWithin}
 use Rattle.open_pool.proofs.NumbersApart.{AreNumbered}
-use Rattle.open_pool.proofs.PlacesGiven.{rises_to, keys_rise_on, behind_first, differ}
+use Rattle.open_pool.proofs.PlacesGiven.{are_given, behind_first, cells_apart, differ, keys_rise_on, rises_to}
 use Rattle.open_pool.proofs.RecordStill.{valid_still, placed_still, ranges_at}
 use Rattle.open_pool.proofs.TreesBuilt.{built_sizes}
 
@@ -148,10 +147,13 @@ place_at items place at = by (cells_of items at.k) refl at.sum_is
         subst (Contains (places_of items)) (same_place found.item.pointer.place place (omega (arith, top)) sector)
         (mapped items found.item found.among)
 
-born_at : (number : ℕ) (first : Group) (items : List Item) → first.0 ≡ number → All (IsSigned number) items
-    → All (λ item. item.pointer.birth ≡ first) items
-born_at number first items is signed = All-weaker (IsSigned number) (λ item. item.pointer.birth ≡ first)
-    (λ item one. ap (λ n. record { 0 = n }) (one.birth ∙ sym is)) items signed
+abbrev top_of_sum : Option Sum → ℕ
+top_of_sum None = 0
+top_of_sum (Some sum) = sum.top
+
+abbrev sector_of_sum : Option Sum → ℕ
+sector_of_sum None = 0
+sector_of_sum (Some sum) = sum.sector
 
 module _ (r : PoolParts) (old new : FreezeParts) (group : FrozenGroup) (f : FreezesParts (group_at (r.highest + 1)) old new group)
     (pool : IsPool (idle_parts r old)) (more : r.highest + 1 ≤ 2 ^ 62) (keys : KeysRise group.items) where
@@ -200,6 +202,26 @@ module _ (r : PoolParts) (old new : FreezeParts) (group : FrozenGroup) (f : Free
             (subst (λ s. All (IsPlace s) old.pins.places) (sym sectors) pool.places.inside);
       }
 
+  not_given : (top sector : ℕ) → IsAtPlace (sums_of old.map) top sector → IsAtPlace (sums (cells_of group.items)) top sector → ⊥
+  not_given top sector was given = one (cells_of group.items given.k) refl given.sum_is
+    where
+      one : (o : Option Cell) → cells_of group.items given.k ≡ o → sum_of o ≡ Some given.sum → ⊥
+      one None is e = absurd (let no : None ≡ Some given.sum = e in cc)
+      one (Some cell) is e =
+          let g = are_given old.map [] group.items f.begins.freeze.places given.k cell is in
+          let tops : suc g.place.top ≡ top = sym g.top_is ∙ ap top_of_sum e ∙ given.top_is in
+          let sectors : g.place.sector ≡ sector = sym g.sector_is ∙ ap sector_of_sum e ∙ given.sector_is in
+          let shut = pool.places.committed g.place
+          (subst (λ t. IsAtPlace (sums_of old.map) t g.place.sector) (sym tops) (subst (IsAtPlace (sums_of old.map) top) (sym sectors) was)) in
+          absurd (let no : false ≡ true = subst (λ (b : Bool). (b && not (is_pinned old.map g.place)) ≡ true) shut g.passes in cc)
+
+  apart_then : ArePlacesApart q
+  apart_then = record {
+    committed = λ j k a b is_a is_b. pool.apart.committed j k a b (sym (same_sums j) ∙ is_a) (sym (same_sums k) ∙ is_b);
+    frozen = cells_apart old.map [] group.items f.begins.freeze.places;
+    between = λ top sector was given. not_given top sector (at_old top sector was) given;
+  }
+
   group_then : HasGroup q group
   group_then =
       let b = f.begins in
@@ -212,7 +234,7 @@ module _ (r : PoolParts) (old new : FreezeParts) (group : FrozenGroup) (f : Free
         last = last;
         keys = subst (λ n. All (λ item. IsKey n item.key) group.items) (sym t.volume.blocks) b.freeze.inside;
         pointers = subst (λ s. All (λ item. IsPointer s item.pointer) group.items) (sym t.volume.sectors) b.freeze.pointers;
-        births = born_at (r.highest + 1) group.numbers.first group.items first b.freeze.signed;
+        signed = subst (λ n. All (IsSigned n) group.items) (sym first) b.freeze.signed;
         ready = subst (λ n. All (IsReady group.board n) (all_leaves q)) (sym last)
             (subst (All (IsReady group.board (r.highest + 1))) (sym (leaves_are new.trees q refl)) f.ready);
         pins_room = f.pins_room;
@@ -296,6 +318,7 @@ module _ (r : PoolParts) (old new : FreezeParts) (group : FrozenGroup) (f : Free
     read = (let read = pool.read in omega (arith, read));
     births = λ k. subst (λ (pointer : Pointer). pointer.birth.0 ≤ r.read) (sym (f.begins.freeze.takes.keys k)) (pool.births k);
     places = places_then;
+    apart = apart_then;
     leaves = leaves_then;
     board = board_then;
     group = group_then;

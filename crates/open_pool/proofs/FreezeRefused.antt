@@ -217,6 +217,7 @@ module _ (r : PoolParts) (old : FreezeParts) (pins : PinsSeen) (trees : List Top
           listed = λ place is. subst (λ ps. Contains ps place) (sym pinned) (pool.places.listed place is);
           inside = subst (All (IsPlace old.map.sectors)) (sym pinned) pool.places.inside;
         };
+        apart = record { committed = pool.apart.committed; frozen = pool.apart.frozen; between = pool.apart.between };
         leaves = record {
           within = subst (All (IsWithin r.highest)) (sym are) (All-from_recursion (IsWithin r.highest) (leaves_of trees) within);
           apart = devices_still (all_leaves p) (all_leaves q) all pool.leaves.apart;

@@ -14,7 +14,7 @@ use Rattle.txg_history.specs.Groups.{between}
 use Rattle.txg_engine.specs.declared.seat.Numbers.{Numbers}
 use Rattle.txg_engine.specs.declared.seat.Seat.{Seat}
 use Rattle.txg_engine.specs.Boards.{on_board, without, failed, behind_turn, count_up}
-use Rattle.txg_engine.specs.Logs.{AreGrown, Grows, Counted, count_write, is_leaf, Fails, AreBehind}
+use Rattle.txg_engine.specs.Logs.{AreGrown, Grows, Counted, count_write, is_leaf, AreBehind}
 use Rattle.pool_moves.specs.Leaves.{LeafSeen}
 use Rattle.pool_moves.specs.Moves.{Move, Leave, leaf_step, step, on_dev, log_grown}
 use Rattle.pool_moves.specs.States.{PoolSeen}
@@ -22,7 +22,7 @@ use Rattle.pool_moves.specs.Widening.{IsWidened, AreLeaves, seen_along}
 use Rattle.open_pool.specs.State.{seat_in, own_of, leaf_of}
 use Rattle.open_pool.proofs.BoardKept.{AreSameLeaves, IsSameLeaf, KeepsSeats, mapped_seat, leave_keeps, fault_keeps}
 use Rattle.open_pool.proofs.LeavesByTops.{leaves_at}
-use Rattle.open_pool.proofs.LeavesStay.{same_twice, counted_same, fails_same, grown_like, like_leaves}
+use Rattle.open_pool.proofs.LeavesStay.{same_twice, fails_same, grown_like, like_leaves}
 use Rattle.open_pool.proofs.LogsWidened.{AreLogged, IsWithin, AreLikeThem, like_numbers, like_length, with_logs, widens_to}
 use Rattle.open_pool.proofs.NumbersApart.{Differ, leaf_numbers, seat_numbers, seat_numbered, on_of, on_is_seats}
 
@@ -298,7 +298,7 @@ recounted_same (x ∷ old) [] are = absurd are
 recounted_same (x ∷ old) (y ∷ new) are = (subst (IsSameLeaf x) (sym are.0) (same_but_counts x y.counts), recounted_same old new are.1)
   where
     same_but_counts : (leaf : LeafVdev) (counts : Counts) → IsSameLeaf leaf (record leaf { counts = counts })
-    same_but_counts leaf counts = record { guid = refl; dev = refl; state = refl }
+    same_but_counts leaf counts = record { guid = refl; name = refl; dev = refl; state = refl; temporary = refl }
 
 pub one_leaves : (f : Seat → Seat) → KeepsOn f → (s : PoolSeen) (ws : List Seat) (was : List LeafVdev) (seats : List Seat) (tops : List ℕ) (m : Member)
     (old counted new : List LeafVdev)

@@ -1,18 +1,17 @@
 -- A leaf that is taken offline: the move that sets its state, and what it leaves as it was.
-use Rattle.std.proofs.Common.{◌≡◌, ◌≢◌, ℕ, suc, ◌==◌, ◌&&◌, ◌||◌, cond, Bool, true, false, List, [], ◌∷◌, map, Option, Some, None, refl, sym, ap, ◌∙◌}
+use Rattle.std.proofs.Common.{◌≡◌, ℕ, ◌==◌, ◌&&◌, ◌||◌, cond, Bool, true, false, List, [], ◌∷◌, map, Option, Some, None, refl, ap, ◌∙◌}
 use Rattle.std.specs.Prelude.{is_some}
 use Rattle.std.specs.List.{AllByRecursion}
 use Rattle.std.specs.Option.{option_map}
 use Rattle.mp_base.specs.declared.number.Guid.{Guid}
 use Rattle.label_store.specs.declared.member.Member.{Member}
 use Rattle.vdev_tree.specs.Changes.{with_state}
-use Rattle.vdev_tree.specs.Leaf.{is_readable}
 use Rattle.vdev_tree.specs.declared.vdev.LeafVdev.{LeafVdev}
 use Rattle.vdev_tree.specs.declared.vdev.State.TheVariants.{Offline}
 use Rattle.txg_engine.specs.declared.seat.Seat.{Seat}
 use Rattle.txg_engine.specs.Boards.{as_taken, is_on_as, on_board}
 use Rattle.pool_moves.specs.AwayRows.{gone}
-use Rattle.pool_moves.specs.Leaves.{LeafSeen, OwnLeaf}
+use Rattle.pool_moves.specs.Leaves.{OwnLeaf}
 use Rattle.pool_moves.specs.Moves.{Sets, leaf_step}
 use Rattle.open_pool.specs.State.{faults_of, leaf_of, own_of, seat_in}
 use Rattle.open_pool.proofs.LeavesByTops.{leaves_at}

@@ -9,7 +9,6 @@ mod laws;
 mod named;
 mod pages;
 mod pool;
-mod scratch;
 mod space;
 mod write;
 

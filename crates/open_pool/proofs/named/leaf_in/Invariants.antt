@@ -1,4 +1,4 @@
-use Rattle.std.specs.Prelude.{◌≡◌, ◌≤◌, None, length, take}
+use Rattle.std.specs.Prelude.{◌≡◌, None, take}
 use Rattle.std.specs.List.{find}
 use Rattle.vdev_tree.specs.Tree.{leaves, is_named}
 use Rattle.open_pool.proofs.named.leaf_in.Given as goal
