@@ -60,16 +60,22 @@ within_all size sectors at birth (leaf ∷ under) here lt = (
   within_all size sectors at birth under (All-tail (IsHere size sectors) leaf under here) lt,
 )
 
-pub copies_within : (size : ℕ → ℕ) (tops : List Top) (i : ℕ) (d : Top) (sector birth : ℕ) → i < length tops → sector < slice_index (sectors_of tops) i
+top_within : (size : ℕ → ℕ) (tops : List Top) (i : ℕ) (d : Top) (sector birth : ℕ) → i < length tops → sector < slice_index (sectors_of tops) i
     → AreHere size (all_parts tops) → AreWithin size (copies_on birth (leaves (get_or tops i d).mirror)) (128 + sector)
-copies_within size [] i d sector birth lt inside here = absurd (omega arith)
-copies_within size (top ∷ tops) zero d sector birth lt inside here =
+top_within size [] i d sector birth lt inside here = absurd (omega arith)
+top_within size (top ∷ tops) zero d sector birth lt inside here =
     All-from_recursion (λ copy. copy.readable ≡ true → 128 + sector < size copy.dev) (copies_on birth (leaves top.mirror))
     (within_all size top.sectors (128 + sector) birth (leaves top.mirror)
     (All-head (λ (top : TopParts). All (IsHere size top.sectors) top.leaves) _ (all_parts tops) here) (omega (arith, inside)))
-copies_within size (top ∷ tops) (suc i) d sector birth lt inside here =
-    copies_within size tops i d sector birth (omega arith) inside
+top_within size (top ∷ tops) (suc i) d sector birth lt inside here =
+    top_within size tops i d sector birth (omega arith) inside
     (All-tail (λ (top : TopParts). All (IsHere size top.sectors) top.leaves) _ (all_parts tops) here)
+
+pub copies_within : (size : ℕ → ℕ) (tops : List Top) (place : Place) (top : Top) (birth : ℕ) (copies : List CopyOf) → IsPlace (sectors_of tops) place
+    → top ≡ get_or tops place.top top → copies ≡ copies_on birth (leaves top.mirror) → AreHere size (all_parts tops) → AreWithin size copies (128 + place.sector)
+copies_within size tops place top birth copies at is on here =
+    subst (λ l. AreWithin size l (128 + place.sector)) (sym (on ∙ ap (λ (t : Top). copies_on birth (leaves t.mirror)) is))
+    (top_within size tops place.top top place.sector birth (top_inside tops place at) at.sector here)
 
 -- The devices differ.
 abbrev AreTwo : LeafVdev → LeafVdev → Type 0
@@ -110,8 +116,13 @@ pairs_behind xs ys apart i j d less lt e =
     (subst (λ a. a.dev ≡ Some e → (get_or (xs ++ ys) (length xs + j) d).dev ≡ Some e → ⊥) (get_or-append-add xs ys i d)
     (apart (length xs + i) (length xs + j) d (omega (arith, less)) (let long = length-append xs ys in omega (arith, lt, long)) e))
 
-pub copies_apart : (tops : List Top) (i : ℕ) (d : Top) (birth : ℕ) → i < length tops → HaveOwnDevices (leaves_of tops)
+top_apart : (tops : List Top) (i : ℕ) (d : Top) (birth : ℕ) → i < length tops → HaveOwnDevices (leaves_of tops)
     → AreApart (copies_on birth (leaves (get_or tops i d).mirror))
-copies_apart [] i d birth lt apart = absurd (omega arith)
-copies_apart (top ∷ tops) zero d birth lt apart = apart_under birth (leaves top.mirror) (pairs_first (leaves top.mirror) (leaves_of tops) apart)
-copies_apart (top ∷ tops) (suc i) d birth lt apart = copies_apart tops i d birth (omega arith) (pairs_behind (leaves top.mirror) (leaves_of tops) apart)
+top_apart [] i d birth lt apart = absurd (omega arith)
+top_apart (top ∷ tops) zero d birth lt apart = apart_under birth (leaves top.mirror) (pairs_first (leaves top.mirror) (leaves_of tops) apart)
+top_apart (top ∷ tops) (suc i) d birth lt apart = top_apart tops i d birth (omega arith) (pairs_behind (leaves top.mirror) (leaves_of tops) apart)
+
+pub copies_apart : (tops : List Top) (place : Place) (top : Top) (birth : ℕ) (copies : List CopyOf) → IsPlace (sectors_of tops) place
+    → top ≡ get_or tops place.top top → copies ≡ copies_on birth (leaves top.mirror) → HaveOwnDevices (leaves_of tops) → AreApart copies
+copies_apart tops place top birth copies at is on apart = subst AreApart (sym (on ∙ ap (λ (t : Top). copies_on birth (leaves t.mirror)) is))
+    (top_apart tops place.top top birth (top_inside tops place at) apart)

@@ -35,19 +35,6 @@ use Rattle.open_pool.proofs.PagesTurned.{tried_by, with_page, turn_of, turned}
 use Rattle.open_pool.proofs.PartsRead.{part_next, fewer_left}
 use Rattle.open_pool.proofs.RightPages.{right_here, here_right, written_told}
 
--- What a read answered.
-pub ok_given : (r : Result (Unit {0}) Exhausted) (out : List ℕ) → is_err r ≡ false → given out r ≡ Some out
-ok_given (Ok done) out is = refl
-ok_given (Err e) out is = absurd (cc)
-
-pub err_given : (r : Result (Unit {0}) Exhausted) (out : List ℕ) → is_err r ≡ true → given out r ≡ None
-err_given (Ok done) out is = absurd (cc)
-err_given (Err e) out is = refl
-
-pub on_ok : (P : Type 0) (r : Result (Unit {0}) Exhausted) → is_err r ≡ false → OnOk r P → P
-on_ok P (Ok done) is p = p
-on_ok P (Err e) is p = absurd (cc)
-
 -- a page is above a level
 pub page_key : (blocks : ℕ) (page : Key) → IsPage blocks page → page ≡ key (suc (page.level - 1)) page.index
 page_key blocks page inside = ap (λ l. key l page.index) (let level = inside.level in omega (arith, level))
@@ -161,61 +148,60 @@ module _ (m : MapSource) (old : MapReading) (level index : ℕ) (under : List Le
       shown_is = ap (map leaf_saw) (r.shown ∙ ap (λ made. map (copy_shown (is_outcome None) made) (copies_on pointer.birth.0 under)) just)
           ∙ leaves_shown (128 + pointer.place.sector) (IsRight old.next old) (copies_on pointer.birth.0 under) r.reads r.wrong apart r.is_tried
 
--- The same, as the call answers it.
-module _ (m : MapSource) (old : MapReading) (page : Key) (pointer : Pointer) (under : List LeafVdev) (copies : List CopyOf) (start mid end : BankView)
-    (r : Result (Unit {0}) Exhausted) (bytes : List ℕ) (shown : List CopySeen) (next : old.next ≡ Some page) (pointer_is : pointer ≡ pointer_at old.map page)
-    (written : IsWritten pointer) (at_top : slice_get m.tops pointer.place.top ≡ Some under) (copies_is : copies ≡ copies_on pointer.birth.0 under)
-    (up : ReadsUpTo m old start mid)
-    (read : ReadsGood (IsRight old.next old) copies (128 + pointer.place.sector) shown (given bytes r) mid end) where
-  abbrev level : ℕ
-  level = page.level - 1
+-- The same, as the call answers it: a read of copies of the page to read next, on the leaves of its top.
+pub record IsReadOf (m : MapSource) (old : MapReading) (under : List LeafVdev) (shown : List CopySeen) (outcome : Option (List ℕ)) (mid end : BankView)
+    (page : Key) (pointer : Pointer) (copies : List CopyOf) : Type 0 where
+  pub next : old.next ≡ Some page
+  pub written : IsWritten pointer
+  pub at_top : slice_get m.tops pointer.place.top ≡ Some under
+  pub apart : AreApart copies
+  pub read : ReadsGood (IsRight old.next old) copies (128 + pointer.place.sector) shown outcome mid end
 
-  page_is : page ≡ key (suc (page.level - 1)) page.index
-  page_is = page_key m.blocks page (some_inside (IsPage m.blocks) old.next page next up.part.page)
+module _ (m : MapSource) (old new : MapReading) (under : List LeafVdev) (bytes : List ℕ) (shown : List CopySeen) (start mid end : BankView)
+    (up : ReadsUpTo m old start mid) where
+  abbrev Outcome : Result (Unit {0}) Exhausted → Key → Pointer → Type 0
+  Outcome (Ok done) page _ = ReadsUpTo m new start end × (pages_left new.next < pages_left (Some page))
+  Outcome (Err e) page pointer = LosesPage m page pointer.place.top shown start end
 
-  next_is : old.next ≡ Some (key (suc (page.level - 1)) page.index)
-  next_is = next ∙ ap Some page_is
+  abbrev IsReadBy : Result (Unit {0}) Exhausted → Key → Pointer → List CopyOf → Type 0
+  IsReadBy r page pointer copies = IsReadOf m old under shown (given bytes r) mid end page pointer copies
 
-  there : pointer ≡ pointer_at old.map (key (suc (page.level - 1)) page.index)
-  there = pointer_is ∙ ap (pointer_at old.map) page_is
+  at_key : (level index : ℕ) (r : Result (Unit {0}) Exhausted) → OnOk r (IsRight old.next old bytes) → OnOk r (IsTaken old.next old bytes new)
+      → IsReadBy r (key (suc level) index) (pointer_at old.map (key (suc level) index)) (copies_on (pointer_at old.map (key (suc level) index)).birth.0 under)
+      → Outcome r (key (suc level) index) (pointer_at old.map (key (suc level) index))
+  at_key level index (Ok done) right taken is = (
+    reads_on m old level index under start mid is.next is.written is.at_top up new bytes shown end is.read right taken,
+    fewer_behind m old level index under start mid is.next is.written is.at_top up new bytes taken,
+  )
+  at_key level index (Err e) right taken is = stops_here m old level index under start mid is.next is.written is.at_top up shown end is.apart is.read
 
-  ReadBy : Option (List ℕ) → Pointer → Type 0
-  ReadBy outcome p = ReadsGood (IsRight old.next old) (copies_on p.birth.0 under) (128 + p.place.sector) shown outcome mid end
+  page_read : (page : Key) (pointer : Pointer) (copies : List CopyOf) (r : Result (Unit {0}) Exhausted) → pointer ≡ pointer_at old.map page
+      → copies ≡ copies_on pointer.birth.0 under → OnOk r (IsRight old.next old bytes) → OnOk r (IsTaken old.next old bytes new)
+      → IsReadBy r page pointer copies → Outcome r page pointer
+  page_read page pointer copies r there on right taken is =
+      subst (λ k. (p : Pointer) → p ≡ pointer_at old.map k → copies ≡ copies_on p.birth.0 under → IsReadBy r k p copies → Outcome r k p)
+      (sym (page_key m.blocks page (some_inside (IsPage m.blocks) old.next page is.next up.part.page)))
+      (λ p there. subst (λ p. copies ≡ copies_on p.birth.0 under → IsReadBy r (key (suc (page.level - 1)) page.index) p copies
+      → Outcome r (key (suc (page.level - 1)) page.index) p) (sym there)
+      (λ on is. at_key (page.level - 1) page.index r right taken
+      (subst (IsReadBy r (key (suc (page.level - 1)) page.index) (pointer_at old.map (key (suc (page.level - 1)) page.index))) on is)))
+      pointer there on is
 
-  read_by : (outcome : Option (List ℕ)) → given bytes r ≡ outcome → ReadBy outcome (pointer_at old.map (key (suc (page.level - 1)) page.index))
-  unfolding ReadBy
-  read_by outcome is = subst (ReadBy outcome) there
-      (subst (λ c. ReadsGood (IsRight old.next old) c (128 + pointer.place.sector) shown outcome mid end) copies_is
-      (subst (λ o. ReadsGood (IsRight old.next old) copies (128 + pointer.place.sector) shown o mid end) is read))
+  pub page_goes_on : (page : Key) (pointer : Pointer) (copies : List CopyOf) (r : Result (Unit {0}) Exhausted) → is_err r ≡ false → pointer ≡ pointer_at old.map page
+      → copies ≡ copies_on pointer.birth.0 under → OnOk r (IsRight old.next old bytes) → OnOk r (IsTaken old.next old bytes new)
+      → IsReadBy r page pointer copies → ReadsUpTo m new start end × (pages_left new.next < pages_left (Some page))
+  page_goes_on page pointer copies (Ok done) ok there on right taken is = page_read page pointer copies (Ok done) there on right taken is
+  page_goes_on page pointer copies (Err e) ok there on right taken is = absurd (cc)
 
-  written_there : IsWritten (pointer_at old.map (key (suc (page.level - 1)) page.index))
-  written_there = subst IsWritten there written
-
-  top_there : slice_get m.tops (pointer_at old.map (key (suc (page.level - 1)) page.index)).place.top ≡ Some under
-  top_there = subst (λ p. slice_get m.tops p.place.top ≡ Some under) there at_top
-
-  pub page_goes_on : (new : MapReading) → is_err r ≡ false → OnOk r (IsRight old.next old bytes) → OnOk r (IsTaken old.next old bytes new)
-      → ReadsUpTo m new start end
-  unfolding ReadBy
-  page_goes_on new ok right taken = reads_on m old (page.level - 1) page.index under start mid next_is written_there top_there up new bytes shown end
-      (read_by (Some bytes) (ok_given r bytes ok)) (on_ok (IsRight old.next old bytes) r ok right) (on_ok (IsTaken old.next old bytes new) r ok taken)
-
-  pub fewer_pages : (new : MapReading) → is_err r ≡ false → OnOk r (IsTaken old.next old bytes new) → pages_left new.next < pages_left (Some page)
-  fewer_pages new ok taken = subst (λ k. pages_left new.next < pages_left (Some k)) (sym page_is)
-      (fewer_behind m old (page.level - 1) page.index under start mid next_is written_there top_there up new bytes
-      (on_ok (IsTaken old.next old bytes new) r ok taken))
-
-  pub page_stops : (rest : List CopySeen) (n : ℕ) → is_err r ≡ true → AreApart copies → n ≡ length copies
+  pub page_stops : (page : Key) (pointer : Pointer) (copies : List CopyOf) (r : Result (Unit {0}) Exhausted) (rest : List CopySeen) (n : ℕ) → is_err r ≡ true
+      → n ≡ length copies → pointer ≡ pointer_at old.map page → copies ≡ copies_on pointer.birth.0 under → IsReadBy r page pointer copies
       → LosesPage m page pointer.place.top (take n (shown ++ rest)) start end
-  unfolding ReadBy
-  page_stops rest n err apart many = subst (λ l. LosesPage m page pointer.place.top l start end) (sym just)
-      (subst (λ k. LosesPage m k pointer.place.top shown start end) (sym page_is)
-      (subst (λ p. LosesPage m (key (suc (page.level - 1)) page.index) p.place.top shown start end) (sym there)
-      (stops_here m old (page.level - 1) page.index under start mid next_is written_there top_there up shown end
-      (subst (λ p. AreApart (copies_on p.birth.0 under)) there (subst AreApart copies_is apart)) (read_by None (err_given r bytes err)))))
+  page_stops page pointer copies (Ok done) rest n err many there on is = absurd (cc)
+  page_stops page pointer copies (Err e) rest n err many there on is =
+      subst (λ l. LosesPage m page pointer.place.top l start end) (sym just) (page_read page pointer copies (Err e) there on tt tt is)
     where
       long : length shown ≡ n
-      long = ap length read.shown ∙ length-map copies (copy_shown (is_outcome (given bytes r)) (read.reads ++ read.rewrites)) ∙ sym many
+      long = ap length (is.read).shown ∙ length-map copies (copy_shown (is_outcome None) ((is.read).reads ++ (is.read).rewrites)) ∙ sym many
 
       just : take n (shown ++ rest) ≡ shown
       just = ap (λ k. take k (shown ++ rest)) (sym long) ∙ take-append_seam shown rest

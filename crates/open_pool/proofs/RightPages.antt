@@ -1,10 +1,9 @@
 -- Which bytes are a page that may stand there: those that the reader takes are just those that the rows call a page of the record.
-use Rattle.std.proofs.Common.{true≢false, ◌≡◌, ◌⊎◌, inl, inr, ⊎_elim, ℕ, zero, suc, ◌+◌, ◌*◌, ◌≤◌, ◌<◌, ◌==◌, ◌||◌, nat_lt, Bool, true, false, List, length, get_or, Option, Some, None, refl, sym, ap, ◌∙◌, subst, arith}
-use Rattle.std.specs.Prelude.{slice_index}
+use Rattle.std.proofs.Common.{true≢false, ◌≡◌, ◌⊎◌, inl, inr, ⊎_elim, ℕ, zero, suc, ◌+◌, ◌*◌, ◌≤◌, ◌<◌, ◌==◌, Bool, true, false, List, length, get_or, Option, Some, None, refl, sym, ap, ◌∙◌, subst, arith}
+use Rattle.std.specs.Prelude.{Decides, slice_index}
 use Rattle.std.specs.List.{list_all, list_any}
 use Rattle.std.proofs.Math.ListN.{get_or-eq_default}
-use Rattle.std.proofs.lemmas.Bool.{and_parts}
-use Rattle.std.proofs.lemmas.Bool.Decides.{nat_tests}
+use Rattle.std.proofs.lemmas.Bool.Decides.{nat_tests, Decides-eqb, Decides-ltb, Decides-and, Decides-or, Decides-like}
 use Rattle.std.proofs.lemmas.List.Folds.{Any-from_list_any, list_any_at}
 use Rattle.std.proofs.lemmas.List.Sums.{AllPass-from_list_all, list_all-from_AllPass}
 use Rattle.std.proofs.lemmas.Slice.Eq.{bytes_eq-Decides}
@@ -44,10 +43,7 @@ written_told p written = rw (not_zero p.birth.0 written) refl
     not_zero n some = grind (arith, nat_tests)
 
 pub hole_told : (p : Pointer) → p.birth.0 ≡ 0 → sum_in p ≡ None
-hole_told p zero_is = rw (is_zero p.birth.0 zero_is) refl
-  where
-    is_zero : (n : ℕ) → n ≡ 0 → (n == 0) ≡ true
-    is_zero n e = grind (arith, nat_tests)
+hole_told p none = rw ((Decides-eqb p.birth.0 0).1 none) refl
 
 pub told_is : (p : Pointer) (sum : Sum) → sum_in p ≡ Some sum → IsWritten p × (told p ≡ sum)
 told_is p sum is = ⊎_elim (λ written. (written, same (sym (written_told p written) ∙ is))) (λ none. absurd (no (sym (hole_told p none) ∙ is))) (written_cases p)
@@ -77,51 +73,25 @@ pub child_is : (level index j : ℕ) → child (key (suc level) index) j ≡ key
 child_is level index j = ap (λ l. key l (64 * index + j)) (omega arith)
 
 -- Pointers in the form of a page.
-hole_from : (p : Pointer) → is_hole p ≡ true → p ≡ hole
+written_decides : (p : Pointer) → Decides (is_written p) (IsWritten p)
+written_decides p = Decides-ltb 0 p.birth.0
+
+hole_decides : (p : Pointer) → Decides (is_hole p) (p ≡ hole)
 unfolding zeros
-hole_from p is =
-    let birth = and_parts (p.birth.0 == 0) _ is in
-    let top = and_parts (p.place.top == 0) _ birth.1 in
-    let sector = and_parts (p.place.sector == 0) _ top.1 in
-    ap (λ b. record { birth = record { 0 = b }; place = p.place; sum = p.sum }) (zero_of p.birth.0 birth.0)
-    ∙ ap (λ t. record { birth = record { 0 = 0 }; place = record { top = t; sector = p.place.sector }; sum = p.sum }) (zero_of p.place.top top.0)
-    ∙ ap (λ s. record { birth = record { 0 = 0 }; place = record { top = 0; sector = s }; sum = p.sum }) (zero_of p.place.sector sector.0)
-    ∙ ap (λ s. record { birth = record { 0 = 0 }; place = record { top = 0; sector = 0 }; sum = s }) ((bytes_eq-Decides p.sum (zeros 32)).0 sector.1)
-  where
-    zero_of : (n : ℕ) → (n == 0) ≡ true → n ≡ 0
-    zero_of n e = grind (arith, nat_tests)
+hole_decides p = Decides-like (is_hole p)
+    (λ e. ap (λ b. record { birth = record { 0 = b }; place = p.place; sum = p.sum }) e.0
+    ∙ ap (λ t. record { birth = record { 0 = 0 }; place = record { top = t; sector = p.place.sector }; sum = p.sum }) e.1.0
+    ∙ ap (λ s. record { birth = record { 0 = 0 }; place = record { top = 0; sector = s }; sum = p.sum }) e.1.1.0
+    ∙ ap (λ s. record { birth = record { 0 = 0 }; place = record { top = 0; sector = 0 }; sum = s }) e.1.1.1)
+    (λ is. (ap (λ p. p.birth.0) is, (ap (λ p. p.place.top) is, (ap (λ p. p.place.sector) is, ap (λ p. p.sum) is))))
+    (Decides-and (p.birth.0 == 0) _ (Decides-eqb p.birth.0 0) (Decides-and (p.place.top == 0) _ (Decides-eqb p.place.top 0)
+    (Decides-and (p.place.sector == 0) _ (Decides-eqb p.place.sector 0) (bytes_eq-Decides p.sum (zeros 32)))))
 
-formed_hole : is_hole hole ≡ true
-unfolding zeros
-formed_hole = refl
-
-formed_cases : (p : Pointer) → is_formed p ≡ true → IsWritten p ⊎ (p ≡ hole)
-formed_cases p is = ⊎_elim (λ written. inl written) (λ none. inr (hole_from p (right (nat_lt 0 p.birth.0) (not_lt p.birth.0 none) is))) (written_cases p)
-  where
-    not_lt : (n : ℕ) → n ≡ 0 → nat_lt 0 n ≡ false
-    not_lt n e = grind (arith, nat_tests)
-
-    right : (a : Bool) → a ≡ false → (a || is_hole p) ≡ true → is_hole p ≡ true
-    right a off is = sym (ap (λ t. t || is_hole p) off) ∙ is
+formed_decides : (p : Pointer) → Decides (is_formed p) (IsWritten p ⊎ (p ≡ hole))
+formed_decides p = Decides-or (is_written p) (is_hole p) (written_decides p) (hole_decides p)
 
 formed_by : (p : Pointer) → (p.birth.0 ≡ 0 → p ≡ hole) → is_formed p ≡ true
-formed_by p holes = ⊎_elim (λ written. left (nat_lt 0 p.birth.0) (is_lt p.birth.0 written))
-    (λ none. ap is_formed (holes none) ∙ formed_hole_all) (written_cases p)
-  where
-    is_lt : (n : ℕ) → 1 ≤ n → nat_lt 0 n ≡ true
-    is_lt n some = grind (arith, nat_tests)
-
-    left : (a : Bool) → a ≡ true → (a || is_hole p) ≡ true
-    left a on = ap (λ t. t || is_hole p) on
-
-    formed_hole_all : is_formed hole ≡ true
-    formed_hole_all = formed_hole
-
-is_written_of : (p : Pointer) → IsWritten p → is_written p ≡ true
-is_written_of p some = grind (arith, nat_tests)
-
-written_of_is : (p : Pointer) → is_written p ≡ true → IsWritten p
-written_of_is p is = grind (arith, nat_tests)
+formed_by p holes = (formed_decides p).1 (⊎_elim (λ written. inl written) (λ none. inr (holes none)) (written_cases p))
 
 -- all of 64 pointers are in their form, or one of them is written
 all_formed : (pointers : List Pointer) → length pointers ≡ 64 → ((j : ℕ) → j < 64 → is_formed (get_or pointers j hole) ≡ true)
@@ -134,7 +104,7 @@ formed_at pointers j all lt = AllPass-from_list_all is_formed pointers all j hol
 
 one_written : (pointers : List Pointer) → list_any is_written pointers ≡ true → (j : ℕ) × (j < length pointers) × IsWritten (get_or pointers j hole)
 one_written pointers some = let one = Any-from_list_any is_written pointers some in
-    (one.0, one.2, written_of_is (get_or pointers one.0 hole) (ap is_written (got_there pointers one.0 hole one.1 one.2 ∙ one.3) ∙ one.4))
+    (one.0, one.2, (written_decides (get_or pointers one.0 hole)).0 (ap is_written (got_there pointers one.0 hole one.1 one.2 ∙ one.3) ∙ one.4))
 
 -- The pointers of a page.
 pub pointer_told : (bytes : List ℕ) (pointers : List Pointer) (j : ℕ) → AreInForm pointers → bytes ≡ page_bytes pointers
@@ -149,7 +119,7 @@ right_here m config reading level index seats found bytes tells part right = rec
   formed = ap pool_codec.is_page right.bytes_are ∙ is_a_page pointers right.form
       (all_formed pointers right.form.count (λ j lt. formed_by (p j) (right.may.each j lt).pointer.hole))
       (list_any_at is_written pointers right.may.some.0 hole (let lt = right.may.some.1 in omega (arith, lt, right.form.count))
-      (is_written_of (p right.may.some.0) right.may.some.2));
+      ((written_decides (p right.may.some.0)).1 right.may.some.2));
   inside = λ j below lt is. inside_of j lt (below_is j below is).0;
   born = λ j below lt is. subst (λ s. s.birth ≤ m.number) (below_is j below is).1
       (subst (λ n. (p j).birth.0 ≤ n) part.number_is (right.may.each j lt).born);
@@ -232,7 +202,7 @@ here_right m config reading level index seats found bytes tells part next long h
     told_at j written = pointer_told bytes of.0 j of.1 of.2 ∙ written_told (p j) written
 
     form_at : (j : ℕ) → j < 64 → IsWritten (p j) ⊎ (p j ≡ hole)
-    form_at j lt = formed_cases (p j) (formed_at of.0 j of.3 (let count = (of.1).count in omega (arith, lt, count)))
+    form_at j lt = (formed_decides (p j)).0 (formed_at of.0 j of.3 (let count = (of.1).count in omega (arith, lt, count)))
 
     hole_of : (j : ℕ) → j < 64 → (p j).birth.0 ≡ 0 → p j ≡ hole
     hole_of j lt none = ⊎_elim (λ written. absurd (omega (arith, written, none))) (λ is. is) (form_at j lt)

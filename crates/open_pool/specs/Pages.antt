@@ -158,12 +158,12 @@ abbrev pub StopsBy : MapSource → PageFault → (old new : BankView) → Type 0
 StopsBy m (fault.Lost page top shown) old new = LosesPage m page top shown old new
 StopsBy m fault.Memory old new = new ≡ old
 
--- how it goes on
-abbrev pub GoesOn : MapSource → Result (Unit {0}) PageFault → MapReading → (old new : BankView) → Type 0
-GoesOn m (Ok done) reading old new = ReadsUpTo m reading old new
-GoesOn m (Err stop) reading old new = StopsBy m stop old new
-
 -- more than the pages that are left to read
 abbrev pub pages_left : Option Key → ℕ
 pages_left None = 0
 pages_left (Some page) = 5000 * page.level - page.index
+
+-- how it goes on behind this page, with fewer pages left
+abbrev pub GoesOn : MapSource → (page : Key) → Result (Unit {0}) PageFault → MapReading → (old new : BankView) → Type 0
+GoesOn m page (Ok done) reading old new = ReadsUpTo m reading old new × (pages_left reading.next < pages_left (Some page))
+GoesOn m page (Err stop) reading old new = StopsBy m stop old new

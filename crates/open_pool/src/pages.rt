@@ -163,11 +163,9 @@ fn read_next<B: Bank>(
     requires few { length (leaves_of tops.now) ≤ 32 }
     requires apart { HaveOwnDevices (leaves_of tops.now) }
     requires here { AreHere (B.view bank.old).size (all_parts tops.now) }
-    ensures on { (m : MapSource) (start : BankView) → m.sectors ≡ sectors_of tops.now → m.tops ≡ leaves_under (all_parts tops.now)
-        → ReadsUpTo m pages.old.reader start (B.view bank.old) → GoesOn m result pages.new.reader start (B.view bank.new) }
+    ensures on { (m : MapSource) (start : BankView) → m.tops ≡ leaves_under (all_parts tops.now) → ReadsUpTo m pages.old.reader start (B.view bank.old)
+        → GoesOn m page result pages.new.reader start (B.view bank.new) }
     ensures sizes { (d : ℕ) → (B.view bank.new).size d ≡ (B.view bank.old).size d }
-    ensures fewer { (m : MapSource) (start : BankView) → m.sectors ≡ sectors_of tops.now → m.tops ≡ leaves_under (all_parts tops.now)
-        → ReadsUpTo m pages.old.reader start (B.view bank.old) → OnOk result (pages_left pages.new.reader.next < pages_left (Some page)) }
 {
     let copies = copies_of(&tops[pointer.place.top as usize], pointer.birth);
     let copies = copies.as_slice();

@@ -14,8 +14,8 @@ loop-page-init g c = record {
 pub loop-page-smaller : goal.loop-page-smaller
 loop-page-smaller g c =
     subst (λ n. pages_left c.read_next.new.pages.reader.next < pages_left n) (sym c.in-Some.ensures.page.0)
-    (c.in_ok-read_next.ensures.fewer (source_of c.args.tops.now c.args.blocks c.args.number.0 c.args.root) (g.B.Bank.view c.args.bank.now) refl refl
-    c.loop-page.invariant.reads)
+    ((c.in_ok-read_next.ensures.on (source_of c.args.tops.now c.args.blocks c.args.number.0 c.args.root) (g.B.Bank.view c.args.bank.now) refl
+    c.loop-page.invariant.reads).1)
 
 pub returns-clause-read : goal.returns-clause-read
 returns-clause-read g c =
