@@ -1,6 +1,7 @@
 pub mod BoardIsSeats
 pub mod BoardKept
 pub mod CopiesOfTops
+pub mod CopiesOnDevices
 pub mod CountsBelow
 pub mod DirtyWithOne
 pub mod FaultsCounted
@@ -24,8 +25,10 @@ pub mod LeavesByTops
 pub mod LeavesInForm
 pub mod LeavesKept
 pub mod LeavesOwe
+pub mod LeavesShown
 pub mod LeavesStay
 pub mod LogsWidened
+pub mod MapsRead
 pub mod MembersAgree
 pub mod NeedCounted
 pub mod NumbersApart
@@ -34,8 +37,12 @@ pub mod OpenChanged
 pub mod OpenPlaces
 pub mod PagesDirty
 pub mod PagesFormed
+pub mod PagesTurned
+pub mod PartsRead
 pub mod PlacesGiven
+pub mod ReadingsGoOn
 pub mod RecordStill
+pub mod RightPages
 pub mod RisingCounted
 pub mod SeatsOfFreeze
 pub mod StatesStand

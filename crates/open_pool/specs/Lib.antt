@@ -2,6 +2,8 @@ pub mod Answering
 pub mod Copies
 pub mod Form
 pub mod Freezing
+pub mod Here
+pub mod Pages
 pub mod Parts
 pub mod Space
 pub mod State

@@ -15,6 +15,9 @@ use std::marker::Model;
 use txg_engine::MOST_LEAVES;
 use vdev_tree::{LeafVdev, Top};
 
+/// Data sector 0 of a leaf is this sector of its device: the labels stand before it.
+pub(crate) const DATA_START: u64 = 128;
+
 /// Copies in tree order, at most 32. They take no memory.
 #[derive(Drop)]
 pub(crate) struct Copies {

@@ -6,6 +6,7 @@ mod copies;
 mod form;
 mod freeze;
 mod laws;
+mod pages;
 mod pool;
 mod space;
 mod write;

@@ -6,11 +6,12 @@ use Rattle.label_store.specs.declared.member.Member.{Member}
 use Rattle.txg_engine.specs.declared.frozen.Frozen.TheInside.{Inside}
 use Rattle.txg_engine.specs.declared.seat.Numbers.{Numbers}
 use Rattle.txg_engine.specs.declared.seat.Seat.{Seat}
-use Rattle.txg_engine.specs.Boards.{behind_turn, count_on, failed, without, as_taken, LeftByCause}
+use Rattle.txg_engine.specs.Boards.{behind_turn, count_on, failed, without, as_taken, AreServed, LeftByCause}
 use Rattle.txg_engine.specs.Frozen.{FrozenGroup, IsGroup}
 use Rattle.txg_engine.specs.Turns.{with_next}
 use Rattle.txg_engine.proofs.LeftByCauses.{behind_left, counted_left, taken_left}
 use Rattle.txg_engine.proofs.Ready.{fewer_on, same_on, taken_on}
+use Rattle.txg_engine.proofs.TopsServed.{behind_served, counted_served}
 use Rattle.txg_engine.proofs.TurnEnds.{fewer_behind}
 
 -- a group's fields as its callers see them
@@ -30,9 +31,9 @@ module _ (group : FrozenGroup) (is : IsGroup group) where
   module _ (written : ℕ) (flushed begun acked : Bool) (within : written ≤ length group.items)
       (all : flushed ≡ true → written ≡ length group.items) where
     -- another board, with no more leaves on it, each of which left by a cause
-    board_kept : (board : List Seat) → count_on board ≤ count_on group.board → All LeftByCause board
+    board_kept : (board : List Seat) → count_on board ≤ count_on group.board → All LeftByCause board → AreServed board
         → IsGroup (record group { written = written; flushed = flushed; begun = begun; acked = acked; board = board })
-    board_kept board fewer left = record {
+    board_kept board fewer left served = record {
       low = is.low;
       order = is.order;
       high = let high = is.high in omega arith;
@@ -42,6 +43,7 @@ module _ (group : FrozenGroup) (is : IsGroup group) where
       within = within;
       flushed = all;
       left = left;
+      served = served;
       room = is.room;
     }
 
@@ -51,6 +53,7 @@ module _ (group : FrozenGroup) (is : IsGroup group) where
     turn_kept board ms done behind =
         board_kept board (omega (arith, ap count_on behind, fewer_behind ms done group.board))
         (subst (All LeftByCause) (sym behind) (behind_left ms done group.board is.left))
+        (subst AreServed (sym behind) (behind_served ms done group.board is.served))
 
   -- the board where a call failed, and where a leaf was taken off
   pub counted_kept : (m : Guid) (board : List Seat) → board ≡ map (failed m) group.board → IsGroup (record group { board = board })
@@ -58,13 +61,14 @@ module _ (group : FrozenGroup) (is : IsGroup group) where
       board_kept group.written group.flushed group.begun group.acked is.within is.flushed board
       (omega (arith, ap count_on counted, same_on m group.board))
       (subst (All LeftByCause) (sym counted) (counted_left m group.board is.left))
+      (subst AreServed (sym counted) (counted_served m group.board is.served))
 
-  pub taken_kept : (m : Guid) (board : List Seat) → board ≡ map (without m) (map (as_taken m) group.board)
+  pub taken_kept : (m : Guid) (board : List Seat) → board ≡ map (without m) (map (as_taken m) group.board) → AreServed board
       → IsGroup (record group { board = board })
-  taken_kept m board taken =
+  taken_kept m board taken served =
       board_kept group.written group.flushed group.begun group.acked is.within is.flushed board
       (omega (arith, ap count_on taken, fewer_on m (map (as_taken m) group.board), taken_on m group.board))
-      (subst (All LeftByCause) (sym taken) (taken_left m group.board is.left))
+      (subst (All LeftByCause) (sym taken) (taken_left m group.board is.left)) served
 
   -- a further number, behind a round in which a leaf left the board
   pub drawn_kept : (numbers : Numbers) (board : List Seat) (ms : List Member) (done : List Bool)
@@ -80,5 +84,6 @@ module _ (group : FrozenGroup) (is : IsGroup group) where
     within = is.within;
     flushed = is.flushed;
     left = subst (All LeftByCause) (sym behind) (behind_left ms done group.board is.left);
+    served = subst AreServed (sym behind) (behind_served ms done group.board is.served);
     room = is.room;
   }

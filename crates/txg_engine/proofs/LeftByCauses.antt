@@ -1,15 +1,14 @@
 -- Each leaf that left the board did so by a cause.
-use Rattle.std.proofs.Common.{◌≡◌, ℕ, zero, suc, ◌+◌, ◌<◌, ◌≤◌, ◌==◌, ◌&&◌, ◌||◌, not, cond, Bool, true, false, List}
-use Rattle.std.proofs.Common.{[], ◌∷◌, length, get_or, map, Option, Some, None, Contains, refl, sym, ap, ◌∙◌, inl, inr}
-use Rattle.std.proofs.Common.{⊎_elim, arith}
+use Rattle.std.proofs.Common.{◌≡◌, ℕ, zero, suc, ◌+◌, ◌==◌, ◌&&◌, ◌||◌, not, cond, Bool, true, false, List}
+use Rattle.std.proofs.Common.{[], ◌∷◌, map, Option, Some, None, refl, sym, ap, ◌∙◌, inl, inr}
+use Rattle.std.proofs.Common.{arith}
 use Rattle.std.specs.Prelude.{All}
 use Rattle.std.specs.List.{filter_map, cons_option}
 use Rattle.std.specs.Option.{option_map}
 use Rattle.std.proofs.lemmas.Bool.{true≢false}
 use Rattle.std.proofs.lemmas.Bool.Decides.{nat_tests}
-use Rattle.std.proofs.lemmas.List.Elements.{All-nil, All-cons, All-append, All-map, All-weaker, All-contains}
+use Rattle.std.proofs.lemmas.List.Elements.{All-nil, All-cons, All-append, All-map, All-weaker}
 use Rattle.std.proofs.lemmas.Option.{none-some, same_Some}
-use Rattle.mp_base.specs.declared.number.Group.{Group}
 use Rattle.mp_base.specs.declared.number.Guid.{Guid}
 use Rattle.label_store.specs.declared.member.Member.{Member}
 use Rattle.vdev_tree.specs.Leaf.{is_readable}
@@ -17,10 +16,9 @@ use Rattle.vdev_tree.specs.Tree.{leaves}
 use Rattle.vdev_tree.specs.declared.top.Top.{Top}
 use Rattle.vdev_tree.specs.declared.vdev.LeafVdev.{LeafVdev}
 use Rattle.txg_engine.specs.declared.seat.Seat.{Seat}
-use Rattle.txg_engine.specs.declared.seat.Suspended.{Suspended}
 use Rattle.txg_engine.specs.Boards.{LeftByCause, is_on_as, is_on_under, has_on, without, as_taken, failed, count_up}
-use Rattle.txg_engine.specs.Boards.{behind_turn, seat_of, seats_of, emptied_from, emptied, faults_under}
-use Rattle.txg_engine.specs.Turns.{HasLeft, IsTold}
+use Rattle.txg_engine.specs.Boards.{behind_turn, seat_of, seats_of, emptied_from, emptied}
+use Rattle.txg_engine.specs.Turns.{HasLeft}
 
 still : (a t : Bool) → t ≡ false → (a && not t) ≡ false → a ≡ false
 still true true is e = absurd (true≢false is)
@@ -84,36 +82,40 @@ behind_left (m ∷ ms) (true ∷ done) seats all = behind_left ms done seats all
 behind_left (m ∷ ms) (false ∷ done) seats all =
     behind_left ms done (map (without m.guid) (map (failed m.guid) seats)) (failed_left m.guid seats all)
 
--- at a freeze nobody has left
+-- at a freeze everybody is on the board
 
-new_seat : (first : ℕ) (leaf : LeafVdev) (seats : List Seat) → All LeftByCause seats
-    → All LeftByCause (cons_option (seat_of first leaf) seats)
+new_seat : (first : ℕ) (leaf : LeafVdev) (seats : List Seat) → All (λ seat. seat.on ≡ true) seats
+    → All (λ seat. seat.on ≡ true) (cons_option (seat_of first leaf) seats)
 new_seat first leaf seats all = one (is_readable leaf) leaf.dev
   where
-    one : (b : Bool) (dev : Option ℕ) → All LeftByCause (cons_option (cond b (option_map (λ d. record {
+    one : (b : Bool) (dev : Option ℕ) → All (λ seat. seat.on ≡ true) (cons_option (cond b (option_map (λ d. record {
       member = record { dev = d; guid = leaf.guid };
       top = first;
       on = true;
       taken = false;
       faults = 0;
     }) dev) None) seats)
-    one true (Some dev) = All-cons LeftByCause _ seats (λ off. absurd (true≢false off)) all
+    one true (Some dev) = All-cons (λ (s : Seat). s.on ≡ true) _ seats refl all
     one true None = all
     one false dev = all
 
-new_seats : (first : ℕ) (ls : List LeafVdev) → All LeftByCause (filter_map (seat_of first) ls)
-new_seats first [] = All-nil LeftByCause
+new_seats : (first : ℕ) (ls : List LeafVdev) → All (λ seat. seat.on ≡ true) (filter_map (seat_of first) ls)
+new_seats first [] = All-nil (λ (seat : Seat). seat.on ≡ true)
 new_seats first (leaf ∷ ls) = new_seat first leaf (filter_map (seat_of first) ls) (new_seats first ls)
 
-pub none_left : (first : ℕ) (tops : List Top) → All LeftByCause (seats_of first tops)
-none_left first [] = All-nil LeftByCause
-none_left first (top ∷ tops) =
-    All-append LeftByCause (filter_map (seat_of first) (leaves top.mirror)) (seats_of (first + 1) tops)
-    (new_seats first (leaves top.mirror)) (none_left (first + 1) tops)
+pub all_on : (first : ℕ) (tops : List Top) → All (λ seat. seat.on ≡ true) (seats_of first tops)
+all_on first [] = All-nil (λ (seat : Seat). seat.on ≡ true)
+all_on first (top ∷ tops) =
+    All-append (λ (s : Seat). s.on ≡ true) (filter_map (seat_of first) (leaves top.mirror)) (seats_of (first + 1) tops)
+    (new_seats first (leaves top.mirror)) (all_on (first + 1) tops)
+
+pub none_left : (seats : List Seat) → All (λ seat. seat.on ≡ true) seats → All LeftByCause seats
+none_left seats on =
+    All-weaker (λ (seat : Seat). seat.on ≡ true) LeftByCause (λ seat is off. absurd (true≢false (sym is ∙ off))) seats on
 
 -- where a top has nobody on the board, each leaf of it has left
 
-emptied_none : (top count : ℕ) (seats : List Seat) (found : ℕ) → emptied_from top count seats ≡ Some found
+pub emptied_none : (top count : ℕ) (seats : List Seat) (found : ℕ) → emptied_from top count seats ≡ Some found
     → has_on found seats ≡ false
 emptied_none top zero seats found is = absurd (none-some found is)
 emptied_none top (suc count) seats found is = one (has_on top seats) refl (emptied_none (top + 1) count seats found) is
@@ -150,27 +152,3 @@ pub all_left : (tops top : ℕ) (seats : List Seat) → emptied tops seats ≡ S
 all_left tops top seats is all =
     let off = none_on top seats (emptied_none 0 tops seats top is) in
     λ k d lt here. record { off = off k d lt here; cause = all k d lt (off k d lt here) }
-
--- a leaf of the top that wasn't taken off had a call that failed
-
-counts_each : (top : ℕ) (seats : List Seat) (k : ℕ) (d : Seat) → k < length seats → (get_or seats k d).top ≡ top
-    → (get_or seats k d).faults ≤ faults_under top seats
-counts_each top [] k d lt here = absurd (omega arith)
-counts_each top (seat ∷ seats) zero d lt here =
-    let is = ap (λ b. cond b seat.faults 0) (same_number seat.top top here) in
-    let all : faults_under top (seat ∷ seats) ≡ cond (seat.top == top) seat.faults 0 + faults_under top seats = refl in
-    omega arith
-counts_each top (seat ∷ seats) (suc k) d lt here =
-    let rest = counts_each top seats k d (omega arith) here in
-    let all : faults_under top (seat ∷ seats) ≡ cond (seat.top == top) seat.faults 0 + faults_under top seats = refl in
-    omega arith
-
-pub tells_fault : (tops : List Guid) (first : Group) (seats : List Seat) (top : ℕ) (told : Suspended) (seat : Seat)
-    → IsTold tops first seats top told → Contains seats seat → seat.top ≡ top → seat.taken ≡ false → 1 ≤ told.faults
-tells_fault tops first seats top told seat is (k, lt, there) here not =
-    let left : HasLeft seat = All-contains (λ (s : Seat). s.top ≡ top → HasLeft s) seats seat is.left (k, lt, there) here in
-    let each = counts_each top seats k seat lt (ap (λ (s : Seat). s.top) there ∙ here) in
-    let same = ap (λ (s : Seat). s.faults) there in
-    let one : 1 ≤ seat.faults = ⊎_elim (λ some. some) (λ taken. absurd (true≢false (sym taken ∙ not))) left.cause in
-    let faults = is.faults_are in
-    omega arith

@@ -24,5 +24,6 @@ pub mod RoomMade
 pub mod Seating
 pub mod SeatsKept
 pub mod Settling
+pub mod TopsServed
 pub mod TurnEnds
 pub mod Unpinned

@@ -1,5 +1,5 @@
 -- The leaves that were on the board at a freeze, in tree order, and which of them are on it still.
-use Rattle.std.specs.Prelude.{◌≡◌, ◌⊎◌, ℕ, zero, suc, ◌+◌, ◌-◌, ◌^◌, ◌≤◌, ◌==◌, ◌&&◌, min, not, Bool, true, false}
+use Rattle.std.specs.Prelude.{◌≡◌, ◌⊎◌, ℕ, zero, suc, ◌+◌, ◌-◌, ◌^◌, ◌≤◌, ◌==◌, ◌&&◌, ◌||◌, min, not, Bool, true, false, All}
 use Rattle.std.specs.Prelude.{List, [], ◌∷◌, ◌++◌, map, filter, Option, Some, None, if◌then◌else◌}
 use Rattle.std.specs.List.{list_any, filter_map}
 use Rattle.std.specs.Option.{option_map}
@@ -91,6 +91,18 @@ HasCause seat = (1 ≤ seat.faults) ⊎ (seat.taken ≡ true)
 
 abbrev pub LeftByCause : Seat → Type 0
 LeftByCause seat = seat.on ≡ false → HasCause seat
+
+-- some leaf of this top was on the board at the freeze
+abbrev pub has_seat : (top : ℕ) → List Seat → Bool
+has_seat top seats = list_any (λ seat. seat.top == top) seats
+
+-- a leaf of this top that is on the board, or a call on which failed since the freeze
+abbrev pub serves : (top : ℕ) → Seat → Bool
+serves top seat = (seat.top == top) && (seat.on || not (seat.faults == 0))
+
+-- Of each top that has a leaf here some leaf serves: nobody took off a top's last leaf before a call on the top's leaves failed.
+abbrev pub AreServed : List Seat → Type 0
+AreServed seats = All (λ seat. list_any (serves seat.top) seats ≡ true) seats
 
 -- The board behind a turn: each of these members whose call failed is counted, and off it.
 abbrev pub behind_turn : List Member → (done : List Bool) → List Seat → List Seat

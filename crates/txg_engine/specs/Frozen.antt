@@ -6,7 +6,7 @@ use Rattle.block_map.specs.Places.{IsPlace, AreTops}
 use Rattle.txg_engine.specs.declared.item.Item.{Item}
 use Rattle.txg_engine.specs.declared.seat.Numbers.{Numbers}
 use Rattle.txg_engine.specs.declared.seat.Seat.{Seat}
-use Rattle.txg_engine.specs.Boards.{count_on, LeftByCause}
+use Rattle.txg_engine.specs.Boards.{count_on, LeftByCause, AreServed}
 
 -- Its numbers, its keys in order, how many of them were written, whether its flush turn has ended, whether a round has begun
 -- and whether one was acknowledged, its board, and how many writes the open group may have that it becomes.
@@ -43,6 +43,7 @@ pub record IsGroup (group : FrozenGroup) : Type 0 where
   pub within : group.written ≤ length group.items
   pub flushed : group.flushed ≡ true → group.written ≡ length group.items
   pub left : All LeftByCause group.board
+  pub served : AreServed group.board
   pub room : length group.items + 4096 ≤ group.room
 
 -- A leaf's device has room for its labels and for each data sector of its top.

@@ -1,5 +1,5 @@
 -- The turns of a frozen group.
-use Rattle.std.specs.Prelude.{◌≡◌, ℕ, ◌+◌, ◌-◌, ◌^◌, min, Bool, true, false, List, length, map, All}
+use Rattle.std.specs.Prelude.{◌≡◌, ℕ, ◌+◌, ◌-◌, ◌^◌, ◌≤◌, min, Bool, true, false, List, length, map, All}
 use Rattle.std.specs.Prelude.{Option, Some, None, is_some, Result, Ok, Err, IsOk, IsErrAnd, slice_get}
 use Rattle.std.specs.List.{list_all, AllZip}
 use Rattle.mp_base.specs.declared.number.Group.{Group}
@@ -23,7 +23,7 @@ use Rattle.txg_engine.specs.declared.item.Item.{Item}
 use Rattle.txg_engine.specs.declared.seat.Numbers.{Numbers}
 use Rattle.txg_engine.specs.declared.seat.Seat.{Seat}
 use Rattle.txg_engine.specs.declared.seat.Suspended.{Suspended}
-use Rattle.txg_engine.specs.Boards.{board_of, board_under, behind_turn, emptied, faults_under, HasCause}
+use Rattle.txg_engine.specs.Boards.{board_of, board_under, behind_turn, emptied, faults_under, has_seat, HasCause}
 use Rattle.txg_engine.specs.Frozen.{FrozenGroup}
 use Rattle.txg_engine.specs.Items.{cell_of}
 use Rattle.txg_engine.specs.Logs.{AreBehind, AreGrown, is_off, IsSettled}
@@ -44,12 +44,13 @@ pub record HasLeft (seat : Seat) : Type 0 where
   pub cause : HasCause seat
 
 -- What is told of a top that has nobody left on the board. Each leaf of it that was on the board at the freeze had a call that
--- failed since, or was taken off by its pool.
+-- failed since, or was taken off by its pool; and where there was any, at least one call failed.
 pub record IsTold (tops : List Guid) (first : Group) (seats : List Seat) (top : ℕ) (told : Suspended) : Type 0 where
   pub number : told.group ≡ first
   pub top_is : slice_get tops top ≡ Some told.top
   pub faults_are : told.faults ≡ min (2 ^ 64 - 1) (faults_under top seats)
   pub left : All (λ seat. seat.top ≡ top → HasLeft seat) seats
+  pub some : has_seat top seats ≡ true → 1 ≤ told.faults
 
 abbrev pub IsChecked : {A : Type 0} → List Guid → Group → List Seat → Option ℕ → Result A Suspended → Type 0
 IsChecked tops number seats None result = IsOk result

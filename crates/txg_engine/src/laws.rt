@@ -1,24 +1,31 @@
 //! What follows of the definitions alone: the clauses of functions with empty bodies.
-ghost use Rattle.std.specs.Prelude.{◌≡◌, ℕ, ◌+◌, ◌≤◌, ◌==◌, false, List, [], length, Contains, Some, is_some, if◌then◌else◌};
+ghost use Rattle.std.specs.Prelude.{◌≡◌, ℕ, ◌+◌, ◌<◌, ◌==◌, Bool, true, List, [], length, map, Some, is_some, if◌then◌else◌};
 ghost use Rattle.mp_base.specs.declared.number.Group.{Group};
 ghost use Rattle.mp_base.specs.declared.number.Guid.{Guid};
+ghost use Rattle.label_store.specs.declared.member.Member.{Member};
+ghost use Rattle.vdev_tree.specs.declared.top.Top.{Top};
 ghost use Rattle.block_map.specs.Map.{Map};
 ghost use Rattle.txg_engine.specs.declared.item.Item.{Item};
 ghost use Rattle.txg_engine.specs.declared.seat.Seat.{Seat};
-ghost use Rattle.txg_engine.specs.declared.seat.Suspended.{Suspended};
 ghost use Rattle.txg_engine.specs.declared.write.Write.{Write};
+ghost use Rattle.txg_engine.specs.Boards.{as_taken, behind_turn, failed, has_seat, without};
 ghost use Rattle.txg_engine.specs.Ending.{fresh_count};
 ghost use Rattle.txg_engine.specs.Freezing.{IsFreeze};
-ghost use Rattle.txg_engine.specs.Frozen.{KeysRise};
+ghost use Rattle.txg_engine.specs.Frozen.{FrozenGroup, KeysRise};
 ghost use Rattle.txg_engine.specs.Items.{frozen_block};
-ghost use Rattle.txg_engine.specs.Turns.{IsTold};
+ghost use Rattle.txg_engine.specs.Refusing.{BeginsGroup};
 ghost use Rattle.txg_engine.specs.Writes.{block_at, is_written};
 
-/// A suspension tells of a call that failed, where some leaf of the top that was on the board at the freeze wasn't taken off
-/// by the pool.
-pub fn suspensions_tell_their_faults()
-    ensures { (tops : List Guid) (first : Group) (seats : List Seat) (top : ℕ) (told : Suspended) (seat : Seat)
-        → IsTold tops first seats top told → Contains seats seat → seat.top ≡ top → seat.taken ≡ false → 1 ≤ told.faults }
+/// A group that was just frozen has a seat for each top, and what turns, leavers and failed calls make of a board keeps them. So
+/// each suspension of it tells at least one failed call.
+pub fn groups_seat_each_top()
+    ensures frozen { (number : Group) (writes : List Write) (old new : Map) (tops : List Top) (group : FrozenGroup)
+        → BeginsGroup number writes old new tops group → (top : ℕ) → top < length tops → has_seat top group.board ≡ true }
+    ensures turns { (ms : List Member) (done : List Bool) (top : ℕ) (seats : List Seat)
+        → has_seat top (behind_turn ms done seats) ≡ has_seat top seats }
+    ensures taken { (m : Guid) (top : ℕ) (seats : List Seat)
+        → has_seat top (map (without m) (map (as_taken m) seats)) ≡ has_seat top seats }
+    ensures counted { (m : Guid) (top : ℕ) (seats : List Seat) → has_seat top (map (failed m) seats) ≡ has_seat top seats }
 {}
 
 /// How many addresses an open group and a frozen one have together is the open one's count of writes, and `fresh_count` of the

@@ -2,7 +2,7 @@
 ghost use Rattle.std.specs.Prelude.{◌≡◌, ℕ, ◌+◌, ◌^◌, ◌<◌, ◌≤◌, Some, true, false, List, length, map, All, OnErr, slice_get};
 ghost use Rattle.vdev_tree.specs.declared.vdev.LeafVdev.{LeafVdev};
 ghost use Rattle.dtl_rules.specs.Widening.{leaves_of, marks_of, sectors_of};
-ghost use Rattle.txg_engine.specs.Boards.{on_board, without, as_taken, failed, emptied, LeftByCause};
+ghost use Rattle.txg_engine.specs.Boards.{on_board, without, as_taken, failed, emptied, AreServed, LeftByCause};
 ghost use Rattle.txg_engine.specs.Logs.{AreGrown, is_leaf, is_off, IsReady};
 ghost use Rattle.txg_engine.specs.Turns.{IsChecked, numbers_of, with_next};
 
@@ -18,9 +18,11 @@ impl Frozen {
     ghost use Rattle.txg_engine.specs.Turns.{Answers, emptied_top, is_suspended};
 
     /// The leaf of this number leaves the board, where it is on it, and owes each number that was drawn for the group: it is
-    /// taken offline, or faulted, or its device is gone. Nothing happens where it isn't on the board. A pool takes off no leaf that
-    /// is required, so the last one of a top leaves the board by a failed call alone.
+    /// taken offline, or faulted, or its device is gone. Nothing happens where it isn't on the board. Behind it each top keeps
+    /// somebody on the board, or had a failed call (`kept`): a leaf that isn't required leaves somebody there, and of one whose
+    /// device is gone the failed call is told first, by `count_fault`.
     pub fn leave(&mut self, tops: &mut [Top], member: Guid)
+        requires kept { on_board self.old.board member ≡ true → AreServed (map (without member) (map (as_taken member) self.old.board)) }
         requires ready { All (IsReady self.old.board self.old.numbers.last.0) (leaves_of tops.old) }
         ensures group { self.new ≡ record self.old { board = map (without member) (map (as_taken member) self.old.board) } }
         ensures leaves { on_board self.old.board member ≡ true
@@ -37,7 +39,8 @@ impl Frozen {
         }
     }
 
-    /// A call on this leaf's device failed outside of the group's own turns, as in a read.
+    /// A call on this leaf's device failed outside of the group's own turns, as in a read. It is told once for each such call, and
+    /// for nothing else.
     pub fn count_fault(&mut self, member: Guid)
         ensures group { self.new ≡ record self.old { board = map (failed member) self.old.board } }
         ensures ready { (leaves : List LeafVdev) → All (IsReady self.old.board self.old.numbers.last.0) leaves
@@ -91,6 +94,7 @@ pub(crate) fn draw(board: &Board, tops: &mut [Top], numbers: &mut Numbers)
 pub(crate) fn check(board: &Board, tops: &[Top], group: Group) -> Result<(), Suspended>
     requires tops { length tops.now < 2 ^ 32 }
     requires left { All LeftByCause board.now }
+    requires served { AreServed board.now }
     ensures { IsChecked (numbers_of tops.now) group board.now (emptied (length tops.now) board.now) result }
 {
     let Some(top) = board.emptied(tops.len() as u32) else {

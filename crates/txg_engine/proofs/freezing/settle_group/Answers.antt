@@ -1,16 +1,17 @@
-use Rattle.std.proofs.Common.{◌≡◌, ◌++◌, [], List, All, length, map, ap, sym, subst, refl, ◌∙◌, arith, length-append}
+use Rattle.std.proofs.Common.{◌≡◌, ◌++◌, [], true, List, All, length, map, ap, sym, subst, refl, ◌∙◌, arith, length-append}
 use Rattle.std.specs.Prelude.{AllPairs}
 use Rattle.std.proofs.lemmas.Bool.{true≢false}
 use Rattle.std.proofs.lemmas.List.{length-map}
 use Rattle.mp_base.specs.declared.place.Key.{Key}
 use Rattle.block_map.specs.Keys.{IsBefore, IsPage}
 use Rattle.block_map.specs.Map.{Map, pointer_at}
+use Rattle.txg_engine.specs.declared.seat.Seat.{Seat}
 use Rattle.txg_engine.specs.Freezing.{addr_of, page_keys, block_keys, dirty_keys, AreSettled}
-use Rattle.txg_engine.specs.Boards.{LeftByCause}
 use Rattle.txg_engine.specs.Items.{key_of, place_of, keys_of}
 use Rattle.txg_engine.specs.Writes.{OpenGroup, RiseFrom, block_at}
 use Rattle.txg_engine.proofs.FreezesFit.{keys_inside, pointers_inside}
-use Rattle.txg_engine.proofs.LeftByCauses.{none_left}
+use Rattle.txg_engine.proofs.LeftByCauses.{all_on, none_left}
+use Rattle.txg_engine.proofs.TopsServed.{all_served}
 use Rattle.txg_engine.proofs.Rising.{RiseFromKey, few_on, dirty_rise, pairs_rise, keys_rise, levels_low, pages_are_pages, all_filled}
 use Rattle.txg_engine.proofs.freezing.settle_group.Goals as goal
 
@@ -81,7 +82,8 @@ invariant_of-result g c =
     let keys : keys_of items ≡ dirty_keys writes =
     c.settle_pages.ensures.keys ∙ ap (λ (l : List Key). l ++ c.deref.result.now) c.settle_blocks.ensures.keys
     ∙ ap (λ (l : List Key). block_keys c.group.inside.writes.items ++ l) (c.deref.ensures.value ∙ taken.pages)
-    ∙ ap (λ (group : OpenGroup). block_keys group.writes ++ page_keys (map addr_of writes)) c.group.view_is in (
+    ∙ ap (λ (group : OpenGroup). block_keys group.writes ++ page_keys (map addr_of writes)) c.group.view_is in
+    let on = subst (All (λ (seat : Seat). seat.on ≡ true)) (sym taken.board) (all_on 0 c.requires.1.1.1.1.0.0) in (
       record {
         low = c.requires.1.1.0;
         order = omega arith;
@@ -91,7 +93,8 @@ invariant_of-result g c =
         blocks = c.settle_pages.ensures.long;
         within = omega arith;
         flushed = λ all. absurd (true≢false (sym all));
-        left = subst (All LeftByCause) (sym taken.board) (none_left 0 c.requires.1.1.1.1.0.0);
+        left = none_left c.args.prepared.board on;
+        served = all_served c.args.prepared.board on;
         room = omega (arith, taken.room, ap length keys, length-map items key_of);
       },
       taken.no_writes,

@@ -1,7 +1,8 @@
-use Rattle.std.proofs.Common.{◌≡◌, Some, Err, length, refl, sym, subst, ◌∙◌}
+use Rattle.std.proofs.Common.{◌≡◌, Some, Err, length, refl, sym, subst, ◌∙◌, arith}
 use Rattle.txg_engine.specs.Boards.{emptied}
 use Rattle.txg_engine.specs.Turns.{IsChecked, numbers_of}
-use Rattle.txg_engine.proofs.LeftByCauses.{all_left}
+use Rattle.txg_engine.proofs.LeftByCauses.{all_left, emptied_none}
+use Rattle.txg_engine.proofs.TopsServed.{some_failed}
 use Rattle.txg_engine.proofs.leave.check.Goals as goal
 
 pub returns : goal.returns
@@ -15,4 +16,8 @@ returns c =
       top_is = c.number_of_top.ensures;
       faults_are = c.faults_under.ensures;
       left = all_left count c.in-Some.top seats here c.requires.left;
+      some = λ has.
+          let one = some_failed c.in-Some.top seats c.requires.served (emptied_none 0 count seats c.in-Some.top here) has in
+          let faults = c.faults_under.ensures in
+          omega arith;
     })

@@ -2,7 +2,7 @@ use Rattle.std.proofs.Common.{List, map, refl, sym, ap, subst, ◌∙◌}
 use Rattle.std.specs.Prelude.{All}
 use Rattle.dtl_rules.specs.Widening.{leaves_of}
 use Rattle.txg_engine.specs.declared.seat.Seat.{Seat}
-use Rattle.txg_engine.specs.Boards.{on_board, without, as_taken}
+use Rattle.txg_engine.specs.Boards.{on_board, without, as_taken, AreServed}
 use Rattle.txg_engine.specs.Frozen.{FrozenGroup}
 use Rattle.txg_engine.specs.Logs.{IsReady}
 use Rattle.txg_engine.proofs.GroupsKept.{seen, taken_kept}
@@ -19,11 +19,12 @@ leave-requires-clause-ready c =
     (λ x. taken_board c.args.member x seats) (rw (← c.self.view_is) at c.requires.ready))
 
 pub invariant_of-self : goal.invariant_of-self
-invariant_of-self c = (
-  taken_kept (seen c.self.inside) c.self.invariant.0 c.args.member c.leave.new.board
-      (c.leave.ensures.board ∙ ap (map (without c.args.member)) c.mark_taken.ensures),
-  c.self.invariant.1,
-)
+invariant_of-self c =
+    let behind = c.leave.ensures.board ∙ ap (map (without c.args.member)) c.mark_taken.ensures in
+    let kept = (rw (← c.self.view_is) at c.requires.kept) (sym c.has.ensures ∙ c.if-has.true) in (
+      taken_kept (seen c.self.inside) c.self.invariant.0 c.args.member c.leave.new.board behind (subst AreServed (sym behind) kept),
+      c.self.invariant.1,
+    )
 
 pub returns-then-has-clause-seated : goal.returns-then-has-clause-seated
 returns-then-has-clause-seated c = λ size sectors seated.
