@@ -1,18 +1,18 @@
 -- Behind a freeze: the moves of its row lead to the state that the pool stands for then.
-use Rattle.std.proofs.Common.{◌≡◌, ℕ, suc, ◌+◌, ◌<◌, ◌≤◌, ◌^◌, cond, Bool, true, false, List, [], ◌∷◌, ◌++◌, length, map, Option, Some, None, Ok, refl, sym, ap, ◌∙◌, subst, arith}
+use Rattle.std.proofs.Common.{◌≡◌, ℕ, suc, ◌+◌, ◌<◌, ◌≤◌, ◌^◌, cond, false, List, [], ◌∷◌, ◌++◌, length, map, Some, None, Ok, refl, sym, ap, ◌∙◌, subst, arith}
 use mathlib.Core.Path.{fun_ext}
 use Rattle.std.specs.List.{AllByRecursion}
 use Rattle.std.proofs.lemmas.Bool.{le-ltb}
 use Rattle.std.proofs.lemmas.List.{length-map}
-use Rattle.mp_base.specs.declared.number.Guid.{Guid}
 use Rattle.mp_base.specs.declared.place.Key.{Key}
 use Rattle.block_map.specs.Map.{is_open, CountsPlaces}
 use Rattle.vdev_tree.specs.declared.vdev.LeafVdev.{LeafVdev}
 use Rattle.dtl_rules.specs.Widening.{leaves_of}
 use Rattle.pool_codec.specs.Codecs.{pool_codec}
 use Rattle.pool_codec.specs.Pointers.{sum_in}
-use Rattle.pool_codec.specs.Tops.{room_of, number_of, children_of}
+use Rattle.pool_codec.specs.Tops.{room_of}
 use Rattle.txg_engine.specs.declared.item.Item.{Item}
+use Rattle.txg_engine.specs.declared.seat.Numbers.{Numbers}
 use Rattle.txg_engine.specs.declared.seat.Seat.{Seat}
 use Rattle.txg_engine.specs.Boards.{seats_of}
 use Rattle.txg_engine.specs.Frozen.{FrozenGroup, KeysRise}
@@ -20,31 +20,27 @@ use Rattle.txg_engine.specs.Items.{key_of, place_of}
 use Rattle.txg_engine.specs.Logs.{AreOwing, is_off}
 use Rattle.txg_engine.specs.Refusing.{need}
 use Rattle.txg_engine.specs.Writes.{RiseFrom, block_at}
-use Rattle.txg_history.specs.Trees.{Child}
 use Rattle.pool_moves.specs.FreezeRow.{up_devs}
-use Rattle.pool_moves.specs.Leaves.{LeafSeen}
 use Rattle.pool_moves.specs.LineRows.{Frozen, RowFreezeLine}
 use Rattle.pool_moves.specs.Moves.{Move, Freeze, Widen, steps, state_step}
 use Rattle.pool_moves.specs.Refusing.{NoRoom, last_number}
-use Rattle.pool_moves.specs.States.{Sums, PoolSeen, PoolState, GroupSeen, Own, no_scan_seen}
+use Rattle.pool_moves.specs.States.{Sums, PoolState, frozen_seen}
 use Rattle.pool_moves.specs.Widening.{AreWidens, seen_along}
 use Rattle.open_pool.specs.Answering.{Answers}
-use Rattle.open_pool.specs.Form.{IsPool, all_leaves}
+use Rattle.open_pool.specs.Form.{IsPool}
 use Rattle.open_pool.specs.Freezing.{FreezeParts, FreezesParts, HasForms, group_at, freeze_says}
 use Rattle.open_pool.specs.Parts.{PoolParts, all_parts}
-use Rattle.open_pool.specs.State.{ArePinned, Stands, cells_of, is_done, group_of, leaf_of, leaves_from, leaves_under, vdevs_in, sectors_in, own_state, seen_of, state_of, sums_of}
+use Rattle.open_pool.specs.State.{ArePinned, Stands, cells_of, is_done, group_of, leaf_of, leaves_from, leaves_under, sectors_in, own_state, seen_of, state_of, sums_of}
 use Rattle.open_pool.proofs.BoardKept.{AreSameLeaves}
 use Rattle.open_pool.proofs.FreezeRefused.{idle_parts, sectors_are}
 use Rattle.open_pool.proofs.FreezeRows.{room_by}
 use Rattle.open_pool.proofs.FreezesAreRows.{dirty_keys_are}
-use Rattle.open_pool.proofs.LeavesByTops.{under_all, under_trees}
-use Rattle.open_pool.proofs.LeavesInForm.{leaves_are, in_form}
+use Rattle.open_pool.proofs.LeavesInForm.{in_form, on_leaves}
 use Rattle.open_pool.proofs.LeavesOwe.{OwesNumber, freezes_number}
 use Rattle.open_pool.proofs.LeavesStay.{owing_same}
 use Rattle.open_pool.proofs.PlacesGiven.{places_given}
 use Rattle.open_pool.proofs.StatesStand.{stands_there, by_state}
-use Rattle.open_pool.proofs.TreesBuilt.{built_sizes}
-use Rattle.open_pool.proofs.TreesStay.{AreTreesAlike, trees_alike}
+use Rattle.open_pool.proofs.TreesBuilt.{built_sizes, trees_told}
 
 -- The pool with the group that begins.
 abbrev pub begun_parts : PoolParts → FreezeParts → FrozenGroup → PoolParts
@@ -75,11 +71,6 @@ module _ (r : PoolParts) (old new : FreezeParts) (group : FrozenGroup) (f : Free
   pub same_leaves_then : AreSameLeaves (leaves_of old.trees) (leaves_of new.trees)
   same_leaves_then = owing_same (is_off (seats_of 0 old.trees)) (r.highest + 1) (leaves_of old.trees) (leaves_of new.trees) f.logs
 
-  alike : AreTreesAlike old.trees new.trees
-  alike = trees_alike old.trees new.trees f.built (built_sizes old.trees new.trees f.built)
-      (subst (λ ls. AreSameLeaves ls (under_all (leaves_under (all_parts new.trees)))) (sym (under_trees old.trees))
-      (subst (AreSameLeaves (leaves_of old.trees)) (sym (under_trees new.trees)) same_leaves_then))
-
   abbrev pub freezing : (held : List Sums) → Move
   freezing held = Freeze (cells_of group.items) (up_devs (seen_of held (idle_parts r old)).leaves)
 
@@ -89,81 +80,41 @@ module _ (r : PoolParts) (old new : FreezeParts) (group : FrozenGroup) (f : Free
       freezes_number (seen_of held (idle_parts r old)) (idle_parts r old) (begun_parts r new group) refl
       (in_form old.trees (idle_parts r old) refl pool.recordable pool.leaves) more (built_sizes old.trees new.trees f.built)
       old.trees refl (cells_of group.items) refl
-      (subst (λ ls. AreOwing (is_off (seats_of 0 old.trees)) (r.highest + 1) ls (all_leaves (begun_parts r new group)))
-      (sym (leaves_are old.trees (idle_parts r old) refl))
-      (subst (AreOwing (is_off (seats_of 0 old.trees)) (r.highest + 1) (leaves_of old.trees))
-      (sym (leaves_are new.trees (begun_parts r new group) refl)) f.logs))
+      (on_leaves (AreOwing (is_off (seats_of 0 old.trees)) (r.highest + 1)) old.trees new.trees (idle_parts r old) (begun_parts r new group)
+      refl refl f.logs)
 
-  abbrev begun_seen : (held : List Sums) → Sums → (ℕ → ℕ) → List LeafSeen → GroupSeen → PoolSeen
-  begun_seen held committed room leaves seen = record {
-    name = r.name;
-    pool = r.pool;
-    number = r.highest + 1;
-    read_number = r.read;
-    opened = r.opened;
-    committed = committed;
-    room = room;
-    leaves = leaves;
-    group = seen;
-    scan = no_scan_seen;
-    pinned = held;
-  }
-
-  abbrev group_with : ℕ → (Key → Bool) → (flushed begun : Bool) → GroupSeen
-  group_with first done flushed begun = record {
-    frozen = true;
-    first = first;
-    cells = cells_of group.items;
-    done = done;
-    flushed = flushed;
-    fresh = true;
-    begun = begun;
-  }
-
-  group_is : group_with (r.highest + 1) (λ k. false) false false ≡ group_of (Some group)
+  group_is : frozen_seen (r.highest + 1) (cells_of group.items) ≡ group_of (Some group)
   group_is =
       let b = f.begins in
-      ap (λ n. group_with n (λ k. false) false false) (ap (λ numbers. numbers.first.0) (sym b.numbers))
-      ∙ ap (λ (done : Key → Bool). group_with group.numbers.first.0 done false false)
-      (fun_ext (λ k. sym (none_done group.items group.written b.unwritten k)))
-      ∙ ap (λ flushed. group_with group.numbers.first.0 (is_done group.items group.written) flushed false) (sym b.unflushed)
-      ∙ ap (λ begun. group_with group.numbers.first.0 (is_done group.items group.written) group.flushed begun) (sym b.unbegun)
+      let first : r.highest + 1 ≡ group.numbers.first.0 = ap (λ (n : Numbers). n.first.0) (sym b.numbers) in
+      let done : (λ k. false) ≡ is_done group.items group.written =
+      fun_ext (λ k. sym (none_done group.items group.written b.unwritten k)) in
+      let flushed : false ≡ group.flushed = sym b.unflushed in
+      let begun : false ≡ group.begun = sym b.unbegun in
+      cc
 
   pub sectors_same : sectors_in (all_parts old.trees) ≡ sectors_in (all_parts new.trees)
   sectors_same = sectors_are old.trees ∙ sym f.sectors ∙ sym (sectors_are new.trees)
 
   seen_is : (held : List Sums) → seen_along (owes held).moves (seen_of held (idle_parts r old)) ≡ seen_of held (begun_parts r new group)
   seen_is held =
-      let leaves = leaves_from (seats_of 0 old.trees) 1 (leaves_under (all_parts new.trees)) in
-      (owes held).leads
-      ∙ ap (λ (committed : Sums). begun_seen held committed (room_of (sectors_in (all_parts old.trees))) leaves
-      (group_with (r.highest + 1) (λ k. false) false false))
-      (fun_ext (λ k. ap sum_in (sym (f.begins.freeze.takes.keys k))))
-      ∙ ap (λ ns. begun_seen held (sums_of new.map) (room_of ns) leaves (group_with (r.highest + 1) (λ k. false) false false)) sectors_same
-      ∙ ap (λ seats. begun_seen held (sums_of new.map) (room_of (sectors_in (all_parts new.trees)))
-      (leaves_from seats 1 (leaves_under (all_parts new.trees))) (group_with (r.highest + 1) (λ k. false) false false)) (sym f.begins.board)
-      ∙ ap (begun_seen held (sums_of new.map) (room_of (sectors_in (all_parts new.trees)))
-      (leaves_from group.board 1 (leaves_under (all_parts new.trees)))) group_is
-
-  abbrev own_with : (blocks : ℕ) → (ℕ → Option (List ℕ)) → (ℕ → Guid) → (ℕ → List Child) → Own
-  own_with blocks writes numbers children = record {
-    blocks = blocks;
-    writes = writes;
-    top_number = numbers;
-    children = children;
-    spares = r.spares;
-    next_member = r.next;
-    scrubs = false;
-  }
+      let leads = (owes held).leads in
+      let committed : sums_of old.map ≡ sums_of new.map = fun_ext (λ k. ap sum_in (sym (f.begins.freeze.takes.keys k))) in
+      let room : room_of (sectors_in (all_parts old.trees)) ≡ room_of (sectors_in (all_parts new.trees)) = ap room_of sectors_same in
+      let leaves : leaves_from (seats_of 0 old.trees) 1 (leaves_under (all_parts new.trees))
+      ≡ leaves_from group.board 1 (leaves_under (all_parts new.trees)) =
+      ap (λ seats. leaves_from seats 1 (leaves_under (all_parts new.trees))) (sym f.begins.board) in
+      let seen = group_is in
+      leads ∙ cc
 
   own_is : record (own_state (idle_parts r old)) { writes = λ a. None } ≡ own_state (begun_parts r new group)
   own_is =
-      ap (λ n. own_with n (λ a. None) (number_of (vdevs_in (all_parts old.trees))) (children_of (vdevs_in (all_parts old.trees))))
-      (sym f.begins.freeze.takes.volume.blocks)
-      ∙ ap (λ (writes : ℕ → Option (List ℕ)). own_with new.map.blocks writes (number_of (vdevs_in (all_parts old.trees)))
-      (children_of (vdevs_in (all_parts old.trees)))) (fun_ext (λ a. ap (λ ws. block_at ws a) (sym f.empty)))
-      ∙ ap (λ ns. own_with new.map.blocks (block_at new.unfrozen.writes) ns (children_of (vdevs_in (all_parts old.trees)))) (sym alike.numbers)
-      ∙ ap (own_with new.map.blocks (block_at new.unfrozen.writes) (number_of (vdevs_in (all_parts new.trees)))) (sym alike.children)
+      let blocks : old.map.blocks ≡ new.map.blocks = sym f.begins.freeze.takes.volume.blocks in
+      let writes : (λ a. None) ≡ block_at new.unfrozen.writes = fun_ext (λ a. ap (λ ws. block_at ws a) (sym f.empty)) in
+      let alike = trees_told old.trees new.trees f.built same_leaves_then in
+      let numbers = alike.numbers in
+      let children = alike.children in
+      cc
 
   steps_are : (held : List Sums) → steps (owes held).moves (state_of held (idle_parts r old)) ≡ state_of held (begun_parts r new group)
   steps_are held =

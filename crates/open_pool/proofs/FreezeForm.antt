@@ -3,12 +3,11 @@ use Rattle.std.proofs.Common.{◌≡◌, ◌⊎◌, inl, inr, ⊎_elim, ℕ, suc
 use Rattle.std.specs.Prelude.{is_some, sum}
 use Rattle.std.specs.List.{AllByRecursion}
 use Rattle.std.proofs.lemmas.List.{get_or-map, length-map}
-use Rattle.std.proofs.lemmas.List.Elements.{recursion_from_All, All-from_recursion, All-nil, All-weaker, Contains-append_cases}
+use Rattle.std.proofs.lemmas.List.Elements.{All-nil, All-weaker, Contains-append_cases}
 use Rattle.mp_base.specs.declared.place.Key.{Key}
 use Rattle.mp_base.specs.declared.place.Place.{Place}
 use Rattle.mp_base.specs.declared.place.Pointer.{Pointer}
 use Rattle.sha2.specs.Sha256.{sha256}
-use Rattle.group_set.specs.Groups.{holds}
 use Rattle.block_map.specs.Keys.{IsKey, root}
 use Rattle.block_map.specs.Map.{pointer_at, is_free, is_pinned}
 use Rattle.block_map.specs.Places.{IsPlace}
@@ -37,20 +36,19 @@ use Rattle.pool_moves.specs.Moves.{Move, Widen, step}
 use Rattle.pool_moves.specs.Refusing.{count_below}
 use Rattle.pool_moves.specs.States.{sums, PoolSeen}
 use Rattle.pool_moves.specs.Widening.{AreWidens, ranges_together, seen_along}
-use Rattle.open_pool.specs.Form.{IsPool, ArePlacesApart, HasPlaces, HasLeaves, HasBoard, HasGroup, HasOpen, IsRecordable, all_leaves, config_of, is_dirty}
+use Rattle.open_pool.specs.Form.{IsPool, ArePlacesApart, HasPlaces, HasBoard, HasGroup, HasOpen, IsRecordable, all_leaves, config_of, is_dirty}
 use Rattle.open_pool.specs.Freezing.{FreezeParts, FreezesParts, group_at}
 use Rattle.open_pool.specs.Parts.{PoolParts, all_parts}
 use Rattle.open_pool.specs.State.{cells_of, leaves_from, leaves_under, seen_of, sums_of}
 use Rattle.open_pool.proofs.BoardKept.{AreSameLeaves, board_frozen}
 use Rattle.open_pool.proofs.CountsBelow.{count_same}
-use Rattle.open_pool.proofs.FormKept.{devices_still, writable_still}
 use Rattle.open_pool.proofs.FreezeBegins.{begun_parts, freezing, owes, same_leaves_then, sectors_same}
-use Rattle.open_pool.proofs.FreezeRefused.{idle_parts, settled_still}
+use Rattle.open_pool.proofs.FreezeRefused.{idle_parts}
 use Rattle.open_pool.proofs.GroupBlocks.{has_block}
 use Rattle.open_pool.proofs.KeysFound.{found_item}
 use Rattle.open_pool.proofs.LeavesByTops.{leaves_at, by_tops, tops_from, under_all, under_trees, HaveTops, have_tops}
-use Rattle.open_pool.proofs.LeavesInForm.{leaves_are, leaves_numbered}
-use Rattle.open_pool.proofs.LeavesKept.{AreKept, owing_kept}
+use Rattle.open_pool.proofs.LeavesInForm.{leaves_are, leaves_numbered, on_leaves}
+use Rattle.open_pool.proofs.LeavesKept.{AreKept, owing_kept, leaves_kept}
 use Rattle.open_pool.proofs.LogsWidened.{IsWithin}
 use Rattle.open_pool.proofs.NumbersApart.{AreNumbered}
 use Rattle.open_pool.proofs.PlacesGiven.{are_given, behind_first, cells_apart, differ, keys_rise_on, rises_to}
@@ -164,8 +162,7 @@ module _ (r : PoolParts) (old new : FreezeParts) (group : FrozenGroup) (f : Free
   q = begun_parts r new group
 
   all_same : AreSameLeaves (all_leaves p) (all_leaves q)
-  all_same = subst (λ ls. AreSameLeaves ls (all_leaves q)) (sym (leaves_are old.trees p refl))
-      (subst (AreSameLeaves (leaves_of old.trees)) (sym (leaves_are new.trees q refl)) (same_leaves_then r old new group f pool more))
+  all_same = on_leaves AreSameLeaves old.trees new.trees p q refl refl (same_leaves_then r old new group f pool more)
 
   free_or : (place : Place) → is_free old.map place ≡ false → is_free new.map place ≡ false
   free_or place shut = ⊎_elim (λ among. f.begins.freeze.takes.taken place among)
@@ -288,23 +285,6 @@ module _ (r : PoolParts) (old new : FreezeParts) (group : FrozenGroup) (f : Free
       (subst (λ pointer. IsValid (record (config_of q (group_at (r.highest + 1)) pointer) { blocks = old.map.blocks }))
       (sym (f.begins.freeze.takes.keys root)) valid)
 
-  leaves_then : HasLeaves q
-  leaves_then =
-      let all : AreSameLeaves (all_leaves p) (all_leaves q) = all_same in
-      record {
-        within = All-from_recursion (IsWithin (r.highest + 1)) (all_leaves q) within_then;
-        apart = devices_still (all_leaves p) (all_leaves q) all pool.leaves.apart;
-        writable = writable_still (all_leaves p) (all_leaves q) all pool.leaves.writable;
-        settled = subst (All (λ leaf. (g : ℕ) → r.highest + 1 < g → holds leaf.settled g ≡ false)) (sym (leaves_are new.trees q refl))
-            (All-weaker (λ leaf. (g : ℕ) → r.highest < g → holds leaf.settled g ≡ false)
-            (λ leaf. (g : ℕ) → r.highest + 1 < g → holds leaf.settled g ≡ false) (λ leaf none g above. none g (omega (arith, above)))
-            (leaves_of new.trees)
-            (All-from_recursion (λ leaf. (g : ℕ) → r.highest < g → holds leaf.settled g ≡ false) (leaves_of new.trees)
-            (settled_still r.highest (leaves_of old.trees) (leaves_of new.trees) kept
-            (subst (AllByRecursion (λ leaf. (g : ℕ) → r.highest < g → holds leaf.settled g ≡ false)) (leaves_are old.trees p refl)
-            (recursion_from_All (λ leaf. (g : ℕ) → r.highest < g → holds leaf.settled g ≡ false) (all_leaves p) pool.leaves.settled)))));
-      }
-
   board_then : HasBoard group.board q
   board_then = subst (λ seats. HasBoard seats q) (sym f.begins.board)
       (board_frozen old.trees p q refl (built_sizes old.trees new.trees f.built) all_same
@@ -319,7 +299,7 @@ module _ (r : PoolParts) (old new : FreezeParts) (group : FrozenGroup) (f : Free
     births = λ k. subst (λ (pointer : Pointer). pointer.birth.0 ≤ r.read) (sym (f.begins.freeze.takes.keys k)) (pool.births k);
     places = places_then;
     apart = apart_then;
-    leaves = leaves_then;
+    leaves = leaves_kept p q all_same (on_leaves AreKept old.trees new.trees p q refl refl kept) within_then (omega arith) pool.leaves;
     board = board_then;
     group = group_then;
     unfrozen = open_then;

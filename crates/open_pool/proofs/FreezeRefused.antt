@@ -1,11 +1,10 @@
 -- Behind a freeze that the engine refused nothing has changed but the room in sets, so the pool stands for the same state.
-use Rattle.std.proofs.Common.{◌≡◌, ℕ, ◌<◌, ◌≤◌, ◌^◌, Bool, false, List, [], ◌∷◌, length, map, None, refl, sym, ap, ◌∙◌, subst, arith}
+use Rattle.std.proofs.Common.{◌≡◌, ℕ, ◌≤◌, ◌^◌, Bool, List, [], ◌∷◌, length, map, None, refl, sym, ap, ◌∙◌, subst, arith}
 use mathlib.Core.Path.{fun_ext}
 use Rattle.std.specs.Prelude.{All, sum, Contains}
 use Rattle.std.specs.List.{AllByRecursion, AllZip}
-use Rattle.std.proofs.lemmas.List.Elements.{recursion_from_All, All-from_recursion}
+use Rattle.std.proofs.lemmas.List.Elements.{recursion_from_All}
 use Rattle.mp_base.specs.declared.number.Group.{Group}
-use Rattle.mp_base.specs.declared.number.Guid.{Guid}
 use Rattle.group_set.specs.Groups.{holds}
 use Rattle.group_set.proofs.Upto.{upto_same}
 use Rattle.block_map.specs.Keys.{root}
@@ -14,34 +13,30 @@ use Rattle.block_map.specs.Places.{IsPlace}
 use Rattle.vdev_tree.specs.declared.top.Top.{Top}
 use Rattle.vdev_tree.specs.declared.vdev.LeafVdev.{LeafVdev}
 use Rattle.dtl_rules.specs.Widening.{leaves_of, marks_of, sectors_of}
-use Rattle.pool_codec.specs.Tops.{room_of, number_of, children_of}
+use Rattle.pool_codec.specs.Tops.{room_of}
 use Rattle.pool_config.specs.Seen.{leaf_seen, ranges_of}
 use Rattle.pool_config.specs.Validity.{log_length}
 use Rattle.txg_engine.specs.declared.freezing.FreezeFault.TheVariants as engine_fault
 use Rattle.txg_engine.specs.declared.seat.Seat.{Seat}
 use Rattle.txg_engine.specs.Logs.{KeepsSets}
 use Rattle.txg_engine.specs.Pins.{PinsSeen}
-use Rattle.txg_engine.specs.Writes.{OpenGroup, block_at}
-use Rattle.txg_history.specs.Trees.{Child}
-use Rattle.pool_moves.specs.Leaves.{LeafSeen}
-use Rattle.pool_moves.specs.States.{Sums, PoolState, no_scan_seen, no_group_seen}
+use Rattle.txg_engine.specs.Writes.{OpenGroup}
+use Rattle.pool_moves.specs.States.{Sums}
 use Rattle.open_pool.specs.Form.{IsPool, all_leaves, config_of}
 use Rattle.open_pool.specs.Freezing.{FreezeParts, RefusesParts}
 use Rattle.open_pool.specs.declared.freeze.FreezeFault.{FreezeFault}
 use Rattle.open_pool.specs.declared.freeze.FreezeFault.TheVariants as fault
 use Rattle.open_pool.specs.Parts.{PoolParts, all_parts}
-use Rattle.open_pool.specs.State.{ArePinned, Stands, state_of, leaf_of, leaves_from, leaves_under, vdevs_in, sectors_in, sums_of}
+use Rattle.open_pool.specs.State.{ArePinned, Stands, state_of, leaf_of, leaves_from, leaves_under, sectors_in}
 use Rattle.open_pool.proofs.BoardKept.{AreSameLeaves, same_keeps, board_mapped}
-use Rattle.open_pool.proofs.FormKept.{devices_still, writable_still}
-use Rattle.open_pool.proofs.LeavesByTops.{leaves_at, by_tops, tops_from, under_all, under_trees, sizes, same_tops}
-use Rattle.open_pool.proofs.LeavesInForm.{leaves_are}
-use Rattle.open_pool.proofs.LeavesKept.{AreKept, all_sets_kept}
+use Rattle.open_pool.proofs.LeavesByTops.{leaves_at, by_tops, tops_from, under_trees, sizes, same_tops}
+use Rattle.open_pool.proofs.LeavesInForm.{leaves_are, on_leaves}
+use Rattle.open_pool.proofs.LeavesKept.{AreKept, all_sets_kept, leaves_kept}
 use Rattle.open_pool.proofs.LeavesStay.{roomy_same}
 use Rattle.open_pool.proofs.LogsWidened.{IsWithin}
 use Rattle.open_pool.proofs.NumbersOwed.{within_kept}
 use Rattle.open_pool.proofs.RecordStill.{valid_still, placed_still, leaves_in}
-use Rattle.open_pool.proofs.TreesBuilt.{built_sizes}
-use Rattle.open_pool.proofs.TreesStay.{trees_alike}
+use Rattle.open_pool.proofs.TreesBuilt.{built_sizes, trees_told}
 
 -- A pool over these parts, and without a frozen group.
 abbrev pub with_parts : PoolParts → FreezeParts → PoolParts
@@ -82,43 +77,6 @@ lengths_same (x ∷ old) (y ∷ new) keeps =
     ap (λ n. n ∷ map log_length (map leaf_seen new))
     (ap length (upto_same (holds y.log) (holds x.log) (2 ^ 62) (λ g low high. keeps.0.log.groups g)))
     ∙ ap (λ ns. length (ranges_of x.log) ∷ ns) (lengths_same old new keeps.1)
-
-pub settled_still : (n : ℕ) (old new : List LeafVdev) → AreKept old new
-    → AllByRecursion (λ leaf. (g : ℕ) → n < g → holds leaf.settled g ≡ false) old
-    → AllByRecursion (λ leaf. (g : ℕ) → n < g → holds leaf.settled g ≡ false) new
-settled_still n [] [] kept none = tt
-settled_still n [] (y ∷ new) kept none = absurd kept
-settled_still n (x ∷ old) [] kept none = absurd kept
-settled_still n (x ∷ old) (y ∷ new) kept none = (
-  (λ g above. kept.0.settled g ∙ none.0 g above),
-  settled_still n old new kept.1 none.1,
-)
-
-abbrev idle_state : (held : List Sums) → PoolParts → Map → OpenGroup → (ℕ → Guid) → (ℕ → List Child) → (ℕ → ℕ) → List LeafSeen → PoolState
-idle_state held r map group numbers children room leaves = record {
-  own = record {
-    blocks = map.blocks;
-    writes = block_at group.writes;
-    top_number = numbers;
-    children = children;
-    spares = r.spares;
-    next_member = r.next;
-    scrubs = false;
-  };
-  core = record {
-    name = r.name;
-    pool = r.pool;
-    number = r.highest;
-    read_number = r.read;
-    opened = r.opened;
-    committed = sums_of map;
-    room = room;
-    leaves = leaves;
-    group = no_group_seen;
-    scan = no_scan_seen;
-    pinned = held;
-  };
-}
 
 -- Where there was no memory for the next open group nothing has changed at all.
 sets_same : (leaves : List LeafVdev) → AllZip KeepsSets leaves leaves
@@ -174,34 +132,27 @@ module _ (r : PoolParts) (old : FreezeParts) (pins : PinsSeen) (trees : List Top
 
   roomy_state : (held : List Sums) → state_of held (idle_parts r old) ≡ state_of held (idle_parts r (roomy_parts old pins trees))
   roomy_state held =
-      let alike = trees_alike old.trees trees built long
-      (subst (λ ls. AreSameLeaves ls (under_all (leaves_under (all_parts trees)))) (sym (under_trees old.trees))
-      (subst (AreSameLeaves (leaves_of old.trees)) (sym (under_trees trees)) same)) in
-      ap (λ ns. idle_state held r old.map old.unfrozen ns (children_of (vdevs_in (all_parts old.trees)))
-      (room_of (sectors_in (all_parts old.trees))) (leaves_from [] 1 (leaves_under (all_parts old.trees)))) (sym alike.numbers)
-      ∙ ap (λ cs. idle_state held r old.map old.unfrozen (number_of (vdevs_in (all_parts trees))) cs
-      (room_of (sectors_in (all_parts old.trees))) (leaves_from [] 1 (leaves_under (all_parts old.trees)))) (sym alike.children)
-      ∙ ap (λ ns. idle_state held r old.map old.unfrozen (number_of (vdevs_in (all_parts trees)))
-      (children_of (vdevs_in (all_parts trees))) (room_of ns) (leaves_from [] 1 (leaves_under (all_parts old.trees)))) (sym sectors_same)
-      ∙ ap (idle_state held r old.map old.unfrozen (number_of (vdevs_in (all_parts trees)))
-      (children_of (vdevs_in (all_parts trees))) (room_of (sectors_in (all_parts trees)))) seen_same
+      let alike = trees_told old.trees trees built same in
+      let numbers = alike.numbers in
+      let children = alike.children in
+      let room : room_of (sectors_in (all_parts trees)) ≡ room_of (sectors_in (all_parts old.trees)) = ap room_of sectors_same in
+      let seen = seen_same in
+      cc
 
   roomy_pool : IsPool (idle_parts r old) → IsPool (idle_parts r (roomy_parts old pins trees))
   roomy_pool pool =
       let p : PoolParts = idle_parts r old in
       let q : PoolParts = idle_parts r (roomy_parts old pins trees) in
-      let were = leaves_are old.trees p refl in
-      let are = leaves_are trees q refl in
       let kept = all_sets_kept (leaves_of old.trees) (leaves_of trees) leaves in
-      let all : AreSameLeaves (all_leaves p) (all_leaves q) = subst (λ ls. AreSameLeaves ls (all_leaves q)) (sym were)
-      (subst (AreSameLeaves (leaves_of old.trees)) (sym are) same) in
-      let within : AllByRecursion (IsWithin r.highest) (leaves_of trees) =
-      within_kept r.highest (leaves_of old.trees) (leaves_of trees) leaves
-      (subst (AllByRecursion (IsWithin r.highest)) were (recursion_from_All (IsWithin r.highest) (all_leaves p) pool.leaves.within)) in
+      let all = on_leaves AreSameLeaves old.trees trees p q refl refl same in
+      let within = on_leaves (λ was is. AllByRecursion (IsWithin r.highest) was → AllByRecursion (IsWithin r.highest) is)
+      old.trees trees p q refl refl (within_kept r.highest (leaves_of old.trees) (leaves_of trees) leaves)
+      (recursion_from_All (IsWithin r.highest) (all_leaves p) pool.leaves.within) in
       let c = config_of p (record { 0 = r.highest }) (pointer_at old.map root) in
       record {
         recordable = valid_still old.trees trees built sectors same kept c (record { 0 = r.highest }) (pointer_at old.map root) refl
-            pool.recordable (omega arith) pool.recordable.number.1 within
+            pool.recordable (omega arith) pool.recordable.number.1
+            (subst (AllByRecursion (IsWithin r.highest)) (leaves_are trees q refl) within)
             (subst (λ ns. sum ns ≤ 4096) (sym (lengths_same (leaves_of old.trees) (leaves_of trees) leaves))
             (subst (λ ls. sum (map log_length ls) ≤ 4096) (leaves_in old.trees trees built sectors same kept old.trees) pool.recordable.few_ranges))
             (placed_still old.trees trees (record { 0 = r.highest }) (record { 0 = r.highest }) (pointer_at old.map root) sectors (omega arith)
@@ -218,16 +169,7 @@ module _ (r : PoolParts) (old : FreezeParts) (pins : PinsSeen) (trees : List Top
           inside = subst (All (IsPlace old.map.sectors)) (sym pinned) pool.places.inside;
         };
         apart = record { committed = pool.apart.committed; frozen = pool.apart.frozen; between = pool.apart.between };
-        leaves = record {
-          within = subst (All (IsWithin r.highest)) (sym are) (All-from_recursion (IsWithin r.highest) (leaves_of trees) within);
-          apart = devices_still (all_leaves p) (all_leaves q) all pool.leaves.apart;
-          writable = writable_still (all_leaves p) (all_leaves q) all pool.leaves.writable;
-          settled = subst (All (λ leaf. (g : ℕ) → r.highest < g → holds leaf.settled g ≡ false)) (sym are)
-              (All-from_recursion (λ leaf. (g : ℕ) → r.highest < g → holds leaf.settled g ≡ false) (leaves_of trees)
-              (settled_still r.highest (leaves_of old.trees) (leaves_of trees) kept
-              (subst (AllByRecursion (λ leaf. (g : ℕ) → r.highest < g → holds leaf.settled g ≡ false)) were
-              (recursion_from_All (λ leaf. (g : ℕ) → r.highest < g → holds leaf.settled g ≡ false) (all_leaves p) pool.leaves.settled))));
-        };
+        leaves = leaves_kept p q all (on_leaves AreKept old.trees trees p q refl refl kept) within (omega arith) pool.leaves;
         board = board_mapped (λ seat. seat) same_keeps [] p q long all pool.board;
         group = tt;
         unfrozen = record {

@@ -121,6 +121,12 @@ module _ (trees : List Top) (p : PoolParts) (parts : p.tops ≡ all_parts trees)
       high = recordable.number.1;
     }
 
+-- what holds of the leaves of trees holds of those of pools with them
+pub on_leaves : (R : List LeafVdev → List LeafVdev → Type 0) (old new : List Top) (p q : PoolParts) → p.tops ≡ all_parts old
+    → q.tops ≡ all_parts new → R (leaves_of old) (leaves_of new) → R (all_leaves p) (all_leaves q)
+on_leaves R old new p q parts parts' holds =
+    subst (λ ls. R ls (all_leaves q)) (sym (leaves_are old p parts)) (subst (R (leaves_of old)) (sym (leaves_are new q parts')) holds)
+
 -- logs and what is settled there are up to the highest number
 pub leaves_below : (p : PoolParts) → HasLeaves p → AllByRecursion (IsBelow p.highest) (all_leaves p)
 leaves_below p has = recursion_from_All (IsBelow p.highest) (all_leaves p) (λ k d lt. record {

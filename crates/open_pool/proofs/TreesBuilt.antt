@@ -10,12 +10,14 @@ use Rattle.vdev_tree.specs.declared.vdev.Vdev.{Vdev}
 use Rattle.vdev_tree.specs.declared.vdev.Vdev.TheVariants.{Leaf, Inner}
 use Rattle.vdev_tree.proofs.Folds.{leaves_leaf, leaves_inner, marks_at_leaf, marks_inner}
 use Rattle.vdev_tree.proofs.Shapes.{top_is, mirror_leaves}
-use Rattle.dtl_rules.specs.Widening.{marks_of}
+use Rattle.dtl_rules.specs.Widening.{leaves_of, marks_of}
 use Rattle.pool_config.proofs.Induction.{Held, vdevs_held, of_every_vdev}
 use Rattle.open_pool.specs.Parts.{all_parts}
 use Rattle.open_pool.specs.State.{leaves_under}
 use Rattle.open_pool.proofs.BoardIsSeats.{HaveLeaves}
-use Rattle.open_pool.proofs.LeavesByTops.{sizes}
+use Rattle.open_pool.proofs.BoardKept.{AreSameLeaves}
+use Rattle.open_pool.proofs.LeavesByTops.{sizes, under_all, under_trees}
+use Rattle.open_pool.proofs.TreesStay.{AreTreesAlike, trees_alike}
 
 -- how many leaves are written
 abbrev leaf_count : List Mark → ℕ
@@ -70,6 +72,13 @@ marks_count (top ∷ tops) = ap (λ n. n ∷ map leaf_count (marks_of tops)) (le
 pub built_sizes : (old new : List Top) → marks_of new ≡ marks_of old
     → sizes (leaves_under (all_parts new)) ≡ sizes (leaves_under (all_parts old))
 built_sizes old new built = sym (marks_count new) ∙ ap (map leaf_count) built ∙ marks_count old
+
+-- so over the same leaves they are told alike
+pub trees_told : (old new : List Top) → marks_of new ≡ marks_of old → AreSameLeaves (leaves_of old) (leaves_of new) → AreTreesAlike old new
+trees_told old new built same =
+    trees_alike old new built (built_sizes old new built)
+    (subst (λ ls. AreSameLeaves ls (under_all (leaves_under (all_parts new)))) (sym (under_trees old))
+    (subst (AreSameLeaves (leaves_of old)) (sym (under_trees new)) same))
 
 member_has : (member : Member) → 1 ≤ length (member_leaves member)
 member_has (only leaf) = omega arith

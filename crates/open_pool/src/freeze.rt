@@ -53,7 +53,8 @@ impl Pool {
     /// places, in this order, or there was no memory.
     pub fn freeze(&mut self) -> Result<Group, FreezeFault>
         ensures row { (s : PoolState) → Stands self.old s
-            → Answers (RowFreezeLine pool_codec s) freeze_says result s self.new ⊎ OutOfMemory (Err FreezeFault.Memory) result s self.new }
+            → Answers (RowFreezeLine pool_codec s) freeze_says result s self.new
+            ⊎ OutOfMemory (Err FreezeFault.Memory) result s self.new }
     {
         self.keeps_its_form();
         self.map.keeps_its_form();
@@ -96,10 +97,12 @@ fn freeze_parts(
     requires few { length (leaves_of tops.old.items) ≤ 32 }
     requires low { 1 ≤ number.0 }
     requires high { number.0 + 64 ≤ 2 ^ 62 }
-    ensures ok { IfOk result (λ frozen. FreezesParts number (record { unfrozen = group.old; map = map.old; pins = pins.old; trees = tops.old.items })
+    ensures ok { IfOk result (λ frozen. FreezesParts number
+        (record { unfrozen = group.old; map = map.old; pins = pins.old; trees = tops.old.items })
         (record { unfrozen = group.new; map = map.new; pins = pins.new; trees = tops.new.items }) frozen) }
-    ensures err { IfErr result (λ fault. RefusesParts number (record { unfrozen = group.old; map = map.old; pins = pins.old; trees = tops.old.items })
-        (record { unfrozen = group.new; map = map.new; pins = pins.new; trees = tops.new.items }) fault) }
+    ensures err { IfErr result (λ why. RefusesParts number
+        (record { unfrozen = group.old; map = map.old; pins = pins.old; trees = tops.old.items })
+        (record { unfrozen = group.new; map = map.new; pins = pins.new; trees = tops.new.items }) why) }
 {
     let next = Open::new(alloc)?;
     let writes = replace(group, next);
