@@ -47,6 +47,7 @@ pub mod RecordStill
 pub mod RightPages
 pub mod RisingCounted
 pub mod SeatsOfFreeze
+pub mod SpareLeaves
 pub mod StatesStand
 pub mod TreesBuilt
 pub mod TreesStay

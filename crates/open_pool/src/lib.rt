@@ -10,6 +10,7 @@ mod named;
 mod pages;
 mod pool;
 mod space;
+mod spares;
 mod write;
 
 pub use freeze::{FreezeFault, LAST_NUMBER};
