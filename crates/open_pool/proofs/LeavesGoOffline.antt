@@ -13,12 +13,9 @@ use Rattle.txg_engine.specs.Boards.{as_taken, is_on_as, on_board}
 use Rattle.pool_moves.specs.AwayRows.{gone}
 use Rattle.pool_moves.specs.Leaves.{OwnLeaf}
 use Rattle.pool_moves.specs.Moves.{Sets, leaf_step}
+use Rattle.open_pool.specs.Offline.{IsNamedOwn}
 use Rattle.open_pool.specs.State.{faults_of, leaf_of, own_of, seat_in}
 use Rattle.open_pool.proofs.LeavesByTops.{leaves_at}
-
--- each leaf of this number is what the move says
-abbrev pub IsNamedOwn : List Seat → Guid → (temporary : Bool) → OwnLeaf → LeafVdev → Type 0
-IsNamedOwn seats m temporary own leaf = (leaf.guid.0 == m.0) ≡ true → own ≡ gone temporary (own_of seats leaf)
 
 leaf_set : (seats : List Seat) (top : ℕ) (m : Guid) (temporary : Bool) (own : OwnLeaf) (number first hi : ℕ) (leaf : LeafVdev)
     → IsNamedOwn seats m temporary own leaf

@@ -4,6 +4,7 @@ pub mod Form
 pub mod Freezing
 pub mod Here
 pub mod Naming
+pub mod Offline
 pub mod Pages
 pub mod Parts
 pub mod Space

@@ -7,6 +7,7 @@ mod form;
 mod freeze;
 mod laws;
 mod named;
+mod offline;
 mod pages;
 mod pool;
 mod space;
@@ -15,5 +16,6 @@ mod write;
 
 pub use freeze::{FreezeFault, LAST_NUMBER};
 pub use laws::freezes_are_rows;
+pub use offline::OfflineFault;
 pub use pool::Pool;
 pub use write::WriteFault;
