@@ -36,6 +36,7 @@ pub mod NumbersApart
 pub mod NumbersOwed
 pub mod OpenChanged
 pub mod OpenPlaces
+pub mod OutageRows
 pub mod PagesDirty
 pub mod PagesFormed
 pub mod PagesTurned
