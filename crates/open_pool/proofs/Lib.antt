@@ -27,6 +27,7 @@ pub mod LeavesKept
 pub mod LeavesOwe
 pub mod LeavesShown
 pub mod LeavesStay
+pub mod LeftServed
 pub mod LogsWidened
 pub mod MapsRead
 pub mod MembersAgree
