@@ -29,7 +29,7 @@ numbers_differ_from n (k ∷ ns) all = (
       (λ i d lt. all (suc i) d (omega arith)),
 )
 
-numbers_differ : (ns : List ℕ) → AllPairs (λ a b. a ≢ b) ns → Differ ns
+pub numbers_differ : (ns : List ℕ) → AllPairs (λ a b. a ≢ b) ns → Differ ns
 numbers_differ [] apart = tt
 numbers_differ (n ∷ ns) apart = (
   numbers_differ_from n ns (λ k d lt. apart 0 (suc k) d (omega arith) (omega arith)),

@@ -28,6 +28,7 @@ pub mod LeavesKept
 pub mod LeavesOwe
 pub mod LeavesShown
 pub mod LeavesStay
+pub mod LeftServed
 pub mod LogsWidened
 pub mod MapsRead
 pub mod MembersAgree
@@ -37,6 +38,7 @@ pub mod NumbersApart
 pub mod NumbersOwed
 pub mod OpenChanged
 pub mod OpenPlaces
+pub mod OutageRows
 pub mod PagesDirty
 pub mod PagesFormed
 pub mod PagesTurned
