@@ -18,11 +18,13 @@ use Rattle.open_pool.proofs.LeavesByTops.{under_all, tops_from, have_tops, all_a
 use Rattle.open_pool.proofs.NumbersApart.{AreNumbered, leaves_differ}
 use Rattle.open_pool.proofs.SeatsOfFreeze.{seats_at, tops_more, seats_of_tops, have_seats, in_order, seated_at}
 
--- the leaf has its number, its device and its state still
+-- the leaf has its number, its name, its device and its state still
 pub record IsSameLeaf (old new : LeafVdev) : Type 0 where
   pub guid : new.guid ≡ old.guid
+  pub name : new.name ≡ old.name
   pub dev : new.dev ≡ old.dev
   pub state : new.state ≡ old.state
+  pub temporary : new.temporary ≡ old.temporary
 
 abbrev pub AreSameLeaves : List LeafVdev → List LeafVdev → Type 0
 AreSameLeaves old new = AllZip IsSameLeaf old new
@@ -141,7 +143,7 @@ same_keeps = record { member = λ seat. refl; top = λ seat. refl; on = λ seat 
 
 pub same_leaves : (leaves : List LeafVdev) → AreSameLeaves leaves leaves
 same_leaves [] = tt
-same_leaves (leaf ∷ leaves) = (record { guid = refl; dev = refl; state = refl }, same_leaves leaves)
+same_leaves (leaf ∷ leaves) = (record { guid = refl; name = refl; dev = refl; state = refl; temporary = refl }, same_leaves leaves)
 
 mapped_same : (seats : List Seat) → map (λ seat. seat) seats ≡ seats
 mapped_same [] = refl

@@ -262,7 +262,16 @@ same_back : (old new : List LeafVdev) → AreSameLeaves old new → AreSameLeave
 same_back [] [] same = tt
 same_back [] (y ∷ new) same = absurd same
 same_back (x ∷ old) [] same = absurd same
-same_back (x ∷ old) (y ∷ new) same = (record { guid = sym same.0.guid; dev = sym same.0.dev; state = sym same.0.state }, same_back old new same.1)
+same_back (x ∷ old) (y ∷ new) same = (
+  record {
+    guid = sym same.0.guid;
+    name = sym same.0.name;
+    dev = sym same.0.dev;
+    state = sym same.0.state;
+    temporary = sym same.0.temporary;
+  },
+  same_back old new same.1,
+)
 
 all_found_still : (found : Guid) (m : Member) (own : OwnLeaf) (number first hi : ℕ) (all leaves : List LeafSeen)
     (ms : List Member) → found.0 ≡ m.guid.0

@@ -79,7 +79,7 @@ no_leaves : leaves_among [] ≡ []
 unfolding leaves_among
 no_leaves = refl
 
-leaves_of_trees : (tops : List Top) → leaves_among (flat_map mirror_vdevs tops) ≡ map leaf_seen (leaves_of tops)
+pub leaves_of_trees : (tops : List Top) → leaves_among (flat_map mirror_vdevs tops) ≡ map leaf_seen (leaves_of tops)
 leaves_of_trees [] = no_leaves
 leaves_of_trees (top ∷ tops) =
     leaves-append (mirror_vdevs top) (flat_map mirror_vdevs tops)

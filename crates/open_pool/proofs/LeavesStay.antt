@@ -20,7 +20,13 @@ same_twice [] (y ∷ two) three first rest = absurd first
 same_twice (x ∷ one) [] three first rest = absurd first
 same_twice (x ∷ one) (y ∷ two) [] first rest = absurd rest
 same_twice (x ∷ one) (y ∷ two) (z ∷ three) first rest = (
-  record { guid = rest.0.guid ∙ first.0.guid; dev = rest.0.dev ∙ first.0.dev; state = rest.0.state ∙ first.0.state },
+  record {
+    guid = rest.0.guid ∙ first.0.guid;
+    name = rest.0.name ∙ first.0.name;
+    dev = rest.0.dev ∙ first.0.dev;
+    state = rest.0.state ∙ first.0.state;
+    temporary = rest.0.temporary ∙ first.0.temporary;
+  },
   same_twice one two three first.1 rest.1,
 )
 
@@ -36,7 +42,9 @@ like_same_leaf : (old new : LeafVdev) → IsLikeIt old new → IsSameLeaf old ne
 like_same_leaf old new like = record {
   guid = sym (ap (λ (leaf : LeafVdev). leaf.guid) (like nothing));
   dev = sym (ap (λ (leaf : LeafVdev). leaf.dev) (like nothing));
+  name = sym (ap (λ (leaf : LeafVdev). leaf.name) (like nothing));
   state = sym (ap (λ (leaf : LeafVdev). leaf.state) (like nothing));
+  temporary = sym (ap (λ (leaf : LeafVdev). leaf.temporary) (like nothing));
 }
 
 pub like_leaves : (old new : List LeafVdev) → AreLikeThem old new → AreSameLeaves old new
@@ -75,35 +83,15 @@ are_grown_like which low high old new g = like_twice old g.grown new (grown_like
     (widenings_like g.grown new g.widened)
 
 counted_leaf : (m : Guid) (old new : LeafVdev) → new ≡ count_write m old → IsSameLeaf old new
-counted_leaf m old new is = record {
-  guid = ap (λ (leaf : LeafVdev). leaf.guid) is ∙ guid (old.guid.0 == m.0);
-  dev = ap (λ (leaf : LeafVdev). leaf.dev) is ∙ dev (old.guid.0 == m.0);
-  state = ap (λ (leaf : LeafVdev). leaf.state) is ∙ state (old.guid.0 == m.0);
-}
+counted_leaf m old new is = subst (IsSameLeaf old) (sym is) (by (old.guid.0 == m.0))
   where
-    guid : (t : Bool)
-        → (cond t (record old {
+    by : (t : Bool)
+        → IsSameLeaf old (cond t (record old {
           counts = record
               (old.counts) { writes = count_up old.counts.writes };
-        }) old).guid ≡ old.guid
-    guid true = refl
-    guid false = refl
-
-    dev : (t : Bool)
-        → (cond t (record old {
-          counts = record
-              (old.counts) { writes = count_up old.counts.writes };
-        }) old).dev ≡ old.dev
-    dev true = refl
-    dev false = refl
-
-    state : (t : Bool)
-        → (cond t (record old {
-          counts = record
-              (old.counts) { writes = count_up old.counts.writes };
-        }) old).state ≡ old.state
-    state true = refl
-    state false = refl
+        }) old)
+    by true = record { guid = refl; name = refl; dev = refl; state = refl; temporary = refl }
+    by false = record { guid = refl; name = refl; dev = refl; state = refl; temporary = refl }
 
 pub counted_same : (m : Guid) (old new : List LeafVdev) → Counted m old new → AreSameLeaves old new
 counted_same m = each_same (λ was is. is ≡ count_write m was) (counted_leaf m)
@@ -129,7 +117,9 @@ keeps_leaf : (old new : LeafVdev) → KeepsSets old new → IsSameLeaf old new
 keeps_leaf old new k = record {
   guid = ap (λ (leaf : LeafVdev). leaf.guid) (k.rest nothing nothing);
   dev = ap (λ (leaf : LeafVdev). leaf.dev) (k.rest nothing nothing);
+  name = ap (λ (leaf : LeafVdev). leaf.name) (k.rest nothing nothing);
   state = ap (λ (leaf : LeafVdev). leaf.state) (k.rest nothing nothing);
+  temporary = ap (λ (leaf : LeafVdev). leaf.temporary) (k.rest nothing nothing);
 }
 
 pub roomy_same : (old new : List LeafVdev) → AllZip KeepsSets old new → AreSameLeaves old new
@@ -146,12 +136,16 @@ pub settled_same : (old new : List LeafVdev) → AllZip IsSettled old new → Ar
 settled_same = each_same IsSettled (λ old new s. record {
   guid = ap (λ (leaf : LeafVdev). leaf.guid) (s.rest nothing);
   dev = ap (λ (leaf : LeafVdev). leaf.dev) (s.rest nothing);
+  name = ap (λ (leaf : LeafVdev). leaf.name) (s.rest nothing);
   state = ap (λ (leaf : LeafVdev). leaf.state) (s.rest nothing);
+  temporary = ap (λ (leaf : LeafVdev). leaf.temporary) (s.rest nothing);
 })
 
 pub cut_same : (first : ℕ) (old new : List LeafVdev) → AllZip (IsCut first) old new → AreSameLeaves old new
 cut_same first = each_same (IsCut first) (λ old new c. record {
   guid = ap (λ (leaf : LeafVdev). leaf.guid) (c.rest nothing nothing);
   dev = ap (λ (leaf : LeafVdev). leaf.dev) (c.rest nothing nothing);
+  name = ap (λ (leaf : LeafVdev). leaf.name) (c.rest nothing nothing);
   state = ap (λ (leaf : LeafVdev). leaf.state) (c.rest nothing nothing);
+  temporary = ap (λ (leaf : LeafVdev). leaf.temporary) (c.rest nothing nothing);
 })

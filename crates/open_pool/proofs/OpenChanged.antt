@@ -24,7 +24,7 @@ group_kept p writes dirty (Some group) has = record {
   last = has.last;
   keys = has.keys;
   pointers = has.pointers;
-  births = has.births;
+  signed = has.signed;
   ready = has.ready;
   pins_room = has.pins_room;
 }
@@ -44,6 +44,7 @@ open_changed p group dirty pool has = record {
     listed = pool.places.listed;
     inside = pool.places.inside;
   };
+  apart = record { committed = pool.apart.committed; frozen = pool.apart.frozen; between = pool.apart.between };
   leaves = record { apart = pool.leaves.apart; writable = pool.leaves.writable; settled = pool.leaves.settled; within = pool.leaves.within };
   board = record { order = pool.board.order; seated = pool.board.seated };
   group = group_kept p group dirty p.frozen pool.group;

@@ -1,5 +1,5 @@
 -- What holds of each open pool between two lines.
-use Rattle.std.specs.Prelude.{◌≡◌, ℕ, suc, ◌+◌, ◌≤◌, ◌<◌, ◌⊎◌, ◌||◌, Bool, true, false, List, [], ◌∷◌, length, map, All, AllPairs, Contains, Option, Some, None, is_some, IfSome}
+use Rattle.std.specs.Prelude.{◌≡◌, ℕ, suc, ◌+◌, ◌≤◌, ◌<◌, ◌⊎◌, ◌||◌, Bool, true, false, List, [], ◌∷◌, length, map, All, AllPairs, Contains, Some, is_some, IfSome}
 use Rattle.std.specs.List.{filter_map, flat_map}
 use Rattle.mp_base.specs.declared.number.Group.{Group}
 use Rattle.mp_base.specs.declared.place.Key.{Key}
@@ -14,9 +14,10 @@ use Rattle.block_map.specs.Places.{IsPlace}
 use Rattle.block_map.specs.Pointers.{IsPointer}
 use Rattle.pool_config.specs.Seen.{ConfigSeen, TopSeen}
 use Rattle.pool_config.specs.Validity.{IsValid}
-use Rattle.txg_history.specs.Records.{key}
-use Rattle.txg_engine.specs.declared.item.Item.{Item}
+use Rattle.txg_history.specs.Pages.{Sum}
+use Rattle.txg_history.specs.Records.{Cell, AreAtOne, key}
 use Rattle.txg_engine.specs.declared.seat.Seat.{Seat}
+use Rattle.txg_engine.specs.Freezing.{IsSigned}
 use Rattle.txg_engine.specs.Frozen.{FrozenGroup}
 use Rattle.txg_engine.specs.Logs.{IsReady}
 use Rattle.txg_engine.specs.Writes.{is_written}
@@ -60,6 +61,12 @@ pub record HasPlaces (p : PoolParts) : Type 0 where
   pub listed : (place : Place) → is_pinned p.map place ≡ true → Contains p.pins.places place
   pub inside : All (IsPlace p.map.sectors) p.pins.places
 
+-- No two keys have one place, neither of the record that the pool reads nor of the frozen group.
+pub record ArePlacesApart (p : PoolParts) : Type 0 where
+  pub committed : (j k : Key) (a b : Sum) → sums_of p.map j ≡ Some a → sums_of p.map k ≡ Some b → a.top ≡ b.top → a.sector ≡ b.sector → j ≡ k
+  pub frozen : (j k : Key) (a b : Cell) → cells_in p.frozen j ≡ Some a → cells_in p.frozen k ≡ Some b → AreAtOne a b → j ≡ k
+  pub between : (top sector : ℕ) → IsAtPlace (sums_of p.map) top sector → IsAtPlace (sums (cells_in p.frozen)) top sector → ⊥
+
 -- A leaf's seat is under its top, and while it is on the board the leaf is readable, on the seat's device.
 pub record IsSeatOf (top : ℕ) (leaf : LeafVdev) (seat : Seat) : Type 0 where
   pub top_is : suc seat.top ≡ top
@@ -87,15 +94,15 @@ pub record HasLeaves (p : PoolParts) : Type 0 where
   pub writable : All (λ leaf. is_readable leaf ≡ true → is_some leaf.dev ≡ true) (all_leaves p)
   pub settled : All (λ leaf. (g : ℕ) → p.highest < g → holds leaf.settled g ≡ false) (all_leaves p)
 
--- A frozen group: no round of it was acknowledged, its numbers are the highest drawn, its keys are the volume's, at places of the tops, and were born in its first
--- number; each leaf has the room for what its turns put into logs, and there is room to pin its places.
+-- A frozen group: no round of it was acknowledged, its numbers are the highest drawn, its keys are the volume's, at places of the tops, were born in its
+-- first number, and have the sums of their blocks; each leaf has the room for what its turns put into logs, and there is room to pin its places.
 pub record HasGroup (p : PoolParts) (group : FrozenGroup) : Type 0 where
   pub unacked : group.acked ≡ false
   pub after : p.read < group.numbers.first.0
   pub last : group.numbers.last.0 ≡ p.highest
   pub keys : All (λ item. IsKey p.map.blocks item.key) group.items
   pub pointers : All (λ item. IsPointer p.map.sectors item.pointer) group.items
-  pub births : All (λ item. item.pointer.birth ≡ group.numbers.first) group.items
+  pub signed : All (IsSigned group.numbers.first.0) group.items
   pub ready : All (IsReady group.board group.numbers.last.0) (all_leaves p)
   pub pins_room : length p.pins.places + length group.items ≤ p.pins.room
 
@@ -118,6 +125,7 @@ pub record IsPool (p : PoolParts) : Type 0 where
   pub read : p.read ≤ p.highest
   pub births : (k : Key) → (pointer_at p.map k).birth.0 ≤ p.read
   pub places : HasPlaces p
+  pub apart : ArePlacesApart p
   pub leaves : HasLeaves p
   pub board : HasBoard (seats_in p.frozen) p
   pub group : IfSome p.frozen (HasGroup p)

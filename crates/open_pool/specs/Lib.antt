@@ -1,7 +1,9 @@
 pub mod Answering
+pub mod Committing
 pub mod Copies
 pub mod Form
 pub mod Freezing
+pub mod Here
 pub mod Parts
 pub mod Space
 pub mod State

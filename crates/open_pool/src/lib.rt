@@ -7,8 +7,10 @@ mod form;
 mod laws;
 mod pool;
 mod space;
+mod turn;
 mod write;
 
 pub use laws::freezes_are_rows;
 pub use pool::Pool;
+pub use turn::TurnDone;
 pub use write::WriteFault;
