@@ -31,10 +31,10 @@ pub index_of_page : (level a : ℕ) → (page_above level a).index ≡ a / 64 ^ 
 unfolding page_above
 index_of_page level a = refl
 
-first_of : {A : Type 0} (x : A) (xs : List A) → Contains (x ∷ xs) x
+pub first_of : {A : Type 0} (x : A) (xs : List A) → Contains (x ∷ xs) x
 first_of x xs = Contains-append_left (x ∷ []) xs x (Contains-push [] x)
 
-mapped : {A B : Type 0} (f : A → B) (xs : List A) (x : A) → Contains xs x → Contains (map f xs) (f x)
+pub mapped : {A B : Type 0} (f : A → B) (xs : List A) (x : A) → Contains xs x → Contains (map f xs) (f x)
 mapped f [] x among = absurd (omega (arith, among.1))
 mapped f (y ∷ xs) x among =
     ⊎_elim (λ one. subst (λ z. Contains (f y ∷ map f xs) (f z)) (sym (only_one y x one)) (first_of (f y) (map f xs)))
@@ -47,7 +47,7 @@ pub record IsMapped {A B : Type 0} (f : A → B) (xs : List A) (y : B) : Type 0 
   pub among : Contains xs from
   pub is : y ≡ f from
 
-of_mapped : {A B : Type 0} (f : A → B) (xs : List A) (y : B) → Contains (map f xs) y → IsMapped f xs y
+pub of_mapped : {A B : Type 0} (f : A → B) (xs : List A) (y : B) → Contains (map f xs) y → IsMapped f xs y
 of_mapped f [] y among = absurd (omega (arith, among.1))
 of_mapped f (x ∷ xs) y among =
     ⊎_elim (λ one. record { from = x; among = first_of x xs; is = only_one (f x) y one })

@@ -345,7 +345,7 @@ pub record AllLeft (s : PoolSeen) (ws : List Seat) (was : List LeafVdev) (seats 
   pub leads : seen_along leaving s ≡ record s { leaves = halves_at ws was (behind_turn ms done seats) tops new }
   pub fit : IsFit s.number new
 
-seen_more : (vs ws : List Move) (s : PoolSeen) → seen_along (vs ++ ws) s ≡ seen_along ws (seen_along vs s)
+pub seen_more : (vs ws : List Move) (s : PoolSeen) → seen_along (vs ++ ws) s ≡ seen_along ws (seen_along vs s)
 seen_more [] ws s = refl
 seen_more (v ∷ vs) ws s = seen_more vs ws (step v s)
 

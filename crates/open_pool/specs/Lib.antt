@@ -1,4 +1,5 @@
 pub mod Answering
+pub mod Committing
 pub mod Copies
 pub mod Form
 pub mod Freezing

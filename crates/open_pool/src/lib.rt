@@ -12,10 +12,12 @@ mod pages;
 mod pool;
 mod space;
 mod spares;
+mod turn;
 mod write;
 
 pub use freeze::{FreezeFault, LAST_NUMBER};
 pub use laws::freezes_are_rows;
 pub use offline::OfflineFault;
 pub use pool::Pool;
+pub use turn::TurnDone;
 pub use write::WriteFault;
