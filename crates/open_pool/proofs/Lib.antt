@@ -1,5 +1,6 @@
 pub mod BoardIsSeats
 pub mod BoardKept
+pub mod BoardLeft
 pub mod CopiesOfTops
 pub mod CopiesOnDevices
 pub mod CountsBelow

@@ -147,7 +147,7 @@ same_guids (x ∷ old) [] same = absurd same
 same_guids (x ∷ old) (y ∷ new) same = ap (λ m. m ∷ leaf_guids new) same.0.guid
     ∙ ap (λ ms. x.guid ∷ ms) (same_guids old new same.1)
 
-front_same : (xs ys xs' ys' : List LeafVdev) → length ys ≡ length xs → AreSameLeaves (xs ++ xs') (ys ++ ys')
+pub front_same : (xs ys xs' ys' : List LeafVdev) → length ys ≡ length xs → AreSameLeaves (xs ++ xs') (ys ++ ys')
     → AreSameLeaves xs ys × AreSameLeaves xs' ys'
 front_same [] [] xs' ys' long same = (tt, same)
 front_same [] (y ∷ ys) xs' ys' long same = absurd (omega (arith, long))
@@ -155,10 +155,10 @@ front_same (x ∷ xs) [] xs' ys' long same = absurd (omega (arith, long))
 front_same (x ∷ xs) (y ∷ ys) xs' ys' long same = let rest = front_same xs ys xs' ys' (omega (arith, long)) same.1 in
     ((same.0, rest.0), rest.1)
 
-head_same : (a b : ℕ) (xs ys : List ℕ) → a ∷ xs ≡ b ∷ ys → a ≡ b
+pub head_same : (a b : ℕ) (xs ys : List ℕ) → a ∷ xs ≡ b ∷ ys → a ≡ b
 head_same a b xs ys e = cc
 
-tail_same : (a b : ℕ) (xs ys : List ℕ) → a ∷ xs ≡ b ∷ ys → xs ≡ ys
+pub tail_same : (a b : ℕ) (xs ys : List ℕ) → a ∷ xs ≡ b ∷ ys → xs ≡ ys
 tail_same a b xs ys e = cc
 
 head_marks : (a b : List Mark) (xs ys : List (List Mark)) → a ∷ xs ≡ b ∷ ys → a ≡ b

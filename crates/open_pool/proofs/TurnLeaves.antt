@@ -36,7 +36,7 @@ pub record AreInForm (p : PoolParts) : Type 0 where
   pub few : length (all_leaves p) ≤ 128
   pub high : p.highest ≤ 2 ^ 62
 
-three_of : (tops : List ℕ) (leaves : List LeafVdev) → HaveTops tops leaves → AreThree tops leaves leaves
+pub three_of : (tops : List ℕ) (leaves : List LeafVdev) → HaveTops tops leaves → AreThree tops leaves leaves
 three_of [] [] have = tt
 three_of [] (leaf ∷ leaves) have = absurd have
 three_of (top ∷ tops) [] have = absurd have

@@ -1,5 +1,5 @@
 -- Leaves that are taken offline.
-use Rattle.std.specs.Prelude.{◌≡◌, ℕ, ◌==◌, Bool, true, List, ◌∷◌, [], Some, Contains, IfSome, Option, Result, Ok, Err}
+use Rattle.std.specs.Prelude.{◌≡◌, ℕ, ◌==◌, Bool, true, List, ◌∷◌, [], map, Some, Contains, IfSome, Option, Result, Ok, Err}
 use Rattle.std.specs.List.{AllByRecursion, AllZip}
 use Rattle.mp_base.specs.declared.number.Group.{Group}
 use Rattle.mp_base.specs.declared.number.Guid.{Guid}
@@ -14,7 +14,7 @@ use Rattle.pool_moves.specs.States.{PoolState}
 use Rattle.open_pool.specs.declared.offline.OfflineFault.{OfflineFault}
 use Rattle.open_pool.specs.declared.offline.OfflineFault.TheVariants as fault
 use Rattle.open_pool.specs.Form.{all_leaves}
-use Rattle.open_pool.specs.Parts.{PoolParts}
+use Rattle.open_pool.specs.Parts.{TopParts, PoolParts}
 use Rattle.open_pool.specs.State.{Stands, own_of, seats_in}
 
 abbrev pub offline_says : rows.OfflineReply → Result (Unit {0}) OfflineFault
@@ -28,6 +28,10 @@ pub record IsStillIt (was is : List Seat) (old new : LeafVdev) : Type 0 where
   pub guid : new.guid ≡ old.guid
   pub dev : new.dev ≡ old.dev
   pub own : own_of is new ≡ own_of was old
+
+-- the numbers of the leaves under each top
+abbrev pub numbers_under : List TopParts → List (List Guid)
+numbers_under tops = map (λ top. map (λ leaf. leaf.guid) top.leaves) tops
 
 -- The leaf of this number leaves the board, where it is on it: by the row's moves.
 pub record LeavesBoard (at : Guid) (old : PoolParts) (s : PoolState) (new : PoolParts) : Type 0 where

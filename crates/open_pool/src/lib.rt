@@ -10,6 +10,7 @@ mod named;
 mod offline;
 mod pages;
 mod pool;
+mod scratch;
 mod space;
 mod spares;
 mod turn;

@@ -7,7 +7,7 @@ ghost use Rattle.pool_moves.specs.Leaves.{OwnLeaf};
 ghost use Rattle.pool_moves.specs.Moves.{Sets, steps};
 ghost use Rattle.pool_moves.specs.States.{PoolState};
 ghost use Rattle.open_pool.specs.Form.{all_leaves};
-ghost use Rattle.open_pool.specs.Offline.{IsNamedOwn, IsStillIt, LeavesBoard, offline_says};
+ghost use Rattle.open_pool.specs.Offline.{IsNamedOwn, IsStillIt, LeavesBoard, numbers_under, offline_says};
 ghost use Rattle.open_pool.specs.Parts.{TopParts};
 
 use crate::Pool;
@@ -72,9 +72,10 @@ impl Pool {
         ensures left { (s : PoolState) → Stands self.old s → LeavesBoard at self.old s self.new }
         ensures off { on_board (seats_in self.new.frozen) at ≡ false }
         ensures still { AllZip (IsStillIt (seats_in self.old.frozen) (seats_in self.new.frozen)) (all_leaves self.old) (all_leaves self.new) }
-        ensures tops { map (λ (top : TopParts). length top.leaves) self.new.tops ≡ map (λ (top : TopParts). length top.leaves) self.old.tops }
+        ensures tops { numbers_under self.new.tops ≡ numbers_under self.old.tops }
     {
         if let Some(frozen) = &mut self.frozen {
+            frozen.keeps_its_form();
             frozen.leave(&mut self.tops, at);
         }
     }
