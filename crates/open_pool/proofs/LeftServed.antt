@@ -166,7 +166,7 @@ module _ (board : List Seat) (last top : ℕ) (own : AreOwn board board) where
 
 -- ---- of a pool's trees
 
-seated_at : (seats : List Seat) (first n : ℕ) (tops : List (List LeafVdev)) (under : List LeafVdev) → slice_get tops n ≡ Some under
+pub seated_at : (seats : List Seat) (first n : ℕ) (tops : List (List LeafVdev)) (under : List LeafVdev) → slice_get tops n ≡ Some under
     → AreSeated seats first tops → All (IsSeated seats (first + n)) under
 seated_at seats first n [] under at seated = absurd (let no : None ≡ Some under = at in cc)
 seated_at seats first zero (us ∷ tops) under at seated =

@@ -41,6 +41,7 @@ pub mod NeedCounted
 pub mod NumbersApart
 pub mod NumbersOwed
 pub mod NumbersTold
+pub mod OfflineRows
 pub mod OpenChanged
 pub mod OpenPlaces
 pub mod OutageRows

@@ -10,7 +10,6 @@ mod named;
 mod offline;
 mod pages;
 mod pool;
-mod scratch;
 mod space;
 mod spares;
 mod turn;

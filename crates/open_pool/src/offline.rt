@@ -1,8 +1,9 @@
 //! Leaves that are taken offline by a line.
-ghost use Rattle.std.specs.Prelude.{◌≡◌, ◌==◌, ◌∷◌, [], ◌<◌, true, false, map, Some, length, IfSome, slice_get};
+ghost use Rattle.std.specs.Prelude.{◌≡◌, ◌==◌, ◌∷◌, [], ◌<◌, true, false, map, Some, Err, length, IfSome, slice_get};
 ghost use Rattle.std.specs.List.{list_any, AllByRecursion, AllZip};
+ghost use Rattle.std.specs.Str.{bytes_eq};
 ghost use Rattle.txg_engine.specs.Boards.{AreServed, as_taken, on_board, without};
-ghost use Rattle.pool_moves.specs.AwayRows.{RowOffline};
+ghost use Rattle.pool_moves.specs.AwayRows.{RowOffline, is_offline, unnamed};
 ghost use Rattle.pool_moves.specs.Leaves.{OwnLeaf};
 ghost use Rattle.pool_moves.specs.Moves.{Sets, steps};
 ghost use Rattle.pool_moves.specs.States.{PoolState};
@@ -46,18 +47,22 @@ impl Pool {
             let rule = PlaceRule::Spare;
             return Err(OfflineFault::Misplaced { rule });
         }
-        if found.state != State::Offline {
-            if let Some(group) = required(top, found.guid) {
-                return Err(OfflineFault::Required { group });
-            }
-            self.leave_board(found.guid);
+        if is_offline(found.state) {
+            self.set_offline(found.top, found.guid, temporary);
+            return Ok(());
         }
+        if let Some(group) = required(top, found.guid) {
+            return Err(OfflineFault::Required { group });
+        }
+        self.leave_board(found.guid);
         self.set_offline(found.top, found.guid, temporary);
         Ok(())
     }
 
     // Why a name that is no leaf's is refused.
-    fn why_unnamed(&self, name: &Name) -> OfflineFault {
+    fn why_unnamed(&self, name: &Name) -> OfflineFault
+        ensures { offline_says (unnamed (list_any (λ spare. bytes_eq spare name.now) self.now.spares)) ≡ Err result }
+    {
         if is_listed(&self.spares, name) {
             let rule = PlaceRule::Spare;
             return OfflineFault::Misplaced { rule };
@@ -90,4 +95,10 @@ impl Pool {
     {
         self.tops[top].set_state(at, State::Offline, temporary);
     }
+}
+
+fn is_offline(state: State) -> bool
+    ensures { result ≡ is_offline state }
+{
+    matches!(state, State::Offline)
 }
