@@ -154,7 +154,7 @@ module _ (r : PoolParts) (old : FreezeParts) (pins : PinsSeen) (trees : List Top
             pool.recordable (omega arith) pool.recordable.number.1
             (subst (AllByRecursion (IsWithin r.highest)) (leaves_are trees q refl) within)
             (subst (λ ns. sum ns ≤ 4096) (sym (lengths_same (leaves_of old.trees) (leaves_of trees) leaves))
-            (subst (λ ls. sum (map log_length ls) ≤ 4096) (leaves_in old.trees trees built sectors same kept old.trees) pool.recordable.few_ranges))
+            (subst (λ ls. sum (map log_length ls) ≤ 4096) (leaves_in old.trees) pool.recordable.few_ranges))
             (placed_still old.trees trees (record { 0 = r.highest }) (record { 0 = r.highest }) (pointer_at old.map root) sectors (omega arith)
             pool.recordable.root);
         tops = pool.tops ∙ sym sectors_same;

@@ -58,6 +58,7 @@ pub mod RecordStill
 pub mod RightPages
 pub mod RisingCounted
 pub mod SeatsOfFreeze
+pub mod SetsOffline
 pub mod SpareLeaves
 pub mod StatesStand
 pub mod TreesBuilt

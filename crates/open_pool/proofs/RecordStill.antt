@@ -1,7 +1,7 @@
 -- What may be recorded of a pool may be so with other logs, within its numbers, and under a higher number.
 use Rattle.std.proofs.Common.{◌≡◌, ◌≢◌, ◌⊎◌, inl, inr, ℕ, zero, suc, ◌+◌, ◌-◌, ◌<◌, ◌≤◌, ◌^◌, true, List, [], ◌∷◌, length, map, Some, None, refl, sym, ap, ◌∙◌, subst, arith}
 use Rattle.std.specs.Prelude.{IsTrue, All, AllPairs, slice_get, sum}
-use Rattle.std.specs.List.{AllByRecursion, flat_map}
+use Rattle.std.specs.List.{AllByRecursion, AllZip, flat_map}
 use Rattle.std.proofs.lemmas.Bool.{false_from_ne_true}
 use Rattle.std.proofs.lemmas.List.{length-map}
 use Rattle.std.proofs.lemmas.List.Elements.{recursion_from_All, All-from_recursion}
@@ -15,7 +15,7 @@ use Rattle.group_set.proofs.Upto.{upto_rises, upto_further}
 use Rattle.vdev_tree.specs.declared.top.Top.{Top}
 use Rattle.vdev_tree.specs.declared.vdev.LeafVdev.{LeafVdev}
 use Rattle.dtl_rules.specs.Widening.{leaves_of, marks_of, sectors_of}
-use Rattle.pool_config.specs.Flags.{is_recorded}
+use Rattle.pool_config.specs.Flags.{is_recorded, recorded}
 use Rattle.pool_config.specs.Seen.{TopSeen, ConfigSeen, leaf_seen, leaf_name, leaves_among, number_of_vdev, all_vdevs, mirror_vdevs, ranges_of}
 use Rattle.pool_config.specs.Validity.{IsHole, IsPlaced, IsIn, IsTop, IsLeaf, IsDrawn, IsValid, log_length}
 use Rattle.pool_config.proofs.Bounds.{sum_cons}
@@ -26,6 +26,7 @@ use Rattle.open_pool.proofs.BoardKept.{AreSameLeaves}
 use Rattle.open_pool.proofs.LeavesInForm.{vdevs_of_trees, leaves_of_trees}
 use Rattle.open_pool.proofs.LeavesKept.{AreKept}
 use Rattle.open_pool.proofs.LogsWidened.{IsWithin}
+use Rattle.open_pool.proofs.TreesStay.{AreNumberedAlike, numbered_alike}
 use Rattle.open_pool.proofs.VdevNumbers.{same_vdev_numbers}
 
 abbrev pub seen_tops : List Top → List TopSeen
@@ -97,7 +98,24 @@ ranges_at number leaf high within =
     ∙ upto_further (holds leaf.log) number (2 ^ 62 - number)
     (λ g above. false_from_ne_true (holds leaf.log g) (λ has. let low = (within g has).1 in omega (arith, above, low)))
 
-leaves_still : (low high : Group) (old new : List LeafVdev) → high.0 ≤ 2 ^ 62 → AreKept old new
+-- A leaf has its name still, and its state may be recorded where it could be before.
+pub record IsRecordedStill (old new : LeafVdev) : Type 0 where
+  pub name : new.name ≡ old.name
+  pub state : is_recorded (recorded old.state old.temporary) ≡ true → is_recorded (recorded new.state new.temporary) ≡ true
+
+abbrev pub AreRecordedStill : List LeafVdev → List LeafVdev → Type 0
+AreRecordedStill old new = AllZip IsRecordedStill old new
+
+kept_recorded : (old new : List LeafVdev) → AreKept old new → AreRecordedStill old new
+kept_recorded [] [] kept = tt
+kept_recorded [] (y ∷ new) kept = absurd kept
+kept_recorded (x ∷ old) [] kept = absurd kept
+kept_recorded (x ∷ old) (y ∷ new) kept = (
+  record { name = kept.0.name; state = subst (λ state. is_recorded state ≡ true) (sym kept.0.state) },
+  kept_recorded old new kept.1,
+)
+
+leaves_still : (low high : Group) (old new : List LeafVdev) → high.0 ≤ 2 ^ 62 → AreRecordedStill old new
     → AllByRecursion (IsWithin high.0) new → sum (map log_length (map leaf_seen new)) ≤ 4096
     → AllByRecursion (IsLeaf low) (map leaf_seen old) → AllByRecursion (IsLeaf high) (map leaf_seen new)
 leaves_still low high [] [] most kept within few are = tt
@@ -107,26 +125,26 @@ leaves_still low high (x ∷ old) (y ∷ new) most kept within few are =
     let all = sum_cons (length (ranges_of y.log)) (map log_length (map leaf_seen new)) in (
       record {
         name = subst (λ name. IsTrue (is_name name)) (sym kept.0.name) are.0.name;
-        state = subst (λ state. is_recorded state ≡ true) (sym kept.0.state) are.0.state;
+        state = kept.0.state are.0.state;
         few = omega (arith, all, few);
         log = subst (Rises 1 high.0) (sym (ranges_at high.0 y most within.0)) (upto_rises (holds y.log) high.0);
       },
       leaves_still low high old new most kept.1 within.1 (omega (arith, all, few)) are.1,
     )
 
-names_still : (old new : List LeafVdev) → AreKept old new → map leaf_name (map leaf_seen new) ≡ map leaf_name (map leaf_seen old)
+names_still : (old new : List LeafVdev) → AreRecordedStill old new → map leaf_name (map leaf_seen new) ≡ map leaf_name (map leaf_seen old)
 names_still [] [] kept = refl
 names_still [] (y ∷ new) kept = absurd kept
 names_still (x ∷ old) [] kept = absurd kept
 names_still (x ∷ old) (y ∷ new) kept =
     ap (λ n. n ∷ map leaf_name (map leaf_seen new)) kept.0.name ∙ ap (λ ns. x.name ∷ ns) (names_still old new kept.1)
 
+pub leaves_in : (trees : List Top) → leaves_among (flat_map (λ (top : TopSeen). top.vdevs) (seen_tops trees)) ≡ map leaf_seen (leaves_of trees)
+leaves_in trees = ap leaves_among (vdevs_of_trees trees) ∙ leaves_of_trees trees
+
 -- The whole.
 module _ (old new : List Top) (built : marks_of new ≡ marks_of old) (sectors : sectors_of new ≡ sectors_of old)
-    (same : AreSameLeaves (leaves_of old) (leaves_of new)) (kept : AreKept (leaves_of old) (leaves_of new)) where
-  pub leaves_in : (trees : List Top) → leaves_among (flat_map (λ (top : TopSeen). top.vdevs) (seen_tops trees)) ≡ map leaf_seen (leaves_of trees)
-  leaves_in trees = ap leaves_among (vdevs_of_trees trees) ∙ leaves_of_trees trees
-
+    (same : AreNumberedAlike (leaves_of old) (leaves_of new)) (kept : AreRecordedStill (leaves_of old) (leaves_of new)) where
   numbers_in : (trees : List Top) → map number_of_vdev (flat_map (λ (top : TopSeen). top.vdevs) (seen_tops trees))
       ≡ map number_of_vdev (flat_map mirror_vdevs trees)
   numbers_in trees = ap (map number_of_vdev) (vdevs_of_trees trees)
@@ -139,11 +157,11 @@ module _ (old new : List Top) (built : marks_of new ≡ marks_of old) (sectors :
   long [] = refl
   long (t ∷ trees) = ap suc (long trees)
 
-  pub valid_still : (c : ConfigSeen) (number : Group) (root : Pointer) → c.tops ≡ seen_tops old → IsValid c
+  pub recorded_still : (c : ConfigSeen) (number : Group) (root : Pointer) → c.tops ≡ seen_tops old → IsValid c
       → c.number.0 ≤ number.0 → number.0 ≤ 2 ^ 62 → AllByRecursion (IsWithin number.0) (leaves_of new)
       → sum (map log_length (map leaf_seen (leaves_of new))) ≤ 4096 → IsHole root ⊎ IsPlaced number (seen_tops new) root
       → IsValid (record c { number = number; root = root; tops = seen_tops new })
-  valid_still c number root tops valid later most within few placed =
+  recorded_still c number root tops valid later most within few placed =
       let was : leaves_among (all_vdevs c) ≡ map leaf_seen (leaves_of old) =
       ap (λ ts. leaves_among (flat_map (λ (top : TopSeen). top.vdevs) ts)) tops ∙ leaves_in old in
       let numbers : map number_of_vdev (all_vdevs c) ≡ map number_of_vdev (flat_map (λ (top : TopSeen). top.vdevs) (seen_tops new)) =
@@ -178,3 +196,13 @@ module _ (old new : List Top) (built : marks_of new ≡ marks_of old) (sectors :
         spares = valid.spares;
         spares_differ = valid.spares_differ;
       }
+
+-- so where the leaves are the same but for their logs
+pub valid_still : (old new : List Top) → marks_of new ≡ marks_of old → sectors_of new ≡ sectors_of old
+    → AreSameLeaves (leaves_of old) (leaves_of new) → AreKept (leaves_of old) (leaves_of new)
+    → (c : ConfigSeen) (number : Group) (root : Pointer) → c.tops ≡ seen_tops old → IsValid c
+    → c.number.0 ≤ number.0 → number.0 ≤ 2 ^ 62 → AllByRecursion (IsWithin number.0) (leaves_of new)
+    → sum (map log_length (map leaf_seen (leaves_of new))) ≤ 4096 → IsHole root ⊎ IsPlaced number (seen_tops new) root
+    → IsValid (record c { number = number; root = root; tops = seen_tops new })
+valid_still old new built sectors same kept = recorded_still old new built sectors
+    (numbered_alike (leaves_of old) (leaves_of new) same) (kept_recorded (leaves_of old) (leaves_of new) kept)

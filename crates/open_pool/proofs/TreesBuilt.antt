@@ -17,7 +17,7 @@ use Rattle.open_pool.specs.State.{leaves_under}
 use Rattle.open_pool.proofs.BoardIsSeats.{HaveLeaves}
 use Rattle.open_pool.proofs.BoardKept.{AreSameLeaves}
 use Rattle.open_pool.proofs.LeavesByTops.{sizes, under_all, under_trees}
-use Rattle.open_pool.proofs.TreesStay.{AreTreesAlike, trees_alike}
+use Rattle.open_pool.proofs.TreesStay.{AreNumberedAlike, AreTreesAlike, numbered_alike, trees_alike}
 
 -- how many leaves are written
 abbrev leaf_count : List Mark → ℕ
@@ -73,12 +73,15 @@ pub built_sizes : (old new : List Top) → marks_of new ≡ marks_of old
     → sizes (leaves_under (all_parts new)) ≡ sizes (leaves_under (all_parts old))
 built_sizes old new built = sym (marks_count new) ∙ ap (map leaf_count) built ∙ marks_count old
 
--- so over the same leaves they are told alike
-pub trees_told : (old new : List Top) → marks_of new ≡ marks_of old → AreSameLeaves (leaves_of old) (leaves_of new) → AreTreesAlike old new
-trees_told old new built same =
+-- so over leaves of the same numbers they are told alike
+pub numbers_told : (old new : List Top) → marks_of new ≡ marks_of old → AreNumberedAlike (leaves_of old) (leaves_of new) → AreTreesAlike old new
+numbers_told old new built same =
     trees_alike old new built (built_sizes old new built)
-    (subst (λ ls. AreSameLeaves ls (under_all (leaves_under (all_parts new)))) (sym (under_trees old))
-    (subst (AreSameLeaves (leaves_of old)) (sym (under_trees new)) same))
+    (subst (λ ls. AreNumberedAlike ls (under_all (leaves_under (all_parts new)))) (sym (under_trees old))
+    (subst (AreNumberedAlike (leaves_of old)) (sym (under_trees new)) same))
+
+pub trees_told : (old new : List Top) → marks_of new ≡ marks_of old → AreSameLeaves (leaves_of old) (leaves_of new) → AreTreesAlike old new
+trees_told old new built same = numbers_told old new built (numbered_alike (leaves_of old) (leaves_of new) same)
 
 member_has : (member : Member) → 1 ≤ length (member_leaves member)
 member_has (only leaf) = omega arith

@@ -1,7 +1,7 @@
 -- Trees that are built alike over leaves of the same numbers are told alike: their numbers, and their mirrors' children.
 use Rattle.std.proofs.Common.{◌≡◌, ℕ, zero, suc, List, [], ◌∷◌, ◌++◌, length, map, drop, refl, sym, ap, ◌∙◌, arith, append_assoc}
 use Rattle.std.proofs.Math.Path.{fun_ext}
-use Rattle.std.specs.List.{flat_map}
+use Rattle.std.specs.List.{flat_map, AllZip}
 use Rattle.std.proofs.lemmas.List.{append-nil, length-map, map-append, take_at, drop_at}
 use Rattle.mp_base.specs.declared.number.Guid.{Guid}
 use Rattle.vdev_tree.specs.declared.vdev.Kind.{Kind}
@@ -26,6 +26,16 @@ use Rattle.open_pool.proofs.LeavesByTops.{under_all, sizes}
 
 abbrev pub leaf_guids : List LeafVdev → List Guid
 leaf_guids leaves = map (λ leaf. leaf.guid) leaves
+
+-- leaves that have their numbers still, whatever else has changed
+abbrev pub AreNumberedAlike : List LeafVdev → List LeafVdev → Type 0
+AreNumberedAlike old new = AllZip (λ was is. is.guid ≡ was.guid) old new
+
+pub numbered_alike : (old new : List LeafVdev) → AreSameLeaves old new → AreNumberedAlike old new
+numbered_alike [] [] same = tt
+numbered_alike [] (y ∷ new) same = absurd same
+numbered_alike (x ∷ old) [] same = absurd same
+numbered_alike (x ∷ old) (y ∷ new) same = (same.0.guid, numbered_alike old new same.1)
 
 -- an inner vdev that is being read, and what stands before it
 record Frame : Type 0 where
@@ -140,15 +150,15 @@ told_alike a b built same =
     ∙ ap nodes (append-nil (vdevs_of b))
 
 -- Of tops.
-pub same_guids : (old new : List LeafVdev) → AreSameLeaves old new → leaf_guids new ≡ leaf_guids old
+pub same_guids : (old new : List LeafVdev) → AreNumberedAlike old new → leaf_guids new ≡ leaf_guids old
 same_guids [] [] same = refl
 same_guids [] (y ∷ new) same = absurd same
 same_guids (x ∷ old) [] same = absurd same
-same_guids (x ∷ old) (y ∷ new) same = ap (λ m. m ∷ leaf_guids new) same.0.guid
+same_guids (x ∷ old) (y ∷ new) same = ap (λ m. m ∷ leaf_guids new) same.0
     ∙ ap (λ ms. x.guid ∷ ms) (same_guids old new same.1)
 
-pub front_same : (xs ys xs' ys' : List LeafVdev) → length ys ≡ length xs → AreSameLeaves (xs ++ xs') (ys ++ ys')
-    → AreSameLeaves xs ys × AreSameLeaves xs' ys'
+pub front_same : (xs ys xs' ys' : List LeafVdev) → length ys ≡ length xs → AreNumberedAlike (xs ++ xs') (ys ++ ys')
+    → AreNumberedAlike xs ys × AreNumberedAlike xs' ys'
 front_same [] [] xs' ys' long same = (tt, same)
 front_same [] (y ∷ ys) xs' ys' long same = absurd (omega (arith, long))
 front_same (x ∷ xs) [] xs' ys' long same = absurd (omega (arith, long))
@@ -204,7 +214,7 @@ children_more vdevs tops = fun_ext one
 
 all_told_alike : (old new : List Top) → marks_of new ≡ marks_of old
     → sizes (leaves_under (all_parts new)) ≡ sizes (leaves_under (all_parts old))
-    → AreSameLeaves (under_all (leaves_under (all_parts old))) (under_all (leaves_under (all_parts new)))
+    → AreNumberedAlike (under_all (leaves_under (all_parts old))) (under_all (leaves_under (all_parts new)))
     → AreTold old new
 all_told_alike [] [] built long same = (refl, refl)
 all_told_alike [] (t ∷ new) built long same = absurd (cc)
@@ -234,14 +244,14 @@ vdevs_are : (tops : List Top) → vdevs_in (all_parts tops) ≡ map mirror_vdevs
 vdevs_are [] = refl
 vdevs_are (top ∷ tops) = ap (λ vs. mirror_vdevs top ∷ vs) (vdevs_are tops)
 
--- Tops that are built alike over the same leaves have the same numbers, and their mirrors have the same children.
+-- Tops that are built alike over leaves of the same numbers have the same numbers, and their mirrors have the same children.
 pub record AreTreesAlike (old new : List Top) : Type 0 where
   pub numbers : number_of (vdevs_in (all_parts new)) ≡ number_of (vdevs_in (all_parts old))
   pub children : children_of (vdevs_in (all_parts new)) ≡ children_of (vdevs_in (all_parts old))
 
 pub trees_alike : (old new : List Top) → marks_of new ≡ marks_of old
     → sizes (leaves_under (all_parts new)) ≡ sizes (leaves_under (all_parts old))
-    → AreSameLeaves (under_all (leaves_under (all_parts old))) (under_all (leaves_under (all_parts new)))
+    → AreNumberedAlike (under_all (leaves_under (all_parts old))) (under_all (leaves_under (all_parts new)))
     → AreTreesAlike old new
 trees_alike old new built long same =
     let told = all_told_alike old new built long same in

@@ -14,8 +14,7 @@ use Rattle.dtl_rules.specs.Widening.{leaves_of, marks_of}
 use Rattle.pool_config.specs.Seen.{vdevs_of, mirror_vdevs, number_of_vdev}
 use Rattle.pool_config.proofs.Induction.{Held, vdevs_held, of_every_vdev}
 use Rattle.pool_config.proofs.Rooms.{vdevs_leaf, vdevs_inner}
-use Rattle.open_pool.proofs.BoardKept.{AreSameLeaves}
-use Rattle.open_pool.proofs.TreesStay.{leaf_guids, same_guids}
+use Rattle.open_pool.proofs.TreesStay.{AreNumberedAlike, leaf_guids, same_guids}
 
 -- the numbers that marks and the numbers of leaves tell
 abbrev read : List Mark → List Guid → List ℕ
@@ -82,7 +81,7 @@ tops_read (top ∷ tops) =
     ∙ ap (λ ns. map number_of_vdev (mirror_vdevs top) ++ ns) (tops_read tops)
     ∙ sym (map-append number_of_vdev (mirror_vdevs top) (flat_map mirror_vdevs tops))
 
-pub same_vdev_numbers : (old new : List Top) → marks_of new ≡ marks_of old → AreSameLeaves (leaves_of old) (leaves_of new)
+pub same_vdev_numbers : (old new : List Top) → marks_of new ≡ marks_of old → AreNumberedAlike (leaves_of old) (leaves_of new)
     → map number_of_vdev (flat_map mirror_vdevs new) ≡ map number_of_vdev (flat_map mirror_vdevs old)
 same_vdev_numbers old new built same =
     sym (tops_read new) ∙ ap (λ ms. read (flat_map (λ l. l) ms) (leaf_guids (leaves_of new))) built
