@@ -3,6 +3,8 @@ pub mod BoardKept
 pub mod CopiesOfTops
 pub mod CountsBelow
 pub mod DirtyWithOne
+pub mod DraftFits
+pub mod EndStates
 pub mod FaultsCounted
 pub mod FewKeys
 pub mod FewRanges
@@ -35,6 +37,7 @@ pub mod PlacesEnd
 pub mod PlacesGiven
 pub mod RecordKept
 pub mod RisingCounted
+pub mod RoundParts
 pub mod SeatsOfFreeze
 pub mod StatesStand
 pub mod TreesBuilt
