@@ -37,11 +37,14 @@ pub mod PlacesEnd
 pub mod PlacesGiven
 pub mod RecordKept
 pub mod RisingCounted
+pub mod RoundAnswers
+pub mod RoundDraws
 pub mod RoundParts
 pub mod SeatsOfFreeze
 pub mod StatesStand
 pub mod TreesBuilt
 pub mod TreesStay
+pub mod TurnAnswers
 pub mod TurnEndings
 pub mod TurnLeaves
 pub mod TurnParts

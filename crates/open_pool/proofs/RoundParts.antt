@@ -10,12 +10,10 @@ use Rattle.label_store.specs.Phases.{IsPhase}
 use Rattle.label_store.specs.Rounds.{Commit, IsRound, first_plan, second_plan, third_plan}
 use Rattle.label_store.specs.Seats.{AreSeated}
 use Rattle.vdev_tree.specs.declared.top.Top.{Top}
-use Rattle.dtl_rules.specs.Widening.{leaves_of, marks_of, sectors_of}
 use Rattle.txg_history.specs.Rounds.{all_true}
 use Rattle.txg_engine.specs.Boards as engine
 use Rattle.txg_engine.specs.Boards.{behind_turn}
 use Rattle.txg_engine.specs.Frozen.{FrozenGroup, IsGroup}
-use Rattle.txg_engine.specs.Logs.{AreBehind}
 use Rattle.txg_engine.specs.Turns.{emptied_top, numbers_of}
 use Rattle.pool_codec.specs.Codecs.{pool_codec}
 use Rattle.pool_moves.specs.Boards.{board_of}
@@ -34,17 +32,15 @@ use Rattle.pool_moves.proofs.Lists.{all_append}
 use Rattle.pool_moves.proofs.ReadWalks.{made_calls}
 use Rattle.pool_moves.proofs.Widenings.{calls_seen}
 use Rattle.open_pool.specs.Form.{IsPool}
-use Rattle.open_pool.specs.Parts.{PoolParts, all_parts}
-use Rattle.open_pool.specs.State.{group_of, leaves_from, leaves_under, own_state, seen_of, state_of}
+use Rattle.open_pool.specs.Parts.{PoolParts}
+use Rattle.open_pool.specs.State.{group_of, leaves_from, leaves_under, seen_of, state_of}
 use Rattle.open_pool.proofs.DraftFits.{Draws, drawn_of, fits_own, fits_state}
-use Rattle.open_pool.proofs.FaultsCounted.{with_leaves}
 use Rattle.open_pool.proofs.LeafLeaves.{seen_more}
-use Rattle.open_pool.proofs.MembersAgree.{board_crew}
 use Rattle.open_pool.proofs.PartRows.{made_left, made_sets, made_first}
 use Rattle.open_pool.proofs.TurnEndings.{none_emptied}
 use Rattle.open_pool.proofs.TurnLeaves.{TurnsLeaves}
-use Rattle.open_pool.proofs.TurnParts.{form, leavers, like_tops, same_leaves_there, shown}
-use Rattle.open_pool.proofs.TurnSteps.{going, own_kept, room_kept, steps_within, AreLikeTops}
+use Rattle.open_pool.proofs.TurnParts.{shown}
+use Rattle.open_pool.proofs.TurnSteps.{going, steps_within}
 
 -- The third phase with its marks: it makes these calls, and leaves what is seen.
 record ThirdsOf (plan : Member → List Ask) (draft : Draft) (ms : List Member) (was is : List Bool) (made : List Noted) : Type 0 where
@@ -139,12 +135,13 @@ stale held b group trees = record (state_of held (going b group trees)) {
 }
 
 -- A round with a leaf that failed, up to its end, and with each ending.
-pub record IsFailedRound (size : ℕ → ℕ) (held : List Sums) (b : PoolParts) (was is : FrozenGroup) (old new : List Top) (made : List Noted) : Type 0 where
+pub record IsFailedRound (size : ℕ → ℕ) (held : List Sums) (b : PoolParts) (group : FrozenGroup) (old : List Top) (behind : PoolState)
+    (made : List Noted) : Type 0 where
   pub moves : List Move
-  pub leads : steps moves (state_of held (going b was old)) ≡ stale held b is new
+  pub leads : steps moves (state_of held (going b group old)) ≡ behind
   pub calls : made_in moves ≡ made
-  pub is_part : (ending : List Move) (reply : TurnReply) → EndsTurn (stale held b is new) true (Round was.numbers.last.0) ending reply
-      → StartsBy None pool_codec size (state_of held (going b was old)) (moves ++ ending) reply
+  pub is_part : (ending : List Move) (reply : TurnReply) → EndsTurn behind true (Round group.numbers.last.0) ending reply
+      → StartsBy None pool_codec size (state_of held (going b group old)) (moves ++ ending) reply
 
 -- A whole one: its last move acknowledges it, and the moves before lead to the state with its round.
 pub record IsWholeRound (size : ℕ → ℕ) (held : List Sums) (b : PoolParts) (group : FrozenGroup) (old : List Top) (made : List Noted) : Type 0 where
@@ -235,21 +232,16 @@ module _ (size : ℕ → ℕ) (held : List Sums) (b : PoolParts) (group : Frozen
     }));
   }
 
-  module _ (new : List Top) (built : marks_of new ≡ marks_of old) (sectors : sectors_of new ≡ sectors_of old)
-      (behind : AreBehind group.numbers (engine.board_of group.board) done (leaves_of old) (leaves_of new)) where
-    -- the group behind it
-    abbrev pub failed_group : FrozenGroup
-    failed_group = record group { begun = true; board = behind_turn (engine.board_of group.board) done group.board }
-
-    left : TurnsLeaves (step (Starts draft) s.core) (engine.board_of group.board) done (behind_turn (engine.board_of group.board) done group.board)
-        (going b failed_group new)
-    left = leavers b group old pool kept.low new built sectors (engine.board_of group.board) done
-        (board_crew group.board (going b group old) pool.board (form b group old pool kept.low).numbers (form b group old pool kept.low).devices)
-        behind (step (Starts draft) s.core) group.flushed true group.written refl refl refl
-
-    like : AreLikeTops old new
-    like = like_tops old new built sectors (same_leaves_there b group old pool kept.low new built sectors (engine.board_of group.board) done
-        (board_crew group.board (going b group old) pool.board (form b group old pool kept.low).numbers (form b group old pool kept.low).devices) behind)
+  -- Leaves that left the board in it, and the leaves that it leaves.
+  module _ (mid : PoolParts)
+      (left : TurnsLeaves (step (Starts (draft_of commit (seen_of held (going b group old)).leaves)) (seen_of held (going b group old)))
+      (engine.board_of group.board) done (behind_turn (engine.board_of group.board) done group.board) mid) where
+    abbrev pub behind_round : PoolState
+    behind_round = record (state_of held (going b group old)) {
+      core = record (step (Starts (draft_of commit (seen_of held (going b group old)).leaves)) (seen_of held (going b group old))) {
+        leaves = leaves_from (behind_turn (engine.board_of group.board) done group.board) 1 (leaves_under mid.tops);
+      };
+    }
 
     part_seen : seen_along (front ++ left.leaving) s.core ≡ record (step (Starts draft) s.core) { leaves = left.between }
     unfolding front
@@ -262,22 +254,13 @@ module _ (size : ℕ → ℕ) (held : List Sums) (b : PoolParts) (group : Frozen
         (all_leave AnyLeaf AnySet IsWithin within_kind (step (Starts draft) s.core) (engine.board_of group.board) done left.leaving
         (any_failing (engine.board_of group.board) done) left.are)
 
-    finally : with_leaves (leaves_from failed_group.board 1 (leaves_under (all_parts new)))
-        (record (state_of held (going b group old)) { core = record (step (Starts draft) s.core) { leaves = left.between } })
-        ≡ stale held b failed_group new
-    finally =
-        ap (λ (f : ℕ → ℕ). record (stale held b failed_group new) { own = own_state (going b group old); core = record ((stale held b failed_group new).core) { room = f } })
-        (sym (room_kept old new like))
-        ∙ ap (λ own. record (stale held b failed_group new) { own = own }) (sym (own_kept b group failed_group old new like))
-
     failed_leads : steps ((front ++ left.leaving) ++ count_moves s.core.leaves (engine.board_of group.board) done) (state_of held (going b group old))
-        ≡ stale held b failed_group new
+        ≡ behind_round
     failed_leads =
         steps_more (front ++ left.leaving) (count_moves s.core.leaves (engine.board_of group.board) done) s
         ∙ ap (steps (count_moves s.core.leaves (engine.board_of group.board) done))
         (steps_within (front ++ left.leaving) s part_within ∙ ap (λ core. record (state_of held (going b group old)) { core = core }) part_seen)
         ∙ left.counted (record (state_of held (going b group old)) { core = record (step (Starts draft) s.core) { leaves = left.between } }) refl
-        ∙ finally
 
     failed_calls : made ≡ round.first ++ (round.second ++ round.third)
         → made_in ((front ++ left.leaving) ++ count_moves s.core.leaves (engine.board_of group.board) done) ≡ made
@@ -297,7 +280,7 @@ module _ (size : ℕ → ℕ) (held : List Sums) (b : PoolParts) (group : Frozen
         (sym (round_seen draft round.first round.second thirds.moves s.core thirds.seen)) left.are))
 
     pub failed_round : all_true done ≡ false → made ≡ round.first ++ (round.second ++ round.third)
-        → IsFailedRound size held b group failed_group old new made
+        → IsFailedRound size held b group old behind_round made
     unfolding row row_left
     failed_round failed all = record {
       moves = (front ++ left.leaving) ++ count_moves s.core.leaves (engine.board_of group.board) done;
