@@ -5,6 +5,8 @@ pub mod CopiesOfTops
 pub mod CopiesOnDevices
 pub mod CountsBelow
 pub mod DirtyWithOne
+pub mod DraftFits
+pub mod EndStates
 pub mod FaultsCounted
 pub mod FewKeys
 pub mod FewRanges
@@ -57,12 +59,16 @@ pub mod RecordKept
 pub mod RecordStill
 pub mod RightPages
 pub mod RisingCounted
+pub mod RoundAnswers
+pub mod RoundDraws
+pub mod RoundParts
 pub mod SeatsOfFreeze
 pub mod SetsOffline
 pub mod SpareLeaves
 pub mod StatesStand
 pub mod TreesBuilt
 pub mod TreesStay
+pub mod TurnAnswers
 pub mod TurnEndings
 pub mod TurnLeaves
 pub mod TurnParts

@@ -59,7 +59,7 @@ made_sets [] all = refl
 made_sets (Sets m own ∷ vs) all = made_sets vs all.1
 made_sets (v ∷ vs) all = absurd all.0
 
-made_first : (vs ws : List Move) → made_in ws ≡ [] → made_in (vs ++ ws) ≡ made_in vs
+pub made_first : (vs ws : List Move) → made_in ws ≡ [] → made_in (vs ++ ws) ≡ made_in vs
 made_first [] ws none = none
 made_first (Makes noted ∷ vs) ws none = ap (λ l. noted ∷ l) (made_first vs ws none)
 made_first (v ∷ vs) ws none = made_first vs ws none

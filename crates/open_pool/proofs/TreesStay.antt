@@ -240,7 +240,7 @@ all_told_alike (t ∷ old) (u ∷ new) built long same =
           ∙ sym (children_more (vdevs_of t.mirror) (map mirror_vdevs old)),
     )
 
-vdevs_are : (tops : List Top) → vdevs_in (all_parts tops) ≡ map mirror_vdevs tops
+pub vdevs_are : (tops : List Top) → vdevs_in (all_parts tops) ≡ map mirror_vdevs tops
 vdevs_are [] = refl
 vdevs_are (top ∷ tops) = ap (λ vs. mirror_vdevs top ∷ vs) (vdevs_are tops)
 
