@@ -1,5 +1,5 @@
 -- What holds of each open pool between two lines.
-use Rattle.std.specs.Prelude.{◌≡◌, ℕ, suc, ◌+◌, ◌≤◌, ◌<◌, ◌⊎◌, ◌||◌, Bool, true, false, List, [], ◌∷◌, length, map, All, AllPairs, Contains, Option, Some, None, is_some, IfSome}
+use Rattle.std.specs.Prelude.{◌≡◌, ℕ, suc, ◌+◌, ◌≤◌, ◌<◌, ◌⊎◌, ◌||◌, Bool, true, false, List, [], ◌∷◌, length, map, All, AllPairs, Contains, Some, is_some, IfSome}
 use Rattle.std.specs.List.{filter_map, flat_map}
 use Rattle.mp_base.specs.declared.number.Group.{Group}
 use Rattle.mp_base.specs.declared.place.Key.{Key}
@@ -15,7 +15,6 @@ use Rattle.block_map.specs.Pointers.{IsPointer}
 use Rattle.pool_config.specs.Seen.{ConfigSeen, TopSeen}
 use Rattle.pool_config.specs.Validity.{IsValid}
 use Rattle.txg_history.specs.Records.{key}
-use Rattle.txg_engine.specs.declared.item.Item.{Item}
 use Rattle.txg_engine.specs.declared.seat.Seat.{Seat}
 use Rattle.txg_engine.specs.Frozen.{FrozenGroup}
 use Rattle.txg_engine.specs.Logs.{IsReady}

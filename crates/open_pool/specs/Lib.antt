@@ -1,8 +1,11 @@
 pub mod Answering
 pub mod Copies
+pub mod Counting
 pub mod Form
 pub mod Freezing
+pub mod Here
 pub mod Parts
+pub mod Reading
 pub mod Space
 pub mod State
 pub mod Writing

@@ -9,11 +9,49 @@ ghost use Rattle.pool_moves.specs.ReadRow.{copies_of};
 ghost use Rattle.open_pool.specs.Copies.{copy_on, copies_on};
 ghost use Rattle.open_pool.specs.State.{leaves_from};
 
-use mirror_io::CopyOf;
+use mirror_io::{CopyOf, CopySeen};
 use mp_base::Group;
 use std::marker::Model;
 use txg_engine::MOST_LEAVES;
 use vdev_tree::{LeafVdev, Top};
+
+/// Data sector 0 of a leaf is this sector of its device: the labels stand before it.
+pub(crate) const DATA_START: u64 = 128;
+
+/// What each leaf of a top showed, in tree order, where none gave a block.
+#[derive(Drop)]
+pub struct Shown {
+    list: [CopySeen; MOST_LEAVES],
+    len: usize,
+}
+
+impl Model for Shown {
+    ghost use Rattle.std.specs.Prelude.{◌≡◌, ◌≤◌, List, length, take};
+    ghost use Rattle.mirror_io.specs.declared.copies.CopySeen.{CopySeen};
+
+    ghost Value = { List CopySeen };
+
+    ghost view = { λ shown. take shown.len shown.list };
+
+    ghost invariant = { λ shown. (shown.len ≤ 32) × (length shown.list ≡ 32) };
+}
+
+impl Shown {
+    ghost use Rattle.std.specs.Prelude.{◌≡◌, ◌≤◌, take};
+
+    pub(crate) fn new(list: [CopySeen; MOST_LEAVES], len: usize) -> Shown
+        requires { len ≤ 32 }
+        ensures { result ≡ take len list }
+    {
+        Shown { list, len }
+    }
+
+    pub fn as_slice(&self) -> &[CopySeen]
+        ensures { result.now ≡ self.now }
+    {
+        &self.list[..self.len]
+    }
+}
 
 /// Copies in tree order, at most 32. They take no memory.
 #[derive(Drop)]

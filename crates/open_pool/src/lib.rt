@@ -3,12 +3,16 @@
 #![tactic(auto)]
 
 mod copies;
+mod count;
 mod form;
 mod laws;
 mod pool;
+mod read;
 mod space;
 mod write;
 
+pub use copies::Shown;
 pub use laws::freezes_are_rows;
 pub use pool::Pool;
+pub use read::ReadFault;
 pub use write::WriteFault;
