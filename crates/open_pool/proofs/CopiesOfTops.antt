@@ -43,7 +43,7 @@ none_behind seats top first (under ∷ tops) lt =
     filter-append (stands_under top) (map (leaf_of seats first) under) (leaves_from seats (suc first) tops)
     ∙ ap₂ (λ a b. a ++ b) (none_under seats top first under (λ e. omega (arith, lt, e))) (none_behind seats top (suc first) tops (omega (arith, lt)))
 
-under_one : (seats : List Seat) (first place top : ℕ) (tops : List (List LeafVdev)) (under : List LeafVdev) → place + first ≡ top
+pub under_one : (seats : List Seat) (first place top : ℕ) (tops : List (List LeafVdev)) (under : List LeafVdev) → place + first ≡ top
     → slice_get tops place ≡ Some under → filter (stands_under top) (leaves_from seats first tops) ≡ map (leaf_of seats top) under
 under_one seats first place top [] under is at = absurd (none-some under at)
 under_one seats first zero top (here ∷ tops) under is at =

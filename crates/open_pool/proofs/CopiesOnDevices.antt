@@ -32,7 +32,7 @@ sector_fits tops place tops_are at =
     let most = All-get_or (λ s. s ≤ 1048320) (sectors_of tops) place.top 0 at.top tops_are.sizes in omega (arith, inside, most)
 
 -- the leaves of one of these tops
-under_at : (tops : List Top) (i : ℕ) (d : Top) → i < length tops → slice_get (leaves_under (all_parts tops)) i ≡ Some (leaves (get_or tops i d).mirror)
+pub under_at : (tops : List Top) (i : ℕ) (d : Top) → i < length tops → slice_get (leaves_under (all_parts tops)) i ≡ Some (leaves (get_or tops i d).mirror)
 under_at [] i d lt = absurd (omega arith)
 under_at (top ∷ tops) zero d lt = refl
 under_at (top ∷ tops) (suc i) d lt = under_at tops i d (omega arith)
@@ -60,7 +60,7 @@ within_all size sectors at birth (leaf ∷ under) here lt = (
   within_all size sectors at birth under (All-tail (IsHere size sectors) leaf under here) lt,
 )
 
-top_within : (size : ℕ → ℕ) (tops : List Top) (i : ℕ) (d : Top) (sector birth : ℕ) → i < length tops → sector < slice_index (sectors_of tops) i
+pub top_within : (size : ℕ → ℕ) (tops : List Top) (i : ℕ) (d : Top) (sector birth : ℕ) → i < length tops → sector < slice_index (sectors_of tops) i
     → AreHere size (all_parts tops) → AreWithin size (copies_on birth (leaves (get_or tops i d).mirror)) (128 + sector)
 top_within size [] i d sector birth lt inside here = absurd (omega arith)
 top_within size (top ∷ tops) zero d sector birth lt inside here =
@@ -97,26 +97,26 @@ apart_all : (birth : ℕ) (a : LeafVdev) (under : List LeafVdev) → All (AreTwo
 apart_all birth a [] two = tt
 apart_all birth a (b ∷ under) two = (apart_one birth a b (All-head (AreTwo a) b under two), apart_all birth a under (All-tail (AreTwo a) b under two))
 
-apart_under : (birth : ℕ) (under : List LeafVdev) → HaveOwnDevices under → AreApart (copies_on birth under)
+pub apart_under : (birth : ℕ) (under : List LeafVdev) → HaveOwnDevices under → AreApart (copies_on birth under)
 apart_under birth [] apart = λ i j d less lt. absurd (omega (arith, lt))
 apart_under birth (a ∷ under) apart = AllPairs-cons ReadApart (copy_on birth a) (copies_on birth under)
     (All-from_recursion (ReadApart (copy_on birth a)) (copies_on birth under)
     (apart_all birth a under (λ k d lt. apart zero (suc k) d (omega arith) (omega arith))))
     (apart_under birth under (λ i j d less lt. apart (suc i) (suc j) d (omega arith) (omega arith)))
 
-pairs_first : (xs ys : List LeafVdev) → HaveOwnDevices (xs ++ ys) → HaveOwnDevices xs
+pub pairs_first : (xs ys : List LeafVdev) → HaveOwnDevices (xs ++ ys) → HaveOwnDevices xs
 pairs_first xs ys apart i j d less lt e =
     subst (λ b. (get_or xs i d).dev ≡ Some e → b.dev ≡ Some e → ⊥) (get_or_append_left xs ys d j lt)
     (subst (λ a. a.dev ≡ Some e → (get_or (xs ++ ys) j d).dev ≡ Some e → ⊥) (get_or_append_left xs ys d i (omega (arith, less, lt)))
     (apart i j d less (let long = length-append xs ys in omega (arith, lt, long)) e))
 
-pairs_behind : (xs ys : List LeafVdev) → HaveOwnDevices (xs ++ ys) → HaveOwnDevices ys
+pub pairs_behind : (xs ys : List LeafVdev) → HaveOwnDevices (xs ++ ys) → HaveOwnDevices ys
 pairs_behind xs ys apart i j d less lt e =
     subst (λ b. (get_or ys i d).dev ≡ Some e → b.dev ≡ Some e → ⊥) (get_or-append-add xs ys j d)
     (subst (λ a. a.dev ≡ Some e → (get_or (xs ++ ys) (length xs + j) d).dev ≡ Some e → ⊥) (get_or-append-add xs ys i d)
     (apart (length xs + i) (length xs + j) d (omega (arith, less)) (let long = length-append xs ys in omega (arith, lt, long)) e))
 
-top_apart : (tops : List Top) (i : ℕ) (d : Top) (birth : ℕ) → i < length tops → HaveOwnDevices (leaves_of tops)
+pub top_apart : (tops : List Top) (i : ℕ) (d : Top) (birth : ℕ) → i < length tops → HaveOwnDevices (leaves_of tops)
     → AreApart (copies_on birth (leaves (get_or tops i d).mirror))
 top_apart [] i d birth lt apart = absurd (omega arith)
 top_apart (top ∷ tops) zero d birth lt apart = apart_under birth (leaves top.mirror) (pairs_first (leaves top.mirror) (leaves_of tops) apart)

@@ -1,6 +1,7 @@
 pub mod Answering
 pub mod Committing
 pub mod Copies
+pub mod Counting
 pub mod Form
 pub mod Freezing
 pub mod Here
@@ -8,6 +9,7 @@ pub mod Naming
 pub mod Offline
 pub mod Pages
 pub mod Parts
+pub mod Reading
 pub mod Space
 pub mod State
 pub mod Writing

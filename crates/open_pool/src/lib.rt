@@ -3,6 +3,7 @@
 #![tactic(auto)]
 
 mod copies;
+mod count;
 mod form;
 mod freeze;
 mod laws;
@@ -10,6 +11,7 @@ mod named;
 mod offline;
 mod pages;
 mod pool;
+mod read;
 mod space;
 mod spares;
 mod turn;
@@ -18,6 +20,8 @@ mod write;
 pub use freeze::{FreezeFault, LAST_NUMBER};
 pub use laws::freezes_are_rows;
 pub use offline::OfflineFault;
+pub use pages::Shown;
 pub use pool::Pool;
+pub use read::ReadFault;
 pub use turn::TurnDone;
 pub use write::WriteFault;

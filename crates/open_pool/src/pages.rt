@@ -29,7 +29,7 @@ use vdev_tree::Top;
 /// The most tops of a pool.
 const MOST_TOPS: usize = 8;
 
-/// What each leaf of a top showed, in tree order, where none gave a page.
+/// What each leaf of a top showed, in tree order, where none gave a block.
 #[derive(Drop)]
 pub struct Shown {
     list: [CopySeen; MOST_LEAVES],
@@ -48,7 +48,14 @@ impl Model for Shown {
 }
 
 impl Shown {
-    ghost use Rattle.std.specs.Prelude.{◌≡◌};
+    ghost use Rattle.std.specs.Prelude.{◌≡◌, ◌≤◌, take};
+
+    pub(crate) fn new(list: [CopySeen; MOST_LEAVES], len: usize) -> Shown
+        requires { len ≤ 32 }
+        ensures { result ≡ take len list }
+    {
+        Shown { list, len }
+    }
 
     pub fn as_slice(&self) -> &[CopySeen]
         ensures { result.now ≡ self.now }
