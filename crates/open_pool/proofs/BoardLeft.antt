@@ -43,7 +43,7 @@ use Rattle.open_pool.proofs.MembersAgree.{board_crew, board_differ}
 use Rattle.open_pool.proofs.NumbersApart.{leaves_differ}
 use Rattle.open_pool.proofs.RecordKept.{ranges_in_all}
 use Rattle.open_pool.proofs.TreesBuilt.{built_sizes, trees_told}
-use Rattle.open_pool.proofs.TreesStay.{front_same, head_same, leaf_guids, same_guids, tail_same}
+use Rattle.open_pool.proofs.TreesStay.{AreNumberedAlike, front_same, head_same, leaf_guids, numbered_alike, same_guids, tail_same}
 use Rattle.open_pool.proofs.TurnLeaves.{AreInForm, three_of}
 use Rattle.open_pool.proofs.TurnSteps.{AreLikeTops, going, own_kept, room_kept, steps_within}
 
@@ -167,7 +167,7 @@ counts_alone (leaf ∷ leaves) = (refl, counts_alone leaves)
 
 -- each top has its leaves' numbers
 pub under_numbers : (old new : List Top) → sizes (leaves_under (all_parts new)) ≡ sizes (leaves_under (all_parts old))
-    → AreSameLeaves (under_all (leaves_under (all_parts old))) (under_all (leaves_under (all_parts new)))
+    → AreNumberedAlike (under_all (leaves_under (all_parts old))) (under_all (leaves_under (all_parts new)))
     → numbers_under (all_parts new) ≡ numbers_under (all_parts old)
 under_numbers [] [] long same = refl
 under_numbers [] (u ∷ new) long same = absurd (cc)
@@ -306,8 +306,8 @@ module _ (b : PoolParts) (group : FrozenGroup) (old new : List Top) (at : Guid) 
           (subst (λ dev. LeaveIf true dev (core_of held p) one.first)
           (sym (dev_there m leaf (All-contains (Agrees m) (all_leaves p) leaf (All-from_recursion (Agrees m) (all_leaves p) agree) among) number)) one.are);
       leads = state_left;
-      numbers = under_numbers old new (built_sizes old new built) (subst (λ ls. AreSameLeaves ls (under_all (leaves_under q.tops))) (all_are_under p.tops)
-          (subst (AreSameLeaves (all_leaves p)) (all_are_under q.tops) same));
+      numbers = under_numbers old new (built_sizes old new built) (subst (λ ls. AreNumberedAlike ls (under_all (leaves_under q.tops))) (all_are_under p.tops)
+          (subst (AreNumberedAlike (all_leaves p)) (all_are_under q.tops) (numbered_alike (all_leaves p) (all_leaves q) same)));
     }
 
   -- where it isn't on the board nothing happens

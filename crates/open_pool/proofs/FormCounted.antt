@@ -5,6 +5,7 @@ use Rattle.std.specs.List.{AllByRecursion, flat_map}
 use Rattle.std.specs.Option.{option_map}
 use Rattle.std.proofs.lemmas.List.{map-append}
 use Rattle.std.proofs.lemmas.List.Elements.{All-from_recursion, recursion_from_All}
+use Rattle.mp_base.specs.declared.place.Key.{Key}
 use Rattle.mp_base.specs.declared.place.Place.{Place}
 use Rattle.group_set.specs.Groups.{holds}
 use Rattle.vdev_tree.specs.declared.vdev.LeafVdev.{LeafVdev}
@@ -13,7 +14,7 @@ use Rattle.block_map.specs.Map.{pointer_at, is_free}
 use Rattle.block_map.specs.Places.{IsPlace}
 use Rattle.pool_config.specs.Seen.{TopSeen}
 use Rattle.pool_config.specs.Validity.{IsValid}
-use Rattle.txg_history.specs.Records.{Cells, key}
+use Rattle.txg_history.specs.Records.{AreAtOne, Cell, Cells, key}
 use Rattle.txg_engine.specs.declared.seat.Seat.{Seat}
 use Rattle.txg_engine.specs.Frozen.{FrozenGroup}
 use Rattle.txg_engine.specs.Logs.{IsReady}
@@ -25,7 +26,7 @@ use Rattle.pool_moves.specs.Leaves.{LeafSeen}
 use Rattle.pool_moves.specs.States.{Sums, sums, PoolState}
 use Rattle.open_pool.specs.declared.count.Counted.{Counted}
 use Rattle.open_pool.specs.Counting.{counts_with, counted_leaf, counted_top, counted_seat, counted_group, counted_tops, counted_groups}
-use Rattle.open_pool.specs.Form.{config_of, all_leaves, HasGroup, HasBoard, HasPlaces, IsPool}
+use Rattle.open_pool.specs.Form.{ArePlacesApart, HasBoard, HasGroup, HasPlaces, IsPool, all_leaves, config_of}
 use Rattle.open_pool.specs.Parts.{TopParts, PoolParts}
 use Rattle.open_pool.specs.State.{sums_of, cells_in, seats_in, leaves_under, state_of, seen_of}
 use Rattle.open_pool.proofs.BoardKept.{IsSameLeaf, AreSameLeaves, board_mapped}
@@ -64,8 +65,8 @@ same_each c [] = tt
 same_each c (leaf ∷ leaves) = (by (leaf.guid.0 == c.member.0), same_each c leaves)
   where
     by : (t : Bool) → IsSameLeaf leaf (cond t (record leaf { counts = counts_with c leaf.counts }) leaf)
-    by true = record { guid = refl; dev = refl; state = refl }
-    by false = record { guid = refl; dev = refl; state = refl }
+    by true = record { guid = refl; name = refl; dev = refl; state = refl; temporary = refl }
+    by false = record { guid = refl; name = refl; dev = refl; state = refl; temporary = refl }
 
 same_all : (c : Counted) (p : PoolParts) → AreSameLeaves (all_leaves p) (all_leaves (counted_pool c p))
 same_all c p = subst (AreSameLeaves (all_leaves p)) (sym (leaves_are c p.tops)) (same_each c (all_leaves p))
@@ -96,7 +97,7 @@ group_still c p (Some group) has = record {
   last = has.last;
   keys = has.keys;
   pointers = has.pointers;
-  births = has.births;
+  signed = has.signed;
   ready = board_ready group.board (map (counted_seat c) group.board) group.numbers.last.0 (all_leaves (counted_pool c p)) (board_same c group.board)
       (all_still c p (IsReady group.board group.numbers.last.0) (ready_still c group.board group.numbers.last.0) has.ready);
   pins_room = has.pins_room;
@@ -114,6 +115,15 @@ places_still c p has =
       inside = has.inside;
     }
 
+apart_still : (c : Counted) (p : PoolParts) → ArePlacesApart p → ArePlacesApart (counted_pool c p)
+apart_still c p has =
+    let same : cells_in p.frozen ≡ cells_in (option_map (counted_group c) p.frozen) = sym (same_cells c p.frozen) in
+    record {
+      committed = has.committed;
+      frozen = subst (λ (cells : Cells). (j k : Key) (a b : Cell) → cells j ≡ Some a → cells k ≡ Some b → AreAtOne a b → j ≡ k) same has.frozen;
+      between = subst (λ (cells : Cells). (top sector : ℕ) → IsAtPlace (sums_of p.map) top sector → IsAtPlace (sums cells) top sector → ⊥) same has.between;
+    }
+
 pub pool_counted : (c : Counted) (p : PoolParts) → IsPool p → IsPool (counted_pool c p)
 pool_counted c p pool = record {
   recordable = subst (λ (tops : List TopSeen). IsValid (record (config_of p (record { 0 = p.highest }) (pointer_at p.map root)) { tops = tops }))
@@ -123,6 +133,7 @@ pool_counted c p pool = record {
   read = pool.read;
   births = pool.births;
   places = places_still c p pool.places;
+  apart = apart_still c p pool.apart;
   leaves = record {
     within = all_still c p (λ leaf. (g : ℕ) → holds leaf.log g ≡ true → (1 ≤ g) × (g ≤ p.highest)) (λ leaf has. has) pool.leaves.within;
     apart = devices_still (all_leaves p) (all_leaves (counted_pool c p)) (same_all c p) pool.leaves.apart;

@@ -19,9 +19,10 @@ use Rattle.vdev_tree.specs.declared.vdev.State.TheVariants as states
 use Rattle.dtl_rules.specs.Rules as rules
 use Rattle.dtl_rules.specs.Widening.{leaves_of}
 use Rattle.txg_engine.specs.declared.seat.Seat.{Seat}
-use Rattle.txg_engine.specs.Boards.{on_board}
+use Rattle.txg_engine.specs.Boards.{AreServed, as_taken, on_board, without}
+use Rattle.txg_engine.specs.Frozen.{FrozenGroup, IsGroup}
 use Rattle.txg_engine.proofs.Places.{only_one}
-use Rattle.txg_engine.proofs.Seating.{got_inside}
+use Rattle.txg_engine.proofs.Seating.{got_inside, got_there}
 use Rattle.pool_codec.specs.Tops.{children_of}
 use Rattle.pool_moves.specs.AwayRows as rows
 use Rattle.pool_moves.specs.AwayRows.{GoesAway, IsRequired, LeaveIf, LeastOut, OfflineBy, OfflineHere, OfflineLeaf, OfflineReply, RowOffline, gone, is_listed, is_offline, is_spare, leaf_named, siblings, unnamed}
@@ -34,14 +35,14 @@ use Rattle.open_pool.specs.declared.named.Found.{Found}
 use Rattle.open_pool.specs.declared.offline.OfflineFault.{OfflineFault}
 use Rattle.open_pool.specs.declared.offline.OfflineFault.TheVariants as fault
 use Rattle.open_pool.specs.Answering.{Answers}
-use Rattle.open_pool.specs.Form.{HasBoard, IsPool, IsSeated, IsSeatOf, all_leaves}
+use Rattle.open_pool.specs.Form.{HasBoard, HasGroup, IsPool, IsSeated, IsSeatOf, all_leaves}
 use Rattle.open_pool.specs.Naming.{IsFound}
 use Rattle.open_pool.specs.Offline.{IsNamedOwn, IsStillIt, LeavesBoard, numbers_under, offline_says}
 use Rattle.open_pool.specs.Parts.{PoolParts, TopParts, all_parts, top_parts}
 use Rattle.open_pool.specs.State.{Stands, leaf_of, leaves_from, leaves_under, own_of, seat_in, seats_in, vdevs_in}
 use Rattle.open_pool.proofs.BoardIsSeats.{board_on}
 use Rattle.open_pool.proofs.LeavesInForm.{leaves_are, leaves_few, leaves_numbered}
-use Rattle.open_pool.proofs.LeftServed.{seated_at}
+use Rattle.open_pool.proofs.LeftServed.{left_served, seated_at}
 use Rattle.open_pool.proofs.NumbersApart.{Differ, leaf_numbers, leaves_differ, on_of}
 use Rattle.open_pool.proofs.OutageRows.{AreApart, least_out, not_required, trees_apart, under_at}
 
@@ -141,18 +142,19 @@ module _ (p : PoolParts) (trees : List Top) (parts : p.tops ≡ all_parts trees)
   leaves_is : (s : PoolState) → Stands p s → s.core.leaves ≡ leaves_from seats 1 (leaves_under (all_parts trees))
   leaves_is s stands = ap (λ (x : PoolState). x.core.leaves) stands.is ∙ ap (λ ts. leaves_from seats 1 (leaves_under ts)) parts
 
-  module _ (name : List ℕ) (temporary : Bool) (s : PoolState) (stands : Stands p s) where
-    -- no leaf has the name
-    pub unnamed_row : (why : OfflineFault) → ((seats : List Seat) → leaf_named name (leaves_from seats 1 (leaves_under (all_parts trees))) ≡ None)
-        → offline_says (unnamed (list_any (λ spare. bytes_eq spare name) p.spares)) ≡ Err why
-        → Answers (RowOffline s name temporary) offline_says (Err why) s p
-    unnamed_row why none is = record {
-      moves = [];
-      reply = unnamed (is_listed name s);
-      is = subst (λ o. OfflineBy o s name temporary [] (unnamed (is_listed name s))) (sym (ap (leaf_named name) (leaves_is s stands) ∙ none seats)) (refl, refl);
-      says_so = sym is ∙ ap (λ (x : PoolState). offline_says (unnamed (is_listed name x))) (sym stands.is);
-      leaves = stands;
-    }
+  module _ (name : List ℕ) (temporary : Bool) where
+    module _ (s : PoolState) (stands : Stands p s) where
+      -- no leaf has the name
+      pub unnamed_row : (why : OfflineFault) → ((seats : List Seat) → leaf_named name (leaves_from seats 1 (leaves_under (all_parts trees))) ≡ None)
+          → offline_says (unnamed (list_any (λ spare. bytes_eq spare name) p.spares)) ≡ Err why
+          → Answers (RowOffline s name temporary) offline_says (Err why) s p
+      unnamed_row why none is = record {
+        moves = [];
+        reply = unnamed (is_listed name s);
+        is = subst (λ o. OfflineBy o s name temporary [] (unnamed (is_listed name s))) (sym (ap (leaf_named name) (leaves_is s stands) ∙ none seats)) (refl, refl);
+        says_so = sym is ∙ ap (λ (x : PoolState). offline_says (unnamed (is_listed name x))) (sym stands.is);
+        leaves = stands;
+      }
 
     module _ (found : Found) (is : IsFound name trees found) where
       abbrev leaf : LeafVdev
@@ -161,98 +163,29 @@ module _ (p : PoolParts) (trees : List Top) (parts : p.tops ≡ all_parts trees)
       abbrev seen : LeafSeen
       seen = leaf_of seats (suc found.top) leaf
 
-      named : leaf_named name s.core.leaves ≡ Some seen
-      named = ap (leaf_named name) (leaves_is s stands) ∙ is.named seats
+      -- what no event tells of it behind the row
+      abbrev pub own : OwnLeaf
+      own = gone temporary seen.own
 
-      by_row : (spare : Bool) → ((place : ℕ) (tops : List Top) → slice_get tops place ≡ Some is.under
-          → spare ≡ is_spare_leaf found.guid (children_of (vdevs_in (all_parts tops)) (suc place)))
-          → (vs : List Move) (reply : OfflineReply) → OfflineHere spare s seen temporary vs reply → RowOffline s name temporary vs reply
-      by_row spare tells vs reply here =
-          subst (λ o. OfflineBy o s name temporary vs reply) (sym named)
-          (subst (λ b. OfflineHere b s seen temporary vs reply)
-          (tells found.top trees is.at
-          ∙ ap (λ g. is_spare_leaf g (children_of (vdevs_in (all_parts trees)) (suc found.top))) (sym is.guid_is)
-          ∙ ap (λ ts. is_spare_leaf leaf.guid (children_of (vdevs_in ts) (suc found.top))) (sym parts)
-          ∙ ap (λ (x : PoolState). is_spare_leaf leaf.guid (x.own.children (suc found.top))) (sym stands.is)) here)
+      leaf_is_there : Contains (all_leaves p) leaf
+      leaf_is_there = subst (λ ls. Contains ls leaf) (sym (leaves_are trees p parts)) (among_all trees found.top is.under leaf is.at is.among)
 
-      module _ (spare : Bool) (tells : (place : ℕ) (tops : List Top) → slice_get tops place ≡ Some is.under
-          → spare ≡ is_spare_leaf found.guid (children_of (vdevs_in (all_parts tops)) (suc place))) where
-        pub spare_row : spare ≡ true → Answers (RowOffline s name temporary) offline_says (Err (fault.Misplaced Spare)) s p
-        spare_row is_one = record {
-          moves = [];
-          reply = rows.Misplaced Spare;
-          is = by_row spare tells [] (rows.Misplaced Spare) (subst (λ b. OfflineHere b s seen temporary [] (rows.Misplaced Spare)) (sym is_one) (refl, refl));
-          says_so = refl;
-          leaves = stands;
-        }
+      pub own_named : AllByRecursion (IsNamedOwn seats found.guid temporary own) (all_leaves p)
+      own_named = named_by found.guid (λ l. own ≡ gone temporary (own_of seats l)) leaf (all_leaves p)
+          (leaves_differ (all_leaves p) (leaves_numbered trees p parts pool.recordable)) leaf_is_there (ap (λ (g : Guid). g.0) is.guid_is) refl
 
-        by_leaf : spare ≡ false → (already : Bool) → is_offline found.state ≡ already → (vs : List Move) (reply : OfflineReply)
-            → OfflineLeaf already s seen temporary vs reply → RowOffline s name temporary vs reply
-        by_leaf isnt already state vs reply here =
-            by_row spare tells vs reply (subst (λ b. OfflineHere b s seen temporary vs reply) (sym isnt)
-            (subst (λ b. OfflineLeaf b s seen temporary vs reply) (sym state ∙ ap is_offline (sym is.state_is)) here))
-
-        all_apart : AreApart trees
-        all_apart = trees_apart trees p parts pool.recordable
-
-        pub required_row : spare ≡ false → is_offline found.state ≡ false → (group : ℕ) → rules.LeastNeeded is.under found.guid group
-            → Answers (RowOffline s name temporary) offline_says (Err (fault.Required (record { 0 = group }))) s p
-        required_row isnt state group needed = record {
-          moves = [];
-          reply = rows.Required group;
-          is = by_leaf isnt false state [] (rows.Required group) (inl (group,
-          subst (λ ls. LeastOut (siblings seen ls) group) (sym (leaves_is s stands))
-          (least_out seats trees found.top is.under leaf all_apart is.at is.among group
-          (subst (λ g. rules.LeastNeeded is.under g group) (sym is.guid_is) needed)), refl, refl));
-          says_so = refl;
-          leaves = stands;
-        }
-
-        -- what no event tells of it behind the row
-        abbrev own : OwnLeaf
-        own = gone temporary seen.own
-
-        leaf_is_there : Contains (all_leaves p) leaf
-        leaf_is_there = subst (λ ls. Contains ls leaf) (sym (leaves_are trees p parts)) (among_all trees found.top is.under leaf is.at is.among)
-
-        pub own_named : AllByRecursion (IsNamedOwn seats found.guid temporary own) (all_leaves p)
-        own_named = named_by found.guid (λ l. own ≡ gone temporary (own_of seats l)) leaf (all_leaves p)
-            (leaves_differ (all_leaves p) (leaves_numbered trees p parts pool.recordable)) leaf_is_there (ap (λ (g : Guid). g.0) is.guid_is) refl
-
-        abbrev sets : Move
-        sets = Sets found.guid own
-
-        -- it is OFFLINE already
-        pub already_row : spare ≡ false → is_offline found.state ≡ true → (q : PoolParts) → Stands q (steps (sets ∷ []) s)
-            → Answers (RowOffline s name temporary) offline_says (Ok tt) s q
-        already_row isnt state q then = record {
-          moves = sets ∷ [];
-          reply = rows.Gone;
-          is = by_leaf isnt true state (sets ∷ []) rows.Gone (ap (λ g. Sets g own ∷ []) (sym is.guid_is), refl);
-          says_so = refl;
-          leaves = then;
-        }
-
-        -- it leaves the board, and is OFFLINE then
-        pub gone_row : spare ≡ false → is_offline found.state ≡ false → ¬ (rules.IsRequired is.under found.guid)
-            → (mid q : PoolParts) → (left : LeavesBoard found.guid p s mid) → Stands q (steps (sets ∷ []) (steps left.leaving s))
-            → Answers (RowOffline s name temporary) offline_says (Ok tt) s q
-        gone_row isnt state free mid q left then = record {
-          moves = left.leaving ++ (sets ∷ []);
-          reply = rows.Gone;
-          is = by_leaf isnt false state (left.leaving ++ (sets ∷ [])) rows.Gone (inr (
-            (λ needed. not_required seats trees found.top is.under leaf all_apart is.at is.among
-            (subst (λ g. ¬ (rules.IsRequired is.under g)) (sym is.guid_is) free)
-            (subst (IsRequired seen) (leaves_is s stands) needed)),
-            record {
-              leaving = left.leaving;
-              leaves = subst (λ g. LeaveIf (on_board seats g) leaf.dev s.core left.leaving) (sym is.guid_is) (left.are leaf leaf_is_there is.guid_is);
-              moves = ap (λ g. left.leaving ++ (Sets g own ∷ [])) (sym is.guid_is);
-            },
-            refl));
-          says_so = refl;
-          leaves = subst (Stands q) (sym (steps_more left.leaving (sets ∷ []) s)) then;
-        }
+      -- who isn't required leaves somebody of the top on the board, or one of its calls failed
+      pub kept_of : ¬ (rules.IsRequired is.under found.guid) → (frozen : Option FrozenGroup) → p.frozen ≡ frozen → IfSome frozen IsGroup
+          → IfSome frozen (λ group. on_board group.board found.guid ≡ true
+          → AreServed (map (without found.guid) (map (as_taken found.guid) group.board)))
+      kept_of free None same has = tt
+      kept_of free (Some group) same has = λ on.
+          let had : HasGroup p group = subst (λ f. IfSome f (HasGroup p)) same pool.group in
+          let low : 1 ≤ group.numbers.last.0 = let a = has.low in let b = has.order in omega (arith, a, b) in
+          subst (λ g. AreServed (map (without g) (map (as_taken g) group.board))) is.guid_is
+          (left_served group.board p trees parts (subst (λ f. HasBoard (seats_in f) p) same pool.board) group.numbers.last.0 found.top is.under leaf
+          (trees_apart trees p parts pool.recordable) is.at is.among had.ready has.served low
+          (subst (λ g. ¬ (rules.IsRequired is.under g)) (sym is.guid_is) free))
 
       -- who is OFFLINE isn't on the board
       pub offline_off : is_offline found.state ≡ true → on_board seats found.guid ≡ false
@@ -299,3 +232,90 @@ module _ (p : PoolParts) (trees : List Top) (parts : p.tops ≡ all_parts trees)
           ∙ ap (list_any (λ g. g.0 == found.guid.0)) (unwrapped (map (λ (leaf : LeafVdev). leaf.guid) under.leaves) (map (λ (leaf : LeafVdev). leaf.guid) (leaves is.under.mirror)) numbers)
           ∙ sym (any_number found.guid (leaves is.under.mirror))
           ∙ any_among found.guid leaf (leaves is.under.mirror) is.among is.guid_is
+
+      module _ (s : PoolState) (stands : Stands p s) where
+        named : leaf_named name s.core.leaves ≡ Some seen
+        named = ap (leaf_named name) (leaves_is s stands) ∙ is.named seats
+
+        by_row : (spare : Bool) → ((place : ℕ) (tops : List Top) → slice_get tops place ≡ Some is.under
+            → spare ≡ is_spare_leaf found.guid (children_of (vdevs_in (all_parts tops)) (suc place)))
+            → (vs : List Move) (reply : OfflineReply) → OfflineHere spare s seen temporary vs reply → RowOffline s name temporary vs reply
+        by_row spare tells vs reply here =
+            subst (λ o. OfflineBy o s name temporary vs reply) (sym named)
+            (subst (λ b. OfflineHere b s seen temporary vs reply)
+            (tells found.top trees is.at
+            ∙ ap (λ g. is_spare_leaf g (children_of (vdevs_in (all_parts trees)) (suc found.top))) (sym is.guid_is)
+            ∙ ap (λ ts. is_spare_leaf leaf.guid (children_of (vdevs_in ts) (suc found.top))) (sym parts)
+            ∙ ap (λ (x : PoolState). is_spare_leaf leaf.guid (x.own.children (suc found.top))) (sym stands.is)) here)
+
+        module _ (spare : Bool) (tells : (place : ℕ) (tops : List Top) → slice_get tops place ≡ Some is.under
+            → spare ≡ is_spare_leaf found.guid (children_of (vdevs_in (all_parts tops)) (suc place))) where
+          pub spare_row : spare ≡ true → Answers (RowOffline s name temporary) offline_says (Err (fault.Misplaced Spare)) s p
+          spare_row is_one = record {
+            moves = [];
+            reply = rows.Misplaced Spare;
+            is = by_row spare tells [] (rows.Misplaced Spare) (subst (λ b. OfflineHere b s seen temporary [] (rows.Misplaced Spare)) (sym is_one) (refl, refl));
+            says_so = refl;
+            leaves = stands;
+          }
+
+          by_leaf : spare ≡ false → (already : Bool) → is_offline found.state ≡ already → (vs : List Move) (reply : OfflineReply)
+              → OfflineLeaf already s seen temporary vs reply → RowOffline s name temporary vs reply
+          by_leaf isnt already state vs reply here =
+              by_row spare tells vs reply (subst (λ b. OfflineHere b s seen temporary vs reply) (sym isnt)
+              (subst (λ b. OfflineLeaf b s seen temporary vs reply) (sym state ∙ ap is_offline (sym is.state_is)) here))
+
+          all_apart : AreApart trees
+          all_apart = trees_apart trees p parts pool.recordable
+
+          pub required_row : spare ≡ false → is_offline found.state ≡ false → (group : ℕ) → rules.LeastNeeded is.under found.guid group
+              → Answers (RowOffline s name temporary) offline_says (Err (fault.Required (record { 0 = group }))) s p
+          required_row isnt state group needed = record {
+            moves = [];
+            reply = rows.Required group;
+            is = by_leaf isnt false state [] (rows.Required group) (inl (group,
+            subst (λ ls. LeastOut (siblings seen ls) group) (sym (leaves_is s stands))
+            (least_out seats trees found.top is.under leaf all_apart is.at is.among group
+            (subst (λ g. rules.LeastNeeded is.under g group) (sym is.guid_is) needed)), refl, refl));
+            says_so = refl;
+            leaves = stands;
+          }
+
+          abbrev pub sets : Move
+          sets = Sets found.guid own
+
+          -- it is OFFLINE already
+          pub already_row : spare ≡ false → is_offline found.state ≡ true → (q : PoolParts) → Stands q (steps (sets ∷ []) s)
+              → Answers (RowOffline s name temporary) offline_says (Ok tt) s q
+          already_row isnt state q then = record {
+            moves = sets ∷ [];
+            reply = rows.Gone;
+            is = by_leaf isnt true state (sets ∷ []) rows.Gone (ap (λ g. Sets g own ∷ []) (sym is.guid_is), refl);
+            says_so = refl;
+            leaves = then;
+          }
+
+          -- it leaves the board, and is OFFLINE then
+          pub gone_row : spare ≡ false → is_offline found.state ≡ false → ¬ (rules.IsRequired is.under found.guid)
+              → (mid q : PoolParts) → (left : LeavesBoard found.guid p s mid) → Stands q (steps (sets ∷ []) (steps left.leaving s))
+              → Answers (RowOffline s name temporary) offline_says (Ok tt) s q
+          gone_row isnt state free mid q left then = record {
+            moves = left.leaving ++ (sets ∷ []);
+            reply = rows.Gone;
+            is = by_leaf isnt false state (left.leaving ++ (sets ∷ [])) rows.Gone (inr (
+              (λ needed. not_required seats trees found.top is.under leaf all_apart is.at is.among
+              (subst (λ g. ¬ (rules.IsRequired is.under g)) (sym is.guid_is) free)
+              (subst (IsRequired seen) (leaves_is s stands) needed)),
+              record {
+                leaving = left.leaving;
+                leaves = subst (λ g. LeaveIf (on_board seats g) leaf.dev s.core left.leaving) (sym is.guid_is) (left.are leaf leaf_is_there is.guid_is);
+                moves = ap (λ g. left.leaving ++ (Sets g own ∷ [])) (sym is.guid_is);
+              },
+              refl));
+            says_so = refl;
+            leaves = subst (Stands q) (sym (steps_more left.leaving (sets ∷ []) s)) then;
+          }
+
+-- the top that was asked is the one that it stands under
+pub same_top : (tops : List Top) (i : ℕ) (under asked : Top) → slice_get tops i ≡ Some under → asked ≡ get_or tops i asked → under ≡ asked
+same_top tops i under asked at is = sym (got_there tops i under asked at) ∙ sym is

@@ -28,8 +28,7 @@ use Rattle.open_pool.proofs.LogsWidened.{IsWithin}
 use Rattle.open_pool.proofs.MembersAgree.{IsCrew}
 use Rattle.open_pool.proofs.LeavesByTops.{under_all, under_trees}
 use Rattle.open_pool.proofs.RecordKept.{few_recorded, ranges_in_all}
-use Rattle.open_pool.proofs.TreesBuilt.{built_sizes}
-use Rattle.open_pool.proofs.TreesStay.{trees_alike}
+use Rattle.open_pool.proofs.TreesBuilt.{built_sizes, trees_told}
 use Rattle.open_pool.proofs.TurnLeaves.{AreInForm, TurnsLeaves, turns_leaves}
 use Rattle.open_pool.proofs.TurnSteps.{going, AreLikeTops}
 
@@ -37,9 +36,7 @@ use Rattle.open_pool.proofs.TurnSteps.{going, AreLikeTops}
 pub like_tops : (old new : List Top) → marks_of new ≡ marks_of old → sectors_of new ≡ sectors_of old
     → AreSameLeaves (leaves_of old) (leaves_of new) → AreLikeTops old new
 like_tops old new built sectors same = record {
-  told = trees_alike old new built (built_sizes old new built)
-      (subst (λ ls. AreSameLeaves ls (under_all (leaves_under (all_parts new)))) (sym (under_trees old))
-      (subst (AreSameLeaves (leaves_of old)) (sym (under_trees new)) same));
+  told = trees_told old new built same;
   sectors = sectors;
 }
 

@@ -1,66 +1,159 @@
-use Rattle.std.proofs.Common.{rules, ◌≡◌, ◌==◌, ◌∷◌, [], ◌<◌, true, false, map, Some, Err, length, IfSome, slice_get, ℕ, ◌+◌, ◌-◌, ◌*◌, ◌≤◌, ◌/◌, ◌%◌, Bool, nat_eq, nat_lt, List, ◌++◌, slice_index_or, slice_set, bit_and, bit_or, Fits, w8, w32, w64, Bor, MutBor}
-use Rattle.std.specs.List.{list_any, AllByRecursion, AllZip}
-use Rattle.std.specs.Str.{bytes_eq}
-use Rattle.txg_engine.specs.Boards.{AreServed, as_taken, on_board, without}
-use Rattle.pool_moves.specs.AwayRows.{RowOffline, unnamed}
-use Rattle.pool_moves.specs.Leaves.{OwnLeaf}
-use Rattle.pool_moves.specs.Moves.{Sets, steps}
-use Rattle.pool_moves.specs.States.{PoolState}
+use Rattle.std.proofs.Common.{◌≡◌, ℕ, suc, get_or, List, [], Some, refl, sym, ap, ◌∙◌, subst, arith}
+use Rattle.std.specs.Prelude.{slice_get}
+use Rattle.vdev_tree.specs.declared.top.Top.{Top}
+use Rattle.dtl_rules.specs.Rules.{IsRequired, LeastNeeded}
+use Rattle.txg_engine.proofs.Seating.{got_inside}
+use Rattle.pool_codec.specs.Tops.{children_of}
+use Rattle.pool_moves.specs.Moves.{steps}
+use Rattle.pool_moves.specs.Trees.{is_spare_leaf}
 use Rattle.open_pool.specs.Form.{all_leaves}
-use Rattle.open_pool.specs.Offline.{IsNamedOwn, IsStillIt, LeavesBoard, numbers_under, offline_says}
-use Rattle.open_pool.specs.Parts.{TopParts}
-use Rattle.open_pool.specs.Answering.{Answers}
-use Rattle.open_pool.specs.State.{Stands, seats_in}
+use Rattle.open_pool.specs.Parts.{PoolParts, all_parts}
+use Rattle.open_pool.specs.State.{seats_in, vdevs_in}
+use Rattle.open_pool.proofs.OfflineRows.{already_row, few_each, gone_row, inside, kept_of, named_still, offline_off, own_named, required_row, same_top, spare_row, there, unnamed_row}
 use Rattle.open_pool.proofs.pool.Pool.offline.Goals as goal
 
--- src/offline.rt:42:27
 pub find_leaf-requires : goal.find_leaf-requires
-find_leaf-requires c = ?
+find_leaf-requires c =
+    let p = c.args.self.now in
+    let trees = c.deref.result.now in
+    let parts : p.tops ≡ all_parts trees = ap (λ (q : PoolParts). q.tops) (sym c.self.view_is) ∙ ap all_parts (sym c.deref.ensures.value) in
+    few_each p trees parts c.keeps_its_form.ensures.pool
 
--- src/offline.rt:43:13
 pub returns-in_default : goal.returns-in_default
-returns-in_default c = ?
+returns-in_default c =
+    let p = c.args.self.now in
+    let trees = c.deref.result.now in
+    let parts : p.tops ≡ all_parts trees = ap (λ (q : PoolParts). q.tops) (sym c.self.view_is) ∙ ap all_parts (sym c.deref.ensures.value) in
+    record {
+      row = λ s stands. unnamed_row p trees parts c.keeps_its_form.ensures.pool c.args.name.now c.args.temporary s stands c.why_unnamed.result
+          c.in_default.ensures.none c.why_unnamed.ensures;
+    }
 
--- src/offline.rt:45:20
 pub index-top-requires : goal.index-top-requires
-index-top-requires c = ?
+index-top-requires c =
+    let is = c.in-Some.ensures.some in
+    let low = got_inside c.deref.result.now c.in-Some.found.top is.under is.at in
+    let many = c.deref.ensures.len in omega (arith, low, many)
 
--- src/offline.rt:48:13
 pub returns-then-is_spare_leaf : goal.returns-then-is_spare_leaf
-returns-then-is_spare_leaf c = ?
+returns-then-is_spare_leaf c =
+    let p = c.args.self.now in
+    let trees = c.deref.result.now in
+    let parts : p.tops ≡ all_parts trees = ap (λ (q : PoolParts). q.tops) (sym c.self.view_is) ∙ ap all_parts (sym c.deref.ensures.value) in
+    let is = c.in-Some.ensures.some in
+    let same : is.under ≡ c.index-top.result.now = same_top trees c.in-Some.found.top is.under c.index-top.result.now is.at
+    (c.index-top.ensures ∙ ap (λ ts. get_or ts c.in-Some.found.top c.index-top.result.now) (sym c.deref.ensures.value)) in
+    let tells = subst (λ (t : Top). (place : ℕ) (tops : List Top) → slice_get tops place ≡ Some t
+    → c.is_spare_leaf.result ≡ is_spare_leaf c.in-Some.found.guid (children_of (vdevs_in (all_parts tops)) (suc place))) (sym same) c.is_spare_leaf.ensures in
+    record {
+      row = λ s stands. spare_row p trees parts c.keeps_its_form.ensures.pool c.args.name.now c.args.temporary c.in-Some.found is s stands
+          c.is_spare_leaf.result tells c.if-is_spare_leaf.true;
+    }
 
--- src/offline.rt:51:13
 pub set_offline-requires-clause-inside : goal.set_offline-requires-clause-inside
-set_offline-requires-clause-inside c = ?
+set_offline-requires-clause-inside c =
+    let p = c.args.self.now in
+    let trees = c.deref.result.now in
+    let parts : p.tops ≡ all_parts trees = ap (λ (q : PoolParts). q.tops) (sym c.self.view_is) ∙ ap all_parts (sym c.deref.ensures.value) in
+    let is = c.in-Some.ensures.some in
+    inside p trees parts c.keeps_its_form.ensures.pool c.args.name.now c.args.temporary c.in-Some.found is p.tops refl
 
--- src/offline.rt:51:13
 pub set_offline-requires-clause-there : goal.set_offline-requires-clause-there
-set_offline-requires-clause-there c = ?
+set_offline-requires-clause-there c =
+    let p = c.args.self.now in
+    let trees = c.deref.result.now in
+    let parts : p.tops ≡ all_parts trees = ap (λ (q : PoolParts). q.tops) (sym c.self.view_is) ∙ ap all_parts (sym c.deref.ensures.value) in
+    let is = c.in-Some.ensures.some in
+    there p trees parts c.keeps_its_form.ensures.pool c.args.name.now c.args.temporary c.in-Some.found is p.tops refl
 
--- src/offline.rt:51:13
 pub set_offline-requires-clause-off : goal.set_offline-requires-clause-off
-set_offline-requires-clause-off c = ?
+set_offline-requires-clause-off c =
+    let p = c.args.self.now in
+    let trees = c.deref.result.now in
+    let parts : p.tops ≡ all_parts trees = ap (λ (q : PoolParts). q.tops) (sym c.self.view_is) ∙ ap all_parts (sym c.deref.ensures.value) in
+    let is = c.in-Some.ensures.some in
+    offline_off p trees parts c.keeps_its_form.ensures.pool c.args.name.now c.args.temporary c.in-Some.found is (sym c.is_offline.ensures ∙ c.if-is_offline.true)
 
--- src/offline.rt:52:13
-pub returns-then-eq : goal.returns-then-eq
-returns-then-eq c = ?
+pub returns-then-is_offline : goal.returns-then-is_offline
+returns-then-is_offline c =
+    let p = c.args.self.now in
+    let trees = c.deref.result.now in
+    let parts : p.tops ≡ all_parts trees = ap (λ (q : PoolParts). q.tops) (sym c.self.view_is) ∙ ap all_parts (sym c.deref.ensures.value) in
+    let is = c.in-Some.ensures.some in
+    let same : is.under ≡ c.index-top.result.now = same_top trees c.in-Some.found.top is.under c.index-top.result.now is.at
+    (c.index-top.ensures ∙ ap (λ ts. get_or ts c.in-Some.found.top c.index-top.result.now) (sym c.deref.ensures.value)) in
+    let tells = subst (λ (t : Top). (place : ℕ) (tops : List Top) → slice_get tops place ≡ Some t
+    → c.is_spare_leaf.result ≡ is_spare_leaf c.in-Some.found.guid (children_of (vdevs_in (all_parts tops)) (suc place))) (sym same) c.is_spare_leaf.ensures in
+    let own' = own_named p trees parts c.keeps_its_form.ensures.pool c.args.name.now c.args.temporary c.in-Some.found is in
+    record {
+      row = λ s stands. already_row p trees parts c.keeps_its_form.ensures.pool c.args.name.now c.args.temporary c.in-Some.found is s stands
+          c.is_spare_leaf.result tells c.if-is_spare_leaf.false (sym c.is_offline.ensures ∙ c.if-is_offline.true) c.set_offline.new.self
+          (c.set_offline.ensures.set s _ stands own');
+    }
 
--- src/offline.rt:55:13
 pub returns-in-Some-required : goal.returns-in-Some-required
-returns-in-Some-required c = ?
+returns-in-Some-required c =
+    let p = c.args.self.now in
+    let trees = c.deref.result.now in
+    let parts : p.tops ≡ all_parts trees = ap (λ (q : PoolParts). q.tops) (sym c.self.view_is) ∙ ap all_parts (sym c.deref.ensures.value) in
+    let is = c.in-Some.ensures.some in
+    let same : is.under ≡ c.index-top.result.now = same_top trees c.in-Some.found.top is.under c.index-top.result.now is.at
+    (c.index-top.ensures ∙ ap (λ ts. get_or ts c.in-Some.found.top c.index-top.result.now) (sym c.deref.ensures.value)) in
+    let tells = subst (λ (t : Top). (place : ℕ) (tops : List Top) → slice_get tops place ≡ Some t
+    → c.is_spare_leaf.result ≡ is_spare_leaf c.in-Some.found.guid (children_of (vdevs_in (all_parts tops)) (suc place))) (sym same) c.is_spare_leaf.ensures in
+    record {
+      row = λ s stands. required_row p trees parts c.keeps_its_form.ensures.pool c.args.name.now c.args.temporary c.in-Some.found is s stands
+          c.is_spare_leaf.result tells c.if-is_spare_leaf.false (sym c.is_offline.ensures ∙ c.if-is_offline.false) c.in-Some-required.group.0
+          (subst (λ (t : Top). LeastNeeded t c.in-Some.found.guid c.in-Some-required.group.0) (sym same) c.in-Some-required.ensures.required);
+    }
 
--- src/offline.rt:57:9
 pub leave_board-requires : goal.leave_board-requires
-leave_board-requires c = ?
+leave_board-requires c =
+    let p = c.args.self.now in
+    let trees = c.deref.result.now in
+    let parts : p.tops ≡ all_parts trees = ap (λ (q : PoolParts). q.tops) (sym c.self.view_is) ∙ ap all_parts (sym c.deref.ensures.value) in
+    let is = c.in-Some.ensures.some in
+    let same : is.under ≡ c.index-top.result.now = same_top trees c.in-Some.found.top is.under c.index-top.result.now is.at
+    (c.index-top.ensures ∙ ap (λ ts. get_or ts c.in-Some.found.top c.index-top.result.now) (sym c.deref.ensures.value)) in
+    record {
+      kept = kept_of p trees parts c.keeps_its_form.ensures.pool c.args.name.now c.args.temporary c.in-Some.found is
+          (subst (λ (t : Top). ¬ (IsRequired t c.in-Some.found.guid)) (sym same) c.in_default-required.ensures.free) p.frozen refl c.keeps_its_form.ensures.group;
+    }
 
--- src/offline.rt:58:9
 pub set_offline-requires-2-clause-inside : goal.set_offline-requires-2-clause-inside
-set_offline-requires-2-clause-inside c = ?
+set_offline-requires-2-clause-inside c =
+    let p = c.args.self.now in
+    let trees = c.deref.result.now in
+    let parts : p.tops ≡ all_parts trees = ap (λ (q : PoolParts). q.tops) (sym c.self.view_is) ∙ ap all_parts (sym c.deref.ensures.value) in
+    let is = c.in-Some.ensures.some in
+    inside p trees parts c.keeps_its_form.ensures.pool c.args.name.now c.args.temporary c.in-Some.found is c.leave_board.new.self.tops c.leave_board.ensures.tops
 
--- src/offline.rt:58:9
 pub set_offline-requires-2-clause-there : goal.set_offline-requires-2-clause-there
-set_offline-requires-2-clause-there c = ?
+set_offline-requires-2-clause-there c =
+    let p = c.args.self.now in
+    let trees = c.deref.result.now in
+    let parts : p.tops ≡ all_parts trees = ap (λ (q : PoolParts). q.tops) (sym c.self.view_is) ∙ ap all_parts (sym c.deref.ensures.value) in
+    let is = c.in-Some.ensures.some in
+    there p trees parts c.keeps_its_form.ensures.pool c.args.name.now c.args.temporary c.in-Some.found is c.leave_board.new.self.tops c.leave_board.ensures.tops
 
--- src/offline.rt:38:5
 pub returns : goal.returns
-returns c = ?
+returns c =
+    let p = c.args.self.now in
+    let trees = c.deref.result.now in
+    let parts : p.tops ≡ all_parts trees = ap (λ (q : PoolParts). q.tops) (sym c.self.view_is) ∙ ap all_parts (sym c.deref.ensures.value) in
+    let is = c.in-Some.ensures.some in
+    let same : is.under ≡ c.index-top.result.now = same_top trees c.in-Some.found.top is.under c.index-top.result.now is.at
+    (c.index-top.ensures ∙ ap (λ ts. get_or ts c.in-Some.found.top c.index-top.result.now) (sym c.deref.ensures.value)) in
+    let tells = subst (λ (t : Top). (place : ℕ) (tops : List Top) → slice_get tops place ≡ Some t
+    → c.is_spare_leaf.result ≡ is_spare_leaf c.in-Some.found.guid (children_of (vdevs_in (all_parts tops)) (suc place))) (sym same) c.is_spare_leaf.ensures in
+    let q = c.leave_board.new.self in
+    let own' = named_still (seats_in p.frozen) (seats_in q.frozen) c.in-Some.found.guid c.args.temporary _ (all_leaves p) (all_leaves q) c.leave_board.ensures.still
+    (own_named p trees parts c.keeps_its_form.ensures.pool c.args.name.now c.args.temporary c.in-Some.found is) in
+    record {
+      row = λ s stands.
+          let left = c.leave_board.ensures.left s stands in
+          gone_row p trees parts c.keeps_its_form.ensures.pool c.args.name.now c.args.temporary c.in-Some.found is s stands
+          c.is_spare_leaf.result tells c.if-is_spare_leaf.false (sym c.is_offline.ensures ∙ c.if-is_offline.false)
+          (subst (λ (t : Top). ¬ (IsRequired t c.in-Some.found.guid)) (sym same) c.in_default-required.ensures.free)
+          q c.set_offline-2.new.self left (c.set_offline-2.ensures.set (steps left.leaving s) _ left.stands own');
+    }
