@@ -25,6 +25,7 @@ pub mod LeavesCounted
 pub mod LeavesInForm
 pub mod LeavesOwe
 pub mod LeavesStay
+pub mod LogsTold
 pub mod LogsWidened
 pub mod MembersAgree
 pub mod NeedCounted

@@ -6,6 +6,7 @@ mod copies;
 mod count;
 mod form;
 mod laws;
+mod logs;
 mod pool;
 mod read;
 mod space;
@@ -13,6 +14,7 @@ mod write;
 
 pub use copies::Shown;
 pub use laws::freezes_are_rows;
+pub use logs::LeafLog;
 pub use pool::Pool;
 pub use read::ReadFault;
 pub use write::WriteFault;
