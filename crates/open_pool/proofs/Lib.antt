@@ -42,6 +42,7 @@ pub mod LeavesOwe
 pub mod LeavesShown
 pub mod LeavesStay
 pub mod LeftServed
+pub mod LogsTold
 pub mod LogsWidened
 pub mod MapsRead
 pub mod MembersAgree

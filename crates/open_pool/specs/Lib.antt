@@ -12,4 +12,5 @@ pub mod Parts
 pub mod Reading
 pub mod Space
 pub mod State
+pub mod Telling
 pub mod Writing

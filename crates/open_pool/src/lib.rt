@@ -7,6 +7,7 @@ mod count;
 mod form;
 mod freeze;
 mod laws;
+mod logs;
 mod named;
 mod offline;
 mod pages;
@@ -19,6 +20,7 @@ mod write;
 
 pub use freeze::{FreezeFault, LAST_NUMBER};
 pub use laws::freezes_are_rows;
+pub use logs::LeafLog;
 pub use offline::OfflineFault;
 pub use pages::Shown;
 pub use pool::Pool;
