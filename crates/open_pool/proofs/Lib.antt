@@ -36,6 +36,7 @@ pub mod PartRows
 pub mod PlacesEnd
 pub mod PlacesGiven
 pub mod RecordKept
+pub mod RecordSealed
 pub mod RisingCounted
 pub mod RoundAnswers
 pub mod RoundDraws

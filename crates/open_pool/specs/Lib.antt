@@ -7,4 +7,5 @@ pub mod Here
 pub mod Parts
 pub mod Space
 pub mod State
+pub mod Turning
 pub mod Writing
