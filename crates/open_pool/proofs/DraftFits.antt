@@ -28,8 +28,6 @@ use Rattle.dtl_rules.specs.Widening.{leaves_of}
 use Rattle.pool_config.specs.Flags.{recorded}
 use Rattle.pool_config.specs.Reading.{seen_in}
 use Rattle.pool_config.specs.Seen.{ConfigSeen, parts_seen, top_seen, top_vdevs}
-use Rattle.pool_config.specs.Spelling.{config_bytes}
-use Rattle.pool_config.specs.Validity.{IsValid}
 use Rattle.pool_config.proofs.Deciding.{back}
 use Rattle.pool_config.proofs.Returning.{seen_back}
 use Rattle.pool_codec.specs.Codecs.{pool_codec, head_of_seen}
@@ -50,6 +48,7 @@ use Rattle.pool_moves.specs.TurnRows.{FitsState, FitsOwn}
 use Rattle.open_pool.specs.Form.{all_leaves, IsPool}
 use Rattle.open_pool.specs.Parts.{PoolParts, all_parts}
 use Rattle.open_pool.specs.State.{cells_of, leaf_of, leaves_from, leaves_under, own_state, seen_of, sums_of, vdevs_in}
+use Rattle.open_pool.specs.Turning.{Draws}
 use Rattle.open_pool.proofs.GoingKept.{trees_leaves}
 use Rattle.open_pool.proofs.KeysFound.{found_item, laid_sums}
 use Rattle.open_pool.proofs.LogsWidened.{IsWithin}
@@ -106,14 +105,6 @@ most_bytes blob bytes s = let few = s.most in let whole = s.whole in let within 
 -- the configuration that is drawn up of a frozen group, over the map and the trees
 abbrev pub drawn_of : PoolParts → FrozenGroup → List Top → ConfigSeen
 drawn_of b group trees = parts_seen b.pool b.name b.map.blocks group.numbers.last b.next (laid group.items (pointer_at b.map) root) trees b.spares
-
--- A commit of these bytes.
-pub record Draws (commit : Commit) (c : ConfigSeen) : Type 0 where
-  pub pool : commit.pool ≡ c.pool
-  pub number : commit.number ≡ c.number
-  pub bytes : take commit.length commit.blob ≡ config_bytes c
-  pub sealed : IsSealed commit.blob commit.length
-  pub valid : IsValid c
 
 module _ (held : List Sums) (b : PoolParts) (group : FrozenGroup) (trees : List Top) (pool : IsPool (going b group trees)) (kept : IsGroup group)
     (commit : Commit) (draws : Draws commit (drawn_of b group trees)) where

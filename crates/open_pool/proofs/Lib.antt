@@ -67,6 +67,7 @@ pub mod ReadRows
 pub mod ReadingsGoOn
 pub mod ReadsCounted
 pub mod RecordKept
+pub mod RecordSealed
 pub mod RecordStill
 pub mod RightPages
 pub mod RisingCounted

@@ -30,7 +30,8 @@ use Rattle.open_pool.specs.Committing.{turn_says}
 use Rattle.open_pool.specs.Form.{IsPool}
 use Rattle.open_pool.specs.Parts.{PoolParts}
 use Rattle.open_pool.specs.State.{ArePinned, cells_of, own_state, seen_of, state_of}
-use Rattle.open_pool.proofs.DraftFits.{Draws, drawn_of}
+use Rattle.open_pool.specs.Turning.{Draws}
+use Rattle.open_pool.proofs.DraftFits.{drawn_of}
 use Rattle.open_pool.proofs.EndStates.{commit_steps}
 use Rattle.open_pool.proofs.LeavesStay.{settled_same}
 use Rattle.open_pool.proofs.MembersAgree.{board_crew}

@@ -39,7 +39,8 @@ use Rattle.open_pool.proofs.TurnEndings.{none_emptied}
 use Rattle.open_pool.specs.State.{ArePinned, leaves_from, own_state, seen_of, state_of}
 use Rattle.open_pool.proofs.BoardIsSeats.{HaveLeaves, board_of_seats}
 use Rattle.open_pool.proofs.BoardKept.{AreSameLeaves, board_behind}
-use Rattle.open_pool.proofs.DraftFits.{Draws, drawn_of}
+use Rattle.open_pool.specs.Turning.{Draws}
+use Rattle.open_pool.proofs.DraftFits.{drawn_of}
 use Rattle.open_pool.proofs.FormKept.{form_kept}
 use Rattle.open_pool.proofs.FewRanges.{HasFewRanges, few_behind, together_are}
 use Rattle.open_pool.proofs.GoingKept.{GoesOn, behind_settled, grown_settled, settled_twice, trees_leaves}

@@ -34,7 +34,8 @@ use Rattle.pool_moves.proofs.Widenings.{calls_seen}
 use Rattle.open_pool.specs.Form.{IsPool}
 use Rattle.open_pool.specs.Parts.{PoolParts}
 use Rattle.open_pool.specs.State.{group_of, leaves_from, leaves_under, seen_of, state_of}
-use Rattle.open_pool.proofs.DraftFits.{Draws, drawn_of, fits_own, fits_state}
+use Rattle.open_pool.specs.Turning.{Draws}
+use Rattle.open_pool.proofs.DraftFits.{drawn_of, fits_own, fits_state}
 use Rattle.open_pool.proofs.LeafLeaves.{seen_more}
 use Rattle.open_pool.proofs.PartRows.{made_left, made_sets, made_first}
 use Rattle.open_pool.proofs.TurnEndings.{none_emptied}

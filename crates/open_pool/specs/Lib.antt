@@ -13,4 +13,5 @@ pub mod Reading
 pub mod Space
 pub mod State
 pub mod Telling
+pub mod Turning
 pub mod Writing
