@@ -69,6 +69,7 @@ pub mod ReadsCounted
 pub mod RecordKept
 pub mod RecordSealed
 pub mod RecordStill
+pub mod RecordsSought
 pub mod RightPages
 pub mod RisingCounted
 pub mod RoundAnswers

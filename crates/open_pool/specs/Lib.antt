@@ -2,14 +2,17 @@ pub mod Answering
 pub mod Committing
 pub mod Copies
 pub mod Counting
+pub mod Finding
 pub mod Form
 pub mod Freezing
 pub mod Here
 pub mod Naming
 pub mod Offline
+pub mod Opening
 pub mod Pages
 pub mod Parts
 pub mod Reading
+pub mod Seeking
 pub mod Space
 pub mod State
 pub mod Telling

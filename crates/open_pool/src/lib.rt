@@ -4,6 +4,7 @@
 
 mod copies;
 mod count;
+mod finding;
 mod form;
 mod freeze;
 mod laws;
@@ -13,6 +14,7 @@ mod offline;
 mod pages;
 mod pool;
 mod read;
+mod seeking;
 mod space;
 mod spares;
 mod turn;
@@ -25,5 +27,6 @@ pub use offline::OfflineFault;
 pub use pages::Shown;
 pub use pool::Pool;
 pub use read::ReadFault;
+pub use seeking::{SeekFault, seek};
 pub use turn::TurnDone;
 pub use write::WriteFault;
