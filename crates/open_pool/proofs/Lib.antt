@@ -41,6 +41,7 @@ pub mod LeavesKept
 pub mod LeavesOwe
 pub mod LeavesShown
 pub mod LeavesStay
+pub mod LeavesSought
 pub mod LeftServed
 pub mod LogsTold
 pub mod LogsWidened

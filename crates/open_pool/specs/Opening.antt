@@ -26,10 +26,6 @@ all_placed devs [] = []
 all_placed [] (leaf ∷ leaves) = leaf ∷ leaves
 all_placed (dev ∷ devs) (leaf ∷ leaves) = placed dev leaf ∷ all_placed devs leaves
 
--- the devices that are handed in under the leaves' names
-abbrev pub handed_to : (handed : List ℕ → Option ℕ) → List LeafVdev → List (Option ℕ)
-handed_to handed leaves = map (λ leaf. handed leaf.name) leaves
-
 -- no device is handed in under two of the names, and the bank has each
 abbrev pub AreHanded : (size : ℕ → ℕ) → List (Option ℕ) → Type 0
 AreHanded size devs = AllPairs (λ a b. (d : ℕ) → a ≡ Some d → b ≡ Some d → ⊥) devs × All (λ dev. IfSome dev (λ d. 0 < size d)) devs
