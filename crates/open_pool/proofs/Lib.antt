@@ -40,8 +40,8 @@ pub mod LeavesInForm
 pub mod LeavesKept
 pub mod LeavesOwe
 pub mod LeavesShown
-pub mod LeavesStay
 pub mod LeavesSought
+pub mod LeavesStay
 pub mod LeftServed
 pub mod LogsTold
 pub mod LogsWidened
