@@ -1,5 +1,5 @@
 -- A leaf that leaves the board outside of a turn does so by the row's moves, and the pool has its form still.
-use Rattle.std.proofs.Common.{◌≡◌, ℕ, suc, ◌≤◌, ◌^◌, ◌==◌, ◌&&◌, ◌||◌, not, cond, Bool, true, false, List, [], ◌∷◌, ◌++◌, drop, length, map, take, Option, Some, None, refl, sym, ap, ◌∙◌, ⊎_elim, subst, arith}
+use Rattle.std.proofs.Common.{◌≡◌, ℕ, suc, ◌≤◌, ◌==◌, ◌&&◌, ◌||◌, not, cond, Bool, true, false, List, [], ◌∷◌, ◌++◌, drop, length, map, take, Option, Some, None, refl, sym, ap, ◌∙◌, ⊎_elim, subst, arith}
 use Rattle.std.specs.Prelude.{All, Contains, IfSome, is_some}
 use Rattle.std.specs.List.{AllByRecursion, AllZip, filter}
 use Rattle.std.specs.Option.{option_map}
@@ -336,7 +336,7 @@ module _ (b : PoolParts) (group : FrozenGroup) (old new : List Top) (at : Guid) 
 pub leaves_board : (b : PoolParts) (group : FrozenGroup) (old new : List Top) (at : Guid) (held : List Sums) → b.tops ≡ all_parts old
     → b.frozen ≡ Some group → IsPool b → 1 ≤ group.numbers.first.0 → marks_of new ≡ marks_of old → sectors_of new ≡ sectors_of old
     → (on_board group.board at ≡ true
-        → AreGrown (is_leaf at) group.numbers.first.0 group.numbers.last.0 (leaves_of old) (leaves_of new))
+    → AreGrown (is_leaf at) group.numbers.first.0 group.numbers.last.0 (leaves_of old) (leaves_of new))
     → (on_board group.board at ≡ false → new ≡ old)
     → All (IsReady (left_by at group.board) group.numbers.last.0) (leaves_of new)
     → LeavesIt at held b (record b { tops = all_parts new; frozen = Some (record group { board = left_by at group.board }) })

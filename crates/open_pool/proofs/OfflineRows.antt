@@ -1,8 +1,7 @@
 -- A leaf is taken offline by the row: why it isn't, and what the moves are where it is.
-use Rattle.std.proofs.Common.{◌≡◌, ◌≢◌, ◌⊎◌, inl, inr, ⊎_elim, ℕ, zero, suc, ◌+◌, ◌<◌, ◌≤◌, ◌==◌, ◌||◌, cond, Bool, true, false, List, [], ◌∷◌, ◌++◌, length, get_or, map, Option, Some, None, Result, Err, Ok, refl, sym, ap, ◌∙◌, subst, arith}
+use Rattle.std.proofs.Common.{◌≡◌, inl, inr, ⊎_elim, ℕ, zero, suc, ◌+◌, ◌<◌, ◌≤◌, ◌==◌, ◌||◌, Bool, true, false, List, [], ◌∷◌, ◌++◌, length, get_or, map, Option, Some, None, Err, Ok, refl, sym, ap, ◌∙◌, subst, arith}
 use Rattle.std.specs.Prelude.{All, Contains, IfSome, slice_get}
 use Rattle.std.specs.List.{AllByRecursion, AllZip, list_any}
-use Rattle.std.specs.Option.{option_map}
 use Rattle.std.specs.Str.{bytes_eq}
 use Rattle.std.proofs.lemmas.Bool.{eqb-true, true≢false}
 use Rattle.std.proofs.lemmas.Bool.Decides.{nat_tests}
@@ -79,8 +78,8 @@ named_by at P leaf (x ∷ xs) differ among is has =
       none_of at P x.guid.0 xs (ap (λ (l : LeafVdev). l.guid.0) same ∙ is) differ.0,
     )) (λ later. (
       (λ named. absurd (true≢false (sym (same_number x.guid.0 leaf.guid.0 (eqb-true x.guid.0 at.0 named ∙ sym is))
-      ∙ All-contains (λ (l : LeafVdev). (x.guid.0 == l.guid.0) ≡ false) xs leaf
-      (All-from_recursion (λ (l : LeafVdev). (x.guid.0 == l.guid.0) ≡ false) xs (not_among x.guid.0 xs differ.0)) later))),
+          ∙ All-contains (λ (l : LeafVdev). (x.guid.0 == l.guid.0) ≡ false) xs leaf
+          (All-from_recursion (λ (l : LeafVdev). (x.guid.0 == l.guid.0) ≡ false) xs (not_among x.guid.0 xs differ.0)) later))),
       named_by at P leaf xs differ.1 later is has,
     )) (Contains-append_cases (x ∷ []) xs leaf among)
 
@@ -273,10 +272,14 @@ module _ (p : PoolParts) (trees : List Top) (parts : p.tops ≡ all_parts trees)
           required_row isnt state group needed = record {
             moves = [];
             reply = rows.Required group;
-            is = by_leaf isnt false state [] (rows.Required group) (inl (group,
-            subst (λ ls. LeastOut (siblings seen ls) group) (sym (leaves_is s stands))
-            (least_out seats trees found.top is.under leaf all_apart is.at is.among group
-            (subst (λ g. rules.LeastNeeded is.under g group) (sym is.guid_is) needed)), refl, refl));
+            is = by_leaf isnt false state [] (rows.Required group) (inl (
+              group,
+              subst (λ ls. LeastOut (siblings seen ls) group) (sym (leaves_is s stands))
+                  (least_out seats trees found.top is.under leaf all_apart is.at is.among group
+                  (subst (λ g. rules.LeastNeeded is.under g group) (sym is.guid_is) needed)),
+              refl,
+              refl,
+            ));
             says_so = refl;
             leaves = stands;
           }
@@ -304,14 +307,15 @@ module _ (p : PoolParts) (trees : List Top) (parts : p.tops ≡ all_parts trees)
             reply = rows.Gone;
             is = by_leaf isnt false state (left.leaving ++ (sets ∷ [])) rows.Gone (inr (
               (λ needed. not_required seats trees found.top is.under leaf all_apart is.at is.among
-              (subst (λ g. ¬ (rules.IsRequired is.under g)) (sym is.guid_is) free)
-              (subst (IsRequired seen) (leaves_is s stands) needed)),
+                  (subst (λ g. ¬ (rules.IsRequired is.under g)) (sym is.guid_is) free)
+                  (subst (IsRequired seen) (leaves_is s stands) needed)),
               record {
                 leaving = left.leaving;
                 leaves = subst (λ g. LeaveIf (on_board seats g) leaf.dev s.core left.leaving) (sym is.guid_is) (left.are leaf leaf_is_there is.guid_is);
                 moves = ap (λ g. left.leaving ++ (Sets g own ∷ [])) (sym is.guid_is);
               },
-              refl));
+              refl,
+            ));
             says_so = refl;
             leaves = subst (Stands q) (sym (steps_more left.leaving (sets ∷ []) s)) then;
           }

@@ -26,7 +26,6 @@ use Rattle.open_pool.proofs.LeavesInForm.{in_form}
 use Rattle.open_pool.proofs.LeavesStay.{behind_same}
 use Rattle.open_pool.proofs.LogsWidened.{IsWithin}
 use Rattle.open_pool.proofs.MembersAgree.{IsCrew}
-use Rattle.open_pool.proofs.LeavesByTops.{under_all, under_trees}
 use Rattle.open_pool.proofs.RecordKept.{few_recorded, ranges_in_all}
 use Rattle.open_pool.proofs.TreesBuilt.{built_sizes, trees_told}
 use Rattle.open_pool.proofs.TurnLeaves.{AreInForm, TurnsLeaves, turns_leaves}

@@ -1,7 +1,5 @@
 -- Leaves that are taken offline.
-use Rattle.std.specs.Prelude.{◌≡◌, ℕ, ◌==◌, Bool, true, List, ◌∷◌, [], map, Some, Contains, IfSome, Option, Result, Ok, Err}
-use Rattle.std.specs.List.{AllByRecursion, AllZip}
-use Rattle.mp_base.specs.declared.number.Group.{Group}
+use Rattle.std.specs.Prelude.{◌≡◌, ◌==◌, Bool, true, List, map, Contains, Result, Ok, Err}
 use Rattle.mp_base.specs.declared.number.Guid.{Guid}
 use Rattle.vdev_tree.specs.declared.vdev.LeafVdev.{LeafVdev}
 use Rattle.txg_engine.specs.declared.seat.Seat.{Seat}

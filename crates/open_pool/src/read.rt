@@ -14,8 +14,8 @@ ghost use Rattle.open_pool.specs.Reading.{answer_by, answered, ReadsAt};
 
 use crate::Pool;
 use crate::copies::{DATA_START, copies_of};
-use crate::pages::Shown;
 use crate::count::count_read;
+use crate::pages::Shown;
 use bank_core::Bank;
 use mirror_io::{CopySeen, read_block};
 use mp_base::{Key, Pointer};

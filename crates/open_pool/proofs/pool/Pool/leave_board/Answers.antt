@@ -12,7 +12,7 @@ use Rattle.open_pool.specs.Form.{HasGroup, IsPool, all_leaves}
 use Rattle.open_pool.specs.Offline.{IsStillIt, LeavesBoard, numbers_under}
 use Rattle.open_pool.specs.Parts.{PoolParts, all_parts}
 use Rattle.open_pool.specs.State.{seats_in}
-use Rattle.open_pool.proofs.BoardLeft.{LeavesIt, all_still, items_back, leaves_board, left_by, off_now, stands_left, under_numbers}
+use Rattle.open_pool.proofs.BoardLeft.{LeavesIt, all_still, items_back, leaves_board, left_by, off_now, stands_left}
 use Rattle.open_pool.proofs.LeavesInForm.{leaves_are}
 use Rattle.open_pool.proofs.pool.Pool.leave_board.Goals as goal
 
