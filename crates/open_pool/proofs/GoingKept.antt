@@ -1,6 +1,6 @@
 -- A pool whose group went on by a turn has its form.
-use Rattle.std.proofs.Common.{◌≡◌, ◌⊎◌, inl, inr, ℕ, zero, suc, ◌+◌, ◌<◌, ◌≤◌, ◌^◌, ◌==◌, ◌||◌, cond, Bool, true, false, List, [], ◌∷◌, length, map, Some, refl, sym, ap, ◌∙◌, subst, arith}
-use Rattle.std.specs.Prelude.{All, is_some, slice_get}
+use Rattle.std.proofs.Common.{◌≡◌, ◌⊎◌, ℕ, suc, ◌+◌, ◌<◌, ◌≤◌, ◌^◌, ◌==◌, ◌||◌, cond, Bool, true, false, List, [], ◌∷◌, length, map, Some, refl, sym, ap, ◌∙◌, subst, arith}
+use Rattle.std.specs.Prelude.{All, is_some}
 use Rattle.std.specs.List.{AllByRecursion, AllZip, flat_map}
 use Rattle.std.proofs.lemmas.List.Elements.{recursion_from_All, All-from_recursion}
 use Rattle.mp_base.specs.declared.number.Group.{Group}
@@ -15,7 +15,7 @@ use Rattle.vdev_tree.specs.Leaf.{is_readable}
 use Rattle.vdev_tree.specs.declared.top.Top.{Top}
 use Rattle.vdev_tree.specs.declared.vdev.LeafVdev.{LeafVdev}
 use Rattle.dtl_rules.specs.Widening.{leaves_of, marks_of, sectors_of}
-use Rattle.pool_config.specs.Seen.{TopSeen, top_seen}
+use Rattle.pool_config.specs.Seen.{top_seen}
 use Rattle.pool_config.specs.Validity.{IsValid, IsHole, IsPlaced}
 use Rattle.mp_base.specs.declared.place.Key.{Key}
 use Rattle.txg_history.specs.Records.{Cell, AreAtOne, key}
@@ -30,7 +30,7 @@ use Rattle.txg_engine.proofs.Ready.{nothing}
 use Rattle.pool_moves.specs.FreezeRow.{IsAtPlace}
 use Rattle.pool_moves.specs.Refusing.{count_below}
 use Rattle.pool_moves.specs.States.{sums}
-use Rattle.open_pool.specs.Form.{top_of, config_of, all_leaves, IsRecordable, HasPlaces, ArePlacesApart, HasBoard, HasLeaves, HasGroup, IsPool}
+use Rattle.open_pool.specs.Form.{config_of, all_leaves, IsRecordable, HasPlaces, ArePlacesApart, HasBoard, HasLeaves, HasGroup, IsPool}
 use Rattle.open_pool.specs.Parts.{TopParts, PoolParts, all_parts}
 use Rattle.open_pool.specs.State.{cells_of, sums_of}
 use Rattle.open_pool.proofs.BoardKept.{AreSameLeaves}
@@ -38,7 +38,8 @@ use Rattle.open_pool.proofs.FormKept.{devices_still, writable_still}
 use Rattle.open_pool.proofs.LeavesByTops.{all_are_under, under_trees}
 use Rattle.open_pool.proofs.LeavesStay.{are_grown_like}
 use Rattle.open_pool.proofs.LogsWidened.{IsWithin, AreLikeThem}
-use Rattle.open_pool.proofs.RecordKept.{ranges_in_all, valid_kept}
+use Rattle.open_pool.proofs.RecordKept.{ranges_in_all, tops_seen, valid_kept}
+use Rattle.open_pool.proofs.RecordStill.{placed_still}
 use Rattle.open_pool.proofs.SeatsOfFreeze.{OnOwnDevices}
 use Rattle.open_pool.proofs.TurnSteps.{going, sectors_are}
 
@@ -112,33 +113,12 @@ settled_still n n' (x ∷ old) (y ∷ new) le stay all = (
 pub trees_leaves : (tops : List Top) → flat_map (λ (top : TopParts). top.leaves) (all_parts tops) ≡ leaves_of tops
 trees_leaves tops = all_are_under (all_parts tops) ∙ under_trees tops
 
-pub tops_seen : (tops : List Top) → map top_of (all_parts tops) ≡ map top_seen tops
-tops_seen [] = refl
-tops_seen (top ∷ tops) = ap (λ ts. top_seen top ∷ ts) (tops_seen tops)
-
--- a place that a top has is one of tops with these sectors
-placed_at : (i sector : ℕ) (old new : List Top) → sectors_of new ≡ sectors_of old
-    → (top : TopSeen) × (slice_get (map top_seen old) i ≡ Some top) × (sector < top.sectors)
-    → (top : TopSeen) × (slice_get (map top_seen new) i ≡ Some top) × (sector < top.sectors)
-placed_at i sector [] [] same at = at
-placed_at i sector [] (u ∷ new) same at = absurd (cc)
-placed_at i sector (t ∷ old) [] same at = absurd (cc)
-placed_at zero sector (t ∷ old) (u ∷ new) same at =
-    let head : u.sectors ≡ t.sectors = cc in
-    let here : top_seen t ≡ at.0 = (let some : Some (top_seen t) ≡ Some at.0 = at.1 in cc) in
-    (top_seen u, refl, subst (λ n. sector < n) (ap (λ (top : TopSeen). top.sectors) (sym here) ∙ sym head) at.2)
-placed_at (suc i) sector (t ∷ old) (u ∷ new) same at =
-    let tail : sectors_of new ≡ sectors_of old = cc in
-    placed_at i sector old new tail at
-
+-- the root's place is one of tops with these sectors
 pub root_kept : (was is : Group) (old new : List Top) (root : Pointer) → was.0 ≤ is.0 → sectors_of new ≡ sectors_of old
     → IsHole root ⊎ IsPlaced was (map top_seen old) root → IsHole root ⊎ IsPlaced is (map top_seen new) root
-root_kept was is old new root le same (inl hole) = inl hole
-root_kept was is old new root le same (inr placed) = inr (record {
-  birth = (placed.birth.0, (let high = placed.birth.1 in omega (arith, high, le)));
-  place = placed_at root.place.top root.place.sector old new same placed.place;
-  sum = placed.sum;
-})
+root_kept was is old new root le same placed =
+    subst (λ ts. IsHole root ⊎ IsPlaced is ts root) (tops_seen new)
+    (placed_still old new was is root same le (subst (λ ts. IsHole root ⊎ IsPlaced was ts root) (sym (tops_seen old)) placed))
 
 -- What a turn left of a group that goes on, and of the leaves.
 pub record GoesOn (b : PoolParts) (was is : FrozenGroup) (old new : List Top) : Type 0 where

@@ -38,14 +38,14 @@ use Rattle.open_pool.specs.State.{cells_of, leaves_under, sectors_in, seat_in}
 use Rattle.open_pool.proofs.BoardKept.{AreSameLeaves}
 use Rattle.open_pool.proofs.CountsBelow.{count_same}
 use Rattle.open_pool.proofs.FormKept.{devices_still, writable_still}
-use Rattle.open_pool.proofs.GoingKept.{root_kept, tops_seen, trees_leaves}
+use Rattle.open_pool.proofs.GoingKept.{root_kept, trees_leaves}
 use Rattle.open_pool.proofs.GroupBlocks.{has_block}
 use Rattle.open_pool.proofs.KeysFound.{found_item}
 use Rattle.open_pool.proofs.LeavesAtEnd.{cut_within, settled_within}
 use Rattle.open_pool.proofs.LeavesStay.{cut_same, settled_same}
 use Rattle.open_pool.proofs.LogsWidened.{IsWithin}
 use Rattle.open_pool.proofs.PlacesEnd.{acknowledged, burned_pool}
-use Rattle.open_pool.proofs.RecordKept.{few_recorded, ranges_in_all, valid_kept}
+use Rattle.open_pool.proofs.RecordKept.{few_recorded, ranges_in_all, tops_seen, valid_kept}
 use Rattle.open_pool.proofs.SeatsOfFreeze.{OnOwnDevices}
 use Rattle.open_pool.proofs.TurnSteps.{going, sectors_are}
 use Rattle.open_pool.proofs.WritesCounted.{count_writes, writes_low, writes_within, written_low}

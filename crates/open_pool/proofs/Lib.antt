@@ -51,7 +51,6 @@ pub mod NamesFound
 pub mod NeedCounted
 pub mod NumbersApart
 pub mod NumbersOwed
-pub mod NumbersTold
 pub mod OfflineRows
 pub mod OpenChanged
 pub mod OpenPlaces

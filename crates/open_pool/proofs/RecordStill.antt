@@ -158,10 +158,10 @@ module _ (old new : List Top) (built : marks_of new ≡ marks_of old) (sectors :
   long (t ∷ trees) = ap suc (long trees)
 
   pub recorded_still : (c : ConfigSeen) (number : Group) (root : Pointer) → c.tops ≡ seen_tops old → IsValid c
-      → c.number.0 ≤ number.0 → number.0 ≤ 2 ^ 62 → AllByRecursion (IsWithin number.0) (leaves_of new)
+      → IsIn 1 (2 ^ 62) number.0 → AllByRecursion (IsWithin number.0) (leaves_of new)
       → sum (map log_length (map leaf_seen (leaves_of new))) ≤ 4096 → IsHole root ⊎ IsPlaced number (seen_tops new) root
       → IsValid (record c { number = number; root = root; tops = seen_tops new })
-  recorded_still c number root tops valid later most within few placed =
+  recorded_still c number root tops valid high within few placed =
       let was : leaves_among (all_vdevs c) ≡ map leaf_seen (leaves_of old) =
       ap (λ ts. leaves_among (flat_map (λ (top : TopSeen). top.vdevs) ts)) tops ∙ leaves_in old in
       let numbers : map number_of_vdev (all_vdevs c) ≡ map number_of_vdev (flat_map (λ (top : TopSeen). top.vdevs) (seen_tops new)) =
@@ -172,7 +172,7 @@ module _ (old new : List Top) (built : marks_of new ≡ marks_of old) (sectors :
         pool = valid.pool;
         name = valid.name;
         blocks = valid.blocks;
-        number = ((let some = valid.number.0 in omega (arith, some, later)), most);
+        number = high;
         next_guid = valid.next_guid;
         root = placed;
         few_tops = subst (IsIn 1 8) (ap length tops ∙ long old ∙ ap length (sym sectors) ∙ sym (long new)) valid.few_tops;
@@ -186,7 +186,7 @@ module _ (old new : List Top) (built : marks_of new ≡ marks_of old) (sectors :
             omega (arith, many, before, after, most));
         leaves = All-from_recursion (IsLeaf number) (leaves_among (flat_map (λ (top : TopSeen). top.vdevs) (seen_tops new)))
             (subst (AllByRecursion (IsLeaf number)) (sym (leaves_in new))
-            (leaves_still c.number number (leaves_of old) (leaves_of new) most kept within few
+            (leaves_still c.number number (leaves_of old) (leaves_of new) high.1 kept within few
             (subst (AllByRecursion (IsLeaf c.number)) was (recursion_from_All (IsLeaf c.number) (leaves_among (all_vdevs c)) valid.leaves))));
         devices = subst (AllPairs (λ a b. a ≢ b)) names valid.devices;
         drawn = subst (All (IsDrawn c.next_guid)) numbers valid.drawn;
@@ -204,5 +204,6 @@ pub valid_still : (old new : List Top) → marks_of new ≡ marks_of old → sec
     → c.number.0 ≤ number.0 → number.0 ≤ 2 ^ 62 → AllByRecursion (IsWithin number.0) (leaves_of new)
     → sum (map log_length (map leaf_seen (leaves_of new))) ≤ 4096 → IsHole root ⊎ IsPlaced number (seen_tops new) root
     → IsValid (record c { number = number; root = root; tops = seen_tops new })
-valid_still old new built sectors same kept = recorded_still old new built sectors
-    (numbered_alike (leaves_of old) (leaves_of new) same) (kept_recorded (leaves_of old) (leaves_of new) kept)
+valid_still old new built sectors same kept c number root tops valid later most =
+    recorded_still old new built sectors (numbered_alike (leaves_of old) (leaves_of new) same) (kept_recorded (leaves_of old) (leaves_of new) kept)
+    c number root tops valid ((let some = valid.number.0 in omega (arith, some, later)), most)

@@ -284,7 +284,7 @@ module _ (m : Guid) (temporary : Bool) (r : PoolParts) (old new : List Top) (set
       let long = sym (lengths_off m temporary (leaves_of old)) ∙ ap (λ ls. map log_length (map leaf_seen ls)) (sym set.leaves) in
       recorded_still old new set.built set.sectors numbers
       (subst (AreRecordedStill (leaves_of old)) (sym set.leaves) (recorded_off m temporary (leaves_of old)))
-      (config_of p number top) number top refl recordable (omega arith) recordable.number.1
+      (config_of p number top) number top refl recordable recordable.number
       (subst (AllByRecursion (IsWithin r.highest)) (leaves_are new q refl)
       (recursion_from_All (IsWithin r.highest) (all_leaves q) (leaves_then has).within))
       (subst (λ ns. sum ns ≤ 4096) long (subst (λ ls. sum (map log_length ls) ≤ 4096) (leaves_in old) recordable.few_ranges))

@@ -21,12 +21,12 @@ use Rattle.open_pool.specs.State.{leaves_from, leaves_under, seen_of, state_of}
 use Rattle.open_pool.proofs.BoardIsSeats.{IsBoard, board_of_seats}
 use Rattle.open_pool.proofs.BoardKept.{AreSameLeaves, board_behind}
 use Rattle.open_pool.proofs.FewRanges.{HasFewRanges, few_left, few_counted, together_are}
-use Rattle.open_pool.proofs.GoingKept.{GoesOn, behind_settled, tops_seen, trees_leaves}
+use Rattle.open_pool.proofs.GoingKept.{GoesOn, behind_settled, trees_leaves}
 use Rattle.open_pool.proofs.LeavesInForm.{in_form}
 use Rattle.open_pool.proofs.LeavesStay.{behind_same}
 use Rattle.open_pool.proofs.LogsWidened.{IsWithin}
 use Rattle.open_pool.proofs.MembersAgree.{IsCrew}
-use Rattle.open_pool.proofs.RecordKept.{few_recorded, ranges_in_all}
+use Rattle.open_pool.proofs.RecordKept.{few_recorded, ranges_in_all, tops_seen}
 use Rattle.open_pool.proofs.TreesBuilt.{built_sizes, trees_told}
 use Rattle.open_pool.proofs.TurnLeaves.{AreInForm, TurnsLeaves, turns_leaves}
 use Rattle.open_pool.proofs.TurnSteps.{going, AreLikeTops}
