@@ -1,5 +1,5 @@
 -- What the history reads of a record's bytes is what the configuration says that was decoded from them.
-use Rattle.std.proofs.Common.{◌≡◌, ℕ, List, [], map, Option, Some, sym, ap, ◌∙◌, subst₂}
+use Rattle.std.proofs.Common.{◌≡◌, ◌≤◌, ℕ, List, [], map, Option, Some, sym, ap, ◌∙◌, subst, subst₂}
 use Rattle.mp_base.specs.declared.number.Guid.{Guid}
 use Rattle.bank_core.specs.BankView.{BankView}
 use Rattle.dtl_rules.specs.Widening.{sectors_of}
@@ -18,6 +18,9 @@ module _ (bytes : List ℕ) (c : Config) (reads : config_in bytes ≡ Some (conf
   seen_is =
       let is = is_config bytes (config_seen c) reads in
       ap seen_in is.spelled ∙ seen_back (config_seen c) is.valid
+
+  pub few_blocks : pool_codec.blocks bytes ≤ 262144
+  few_blocks = subst (λ n. n ≤ 262144) (sym (ap (λ s. s.blocks) seen_is)) (is_config bytes (config_seen c) reads).valid.blocks.1
 
   pub leaves_are : pool_codec.leaves bytes ≡ kept_leaves_from 1 c.tops.items
   leaves_are = ap (λ s. kept_from 1 (map top_vdevs s.tops)) seen_is ∙ ap (kept_from 1) (vdevs_seen c.tops.items) ∙ leaves_kept 1 c.tops.items
