@@ -40,6 +40,7 @@ pub mod LeavesInForm
 pub mod LeavesKept
 pub mod LeavesOwe
 pub mod LeavesShown
+pub mod LeavesPlaced
 pub mod LeavesSought
 pub mod LeavesStay
 pub mod LeftServed
@@ -70,6 +71,7 @@ pub mod RecordKept
 pub mod RecordSealed
 pub mod RecordStill
 pub mod RecordsSought
+pub mod RecordsTold
 pub mod RightPages
 pub mod RisingCounted
 pub mod RoundAnswers

@@ -1,6 +1,7 @@
 //! The record that an opening takes.
+ghost use Rattle.std.specs.Prelude.{IfOk};
 ghost use Rattle.txg_history.specs.Looks.{AreDistinct, HaveRoom};
-ghost use Rattle.open_pool.specs.Seeking.{SeeksOrStops};
+ghost use Rattle.open_pool.specs.Seeking.{SeeksOrStops, HasConfig};
 
 use crate::freeze::LAST_NUMBER;
 use bank_core::Bank;
@@ -32,7 +33,7 @@ impl From<MemFault> for SeekFault {
 }
 
 /// The verified record of this name with the greatest number, by the labels of all devices that are handed in. Each ring and
-/// each configuration part is read once, and no device is written.
+/// each configuration part is read once, and no device is written. Its bytes are a configuration with its name, pool and number.
 pub fn seek<B: Bank>(
     alloc: Global,
     bank: &mut B,
@@ -42,6 +43,7 @@ pub fn seek<B: Bank>(
     requires distinct { AreDistinct devs.now }
     requires room { HaveRoom (B.view bank.old).size devs.now }
     ensures row { SeeksOrStops devs.now name.now result (B.view bank.old) (B.view bank.new) }
+    ensures config { IfOk result (HasConfig name.now) }
 {
     let Some(found) = newest::<B, ConfigRule>(alloc, bank, devs, name)? else {
         return Err(SeekFault::NoRecord);
