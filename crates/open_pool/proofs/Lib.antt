@@ -4,6 +4,7 @@ pub mod CopiesOfTops
 pub mod CountsBelow
 pub mod DirtyWithOne
 pub mod DraftFits
+pub mod DraftValid
 pub mod EndStates
 pub mod FaultsCounted
 pub mod FewKeys
