@@ -44,6 +44,7 @@ pub mod RoundDraws
 pub mod RoundParts
 pub mod SeatsOfFreeze
 pub mod StatesStand
+pub mod TopsSized
 pub mod TreesBuilt
 pub mod TreesStay
 pub mod TurnAnswers
