@@ -11,6 +11,7 @@ pub mod CountsBelow
 pub mod CountsMade
 pub mod DirtyWithOne
 pub mod DraftFits
+pub mod DraftValid
 pub mod EndStates
 pub mod FaultsCounted
 pub mod FewKeys
@@ -39,8 +40,8 @@ pub mod LeavesGoOffline
 pub mod LeavesInForm
 pub mod LeavesKept
 pub mod LeavesOwe
-pub mod LeavesShown
 pub mod LeavesPlaced
+pub mod LeavesShown
 pub mod LeavesSought
 pub mod LeavesStay
 pub mod LeftServed
@@ -82,6 +83,7 @@ pub mod SetsOffline
 pub mod SpareLeaves
 pub mod StatesStand
 pub mod TopsCounted
+pub mod TopsSized
 pub mod TreesBuilt
 pub mod TreesStay
 pub mod TurnAnswers
