@@ -23,9 +23,9 @@ use Rattle.open_pool.specs.Form.{all_leaves, config_of, IsPool}
 use Rattle.open_pool.specs.Parts.{PoolParts}
 use Rattle.open_pool.proofs.BoardKept.{same_leaves}
 use Rattle.open_pool.proofs.DraftFits.{drawn_of}
-use Rattle.open_pool.proofs.GoingKept.{tops_seen, trees_leaves}
+use Rattle.open_pool.proofs.GoingKept.{trees_leaves}
 use Rattle.open_pool.proofs.LogsWidened.{IsWithin}
-use Rattle.open_pool.proofs.RecordKept.{few_recorded, valid_kept}
+use Rattle.open_pool.proofs.RecordKept.{few_recorded, valid_kept, tops_seen}
 use Rattle.open_pool.proofs.TurnSteps.{going, sectors_are}
 
 -- a place of the tops is one of a top that a record has

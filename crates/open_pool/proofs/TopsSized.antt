@@ -10,8 +10,8 @@ use Rattle.pool_config.specs.Validity.{IsTop}
 use Rattle.txg_engine.specs.Frozen.{FrozenGroup}
 use Rattle.open_pool.specs.Form.{IsPool}
 use Rattle.open_pool.specs.Parts.{PoolParts}
-use Rattle.open_pool.proofs.GoingKept.{tops_seen}
 use Rattle.open_pool.proofs.TurnSteps.{going}
+use Rattle.open_pool.proofs.RecordKept.{tops_seen}
 
 sized : (trees : List Top) → AllByRecursion IsTop (map top_seen trees) → AllByRecursion (λ s. s ≤ 1048320) (sectors_of trees)
 sized [] all = tt
