@@ -89,6 +89,7 @@ pub mod TreesStay
 pub mod TurnAnswers
 pub mod TurnEndings
 pub mod TurnLeaves
+pub mod TurnLeft
 pub mod TurnParts
 pub mod TurnSteps
 pub mod UnwritableTops
