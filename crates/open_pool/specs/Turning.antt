@@ -1,5 +1,5 @@
 -- The turn of a frozen group that is due, in the engine's words: a write turn, the flush turn, or a round.
-use Rattle.std.specs.Prelude.{◌≡◌, Bool, true, false, List, take, Some, Result, Ok, Err, slice_get}
+use Rattle.std.specs.Prelude.{◌≡◌, ℕ, ◌+◌, ◌-◌, ◌^◌, Bool, true, false, cond, List, length, take, Option, Some, None, Result, Ok, Err, slice_get}
 use Rattle.mp_base.specs.declared.number.Guid.{Guid}
 use Rattle.label_store.specs.Committing.{IsSealed}
 use Rattle.label_store.specs.Rounds.{Commit}
@@ -11,7 +11,7 @@ use Rattle.txg_engine.specs.declared.close_turn.Closed.{Closed}
 use Rattle.txg_engine.specs.declared.close_turn.Closed.TheVariants as closed
 use Rattle.txg_engine.specs.declared.item.Item.{Item}
 use Rattle.txg_engine.specs.declared.seat.Suspended.{Suspended}
-use Rattle.txg_engine.specs.Frozen.{is_written_out}
+use Rattle.txg_engine.specs.Frozen.{FrozenGroup, is_written_out}
 use Rattle.txg_engine.specs.Turns.{Scene, IsWriteTurn, IsFlushTurn, IsCloseTurn}
 use Rattle.open_pool.specs.declared.turn.TurnDone.{TurnDone}
 use Rattle.open_pool.specs.declared.turn.TurnDone.TheVariants as done
@@ -63,3 +63,18 @@ IsDue c tops old new result = IsDueBy (is_written_out old.group) old.group.flush
 abbrev pub is_committed_turn : Result TurnDone Suspended → Bool
 is_committed_turn (Ok (done.Committed number)) = true
 is_committed_turn result = false
+
+-- the group goes on behind it
+abbrev pub goes_on : Result TurnDone Suspended → Bool
+goes_on (Ok done.Write) = true
+goes_on (Ok done.Flush) = true
+goes_on (Ok (done.Round number)) = true
+goes_on result = false
+
+-- How many turns a frozen group has at most: one for each key that is left, the flush turn, and a round for each number that is left.
+abbrev pub turns_left : FrozenGroup → ℕ
+turns_left group = (length group.items - group.written) + cond group.flushed 0 1 + (2 ^ 62 - group.numbers.last.0)
+
+abbrev pub turns_in : Option FrozenGroup → ℕ
+turns_in None = 0
+turns_in (Some group) = 1 + turns_left group

@@ -34,6 +34,7 @@ pub struct Pool {
 }
 
 impl Model for Pool {
+    ghost use Rattle.std.specs.Prelude.{◌≡◌, length};
     ghost use Rattle.open_pool.specs.Parts.{PoolParts, all_parts};
     ghost use Rattle.open_pool.specs.Form.{IsPool};
 
@@ -69,5 +70,5 @@ impl Model for Pool {
       unfrozen = pool.open;
       frozen = pool.frozen;
       dirty = pool.dirty;
-    }) };
+    }) × (length pool.config.items ≡ 114688) };
 }

@@ -1,22 +1,27 @@
 //! Turns: the frozen group comes onto the devices, one small step after another.
-ghost use Rattle.std.specs.Prelude.{◌≡◌, ℕ, ◌<◌, ◌≤◌, true, false, length, map, All, OnErr};
+ghost use Rattle.std.specs.Prelude.{◌≡◌, ℕ, ◌<◌, ◌≤◌, true, false, length, map, is_some, All, OnErr};
 ghost use Rattle.block_map.specs.Keys.{root};
 ghost use Rattle.block_map.specs.Map.{pointer_at};
 ghost use Rattle.dtl_rules.specs.Widening.{leaves_of, marks_of, sectors_of};
 ghost use Rattle.pool_config.specs.Seen.{ConfigSeen, parts_seen};
 ghost use Rattle.pool_config.specs.Validity.{IsValid};
+ghost use Rattle.pool_codec.specs.Codecs.{pool_codec};
+ghost use Rattle.pool_moves.specs.LineRows.{RowTurn};
+ghost use Rattle.pool_moves.specs.States.{PoolState};
 ghost use Rattle.txg_engine.specs.Frozen.{AreSeated, is_written_out};
 ghost use Rattle.txg_engine.specs.Items.{laid};
 ghost use Rattle.txg_engine.specs.Logs.{IsReady};
 ghost use Rattle.txg_engine.specs.Turns.{Scene, KeepsKeys, is_suspended, numbers_of};
-ghost use Rattle.open_pool.specs.Turning.{WritesKey, FlushesBoard, ClosesRound, IsDue, is_committed_turn};
+ghost use Rattle.open_pool.specs.Turning.{WritesKey, FlushesBoard, ClosesRound, IsDue, goes_on, is_committed_turn, turns_in};
 
+use crate::Pool;
 use bank_core::Bank;
 use block_map::BlockMap;
 use mp_base::{BLOCK_BYTES, Group, Guid, Name};
 use pool_codec::ConfigRule;
 use pool_config::encode_into;
-use txg_engine::{Closed, Frozen, Suspended};
+use std::mem::replace;
+use txg_engine::{Closed, Frozen, Open, Suspended};
 use vdev_tree::Top;
 
 /// What a turn did.
@@ -178,4 +183,59 @@ fn make_turn<B: Bank>(
         return flush_next(bank, frozen, tops);
     }
     close_next(bank, frozen, tops, map, title, config)
+}
+
+impl Pool {
+    ghost use Rattle.open_pool.specs.Answering.{Does};
+    ghost use Rattle.open_pool.specs.Committing.{turn_says};
+    ghost use Rattle.open_pool.specs.Here.{AreHere};
+    ghost use Rattle.open_pool.specs.State.{Stands};
+
+    /// One turn of the frozen group: a write turn for each of its keys, then the flush turn, then rounds up to one in which no
+    /// leaf failed. It takes no memory.
+    ///
+    /// At `Err` the group is suspended, since a top has nobody left on its board: its writes stand in the open group again, where
+    /// newer ones win, and a later `sync` tries them anew.
+    pub fn turn<B: Bank>(&mut self, bank: &mut B) -> Result<TurnDone, Suspended>
+        requires { AreHere (B.view bank.old).size self.old.tops }
+        ensures row { (s : PoolState) → Stands self.old s
+            → Does (RowTurn pool_codec (B.view bank.old).size s) turn_says result s self.new (B.view bank.old) (B.view bank.new) }
+        ensures here { (size : ℕ → ℕ) → AreHere size self.old.tops → AreHere size self.new.tops }
+        ensures goes_on { is_some self.new.frozen ≡ goes_on result }
+        ensures fewer { is_some self.old.frozen ≡ true → turns_in self.new.frozen < turns_in self.old.frozen }
+    {
+        self.keeps_its_form();
+        let Some(mut frozen) = self.frozen.take() else {
+            return Ok(TurnDone::Idle);
+        };
+        let title = Title {
+            pool: self.pool,
+            name: &self.name,
+            blocks: self.map.blocks(),
+            next: self.next,
+            spares: &self.spares,
+        };
+        match make_turn(bank, &mut frozen, &mut self.tops, &self.map, &title, &mut self.config) {
+            Ok(TurnDone::Committed(number)) => {
+                frozen.adopt(&mut self.map, &mut self.pins);
+                self.read = number;
+                self.opened = true;
+                self.dirty = self.open.len();
+                Ok(TurnDone::Committed(number))
+            }
+            Ok(done) => {
+                self.highest = frozen.numbers().last;
+                self.frozen = Some(frozen);
+                Ok(done)
+            }
+            Err(suspended) => {
+                frozen.keeps_its_form();
+                let newer = replace(&mut self.open, Open::without_room(self.alloc));
+                self.open = frozen.burn(newer, &mut self.map, &mut self.tops, &mut self.pins);
+                self.open.keeps_its_form();
+                self.dirty = self.open.len();
+                Err(suspended)
+            }
+        }
+    }
 }

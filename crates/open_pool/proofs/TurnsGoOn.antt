@@ -1,0 +1,180 @@
+-- A turn brings its group nearer to its end, and leaves the leaves under their tops, on their devices.
+use Rattle.std.proofs.Common.{◌≡◌, ℕ, zero, suc, ◌+◌, ◌-◌, ◌<◌, ◌≤◌, ◌^◌, ◌==◌, cond, Bool, true, false, List, [], ◌∷◌, ◌++◌, length, Option, Some, None, Ok, Err, refl, sym, ap, ◌∙◌, subst, arith}
+use Rattle.std.specs.Prelude.{All, Result, slice_get}
+use Rattle.std.specs.List.{AllByRecursion}
+use Rattle.std.specs.Result.{IsErrAnd}
+use Rattle.std.proofs.lemmas.Bool.{true≢false}
+use Rattle.std.proofs.lemmas.Bool.Decides.{nat_tests}
+use Rattle.std.proofs.lemmas.List.Elements.{recursion_from_All, All-from_recursion}
+use Rattle.mp_base.specs.declared.number.Guid.{Guid}
+use Rattle.bank_core.specs.Asks.{Ask}
+use Rattle.bank_core.specs.BankView.{BankView}
+use Rattle.label_store.specs.declared.member.Member.{Member}
+use Rattle.vdev_tree.specs.Leaf.{is_up}
+use Rattle.vdev_tree.specs.declared.vdev.LeafVdev.{LeafVdev}
+use Rattle.pool_config.specs.Seen.{ConfigSeen}
+use Rattle.pool_codec.specs.Codecs.{pool_codec}
+use Rattle.txg_history.specs.Turns.{write_plan, flush_plan}
+use Rattle.txg_engine.specs.declared.close_turn.Closed.{Closed}
+use Rattle.txg_engine.specs.declared.item.Item.{Item}
+use Rattle.txg_engine.specs.declared.seat.Seat.{Seat}
+use Rattle.txg_engine.specs.declared.seat.Suspended.{Suspended}
+use Rattle.txg_engine.specs.Boards.{behind_turn, board_of, board_under}
+use Rattle.txg_engine.specs.Frozen.{FrozenGroup, IsGroup, is_written_out}
+use Rattle.txg_engine.specs.Items.{cell_of}
+use Rattle.txg_engine.specs.Logs.{is_off}
+use Rattle.txg_engine.specs.Turns.{Scene, EndsRound, GoesOn, IsCloseTurnBy, IsTold, IsTurnBy, Works, all_done, emptied_top}
+use Rattle.open_pool.specs.declared.turn.TurnDone.{TurnDone}
+use Rattle.open_pool.specs.declared.turn.TurnDone.TheVariants as done
+use Rattle.open_pool.specs.Here.{AreHere, IsHere}
+use Rattle.open_pool.specs.Parts.{TopParts}
+use Rattle.open_pool.specs.State.{leaves_under, sectors_in}
+use Rattle.open_pool.specs.Turning.{ClosesRound, FlushesBoard, IsDue, IsDueBy, WritesKey, answered, closed_as, goes_on, turns_left}
+use Rattle.open_pool.proofs.BoardKept.{AreSameLeaves, same_leaves}
+use Rattle.open_pool.proofs.LeavesByTops.{sizes, under_all}
+use Rattle.open_pool.proofs.LeavesStay.{are_grown_like, behind_same, like_leaves, same_twice, settled_same}
+
+-- Behind a turn the leaves are the same, and where the group goes on fewer turns are left.
+pub record TurnsOn (was is : FrozenGroup) (old new : List LeafVdev) (result : Result TurnDone Suspended) : Type 0 where
+  pub same : AreSameLeaves old new
+  pub fewer : goes_on result ≡ true → turns_left is < turns_left was
+
+item_at : (items : List Item) (n : ℕ) → n < length items → (item : Item) × (slice_get items n ≡ Some item)
+item_at [] n inside = absurd (omega (arith, inside))
+item_at (item ∷ items) zero inside = (item, refl)
+item_at (item ∷ items) (suc n) inside = item_at items n (omega (arith, inside))
+
+err_stops : (of : TurnDone) (outcome : Result (Unit {0}) Suspended) (Told : Suspended → Type 0) → IsErrAnd outcome Told → goes_on (answered of outcome) ≡ false
+err_stops of (Ok x) Told is = absurd is
+err_stops of (Err told) Told is = refl
+
+err_closes : (outcome : Result Closed Suspended) (Told : Suspended → Type 0) → IsErrAnd outcome Told → goes_on (closed_as outcome) ≡ false
+err_closes (Ok x) Told is = absurd is
+err_closes (Err told) Told is = refl
+
+module _ (tops : List Guid) (was is : FrozenGroup) (old new : List LeafVdev) (from to : BankView) (result : Result TurnDone Suspended) where
+  abbrev before : Scene
+  before = record { group = was; leaves = old; bank = from }
+
+  abbrev after : Scene
+  after = record { group = is; leaves = new; bank = to }
+
+  -- nothing was done
+  stays : after ≡ before → goes_on result ≡ false → TurnsOn was is old new result
+  stays still off = record {
+    same = subst (AreSameLeaves old) (sym (ap (λ (s : Scene). s.leaves) still)) (same_leaves old);
+    fewer = λ on. absurd (true≢false (sym on ∙ off));
+  }
+
+  -- a part was done, behind which fewer are left
+  works : (plan : Member → List Ask) (ms : List Member) (noted : FrozenGroup) → Works plan ms noted before after
+      → ((board : List Seat) → turns_left (record noted { board = board }) < turns_left was) → TurnsOn was is old new result
+  works plan ms noted w less = record {
+    same = behind_same was.numbers ms w.results old new w.leaves;
+    fewer = λ on. subst (λ g. turns_left g < turns_left was) (sym w.group) (less (behind_turn ms w.results was.board));
+  }
+
+  pub write_on : IsGroup was → is_written_out was ≡ false → WritesKey tops before after result → TurnsOn was is old new result
+  write_on kept out w = by (emptied_top tops was) (w.turn item.0 item.1)
+    where
+      inside : was.written < length was.items
+      inside = let within = kept.within in let apart = nat_tests.ne was.written (length was.items) out in omega (arith, within, apart)
+
+      item : (item : Item) × (slice_get was.items was.written ≡ Some item)
+      item = item_at was.items was.written inside
+
+      by : (o : Option ℕ)
+          → IsTurnBy o tops (write_plan (cell_of item.0)) (board_under item.0.pointer.place.top was.board) (record was { written = was.written + 1 }) before after w.outcome
+          → TurnsOn was is old new result
+      by (Some top) turn = stays turn.0 (ap goes_on w.says ∙ err_stops done.Write w.outcome (IsTold tops was.numbers.first was.board top) turn.1)
+      by None turn = works (write_plan (cell_of item.0)) (board_under item.0.pointer.place.top was.board) (record was { written = was.written + 1 }) turn.0
+          (λ board. omega (arith, inside))
+
+  pub flush_on : was.flushed ≡ false → FlushesBoard tops before after result → TurnsOn was is old new result
+  flush_on unflushed w = by (emptied_top tops was) w.turn
+    where
+      more : turns_left was ≡ (length was.items - was.written) + 1 + (2 ^ 62 - was.numbers.last.0)
+      more = ap (λ t. (length was.items - was.written) + cond t 0 1 + (2 ^ 62 - was.numbers.last.0)) unflushed
+
+      by : (o : Option ℕ) → IsTurnBy o tops flush_plan (board_of was.board) (record was { flushed = true }) before after w.outcome → TurnsOn was is old new result
+      by (Some top) turn = stays turn.0 (ap goes_on w.says ∙ err_stops done.Flush w.outcome (IsTold tops was.numbers.first was.board top) turn.1)
+      by None turn = works flush_plan (board_of was.board) (record was { flushed = true }) turn.0 (λ board. omega (arith, more))
+
+  pub round_on : IsGroup is → (c : ConfigSeen) → ClosesRound c tops before after result → TurnsOn was is old new result
+  round_on kept c w = by (emptied_top tops was) w.turn
+    where
+      noted : FrozenGroup
+      noted = record was { begun = true }
+
+      goes : (o : Option ℕ) (between : List LeafVdev) (board : List Seat) → AreSameLeaves old between
+          → GoesOn o tops (record was { begun = true; board = board }) between after w.outcome → TurnsOn was is old new result
+      goes (Some top) between board same end = record {
+        same = subst (AreSameLeaves old) (sym end.1) same;
+        fewer = λ on. absurd (true≢false (sym on ∙ ap goes_on w.says
+            ∙ err_closes w.outcome (IsTold tops was.numbers.first board top) end.2));
+      }
+      goes None between board same end = record {
+        same = same_twice old between new same
+            (like_leaves between new (are_grown_like (is_off board) (was.numbers.last.0 + 1) (was.numbers.last.0 + 1) between new end.0.grown));
+        fewer = λ on.
+            let high = kept.high in
+            let last = ap (λ (g : FrozenGroup). g.numbers.last.0) end.0.group in
+            subst (λ g. turns_left g < turns_left was) (sym end.0.group) (omega (arith, high, last));
+      }
+
+      ends : (whole : Bool) (results : List Bool) → EndsRound whole tops results (record was { begun = true }) before after w.outcome → TurnsOn was is old new result
+      ends true results end = record {
+        same = settled_same old new end.1;
+        fewer = λ on. absurd (true≢false (sym on ∙ ap goes_on (w.says ∙ ap closed_as end.2)));
+      }
+      ends false results end =
+          let board = behind_turn (board_of was.board) results was.board in
+          goes (emptied_top tops (record was { begun = true; board = board })) end.0 board
+          (behind_same was.numbers (board_of was.board) results old end.0 end.1) end.2
+
+      by : (o : Option ℕ) → IsCloseTurnBy o pool_codec.head_of w.commit tops before after w.outcome → TurnsOn was is old new result
+      by (Some top) turn = stays turn.0 (ap goes_on w.says ∙ err_closes w.outcome (IsTold tops was.numbers.first was.board top) turn.1)
+      by None turn = ends (all_done turn.results) turn.results turn.ends
+
+  -- so each turn
+  pub turns_on : IsGroup was → IsGroup is → (c : ConfigSeen) → IsDue c tops before after result → TurnsOn was is old new result
+  turns_on kept kept' c = by (is_written_out was) was.flushed refl refl
+    where
+      by : (out flushed : Bool) → is_written_out was ≡ out → was.flushed ≡ flushed → IsDueBy out flushed c tops before after result → TurnsOn was is old new result
+      by false flushed out is w = write_on kept out w
+      by true false out unflushed w = flush_on unflushed w
+      by true true out is w = round_on kept' c w
+
+-- Leaves that are the same, under tops of the same sizes and sectors, are here where they were.
+pub here_still : (p q : List TopParts) → sizes (leaves_under q) ≡ sizes (leaves_under p) → sectors_in q ≡ sectors_in p
+    → AreSameLeaves (under_all (leaves_under p)) (under_all (leaves_under q)) → (size : ℕ → ℕ) → AreHere size p → AreHere size q
+here_still p q built sectors same size here = All-from_recursion (λ (top : TopParts). All (IsHere size top.sectors) top.leaves) q
+    (go p q built sectors same (recursion_from_All (λ (top : TopParts). All (IsHere size top.sectors) top.leaves) p here))
+  where
+    one : (sectors : ℕ) (old new : List LeafVdev) (more more' : List LeafVdev) → length new ≡ length old → AreSameLeaves (old ++ more) (new ++ more')
+        → AllByRecursion (IsHere size sectors) old → AllByRecursion (IsHere size sectors) new × AreSameLeaves more more'
+    one s [] [] more more' long same all = (tt, same)
+    one s [] (y ∷ new) more more' long same all = absurd (omega (arith, long))
+    one s (x ∷ old) [] more more' long same all = absurd (omega (arith, long))
+    one s (x ∷ old) (y ∷ new) more more' long same all =
+        let rest = one s old new more more' (omega (arith, long)) same.1 all.1 in
+        ((λ d up dev. all.0 d (ap is_up (sym same.0.state) ∙ up) (sym same.0.dev ∙ dev), rest.0), rest.1)
+
+    go : (p q : List TopParts) → sizes (leaves_under q) ≡ sizes (leaves_under p) → sectors_in q ≡ sectors_in p
+        → AreSameLeaves (under_all (leaves_under p)) (under_all (leaves_under q))
+        → AllByRecursion (λ (top : TopParts). All (IsHere size top.sectors) top.leaves) p
+        → AllByRecursion (λ (top : TopParts). All (IsHere size top.sectors) top.leaves) q
+    go [] [] built sectors same all = tt
+    go [] (y ∷ q) built sectors same all = absurd (cc)
+    go (x ∷ p) [] built sectors same all = absurd (cc)
+    go (x ∷ p) (y ∷ q) built sectors same all =
+        let long : length y.leaves ≡ length x.leaves = cc in
+        let rest : sizes (leaves_under q) ≡ sizes (leaves_under p) = cc in
+        let sector : y.sectors ≡ x.sectors = cc in
+        let others : sectors_in q ≡ sectors_in p = cc in
+        let here = one x.sectors x.leaves y.leaves (under_all (leaves_under p)) (under_all (leaves_under q)) long same
+        (recursion_from_All (IsHere size x.sectors) x.leaves all.0) in
+        (
+          subst (λ s. All (IsHere size s) y.leaves) (sym sector) (All-from_recursion (IsHere size x.sectors) y.leaves here.0),
+          go p q rest others here.1 all.1,
+        )
