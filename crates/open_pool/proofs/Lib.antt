@@ -92,6 +92,7 @@ pub mod TurnLeaves
 pub mod TurnLeft
 pub mod TurnParts
 pub mod TurnSteps
+pub mod TurnSuspended
 pub mod UnwritableTops
 pub mod VdevNumbers
 pub mod WriteRows
