@@ -62,6 +62,7 @@ pub mod PagesFormed
 pub mod PagesTurned
 pub mod PartRows
 pub mod PartsRead
+pub mod PartsTurned
 pub mod PlacesEnd
 pub mod PlacesGiven
 pub mod PoolsCounted
