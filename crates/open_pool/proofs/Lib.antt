@@ -62,6 +62,7 @@ pub mod PagesFormed
 pub mod PagesTurned
 pub mod PartRows
 pub mod PartsRead
+pub mod PartsTurned
 pub mod PlacesEnd
 pub mod PlacesGiven
 pub mod PoolsCounted
@@ -92,6 +93,7 @@ pub mod TurnLeaves
 pub mod TurnLeft
 pub mod TurnParts
 pub mod TurnSteps
+pub mod TurnSuspended
 pub mod TurnsGoOn
 pub mod UnwritableTops
 pub mod VdevNumbers
