@@ -79,6 +79,7 @@ pub mod RisingCounted
 pub mod RoundAnswers
 pub mod RoundDraws
 pub mod RoundParts
+pub mod RoundsTurned
 pub mod SeatsOfFreeze
 pub mod SetsOffline
 pub mod SpareLeaves
