@@ -78,6 +78,7 @@ pub mod RisingCounted
 pub mod RoundAnswers
 pub mod RoundDraws
 pub mod RoundParts
+pub mod SeatedHere
 pub mod SeatsOfFreeze
 pub mod SetsOffline
 pub mod SpareLeaves
