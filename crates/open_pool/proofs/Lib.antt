@@ -80,6 +80,7 @@ pub mod RoundAnswers
 pub mod RoundDraws
 pub mod RoundParts
 pub mod RoundsTurned
+pub mod SeatedHere
 pub mod SeatsOfFreeze
 pub mod SetsOffline
 pub mod SpareLeaves
