@@ -29,6 +29,7 @@ pub mod FreezesAreRows
 pub mod GoingKept
 pub mod GroupBlocks
 pub mod GroupEnds
+pub mod GroupsEnded
 pub mod KeysDirty
 pub mod KeysDone
 pub mod KeysFound
@@ -83,11 +84,14 @@ pub mod RoundsTurned
 pub mod SeatedHere
 pub mod SeatsOfFreeze
 pub mod SetsOffline
+pub mod SomeState
 pub mod SpareLeaves
 pub mod StatesStand
+pub mod SyncRows
 pub mod TopsCounted
 pub mod TopsSized
 pub mod TreesBuilt
+pub mod TreesHere
 pub mod TreesStay
 pub mod TurnAnswers
 pub mod TurnEndings

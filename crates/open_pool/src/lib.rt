@@ -17,6 +17,7 @@ mod read;
 mod seeking;
 mod space;
 mod spares;
+mod sync;
 mod turn;
 mod write;
 
@@ -28,5 +29,6 @@ pub use pages::Shown;
 pub use pool::Pool;
 pub use read::ReadFault;
 pub use seeking::{SeekFault, seek};
+pub use sync::SyncFault;
 pub use turn::TurnDone;
 pub use write::WriteFault;
