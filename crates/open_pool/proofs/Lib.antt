@@ -97,9 +97,11 @@ pub mod TurnAnswers
 pub mod TurnEndings
 pub mod TurnLeaves
 pub mod TurnLeft
+pub mod TurnOfPool
 pub mod TurnParts
 pub mod TurnSteps
 pub mod TurnSuspended
+pub mod TurnsAnswered
 pub mod TurnsGoOn
 pub mod UnwritableTops
 pub mod VdevNumbers

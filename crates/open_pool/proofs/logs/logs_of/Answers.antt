@@ -7,11 +7,11 @@ use Rattle.txg_engine.proofs.Seating.{few_leaves}
 use Rattle.open_pool.proofs.LogsTold.{top_logs, all_logs}
 use Rattle.open_pool.proofs.logs.logs_of.Goals as goal
 
-pub push_logs-requires : goal.push_logs-requires
-push_logs-requires c =
+pub push_logs-requires-clause-few : goal.push_logs-requires-clause-few
+push_logs-requires-clause-few c =
     subst (λ (top : Top). length (leaves top.mirror) ≤ 32) (sym c.index-tops-i.is)
     (few_leaves c.args.tops.now c.loop-i.i c.index-tops-i.result c.loop-i-test.true c.requires)
 
-pub returns : goal.returns
-returns c =
+pub returns-clause-logs : goal.returns-clause-logs
+returns-clause-logs c =
     c.loop-i.invariant.logs ∙ ap (flat_map top_logs) (take_all c.loop-i.i c.args.tops.now (omega arith)) ∙ all_logs c.args.tops.now

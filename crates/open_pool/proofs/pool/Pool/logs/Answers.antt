@@ -15,5 +15,6 @@ logs_of-requires c =
 pub returns : goal.returns
 returns c = record {
   row = told_by (λ logs. logs.items) c.args.self.now c.deref.result.now
-      (ap (λ (q : PoolParts). q.tops) (sym c.self.view_is) ∙ ap all_parts (sym c.deref.ensures.value)) c.logs_of.result c.logs_of.ensures;
+      (ap (λ (q : PoolParts). q.tops) (sym c.self.view_is) ∙ ap all_parts (sym c.deref.ensures.value)) c.logs_of.result c.logs_of.ensures.logs;
+  rise = c.logs_of.ensures.rise;
 }
