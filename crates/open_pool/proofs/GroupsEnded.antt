@@ -13,7 +13,7 @@ use Rattle.txg_engine.specs.Frozen.{FrozenGroup}
 use Rattle.pool_codec.specs.Codecs.{pool_codec}
 use Rattle.label_store.specs.declared.member.Member.{Member}
 use Rattle.pool_moves.specs.Boards.{board_of, board_under, emptied}
-use Rattle.pool_moves.specs.LineRows.{TurnReply, Idle, Write, Flush, Round, Committed, Suspended as Suspends, EndsBy, IsTurnOf, StartsBy, RowTurn, TurnBy, Ends, AreTurns, EndsGroup, count_moves, moves_in}
+use Rattle.pool_moves.specs.LineRows.{TurnReply, Idle, Write, Flush, Round, Committed, Suspended as Suspends, EndsBy, IsTurnOf, StartsBy, RowTurn, TurnBy, Ends, AreTurns, EndsGroup, count_moves}
 use Rattle.pool_moves.specs.Moves.{Move, Makes, steps}
 use Rattle.pool_moves.specs.ReadRow.{made_in}
 use Rattle.pool_moves.specs.States.{PoolState}
@@ -21,12 +21,12 @@ use Rattle.pool_moves.proofs.FreeWalks.{steps_more}
 use Rattle.open_pool.specs.declared.sync.SyncFault.{SyncFault}
 use Rattle.open_pool.specs.declared.turn.TurnDone.{TurnDone}
 use Rattle.open_pool.specs.declared.turn.TurnDone.TheVariants as done
-use Rattle.open_pool.specs.Answering.{Answers, Does}
+use Rattle.open_pool.specs.Answering.{Does}
 use Rattle.open_pool.specs.Committing.{turn_says}
 use Rattle.open_pool.specs.Parts.{PoolParts}
-use Rattle.open_pool.specs.State.{Stands, group_of, state_of}
+use Rattle.open_pool.specs.State.{Stands, group_of}
 use Rattle.open_pool.specs.Syncing.{ended_as, end_says}
-use Rattle.open_pool.specs.Turning.{goes_on, is_committed_turn}
+use Rattle.open_pool.specs.Turning.{goes_on}
 use Rattle.open_pool.proofs.SomeState.{some_state}
 
 -- what `?` answers

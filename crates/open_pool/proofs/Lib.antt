@@ -21,6 +21,7 @@ pub mod FormKept
 pub mod FreezeAnswered
 pub mod FreezeBegins
 pub mod FreezeForm
+pub mod FreezeHere
 pub mod FreezeNeeds
 pub mod FreezeRefused
 pub mod FreezeRows
@@ -91,7 +92,6 @@ pub mod SyncRows
 pub mod TopsCounted
 pub mod TopsSized
 pub mod TreesBuilt
-pub mod TreesHere
 pub mod TreesStay
 pub mod TurnAnswers
 pub mod TurnEndings

@@ -12,10 +12,10 @@ use Rattle.open_pool.specs.Here.{AreHere}
 use Rattle.open_pool.specs.Parts.{PoolParts, all_parts}
 use Rattle.open_pool.proofs.FreezeAnswered.{starts, refused_form, refused_row, begun_form, begun_row}
 use Rattle.open_pool.proofs.FreezeBegins.{begun_parts}
+use Rattle.open_pool.proofs.FreezeHere.{refused_here, begun_here}
 use Rattle.open_pool.proofs.FreezeRefused.{with_parts}
 use Rattle.open_pool.proofs.FreezeRows.{in_flight, no_number}
 use Rattle.open_pool.proofs.LeavesInForm.{leaves_are, leaves_few}
-use Rattle.open_pool.proofs.TreesHere.{refused_here, begun_here}
 use Rattle.open_pool.proofs.pool.Pool.freeze.Goals as goal
 
 err_is : (r : Result Group FreezeFault) (e : FreezeFault) → IsErrAnd r (λ x. x ≡ e) → r ≡ Err e
@@ -27,7 +27,7 @@ returns-in-Some-clause-row c =
     let p = c.args.self.now in
     let frozen : p.frozen ≡ Some c.in-Some.frozen = ap (λ (q : PoolParts). q.frozen) (sym c.self.view_is) ∙ c.in-Some.is in
     λ s stands. inl (subst (λ n. Answers (RowFreezeLine pool_codec s) freeze_says (Err (fault.InFlight n.first)) s p)
-          (sym c.numbers.ensures) (in_flight p c.in-Some.frozen frozen s stands))
+    (sym c.numbers.ensures) (in_flight p c.in-Some.frozen frozen s stands))
 
 pub returns-then-self-ge-LAST_NUMBER-clause-row : goal.returns-then-self-ge-LAST_NUMBER-clause-row
 returns-then-self-ge-LAST_NUMBER-clause-row c =
@@ -35,7 +35,7 @@ returns-then-self-ge-LAST_NUMBER-clause-row c =
     let idle : p.frozen ≡ None = ap (λ (q : PoolParts). q.frozen) (sym c.self.view_is) ∙ c.in_default.is in
     let highest : p.highest ≡ c.self.inside.highest.0 = ap (λ (q : PoolParts). q.highest) (sym c.self.view_is) in
     λ s stands. inl (subst (λ n. Answers (RowFreezeLine pool_codec s) freeze_says (Err (fault.NoNumber 4611686018427387840 (n + 1))) s p) highest
-          (no_number p idle (subst (λ n. 4611686018427387840 ≤ n) (sym highest) c.if-self-ge-LAST_NUMBER.true) s stands))
+    (no_number p idle (subst (λ n. 4611686018427387840 ≤ n) (sym highest) c.if-self-ge-LAST_NUMBER.true) s stands))
 
 pub freeze_parts-requires-clause-few : goal.freeze_parts-requires-clause-few
 freeze_parts-requires-clause-few c =
@@ -68,11 +68,11 @@ returns-in_err-frozen-clause-row c =
     let start = starts _ c.args.self.now old c.self.view_is refl c.in_default.is c.if-self-ge-LAST_NUMBER.false held.pool held.rise held.counted in
     let same : c.from_residual.result ≡ Err why = err_is c.from_residual.result why c.from_residual.ensures.1 in
     λ s stands. subst (λ (q : PoolParts). Answers (RowFreezeLine pool_codec s) freeze_says c.from_residual.result s (with_parts q new)
-          ⊎ OutOfMemory {A = Result Group FreezeFault} (Err fault.Memory) c.from_residual.result s (with_parts q new)) (sym c.self.view_is)
-          (subst (λ r. Answers (RowFreezeLine pool_codec s) freeze_says r s (with_parts c.args.self.now new)
-          ⊎ OutOfMemory {A = Result Group FreezeFault} (Err fault.Memory) r s (with_parts c.args.self.now new)) (sym same)
-          (refused_row c.args.self.now old new start why
-          (subst (λ (q : PoolParts). RefusesParts (group_at (q.highest + 1)) old new why) c.self.view_is c.in_err-frozen.ensures.err) s stands))
+    ⊎ OutOfMemory {A = Result Group FreezeFault} (Err fault.Memory) c.from_residual.result s (with_parts q new)) (sym c.self.view_is)
+    (subst (λ r. Answers (RowFreezeLine pool_codec s) freeze_says r s (with_parts c.args.self.now new)
+    ⊎ OutOfMemory {A = Result Group FreezeFault} (Err fault.Memory) r s (with_parts c.args.self.now new)) (sym same)
+    (refused_row c.args.self.now old new start why
+    (subst (λ (q : PoolParts). RefusesParts (group_at (q.highest + 1)) old new why) c.self.view_is c.in_err-frozen.ensures.err) s stands))
 
 pub returns-in_err-frozen-clause-here : goal.returns-in_err-frozen-clause-here
 returns-in_err-frozen-clause-here c = λ size here.
@@ -106,10 +106,10 @@ returns-clause-row c =
     let map = c.keeps_its_form-2.ensures in
     let start = starts _ c.args.self.now old c.self.view_is refl c.in_default.is c.if-self-ge-LAST_NUMBER.false held.pool held.rise held.counted in
     λ s stands. inl (subst (λ (q : PoolParts). Answers (RowFreezeLine pool_codec s) freeze_says (Ok (group_at (q.highest + 1))) s (begun_parts q new group))
-          (sym c.self.view_is)
-          (begun_row c.args.self.now old new start group
-          (subst (λ (q : PoolParts). FreezesParts (group_at (q.highest + 1)) old new group) c.self.view_is c.in_ok-frozen.ensures.ok)
-          c.keeps_its_form-3.ensures map.tops map.pointers map.form s stands))
+    (sym c.self.view_is)
+    (begun_row c.args.self.now old new start group
+    (subst (λ (q : PoolParts). FreezesParts (group_at (q.highest + 1)) old new group) c.self.view_is c.in_ok-frozen.ensures.ok)
+    c.keeps_its_form-3.ensures map.tops map.pointers map.form s stands))
 
 pub returns-clause-here : goal.returns-clause-here
 returns-clause-here c = λ size here.

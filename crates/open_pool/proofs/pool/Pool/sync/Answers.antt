@@ -1,4 +1,4 @@
-use Rattle.std.proofs.Common.{inl, Ok, Err, is_some, sym, ap, ◌∙◌, subst}
+use Rattle.std.proofs.Common.{inl, is_some, sym, ap, ◌∙◌, subst}
 use Rattle.std.specs.Prelude.{Result}
 use Rattle.mp_base.specs.declared.number.Group.{Group}
 use Rattle.open_pool.specs.declared.sync.SyncFault.{SyncFault}

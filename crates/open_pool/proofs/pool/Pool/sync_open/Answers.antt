@@ -1,8 +1,7 @@
-use Rattle.std.proofs.Common.{Ok, Err, ap, ◌∙◌, subst}
+use Rattle.std.proofs.Common.{subst}
 use Rattle.std.specs.Prelude.{Result}
 use Rattle.mp_base.specs.declared.number.Group.{Group}
 use Rattle.open_pool.specs.declared.freeze.FreezeFault.{FreezeFault}
-use Rattle.open_pool.specs.Syncing.{sync_fault}
 use Rattle.open_pool.proofs.GroupsEnded.{err_is}
 use Rattle.open_pool.proofs.SyncRows.{FreezeAnswers, committed, unfrozen}
 use Rattle.open_pool.proofs.pool.Pool.sync_open.Goals as goal
