@@ -12,12 +12,12 @@ use Rattle.open_pool.specs.Parts.{all_parts}
 use Rattle.open_pool.proofs.LeavesStay.{owing_same, roomy_same}
 use Rattle.open_pool.proofs.TurnOfPool.{trees_here}
 
-module _ (number : Group) (old new : FreezeParts) where
-  pub refused_here : (why : FreezeFault) → RefusesParts number old new why
-      → (size : ℕ → ℕ) → AreHere size (all_parts old.trees) → AreHere size (all_parts new.trees)
-  refused_here why r = trees_here old.trees new.trees r.built r.sectors (roomy_same (leaves_of old.trees) (leaves_of new.trees) r.leaves)
+pub refused_here : {number : Group} {old new : FreezeParts} {why : FreezeFault} → RefusesParts number old new why
+    → (size : ℕ → ℕ) → AreHere size (all_parts old.trees) → AreHere size (all_parts new.trees)
+refused_here {old = old} {new = new} r =
+    trees_here old.trees new.trees r.built r.sectors (roomy_same (leaves_of old.trees) (leaves_of new.trees) r.leaves)
 
-  pub begun_here : (group : FrozenGroup) → FreezesParts number old new group
-      → (size : ℕ → ℕ) → AreHere size (all_parts old.trees) → AreHere size (all_parts new.trees)
-  begun_here group f = trees_here old.trees new.trees f.built f.sectors
-      (owing_same (is_off (seats_of 0 old.trees)) number.0 (leaves_of old.trees) (leaves_of new.trees) f.logs)
+pub begun_here : {number : Group} {old new : FreezeParts} {group : FrozenGroup} → FreezesParts number old new group
+    → (size : ℕ → ℕ) → AreHere size (all_parts old.trees) → AreHere size (all_parts new.trees)
+begun_here {number} {old} {new} f = trees_here old.trees new.trees f.built f.sectors
+    (owing_same (is_off (seats_of 0 old.trees)) number.0 (leaves_of old.trees) (leaves_of new.trees) f.logs)

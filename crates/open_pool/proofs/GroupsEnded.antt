@@ -13,7 +13,7 @@ use Rattle.txg_engine.specs.Frozen.{FrozenGroup}
 use Rattle.pool_codec.specs.Codecs.{pool_codec}
 use Rattle.label_store.specs.declared.member.Member.{Member}
 use Rattle.pool_moves.specs.Boards.{board_of, board_under, emptied}
-use Rattle.pool_moves.specs.LineRows.{TurnReply, Idle, Write, Flush, Round, Committed, Suspended as Suspends, EndsBy, IsTurnOf, StartsBy, RowTurn, TurnBy, Ends, AreTurns, EndsGroup, count_moves}
+use Rattle.pool_moves.specs.LineRows.{TurnReply, Idle, Write, Flush, Round, Committed, EndsBy, IsTurnOf, StartsBy, RowTurn, TurnBy, Ends, AreTurns, EndsGroup, count_moves}
 use Rattle.pool_moves.specs.Moves.{Move, Makes, steps}
 use Rattle.pool_moves.specs.ReadRow.{made_in}
 use Rattle.pool_moves.specs.States.{PoolState}
@@ -82,11 +82,7 @@ starts_busy None size s vs reply (inr (inr r)) = by r.whole r.ends
 -- so it ends its group just where the group doesn't go on behind it
 ends_there : (reply : TurnReply) → is_idle reply ≡ false → Ends reply ≡ not (goes_on (turn_says reply))
 ends_there Idle busy = absurd (true≢false busy)
-ends_there Write busy = refl
-ends_there Flush busy = refl
-ends_there (Round number) busy = refl
-ends_there (Committed number) busy = refl
-ends_there (Suspends group top faults) busy = refl
+ends_there reply busy = refl
 
 -- What ends a group.
 abbrev pub Ending : (size : ℕ → ℕ) → Result Group SyncFault → PoolState → PoolParts → (from to : BankView) → Type 0
@@ -190,11 +186,7 @@ module _ (start p q : PoolParts) (from mid to : BankView) (gone : (s : PoolState
         where
           idle : (reply : TurnReply) → is_idle reply ≡ false → Ok done.Idle ≡ turn_says reply → ⊥
           idle Idle busy is = true≢false busy
-          idle Write busy is = absurd (cc)
-          idle Flush busy is = absurd (cc)
-          idle (Round number) busy is = absurd (cc)
-          idle (Committed number) busy is = absurd (cc)
-          idle (Suspends group top faults) busy is = absurd (cc)
+          idle reply busy is = absurd (cc)
 
 -- The sizes of the devices are the same at its end.
 pub sizes_kept : (start q : PoolParts) (from to : BankView) (result : Result Group SyncFault)

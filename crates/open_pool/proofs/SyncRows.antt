@@ -42,20 +42,12 @@ refused_as (NoRoom need free) = refl
 fails_behind : (fault : SyncFault) (turn : TurnReply) (size : ℕ → ℕ) (s : PoolState) → Err fault ≡ end_says turn
     → SyncBehind turn pool_codec size s [] (rows.Ended turn)
 fails_behind fault (rows.Committed number) size s is = absurd (cc)
-fails_behind fault rows.Idle size s is = (refl, refl)
-fails_behind fault rows.Write size s is = (refl, refl)
-fails_behind fault rows.Flush size s is = (refl, refl)
-fails_behind fault (rows.Round number) size s is = (refl, refl)
-fails_behind fault (rows.Suspended group top faults) size s is = (refl, refl)
+fails_behind fault turn size s is = (refl, refl)
 
 opens_behind : (number : Group) (turn : TurnReply) (size : ℕ → ℕ) (s : PoolState) (vs : List Move) (reply : SyncReply) → Ok number ≡ end_says turn
     → ((vs ≡ []) × (reply ≡ rows.NoMemory)) ⊎ SyncOpen pool_codec size s vs reply → SyncBehind turn pool_codec size s vs reply
 opens_behind number (rows.Committed other) size s vs reply is more = more
-opens_behind number rows.Idle size s vs reply is more = absurd (cc)
-opens_behind number rows.Write size s vs reply is more = absurd (cc)
-opens_behind number rows.Flush size s vs reply is more = absurd (cc)
-opens_behind number (rows.Round other) size s vs reply is more = absurd (cc)
-opens_behind number (rows.Suspended group top faults) size s vs reply is more = absurd (cc)
+opens_behind number turn size s vs reply is more = absurd (cc)
 
 -- Of the open group, where none is frozen.
 module _ (p mid q : PoolParts) (s : PoolState) (stands : Stands p s) (idle : is_some p.frozen ≡ false) (from to : BankView) where

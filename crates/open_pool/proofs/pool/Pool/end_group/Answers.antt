@@ -21,24 +21,21 @@ turn-requires g c =
 
 pub returns-in_err-number-clause-row : goal.returns-in_err-number-clause-row
 returns-in_err-number-clause-row g c = λ s stands.
-    ended c.args.self.now c.loop-number.self c.turn.new.self (g.B.Bank.view c.args.bank.now) (g.B.Bank.view c.loop-number.bank) (g.B.Bank.view c.turn.new.bank)
-    c.loop-number.invariant.gone c.loop-number.invariant.frozen c.turn.result c.turn.ensures.row s stands c.from_residual.result
+    ended _ _ _ _ _ _ c.loop-number.invariant.gone c.loop-number.invariant.frozen _ c.turn.ensures.row s stands c.from_residual.result
     (ap goes_on c.in_err-number.was)
-    (err_is c.from_residual.result _ c.from_residual.ensures.1 ∙ sym (ap ended_as c.in_err-number.was))
+    (err_is _ _ c.from_residual.ensures.1 ∙ sym (ap ended_as c.in_err-number.was))
 
 pub returns-in_err-number-clause-here : goal.returns-in_err-number-clause-here
 returns-in_err-number-clause-here g c = λ size here. c.turn.ensures.here size (c.loop-number.invariant.here size here)
 
 pub returns-in_err-number-clause-sizes : goal.returns-in_err-number-clause-sizes
 returns-in_err-number-clause-sizes g c =
-    sizes_kept c.args.self.now c.turn.new.self (g.B.Bank.view c.args.bank.now) (g.B.Bank.view c.turn.new.bank) c.from_residual.result
-    (returns-in_err-number-clause-row g c)
+    sizes_kept _ _ _ _ _ (returns-in_err-number-clause-row g c)
 
 pub returns-in-Committed-clause-row : goal.returns-in-Committed-clause-row
 returns-in-Committed-clause-row g c = λ s stands.
     let is = c.in_ok-number.was ∙ ap Ok c.in-Committed.is in
-    ended c.args.self.now c.loop-number.self c.turn.new.self (g.B.Bank.view c.args.bank.now) (g.B.Bank.view c.loop-number.bank) (g.B.Bank.view c.turn.new.bank)
-    c.loop-number.invariant.gone c.loop-number.invariant.frozen c.turn.result c.turn.ensures.row s stands (Ok c.in-Committed.number)
+    ended _ _ _ _ _ _ c.loop-number.invariant.gone c.loop-number.invariant.frozen _ c.turn.ensures.row s stands (Ok c.in-Committed.number)
     (ap goes_on is) (sym (ap ended_as is))
 
 pub returns-in-Committed-clause-here : goal.returns-in-Committed-clause-here
@@ -46,19 +43,16 @@ returns-in-Committed-clause-here g c = λ size here. c.turn.ensures.here size (c
 
 pub returns-in-Committed-clause-sizes : goal.returns-in-Committed-clause-sizes
 returns-in-Committed-clause-sizes g c =
-    sizes_kept c.args.self.now c.turn.new.self (g.B.Bank.view c.args.bank.now) (g.B.Bank.view c.turn.new.bank) (Ok c.in-Committed.number)
-    (returns-in-Committed-clause-row g c)
+    sizes_kept _ _ _ _ _ (returns-in-Committed-clause-row g c)
 
 pub loop-number-smaller : goal.loop-number-smaller
 loop-number-smaller g c = c.turn.ensures.fewer c.loop-number.invariant.frozen
 
 pub loop-number-preserved : goal.loop-number-preserved
 loop-number-preserved g c =
-    let on = goes_further c.args.self.now c.loop-number.self c.turn.new.self (g.B.Bank.view c.args.bank.now) (g.B.Bank.view c.loop-number.bank) (g.B.Bank.view c.turn.new.bank)
-    c.loop-number.invariant.gone c.loop-number.invariant.frozen c.turn.result c.turn.ensures.row c.in_ok-number.field-0 c.in_ok-number.was c.in_default.not-Committed in
+    let on = goes_further _ _ _ _ _ _ c.loop-number.invariant.gone c.loop-number.invariant.frozen _ c.turn.ensures.row c.in_ok-number.field-0 c.in_ok-number.was c.in_default.not-Committed in
     record {
       frozen = c.turn.ensures.goes_on ∙ on;
       here = λ size here. c.turn.ensures.here size (c.loop-number.invariant.here size here);
-      gone = λ s stands. one_more c.args.self.now c.loop-number.self c.turn.new.self (g.B.Bank.view c.args.bank.now) (g.B.Bank.view c.loop-number.bank) (g.B.Bank.view c.turn.new.bank)
-          c.loop-number.invariant.gone c.loop-number.invariant.frozen c.turn.result c.turn.ensures.row s stands on;
+      gone = λ s stands. one_more _ _ _ _ _ _ c.loop-number.invariant.gone c.loop-number.invariant.frozen _ c.turn.ensures.row s stands on;
     }

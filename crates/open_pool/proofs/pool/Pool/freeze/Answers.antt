@@ -76,11 +76,7 @@ returns-in_err-frozen-clause-row c =
 
 pub returns-in_err-frozen-clause-here : goal.returns-in_err-frozen-clause-here
 returns-in_err-frozen-clause-here c = λ size here.
-    let old : FreezeParts = record { unfrozen = c.self.inside.open; map = c.self.inside.map; pins = c.self.inside.pins; trees = c.self.inside.tops.items } in
-    let n = c.freeze_parts.new in
-    let new : FreezeParts = record { unfrozen = n.group; map = n.map; pins = n.pins; trees = n.tops.items } in
-    refused_here _ old new c.in_err-frozen.field-0.0 c.in_err-frozen.ensures.err size
-    (subst (λ (q : PoolParts). AreHere size q.tops) (sym c.self.view_is) here)
+    refused_here c.in_err-frozen.ensures.err size (subst (λ (q : PoolParts). AreHere size q.tops) (sym c.self.view_is) here)
 
 pub invariant_of-self-2 : goal.invariant_of-self-2
 invariant_of-self-2 c =
@@ -113,8 +109,4 @@ returns-clause-row c =
 
 pub returns-clause-here : goal.returns-clause-here
 returns-clause-here c = λ size here.
-    let old : FreezeParts = record { unfrozen = c.self.inside.open; map = c.self.inside.map; pins = c.self.inside.pins; trees = c.self.inside.tops.items } in
-    let n = c.freeze_parts.new in
-    let new : FreezeParts = record { unfrozen = n.group; map = n.map; pins = n.pins; trees = n.tops.items } in
-    begun_here _ old new c.in_ok-frozen.frozen c.in_ok-frozen.ensures.ok size
-    (subst (λ (q : PoolParts). AreHere size q.tops) (sym c.self.view_is) here)
+    begun_here c.in_ok-frozen.ensures.ok size (subst (λ (q : PoolParts). AreHere size q.tops) (sym c.self.view_is) here)

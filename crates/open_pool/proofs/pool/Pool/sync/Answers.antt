@@ -1,26 +1,21 @@
 use Rattle.std.proofs.Common.{inl, is_some, sym, ap, ◌∙◌, subst}
-use Rattle.std.specs.Prelude.{Result}
-use Rattle.mp_base.specs.declared.number.Group.{Group}
-use Rattle.open_pool.specs.declared.sync.SyncFault.{SyncFault}
 use Rattle.open_pool.specs.Here.{AreHere}
 use Rattle.open_pool.specs.Parts.{PoolParts}
-use Rattle.open_pool.proofs.GroupsEnded.{Ending, err_is}
+use Rattle.open_pool.proofs.GroupsEnded.{err_is}
 use Rattle.open_pool.proofs.SyncRows.{idle_sync, fails_first, goes_first}
 use Rattle.open_pool.proofs.pool.Pool.sync.Goals as goal
 
 pub returns-then-is_none-clause-row : goal.returns-then-is_none-clause-row
 returns-then-is_none-clause-row g c = λ s stands.
-    idle_sync c.args.self.now c.sync_open.new.self s (g.B.Bank.view c.args.bank.now) (g.B.Bank.view c.sync_open.new.bank) c.sync_open.result stands
+    idle_sync _ _ s _ _ _ stands
     (ap (λ (q : PoolParts). is_some q.frozen) (sym c.self.view_is) ∙ c.if-is_none.ensures) (c.sync_open.ensures.row s stands)
 
 pub returns-in_err-end_group-clause-row : goal.returns-in_err-end_group-clause-row
 returns-in_err-end_group-clause-row g c = λ s stands.
     let fault = c.in_err-end_group.field-0.0 in
-    inl (fails_first c.args.self.now c.end_group.new.self c.end_group.new.self s stands
-    (ap (λ (q : PoolParts). is_some q.frozen) (sym c.self.view_is) ∙ c.if-is_none.ensures) (g.B.Bank.view c.args.bank.now) (g.B.Bank.view c.end_group.new.bank)
-    fault c.from_residual.result (err_is c.from_residual.result fault c.from_residual.ensures.1)
-    (subst (λ (r : Result Group SyncFault). Ending (g.B.Bank.view c.args.bank.now).size r s c.end_group.new.self (g.B.Bank.view c.args.bank.now) (g.B.Bank.view c.end_group.new.bank))
-    c.in_err-end_group.was (c.end_group.ensures.row s stands)))
+    inl (fails_first _ _ c.end_group.new.self s stands
+    (ap (λ (q : PoolParts). is_some q.frozen) (sym c.self.view_is) ∙ c.if-is_none.ensures) _ _ fault _ (err_is _ fault c.from_residual.ensures.1)
+    (c.in_err-end_group.ensures.row s stands))
 
 pub sync_open-requires-2-clause-here : goal.sync_open-requires-2-clause-here
 sync_open-requires-2-clause-here g c =
@@ -29,11 +24,9 @@ sync_open-requires-2-clause-here g c =
 
 pub returns-clause-row : goal.returns-clause-row
 returns-clause-row g c = λ s stands.
-    let ended = subst (λ (r : Result Group SyncFault). Ending (g.B.Bank.view c.args.bank.now).size r s c.end_group.new.self (g.B.Bank.view c.args.bank.now) (g.B.Bank.view c.end_group.new.bank))
-    c.in_ok-end_group.was (c.end_group.ensures.row s stands) in
-    inl (goes_first c.args.self.now c.end_group.new.self c.sync_open-2.new.self s stands
-    (ap (λ (q : PoolParts). is_some q.frozen) (sym c.self.view_is) ∙ c.if-is_none.ensures) (g.B.Bank.view c.args.bank.now) (g.B.Bank.view c.end_group.new.bank)
-    c.in_ok-end_group.field-0 c.sync_open-2.result (g.B.Bank.view c.sync_open-2.new.bank) c.end_group.ensures.sizes ended
+    let ended = c.in_ok-end_group.ensures.row s stands in
+    inl (goes_first _ _ _ s stands
+    (ap (λ (q : PoolParts). is_some q.frozen) (sym c.self.view_is) ∙ c.if-is_none.ensures) _ _ _ _ _ c.end_group.ensures.sizes ended
     (c.sync_open-2.ensures.row _ ended.answers.leaves))
 
 pub returns-clause-here : goal.returns-clause-here
