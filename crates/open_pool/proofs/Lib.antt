@@ -21,6 +21,7 @@ pub mod FormKept
 pub mod FreezeAnswered
 pub mod FreezeBegins
 pub mod FreezeForm
+pub mod FreezeHere
 pub mod FreezeNeeds
 pub mod FreezeRefused
 pub mod FreezeRows
@@ -29,6 +30,7 @@ pub mod FreezesAreRows
 pub mod GoingKept
 pub mod GroupBlocks
 pub mod GroupEnds
+pub mod GroupsEnded
 pub mod KeysDirty
 pub mod KeysDone
 pub mod KeysFound
@@ -84,8 +86,10 @@ pub mod RoundsTurned
 pub mod SeatedHere
 pub mod SeatsOfFreeze
 pub mod SetsOffline
+pub mod SomeState
 pub mod SpareLeaves
 pub mod StatesStand
+pub mod SyncRows
 pub mod TopsCounted
 pub mod TopsSized
 pub mod TreesBuilt

@@ -15,6 +15,7 @@ pub mod Reading
 pub mod Seeking
 pub mod Space
 pub mod State
+pub mod Syncing
 pub mod Telling
 pub mod Turning
 pub mod Writing

@@ -1,5 +1,5 @@
 //! A freeze: the open group gets its number, its places and its board.
-ghost use Rattle.std.specs.Prelude.{◌≡◌, ◌⊎◌, ◌+◌, ◌^◌, ◌<◌, ◌≤◌, Err, length, All, IfOk, IfErr};
+ghost use Rattle.std.specs.Prelude.{◌≡◌, ◌⊎◌, ℕ, ◌+◌, ◌^◌, ◌<◌, ◌≤◌, true, Err, length, is_some, All, IfOk, IfErr, OnOk};
 ghost use Rattle.dtl_rules.specs.Widening.{leaves_of};
 ghost use Rattle.pool_codec.specs.Codecs.{pool_codec};
 ghost use Rattle.pool_moves.specs.LineRows.{RowFreezeLine};
@@ -46,6 +46,7 @@ impl From<MemFault> for FreezeFault {
 impl Pool {
     ghost use Rattle.open_pool.specs.Answering.{Answers, OutOfMemory};
     ghost use Rattle.open_pool.specs.Freezing.{freeze_says};
+    ghost use Rattle.open_pool.specs.Here.{AreHere};
     ghost use Rattle.open_pool.specs.State.{Stands};
 
     /// Freezes the open group, and answers the number that was drawn. Writes that come later go into the next one. At `Err`
@@ -55,6 +56,8 @@ impl Pool {
         ensures row { (s : PoolState) → Stands self.old s
             → Answers (RowFreezeLine pool_codec s) freeze_says result s self.new
             ⊎ OutOfMemory (Err FreezeFault.Memory) result s self.new }
+        ensures here { (size : ℕ → ℕ) → AreHere size self.old.tops → AreHere size self.new.tops }
+        ensures frozen { OnOk result (is_some self.new.frozen ≡ true) }
     {
         self.keeps_its_form();
         self.map.keeps_its_form();

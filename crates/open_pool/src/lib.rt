@@ -18,6 +18,7 @@ mod read;
 mod seeking;
 mod space;
 mod spares;
+mod sync;
 mod turn;
 mod write;
 
@@ -29,5 +30,6 @@ pub use pages::Shown;
 pub use pool::Pool;
 pub use read::ReadFault;
 pub use seeking::{SeekFault, seek};
+pub use sync::SyncFault;
 pub use turn::TurnDone;
 pub use write::WriteFault;
