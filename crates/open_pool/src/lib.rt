@@ -12,6 +12,7 @@ mod logs;
 mod named;
 mod offline;
 mod pages;
+mod placing;
 mod pool;
 mod read;
 mod seeking;
