@@ -44,7 +44,7 @@ fewer_differ n [] differ = tt
 fewer_differ n (leaf_vdev leaf ∷ vdevs) differ = (differ.0, fewer_differ n vdevs differ.1)
 fewer_differ n (inner_vdev guid kind count ∷ vdevs) differ = fewer_differ n vdevs differ.1
 
-leaves_differ_too : (vdevs : List VdevSeen) → Differ (map number_of_vdev vdevs)
+pub leaves_differ_too : (vdevs : List VdevSeen) → Differ (map number_of_vdev vdevs)
     → Differ (map {B = ℕ} (λ leaf. leaf.guid.0) (leaves_among vdevs))
 unfolding leaves_among
 leaves_differ_too [] differ = tt

@@ -97,6 +97,7 @@ pub mod TurnSteps
 pub mod TurnSuspended
 pub mod TurnsGoOn
 pub mod UnwritableTops
+pub mod ValidLeaves
 pub mod VdevNumbers
 pub mod WriteRows
 pub mod WritesCounted
