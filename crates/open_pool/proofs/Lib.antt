@@ -70,6 +70,7 @@ pub mod ReadRows
 pub mod ReadingsGoOn
 pub mod ReadsCounted
 pub mod RecordKept
+pub mod RecordReopened
 pub mod RecordSealed
 pub mod RecordStill
 pub mod RecordsSought
