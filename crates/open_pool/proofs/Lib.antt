@@ -18,6 +18,7 @@ pub mod FewKeys
 pub mod FewRanges
 pub mod FormCounted
 pub mod FormKept
+pub mod FormReopened
 pub mod FreezeAnswered
 pub mod FreezeBegins
 pub mod FreezeForm
