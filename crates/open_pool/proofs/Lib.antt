@@ -9,6 +9,7 @@ pub mod CopiesRead
 pub mod CountsAsMoves
 pub mod CountsBelow
 pub mod CountsMade
+pub mod DevicesFound
 pub mod DirtyWithOne
 pub mod DraftFits
 pub mod DraftValid
