@@ -28,9 +28,12 @@ use Rattle.open_pool.specs.Here.{IsHere, AreHere}
 use Rattle.open_pool.specs.Opening.{placed, all_placed}
 use Rattle.open_pool.specs.Parts.{top_parts, all_parts}
 use Rattle.open_pool.specs.State.{leaves_under}
-use Rattle.open_pool.proofs.FormReopened.{AreTwo}
 use Rattle.open_pool.proofs.LeavesByTops.{tops_from, under_all, under_trees, sizes, same_tops}
 use Rattle.open_pool.proofs.LeavesPlaced.{kept_at, kept_by_tops}
+
+-- two devices of which not both are one
+abbrev pub AreTwo : Option ℕ → Option ℕ → Type 0
+AreTwo a b = (d : ℕ) → a ≡ Some d → b ≡ Some d → ⊥
 
 -- Leaves whose names differ: there is one who hands in these devices under them.
 abbrev NamesDiffer : List LeafVdev → Type 0

@@ -36,6 +36,7 @@ use Rattle.open_pool.specs.Pages.{HaveOwnDevices}
 use Rattle.open_pool.specs.Parts.{PoolParts}
 use Rattle.open_pool.specs.State.{sums_of, cells_in}
 use Rattle.open_pool.proofs.CountsBelow.{none_pass}
+use Rattle.open_pool.proofs.DevicesFound.{AreTwo}
 use Rattle.open_pool.proofs.DraftValid.{placed_top}
 use Rattle.open_pool.proofs.GroupEnds.{no_board}
 use Rattle.open_pool.proofs.LeavesInForm.{leaves_are}
@@ -147,10 +148,6 @@ placed_writable : (devs : List (Option ℕ)) (leaves : List LeafVdev) → length
 placed_writable devs [] long = tt
 placed_writable [] (leaf ∷ leaves) long = absurd (omega (arith, long))
 placed_writable (dev ∷ devs) (leaf ∷ leaves) long = (one_writable dev leaf, placed_writable devs leaves (omega (arith, long)))
-
--- Devices of which no two are one.
-abbrev pub AreTwo : Option ℕ → Option ℕ → Type 0
-AreTwo a b = (d : ℕ) → a ≡ Some d → b ≡ Some d → ⊥
 
 two_on : (dev : Option ℕ) (leaf : LeafVdev) (devs : List (Option ℕ)) (leaves : List LeafVdev) → length devs ≡ length leaves
     → AllByRecursion (AreTwo dev) devs → AllByRecursion (λ other. AreTwo (placed dev leaf).dev other.dev) (all_placed devs leaves)

@@ -49,6 +49,7 @@ pub mod LeavesStay
 pub mod LeftServed
 pub mod LogsTold
 pub mod LogsWidened
+pub mod MapsNeeded
 pub mod MapsRead
 pub mod MembersAgree
 pub mod NamesFound

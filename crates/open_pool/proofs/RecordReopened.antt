@@ -9,8 +9,9 @@ use Rattle.mp_base.specs.declared.place.Key.{Key}
 use Rattle.bank_core.specs.BankView.{BankView}
 use Rattle.bank_core.specs.Calls.{Makes}
 use Rattle.bank_core.specs.Disk.{Noted}
-use Rattle.bank_core.proofs.Framing.{makes_more}
+use Rattle.bank_core.proofs.Framing.{makes_none, makes_more}
 use Rattle.label_store.specs.declared.found.Found.{Found}
+use Rattle.label_store.specs.Newest.{ReadsOnly}
 use Rattle.block_map.specs.Map.{Map}
 use Rattle.block_map.specs.Reading.{NamesPlaces}
 use Rattle.vdev_tree.specs.declared.top.Top.{Top}
@@ -36,10 +37,11 @@ use Rattle.pool_moves.specs.States.{Sums, PoolState, no_group_seen, no_scan_seen
 use Rattle.open_pool.specs.declared.pages.PageFault.{PageFault}
 use Rattle.open_pool.specs.declared.pages.PageFault.TheVariants as fault
 use Rattle.open_pool.specs.Finding.{FindsLeaves}
-use Rattle.open_pool.specs.Opening.{placed, all_placed, IsOpenedAs, Reopens}
-use Rattle.open_pool.specs.Pages.{MapSource, source_of, Tells, reading_of, leaf_saw, ReadsWhole, LosesPage}
+use Rattle.open_pool.specs.Opening.{placed, all_placed, IsOpenedAs, Reopens, ReopensOrStops}
+use Rattle.open_pool.specs.Pages.{MapSource, source_of, Tells, reading_of, leaf_saw, ReadsWhole, LosesPage, StopsBy}
 use Rattle.open_pool.specs.Parts.{TopParts, PoolParts, top_parts, all_parts}
 use Rattle.open_pool.specs.State.{sums_of, leaves_from, leaves_under, sectors_in, vdevs_in, state_of, Stands}
+use Rattle.open_pool.proofs.DevicesFound.{sought_reads}
 use Rattle.open_pool.proofs.LeavesPlaced.{IsDecoded, leaves_placed}
 use Rattle.open_pool.proofs.RecordsTold as told
 use Rattle.open_pool.proofs.TreesBuilt.{built_sizes, numbers_told}
@@ -252,3 +254,19 @@ module _ (found : Found) (c : Config) (reads : config_in found.blob.items ≡ So
         (lost.is [] found.blob.items tells).0);
     says_so = (refl, refl);
   }
+
+  -- or it stops there
+  pub opens_stopped : (handed : List ℕ → Option ℕ) (stop : PageFault) (old mid new : BankView)
+      → FindsLeaves found.pool (room_of (sectors_of c.tops.items)) handed (kept_leaves_from 1 c.tops.items) [] devs old mid
+      → StopsBy source stop mid new → ReopensOrStops handed c.name found (Err stop) old new
+  opens_stopped handed (fault.Lost page top shown) old mid new f lost = inl (opens_lost handed page top shown old mid new f lost)
+  opens_stopped handed fault.Memory old mid new f same =
+      inr (refl, subst (ReadsOnly old) (sym same) (record {
+        made = f.made;
+        calls = f.calls;
+        reads = sought_reads found.pool old.size (room_of (sectors_of c.tops.items)) handed (kept_leaves_from 1 c.tops.items) f.made f.found f.sought;
+      }))
+
+-- Without memory it may stop before it makes a call.
+pub stops_first : (handed : List ℕ → Option ℕ) (name : List ℕ) (found : Found) (bank : BankView) → ReopensOrStops handed name found (Err fault.Memory) bank bank
+stops_first handed name found bank = inr (refl, record { made = []; calls = makes_none; reads = tt })
