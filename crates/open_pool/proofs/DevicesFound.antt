@@ -1,8 +1,8 @@
 -- Where the leaves of a record are found: on devices that were handed in under their names, with the room of their tops.
 use mathlib.Core.List.{map-map}
-use Rattle.std.proofs.Common.{◌≡◌, ◌≢◌, ⊎_elim, ℕ, zero, suc, ◌+◌, ◌<◌, ◌≤◌, cond, Bool, true, false, nat_le, List, [], ◌∷◌, ◌++◌, length, map, take, slice_index, Option, Some, None, Result, Ok, Err, refl, sym, ap, ap₂, ◌∙◌, subst, subst₂, arith}
+use Rattle.std.proofs.Common.{◌≡◌, ◌≢◌, ⊎_elim, ℕ, suc, ◌+◌, ◌≤◌, cond, Bool, true, false, nat_le, List, [], ◌∷◌, ◌++◌, length, map, take, slice_index, Option, Some, None, Result, Ok, Err, refl, sym, ap, ap₂, ◌∙◌, subst, subst₂, arith}
 use Rattle.std.specs.Prelude.{All, AllPairs}
-use Rattle.std.specs.List.{AllByRecursion, AllZip, flat_map}
+use Rattle.std.specs.List.{AllByRecursion, AllZip}
 use Rattle.std.specs.Str.{bytes_eq}
 use Rattle.std.proofs.lemmas.Bool.{true≢false, false_from_ne_true, leb-true}
 use Rattle.std.proofs.lemmas.List.{map-append, length-map, length-append}
@@ -11,10 +11,9 @@ use Rattle.std.proofs.lemmas.Slice.Eq.{bytes_eq-Decides}
 use Rattle.mp_base.specs.declared.number.Guid.{Guid}
 use Rattle.bank_core.specs.declared.bank.Fault.{Fault}
 use Rattle.bank_core.specs.Disk.{Noted}
-use Rattle.label_store.specs.Identities.{AreMisses, IsHit, IsSearch, rings_of}
+use Rattle.label_store.specs.Identities.{AreMisses, IsSearch, rings_of}
 use Rattle.label_store.specs.Newest.{AreReads}
 use Rattle.label_store.proofs.Reading.{IsReadAsk, is_read, are_reads_more}
-use Rattle.vdev_tree.specs.Leaf.{is_readable}
 use Rattle.vdev_tree.specs.Tree.{leaves}
 use Rattle.vdev_tree.specs.declared.top.Top.{Top}
 use Rattle.vdev_tree.specs.declared.vdev.LeafVdev.{LeafVdev}
@@ -26,9 +25,9 @@ use Rattle.pool_moves.specs.OpeningRow.{IsSoughtOn, IsSought, AreSought}
 use Rattle.open_pool.specs.Finding.{handed_to}
 use Rattle.open_pool.specs.Here.{IsHere, AreHere}
 use Rattle.open_pool.specs.Opening.{placed, all_placed}
-use Rattle.open_pool.specs.Parts.{top_parts, all_parts}
+use Rattle.open_pool.specs.Parts.{all_parts}
 use Rattle.open_pool.specs.State.{leaves_under}
-use Rattle.open_pool.proofs.LeavesByTops.{tops_from, under_all, under_trees, sizes, same_tops}
+use Rattle.open_pool.proofs.LeavesByTops.{tops_from, sizes, same_tops}
 use Rattle.open_pool.proofs.LeavesPlaced.{kept_at, kept_by_tops}
 
 -- two devices of which not both are one
@@ -222,8 +221,13 @@ by_tops size first room (top ∷ tops) rooms all =
 tops_long : (first : ℕ) (tops : List Top) → length (tops_from first (leaves_under (all_parts tops))) ≡ length (leaves_of tops)
 tops_long first [] = refl
 tops_long first (top ∷ tops) =
-    omega (arith, length-append (map {B = ℕ} (λ leaf. first) (leaves top.mirror)) (tops_from (suc first) (leaves_under (all_parts tops))),
-    length-map {B = ℕ} (leaves top.mirror) (λ leaf. first), length-append (leaves top.mirror) (leaves_of tops), tops_long (suc first) tops)
+    omega (
+      arith,
+      length-append (map {B = ℕ} (λ leaf. first) (leaves top.mirror)) (tops_from (suc first) (leaves_under (all_parts tops))),
+      length-map {B = ℕ} (leaves top.mirror) (λ leaf. first),
+      length-append (leaves top.mirror) (leaves_of tops),
+      tops_long (suc first) tops,
+    )
 
 -- So the bank has the devices of leaves that were found, with room for their labels and the data sectors of their tops.
 pub found_here : (pool : Guid) (size : ℕ → ℕ) (handed : List ℕ → Option ℕ) (was is : List Top) (made : List Noted) (devs : List (Option ℕ))

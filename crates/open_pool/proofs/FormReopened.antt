@@ -1,8 +1,8 @@
 -- A pool that was read back has the form of an open one, had it acknowledged its record.
 use Rattle.std.proofs.Common.{true≢false, ◌≡◌, ◌⊎◌, inl, inr, ⊎_elim, ℕ, suc, ◌+◌, ◌<◌, ◌≤◌, ◌||◌, true, false, List, [], ◌∷◌, length, map, Option, Some, None, refl, sym, ap, ◌∙◌, subst, arith}
 use Rattle.std.specs.Prelude.{All, AllPairs, is_some, sum}
-use Rattle.std.specs.List.{AllByRecursion, AllZip, flat_map}
-use Rattle.std.proofs.lemmas.List.Elements.{All-nil, All-head, All-from_recursion, recursion_from_All}
+use Rattle.std.specs.List.{AllByRecursion, flat_map}
+use Rattle.std.proofs.lemmas.List.Elements.{All-nil, All-from_recursion, recursion_from_All}
 use Rattle.std.proofs.lemmas.List.Kept.{AllPairs-cons}
 use Rattle.mp_base.specs.Block.{zeros}
 use Rattle.mp_base.specs.declared.number.Group.{Group}
@@ -13,14 +13,14 @@ use Rattle.group_set.specs.Groups.{holds}
 use Rattle.block_map.specs.Keys.{root}
 use Rattle.block_map.specs.Map.{Map, pointer_at, is_free}
 use Rattle.block_map.specs.Places.{IsPlace}
-use Rattle.block_map.specs.Pointers.{hole, IsPointer, IsInForm}
-use Rattle.block_map.specs.Reading.{IsWritten, NamesPlaces}
+use Rattle.block_map.specs.Pointers.{IsPointer, IsInForm}
+use Rattle.block_map.specs.Reading.{NamesPlaces}
 use Rattle.vdev_tree.specs.Leaf.{is_readable}
 use Rattle.vdev_tree.specs.declared.top.Top.{Top}
 use Rattle.vdev_tree.specs.declared.vdev.LeafVdev.{LeafVdev}
 use Rattle.dtl_rules.specs.Widening.{leaves_of, sectors_of}
 use Rattle.pool_config.specs.declared.config.Config.{Config}
-use Rattle.pool_config.specs.Seen.{ConfigSeen, TopSeen, config_seen, leaf_seen, top_seen, leaves_among, all_vdevs}
+use Rattle.pool_config.specs.Seen.{TopSeen, config_seen, leaf_seen, top_seen, leaves_among}
 use Rattle.pool_config.specs.Validity.{IsHole, IsPlaced, IsValid, log_length}
 use Rattle.txg_history.specs.Pages.{Sum}
 use Rattle.txg_history.specs.Records.{key}
@@ -30,7 +30,7 @@ use Rattle.pool_codec.specs.Pointers.{told}
 use Rattle.pool_codec.specs.Tops.{LiesWithin}
 use Rattle.pool_moves.specs.FreezeRow.{IsAtPlace}
 use Rattle.pool_moves.specs.Refusing.{count_below}
-use Rattle.open_pool.specs.Form.{IsPool, IsRecordable, HasPlaces, ArePlacesApart, HasLeaves, HasOpen, all_leaves, config_of, is_dirty}
+use Rattle.open_pool.specs.Form.{IsPool, IsRecordable, all_leaves}
 use Rattle.open_pool.specs.Opening.{placed, all_placed, IsReopened}
 use Rattle.open_pool.specs.Pages.{HaveOwnDevices}
 use Rattle.open_pool.specs.Parts.{PoolParts}

@@ -1,14 +1,17 @@
 -- A valid configuration, whose leaves were put on their devices, is what the reading of its map asks for.
-use Rattle.std.proofs.Common.{◌≡◌, ◌≢◌, ◌⊎◌, inl, inr, ⊎_elim, ℕ, zero, suc, ◌+◌, ◌<◌, ◌≤◌, List, [], ◌∷◌, length, map, slice_index, Option, Some, None, refl, sym, ap, ◌∙◌, subst, arith}
+use mathlib.Core.Path.{fun_ext}
+use Rattle.std.proofs.Common.{◌≡◌, ◌≢◌, ◌⊎◌, inl, inr, ℕ, zero, suc, ◌<◌, ◌≤◌, List, [], ◌∷◌, length, map, slice_index, Option, Some, None, refl, sym, ap, ◌∙◌, subst, arith, append-nil}
 use Rattle.std.specs.Prelude.{All, AllPairs, slice_get}
 use Rattle.std.specs.List.{AllByRecursion, flat_map}
 use Rattle.std.proofs.lemmas.List.{length-map}
 use Rattle.std.proofs.lemmas.List.Elements.{All-from_recursion, recursion_from_All}
 use Rattle.mp_base.specs.Block.{zeros}
 use Rattle.mp_base.specs.declared.number.Group.{Group}
+use Rattle.mp_base.specs.declared.number.Guid.{Guid}
 use Rattle.mp_base.specs.declared.place.Pointer.{Pointer}
+use Rattle.bank_core.specs.BankView.{BankView}
 use Rattle.block_map.specs.Keys.{IsVolume}
-use Rattle.block_map.specs.Places.{AreTops, IsPlace}
+use Rattle.block_map.specs.Places.{AreTops}
 use Rattle.block_map.specs.Pointers.{hole, IsPointer}
 use Rattle.vdev_tree.specs.declared.top.Top.{Top}
 use Rattle.vdev_tree.specs.declared.vdev.LeafVdev.{LeafVdev}
@@ -16,11 +19,20 @@ use Rattle.dtl_rules.specs.Widening.{leaves_of, sectors_of}
 use Rattle.pool_config.specs.declared.config.Config.{Config}
 use Rattle.pool_config.specs.Seen.{TopSeen, config_seen, leaf_seen, leaf_name, top_seen, leaves_among, all_vdevs}
 use Rattle.pool_config.specs.Validity.{IsIn, IsHole, IsPlaced, IsTop, IsValid}
+use Rattle.pool_codec.specs.Tops.{room_of, kept_leaves_from}
+use Rattle.pool_moves.specs.OpeningRow.{AreSought}
+use Rattle.open_pool.specs.Finding.{FindsLeaves, handed_to}
+use Rattle.open_pool.specs.Here.{AreHere}
 use Rattle.open_pool.specs.Opening.{all_placed}
+use Rattle.open_pool.specs.Pages.{HaveOwnDevices}
+use Rattle.open_pool.specs.Parts.{all_parts}
+use Rattle.open_pool.proofs.DevicesFound.{AreTwo, handed_by, are_handed, found_apart, found_here}
+use Rattle.open_pool.proofs.FormReopened.{own_devices}
 use Rattle.open_pool.proofs.RecordKept.{tops_seen}
 use Rattle.open_pool.proofs.RecordReopened.{ArePlaced}
 use Rattle.open_pool.proofs.RecordStill.{leaves_in}
 use Rattle.open_pool.proofs.TopsSized.{as_many}
+use Rattle.open_pool.proofs.TreesBuilt.{built_sizes}
 
 all_sized : (trees : List Top) → AllByRecursion IsTop (map top_seen trees) → AllByRecursion (IsIn 64 1048320) (sectors_of trees)
 all_sized [] all = tt
@@ -115,3 +127,34 @@ module _ (c : Config) (valid : IsValid (config_seen c)) where
 
     pub few_placed : length (leaves_of is) ≤ 32
     few_placed = omega (arith, ap length on.leaves, length_placed devs (leaves_of c.tops.items), leaves_are_few)
+
+  -- The leaves were looked for on devices that were handed in, of which no two are one, whoever hands them in.
+  module _ (given : List (Option ℕ)) (paired : length given ≡ length (leaves_of c.tops.items)) (two : AllPairs AreTwo given) (pool : Guid)
+      (devs : List (Option ℕ)) (old mid : BankView)
+      (finds : (handed : List ℕ → Option ℕ) → handed_to handed (leaves_of c.tops.items) ≡ given
+      → FindsLeaves pool (room_of (sectors_of c.tops.items)) handed (kept_leaves_from 1 c.tops.items) [] devs old mid) where
+    abbrev by_names : List ℕ → Option ℕ
+    by_names = handed_by (leaves_of c.tops.items) given
+
+    they_are : handed_to by_names (leaves_of c.tops.items) ≡ given
+    they_are = are_handed (leaves_of c.tops.items) given paired names_are_apart
+
+    abbrev f : FindsLeaves pool (room_of (sectors_of c.tops.items)) by_names (kept_leaves_from 1 c.tops.items) [] devs old mid
+    f = finds by_names they_are
+
+    there : f.found ≡ devs
+    there = sym (f.devs_are ∙ append-nil f.found)
+
+    pub found_two : AllPairs AreTwo devs
+    found_two = subst (AllPairs AreTwo) there
+        (found_apart pool old.size (room_of (sectors_of c.tops.items)) by_names c.tops.items f.made given f.found f.sought they_are two)
+
+    module _ (is : List Top) (on : ArePlaced devs c.tops.items is) where
+      pub leaves_apart : HaveOwnDevices (leaves_of is)
+      leaves_apart = own_devices devs c.tops.items is on found_two
+
+      pub leaves_here : AreHere mid.size (all_parts is)
+      leaves_here = subst (λ size. AreHere size (all_parts is)) (sym (fun_ext f.calls.frame.sizes))
+          (found_here pool old.size by_names c.tops.items is f.made devs
+          (subst (AreSought pool old.size (room_of (sectors_of c.tops.items)) by_names (kept_leaves_from 1 c.tops.items) f.made) there f.sought)
+          on.leaves (sym (built_sizes c.tops.items is on.built)) on.sectors)

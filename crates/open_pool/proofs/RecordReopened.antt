@@ -1,6 +1,6 @@
 -- A record that was found is opened by its row: its leaves were looked for, and the pages of its map were read back.
 use mathlib.Core.List.{map-map}
-use Rattle.std.proofs.Common.{◌≡◌, inl, inr, ℕ, suc, false, List, [], ◌∷◌, ◌++◌, length, map, Option, Some, None, Ok, Err, refl, sym, ap, ap₂, ◌∙◌, subst, subst₂, append-nil}
+use Rattle.std.proofs.Common.{◌≡◌, inl, inr, ℕ, false, List, [], ◌∷◌, ◌++◌, length, map, Option, Some, None, Ok, Err, refl, sym, ap, ap₂, ◌∙◌, subst, subst₂, append-nil}
 use Rattle.std.proofs.lemmas.Bool.{true≢false}
 use Rattle.std.specs.List.{AllByRecursion}
 use Rattle.mp_base.specs.declared.number.Group.{Group}
@@ -20,7 +20,7 @@ use Rattle.dtl_rules.specs.Widening.{leaves_of, marks_of, sectors_of}
 use Rattle.mirror_io.specs.declared.copies.CopySeen.{CopySeen}
 use Rattle.pool_config.specs.declared.config.Config.{Config}
 use Rattle.pool_config.specs.Reading.{config_in, seen_in}
-use Rattle.pool_config.specs.Seen.{VdevSeen, ConfigSeen, config_seen, top_seen, top_vdevs}
+use Rattle.pool_config.specs.Seen.{ConfigSeen, config_seen, top_seen, top_vdevs}
 use Rattle.txg_history.specs.Trees.{Child}
 use Rattle.txg_engine.specs.Pins.{PinsSeen}
 use Rattle.txg_engine.specs.Writes.{OpenGroup, block_at}
@@ -37,7 +37,7 @@ use Rattle.pool_moves.specs.States.{Sums, PoolState, no_group_seen, no_scan_seen
 use Rattle.open_pool.specs.declared.pages.PageFault.{PageFault}
 use Rattle.open_pool.specs.declared.pages.PageFault.TheVariants as fault
 use Rattle.open_pool.specs.Finding.{FindsLeaves}
-use Rattle.open_pool.specs.Opening.{placed, all_placed, IsOpenedAs, Reopens, ReopensOrStops}
+use Rattle.open_pool.specs.Opening.{placed, all_placed, Reopens, ReopensOrStops}
 use Rattle.open_pool.specs.Pages.{MapSource, source_of, Tells, reading_of, leaf_saw, ReadsWhole, LosesPage, StopsBy}
 use Rattle.open_pool.specs.Parts.{TopParts, PoolParts, top_parts, all_parts}
 use Rattle.open_pool.specs.State.{sums_of, leaves_from, leaves_under, sectors_in, vdevs_in, state_of, Stands}
@@ -249,9 +249,12 @@ module _ (found : Found) (c : Config) (reads : config_in found.blob.items ≡ So
     made = f.made ++ (calls_of_turns lost.turns ++ lost.reads);
     calls = makes_more f.calls lost.calls;
     reply = NoPage page (map leaf_saw shown);
-    row = row_of handed old mid f lost.found lost.got lost.turns lost.reads (NoPage page (map leaf_saw shown))
-        (lost.level, lost.page_is, subst (λ x. StopsAt x lost.level page.index (map leaf_saw shown) lost.turns lost.reads) (same_reading lost.found lost.got)
-        (lost.is [] found.blob.items tells).0);
+    row = row_of handed old mid f lost.found lost.got lost.turns lost.reads (NoPage page (map leaf_saw shown)) (
+      lost.level,
+      lost.page_is,
+      subst (λ x. StopsAt x lost.level page.index (map leaf_saw shown) lost.turns lost.reads) (same_reading lost.found lost.got)
+          (lost.is [] found.blob.items tells).0,
+    );
     says_so = (refl, refl);
   }
 
@@ -261,11 +264,14 @@ module _ (found : Found) (c : Config) (reads : config_in found.blob.items ≡ So
       → StopsBy source stop mid new → ReopensOrStops handed c.name found (Err stop) old new
   opens_stopped handed (fault.Lost page top shown) old mid new f lost = inl (opens_lost handed page top shown old mid new f lost)
   opens_stopped handed fault.Memory old mid new f same =
-      inr (refl, subst (ReadsOnly old) (sym same) (record {
-        made = f.made;
-        calls = f.calls;
-        reads = sought_reads found.pool old.size (room_of (sectors_of c.tops.items)) handed (kept_leaves_from 1 c.tops.items) f.made f.found f.sought;
-      }))
+      inr (
+        refl,
+        subst (ReadsOnly old) (sym same) (record {
+          made = f.made;
+          calls = f.calls;
+          reads = sought_reads found.pool old.size (room_of (sectors_of c.tops.items)) handed (kept_leaves_from 1 c.tops.items) f.made f.found f.sought;
+        }),
+      )
 
 -- Without memory it may stop before it makes a call.
 pub stops_first : (handed : List ℕ → Option ℕ) (name : List ℕ) (found : Found) (bank : BankView) → ReopensOrStops handed name found (Err fault.Memory) bank bank
