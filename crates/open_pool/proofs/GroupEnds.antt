@@ -44,11 +44,12 @@ use Rattle.open_pool.proofs.KeysFound.{found_item}
 use Rattle.open_pool.proofs.LeavesAtEnd.{cut_within, settled_within}
 use Rattle.open_pool.proofs.LeavesStay.{cut_same, settled_same}
 use Rattle.open_pool.proofs.LogsWidened.{IsWithin}
+use Rattle.open_pool.proofs.NeedCounted.{few_writes}
 use Rattle.open_pool.proofs.PlacesEnd.{acknowledged, burned_pool}
 use Rattle.open_pool.proofs.RecordKept.{few_recorded, ranges_in_all, tops_seen, valid_kept}
 use Rattle.open_pool.proofs.SeatsOfFreeze.{OnOwnDevices}
 use Rattle.open_pool.proofs.TurnSteps.{going, sectors_are}
-use Rattle.open_pool.proofs.WritesCounted.{count_writes, writes_low, writes_within, written_low}
+use Rattle.open_pool.proofs.WritesCounted.{count_writes, writes_low, written_low}
 
 -- A log without the numbers of a group has no more ranges.
 extended_longer : (g : ℕ) (ranges : List GroupRange) → length ranges ≤ length (extended g ranges)
@@ -230,10 +231,6 @@ module _ (b : PoolParts) (group : FrozenGroup) (old new : List Top) (pool : IsPo
   old_few = few_recorded (config_of (going b group old) (record { 0 = group.numbers.last.0 }) (pointer_at b.map root)) group.numbers.last.0 old
       (tops_seen old) pool.recordable pool.recordable.number.1 old_within
 
-  writes_few : length b.unfrozen.writes ≤ 4096
-  writes_few = writes_within b.map.blocks 4096 b.unfrozen.writes (λ x. is_some (cells_of group.items (key 0 x))) rise pool.unfrozen.inside
-      (let count = pool.unfrozen.count in let most = pool.unfrozen.few in omega (arith, count, most))
-
   pub acknowledged_kept : IsPool (acknowledged b group m pins new)
   acknowledged_kept =
       let same = settled_same (leaves_of old) (leaves_of new) settles in
@@ -259,7 +256,7 @@ module _ (b : PoolParts) (group : FrozenGroup) (old new : List Top) (pool : IsPo
           count = count_same m.blocks (λ x. is_written b.unfrozen.writes x || false) (is_written b.unfrozen.writes) (λ x lt. dirty_none (is_written b.unfrozen.writes x))
               ∙ count_writes m.blocks 0 b.unfrozen.writes rise
               (subst (λ n. All (λ (write : Write). write.addr < n) b.unfrozen.writes) (sym adopted.volume.blocks) pool.unfrozen.inside);
-          few = writes_few;
+          few = few_writes (going b group old) pool rise;
         };
       }
 

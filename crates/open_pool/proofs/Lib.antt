@@ -84,6 +84,7 @@ pub mod RoundAnswers
 pub mod RoundDraws
 pub mod RoundParts
 pub mod RoundsTurned
+pub mod SeatedHere
 pub mod SeatsOfFreeze
 pub mod SetsOffline
 pub mod SpareLeaves
@@ -96,9 +97,11 @@ pub mod TurnAnswers
 pub mod TurnEndings
 pub mod TurnLeaves
 pub mod TurnLeft
+pub mod TurnOfPool
 pub mod TurnParts
 pub mod TurnSteps
 pub mod TurnSuspended
+pub mod TurnsAnswered
 pub mod TurnsGoOn
 pub mod UnwritableTops
 pub mod ValidLeaves

@@ -1,5 +1,5 @@
 -- What a turn of a frozen group leaves: a pool in its form, as the row of what it answers has it.
-use Rattle.std.proofs.Common.{◌≡◌, ℕ, false, List, [], Ok, Err}
+use Rattle.std.proofs.Common.{◌≡◌, ℕ, List, [], Ok, Err}
 use Rattle.std.specs.Prelude.{All, Result}
 use Rattle.bank_core.specs.BankView.{BankView}
 use Rattle.block_map.specs.Map.{Map}

@@ -1,5 +1,5 @@
 -- A turn brings its group nearer to its end, and leaves the leaves under their tops, on their devices.
-use Rattle.std.proofs.Common.{◌≡◌, ℕ, zero, suc, ◌+◌, ◌-◌, ◌<◌, ◌≤◌, ◌^◌, ◌==◌, cond, Bool, true, false, List, [], ◌∷◌, ◌++◌, length, Option, Some, None, Ok, Err, refl, sym, ap, ◌∙◌, subst, arith}
+use Rattle.std.proofs.Common.{◌≡◌, ℕ, zero, suc, ◌+◌, ◌-◌, ◌<◌, ◌^◌, cond, Bool, true, false, List, [], ◌∷◌, ◌++◌, length, Option, Some, None, Ok, Err, refl, sym, ap, ◌∙◌, subst, arith}
 use Rattle.std.specs.Prelude.{All, Result, slice_get}
 use Rattle.std.specs.List.{AllByRecursion}
 use Rattle.std.specs.Result.{IsErrAnd}
@@ -16,6 +16,7 @@ use Rattle.pool_config.specs.Seen.{ConfigSeen}
 use Rattle.pool_codec.specs.Codecs.{pool_codec}
 use Rattle.txg_history.specs.Turns.{write_plan, flush_plan}
 use Rattle.txg_engine.specs.declared.close_turn.Closed.{Closed}
+use Rattle.txg_engine.specs.declared.close_turn.Closed.TheVariants as closed
 use Rattle.txg_engine.specs.declared.item.Item.{Item}
 use Rattle.txg_engine.specs.declared.seat.Seat.{Seat}
 use Rattle.txg_engine.specs.declared.seat.Suspended.{Suspended}
@@ -34,15 +35,29 @@ use Rattle.open_pool.proofs.BoardKept.{AreSameLeaves, same_leaves}
 use Rattle.open_pool.proofs.LeavesByTops.{sizes, under_all}
 use Rattle.open_pool.proofs.LeavesStay.{are_grown_like, behind_same, like_leaves, same_twice, settled_same}
 
--- Behind a turn the leaves are the same, and where the group goes on fewer turns are left.
+abbrev pub is_idle : Result TurnDone Suspended → Bool
+is_idle (Ok done.Idle) = true
+is_idle result = false
+
+-- Behind a turn the leaves are the same, and where the group goes on fewer turns are left. Something was done.
 pub record TurnsOn (was is : FrozenGroup) (old new : List LeafVdev) (result : Result TurnDone Suspended) : Type 0 where
   pub same : AreSameLeaves old new
+  pub busy : is_idle result ≡ false
   pub fewer : goes_on result ≡ true → turns_left is < turns_left was
 
 item_at : (items : List Item) (n : ℕ) → n < length items → (item : Item) × (slice_get items n ≡ Some item)
 item_at [] n inside = absurd (omega (arith, inside))
 item_at (item ∷ items) zero inside = (item, refl)
 item_at (item ∷ items) (suc n) inside = item_at items n (omega (arith, inside))
+
+busy_part : (outcome : Result (Unit {0}) Suspended) → (is_idle (answered done.Write outcome) ≡ false) × (is_idle (answered done.Flush outcome) ≡ false)
+busy_part (Ok x) = (refl, refl)
+busy_part (Err told) = (refl, refl)
+
+busy_round : (outcome : Result Closed Suspended) → is_idle (closed_as outcome) ≡ false
+busy_round (Ok (closed.Committed number)) = refl
+busy_round (Ok (closed.Round number)) = refl
+busy_round (Err told) = refl
 
 err_stops : (of : TurnDone) (outcome : Result (Unit {0}) Suspended) (Told : Suspended → Type 0) → IsErrAnd outcome Told → goes_on (answered of outcome) ≡ false
 err_stops of (Ok x) Told is = absurd is
@@ -60,16 +75,18 @@ module _ (tops : List Guid) (was is : FrozenGroup) (old new : List LeafVdev) (fr
   after = record { group = is; leaves = new; bank = to }
 
   -- nothing was done
-  stays : after ≡ before → goes_on result ≡ false → TurnsOn was is old new result
-  stays still off = record {
+  stays : after ≡ before → goes_on result ≡ false → is_idle result ≡ false → TurnsOn was is old new result
+  stays still off busy = record {
+    busy = busy;
     same = subst (AreSameLeaves old) (sym (ap (λ (s : Scene). s.leaves) still)) (same_leaves old);
     fewer = λ on. absurd (true≢false (sym on ∙ off));
   }
 
   -- a part was done, behind which fewer are left
   works : (plan : Member → List Ask) (ms : List Member) (noted : FrozenGroup) → Works plan ms noted before after
-      → ((board : List Seat) → turns_left (record noted { board = board }) < turns_left was) → TurnsOn was is old new result
-  works plan ms noted w less = record {
+      → ((board : List Seat) → turns_left (record noted { board = board }) < turns_left was) → is_idle result ≡ false → TurnsOn was is old new result
+  works plan ms noted w less busy = record {
+    busy = busy;
     same = behind_same was.numbers ms w.results old new w.leaves;
     fewer = λ on. subst (λ g. turns_left g < turns_left was) (sym w.group) (less (behind_turn ms w.results was.board));
   }
@@ -78,7 +95,7 @@ module _ (tops : List Guid) (was is : FrozenGroup) (old new : List LeafVdev) (fr
   write_on kept out w = by (emptied_top tops was) (w.turn item.0 item.1)
     where
       inside : was.written < length was.items
-      inside = let within = kept.within in let apart = nat_tests.ne was.written (length was.items) out in omega (arith, within, apart)
+      inside = let within = kept.within in grind (arith, nat_tests, within, out)
 
       item : (item : Item) × (slice_get was.items was.written ≡ Some item)
       item = item_at was.items was.written inside
@@ -87,8 +104,9 @@ module _ (tops : List Guid) (was is : FrozenGroup) (old new : List LeafVdev) (fr
           → IsTurnBy o tops (write_plan (cell_of item.0)) (board_under item.0.pointer.place.top was.board) (record was { written = was.written + 1 }) before after w.outcome
           → TurnsOn was is old new result
       by (Some top) turn = stays turn.0 (ap goes_on w.says ∙ err_stops done.Write w.outcome (IsTold tops was.numbers.first was.board top) turn.1)
+          (ap is_idle w.says ∙ (busy_part w.outcome).0)
       by None turn = works (write_plan (cell_of item.0)) (board_under item.0.pointer.place.top was.board) (record was { written = was.written + 1 }) turn.0
-          (λ board. omega (arith, inside))
+          (λ board. omega (arith, inside)) (ap is_idle w.says ∙ (busy_part w.outcome).0)
 
   pub flush_on : was.flushed ≡ false → FlushesBoard tops before after result → TurnsOn was is old new result
   flush_on unflushed w = by (emptied_top tops was) w.turn
@@ -98,22 +116,26 @@ module _ (tops : List Guid) (was is : FrozenGroup) (old new : List LeafVdev) (fr
 
       by : (o : Option ℕ) → IsTurnBy o tops flush_plan (board_of was.board) (record was { flushed = true }) before after w.outcome → TurnsOn was is old new result
       by (Some top) turn = stays turn.0 (ap goes_on w.says ∙ err_stops done.Flush w.outcome (IsTold tops was.numbers.first was.board top) turn.1)
+          (ap is_idle w.says ∙ (busy_part w.outcome).1)
       by None turn = works flush_plan (board_of was.board) (record was { flushed = true }) turn.0 (λ board. omega (arith, more))
+          (ap is_idle w.says ∙ (busy_part w.outcome).1)
 
   pub round_on : IsGroup is → (c : ConfigSeen) → ClosesRound c tops before after result → TurnsOn was is old new result
   round_on kept c w = by (emptied_top tops was) w.turn
     where
-      noted : FrozenGroup
-      noted = record was { begun = true }
+      busy : is_idle result ≡ false
+      busy = ap is_idle w.says ∙ busy_round w.outcome
 
       goes : (o : Option ℕ) (between : List LeafVdev) (board : List Seat) → AreSameLeaves old between
           → GoesOn o tops (record was { begun = true; board = board }) between after w.outcome → TurnsOn was is old new result
       goes (Some top) between board same end = record {
+        busy = busy;
         same = subst (AreSameLeaves old) (sym end.1) same;
         fewer = λ on. absurd (true≢false (sym on ∙ ap goes_on w.says
             ∙ err_closes w.outcome (IsTold tops was.numbers.first board top) end.2));
       }
       goes None between board same end = record {
+        busy = busy;
         same = same_twice old between new same
             (like_leaves between new (are_grown_like (is_off board) (was.numbers.last.0 + 1) (was.numbers.last.0 + 1) between new end.0.grown));
         fewer = λ on.
@@ -124,6 +146,7 @@ module _ (tops : List Guid) (was is : FrozenGroup) (old new : List LeafVdev) (fr
 
       ends : (whole : Bool) (results : List Bool) → EndsRound whole tops results (record was { begun = true }) before after w.outcome → TurnsOn was is old new result
       ends true results end = record {
+        busy = busy;
         same = settled_same old new end.1;
         fewer = λ on. absurd (true≢false (sym on ∙ ap goes_on (w.says ∙ ap closed_as end.2)));
       }
@@ -133,7 +156,7 @@ module _ (tops : List Guid) (was is : FrozenGroup) (old new : List LeafVdev) (fr
           (behind_same was.numbers (board_of was.board) results old end.0 end.1) end.2
 
       by : (o : Option ℕ) → IsCloseTurnBy o pool_codec.head_of w.commit tops before after w.outcome → TurnsOn was is old new result
-      by (Some top) turn = stays turn.0 (ap goes_on w.says ∙ err_closes w.outcome (IsTold tops was.numbers.first was.board top) turn.1)
+      by (Some top) turn = stays turn.0 (ap goes_on w.says ∙ err_closes w.outcome (IsTold tops was.numbers.first was.board top) turn.1) busy
       by None turn = ends (all_done turn.results) turn.results turn.ends
 
   -- so each turn
@@ -173,8 +196,7 @@ here_still p q built sectors same size here = All-from_recursion (λ (top : TopP
         let sector : y.sectors ≡ x.sectors = cc in
         let others : sectors_in q ≡ sectors_in p = cc in
         let here = one x.sectors x.leaves y.leaves (under_all (leaves_under p)) (under_all (leaves_under q)) long same
-        (recursion_from_All (IsHere size x.sectors) x.leaves all.0) in
-        (
+        (recursion_from_All (IsHere size x.sectors) x.leaves all.0) in (
           subst (λ s. All (IsHere size s) y.leaves) (sym sector) (All-from_recursion (IsHere size x.sectors) y.leaves here.0),
           go p q rest others here.1 all.1,
         )

@@ -215,27 +215,34 @@ impl Pool {
             next: self.next,
             spares: &self.spares,
         };
-        match make_turn(bank, &mut frozen, &mut self.tops, &self.map, &title, &mut self.config) {
-            Ok(TurnDone::Committed(number)) => {
-                frozen.adopt(&mut self.map, &mut self.pins);
-                self.read = number;
-                self.opened = true;
-                self.dirty = self.open.len();
-                Ok(TurnDone::Committed(number))
-            }
-            Ok(done) => {
-                self.highest = frozen.numbers().last;
-                self.frozen = Some(frozen);
-                Ok(done)
-            }
+        let turn = make_turn(
+            bank,
+            &mut frozen,
+            &mut self.tops,
+            &self.map,
+            &title,
+            &mut self.config,
+        );
+        frozen.keeps_its_form();
+        self.highest = frozen.numbers().last;
+        let done = match turn {
+            Ok(done) => done,
             Err(suspended) => {
-                frozen.keeps_its_form();
                 let newer = replace(&mut self.open, Open::without_room(self.alloc));
                 self.open = frozen.burn(newer, &mut self.map, &mut self.tops, &mut self.pins);
                 self.open.keeps_its_form();
                 self.dirty = self.open.len();
-                Err(suspended)
+                return Err(suspended);
             }
-        }
+        };
+        let TurnDone::Committed(number) = done else {
+            self.frozen = Some(frozen);
+            return Ok(done);
+        };
+        frozen.adopt(&mut self.map, &mut self.pins);
+        self.read = number;
+        self.opened = true;
+        self.dirty = self.open.len();
+        Ok(done)
     }
 }

@@ -8,11 +8,11 @@ ghost use Rattle.txg_engine.specs.Boards.{on_board};
 ghost use Rattle.txg_engine.specs.Logs.{is_off, is_leaf, has_spare, Grows, ChangeAndFit, AreGrown, count_write, IsSettled, HasSettledRoom, IsCut};
 
 use crate::board::Board;
-use crate::leaves::{LeafChange, change_tops};
+use crate::leaves::change_tops;
 use crate::seat::Numbers;
 use dtl_rules::fit;
 use mp_base::{Group, Guid};
-use vdev_tree::{LeafVdev, Top};
+use vdev_tree::{LeafChange, LeafVdev, Top};
 
 /// Each leaf that isn't on the board owes the number.
 #[derive(Drop)]

@@ -10,6 +10,16 @@ use crate::vdev::{InnerVdev, LeafVdev, State, Vdev};
 use mp_base::{Group, Guid, MemFault};
 
 impl Top {
+    /// Does this to each leaf, in tree order. How the tree is built, and how many sectors it has, stays.
+    pub fn change<C: LeafChange>(&mut self, change: &C)
+        requires { All (C.may change.now) (leaves self.old.mirror) }
+        ensures leaves { AllZip (C.changes change.now) (leaves self.old.mirror) (leaves self.new.mirror) }
+        ensures built { marks self.new.mirror ≡ marks self.old.mirror }
+        ensures sectors { self.new.sectors ≡ self.old.sectors }
+    {
+        change_leaves(&mut self.mirror, change);
+    }
+
     /// Gives the leaf of this number this state. It is `temporary` where it is OFFLINE only until the next
     /// opening.
     pub fn set_state(&mut self, at: Guid, state: State, temporary: bool)
@@ -17,12 +27,11 @@ impl Top {
         ensures built { marks self.new.mirror ≡ marks self.old.mirror }
         ensures sectors { self.new.sectors ≡ self.old.sectors }
     {
-        let change = SetState {
+        self.change(&SetState {
             at,
             state,
             temporary,
-        };
-        change_leaves(&mut self.mirror, &change);
+        });
     }
 
     /// Brings the leaf of this number back on this device: it is ONLINE, and marked for a resilver.
@@ -31,7 +40,7 @@ impl Top {
         ensures built { marks self.new.mirror ≡ marks self.old.mirror }
         ensures sectors { self.new.sectors ≡ self.old.sectors }
     {
-        change_leaves(&mut self.mirror, &Bring { at, dev });
+        self.change(&Bring { at, dev });
     }
 
     /// Marks the leaf of this number to come back.
@@ -40,7 +49,7 @@ impl Top {
         ensures built { marks self.new.mirror ≡ marks self.old.mirror }
         ensures sectors { self.new.sectors ≡ self.old.sectors }
     {
-        change_leaves(&mut self.mirror, &SetMark { at });
+        self.change(&SetMark { at });
     }
 
     /// Puts the group into the log of each leaf that isn't readable.
@@ -52,7 +61,7 @@ impl Top {
         ensures built { marks self.new.mirror ≡ marks self.old.mirror }
         ensures sectors { self.new.sectors ≡ self.old.sectors }
     {
-        change_leaves(&mut self.mirror, &Owe { group });
+        self.change(&Owe { group });
     }
 
     /// Makes room for at least `n` further runs in each log. Where there is no memory, some logs may have
@@ -67,12 +76,13 @@ impl Top {
     }
 }
 
-/// What is done to a leaf.
-trait LeafChange {
-    // It may be done to this leaf.
+/// What is done to a leaf. A crate above that changes leaves in its own way says how by this, and has it done by
+/// [`Top::change`].
+pub trait LeafChange {
+    /// It may be done to this leaf.
     ghost may: { Self → LeafVdev → Type 0 };
 
-    // It makes the second leaf of the first.
+    /// It makes the second leaf of the first.
     ghost changes: { Self → LeafVdev → LeafVdev → Type 0 };
 
     fn change(&self, leaf: &mut LeafVdev)

@@ -9,6 +9,7 @@ mod seat;
 mod top;
 mod vdev;
 
+pub use changes::LeafChange;
 pub use graft::GraftFault;
 pub use prune::PruneFault;
 pub use seat::children_are_the_tree;

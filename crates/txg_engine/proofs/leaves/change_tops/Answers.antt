@@ -9,8 +9,8 @@ use Rattle.dtl_rules.proofs.Tops.{top_leaves, top_marks, top_sectors, all_marks,
 use Rattle.txg_engine.proofs.EachTop.{all_of_top, changed_top}
 use Rattle.txg_engine.proofs.leaves.change_tops.Goals as goal
 
-pub change_top-requires : goal.change_top-requires
-change_top-requires g c =
+pub change-requires : goal.change-requires
+change-requires g c =
     let tops = c.args.tops.now in
     let d = c.index-tops-i.result in
     let here : get_or c.loop-i.tops c.loop-i.i d ≡ get_or tops c.loop-i.i d = get_same Top c.loop-i.tops tops c.loop-i.i d c.loop-i.invariant.rest in
@@ -23,18 +23,18 @@ loop-i-preserved g c =
     let now = c.loop-i.tops in
     let i = c.loop-i.i in
     let d = c.index-tops-i.result in
-    let new = c.change_top.new.top in
+    let new = c.change.new.self in
     let R = g.C.LeafChange.changes c.args.change.now in
     let here : get_or now i d ≡ get_or tops i d = get_same Top now tops i d c.loop-i.invariant.rest in
     record {
       long = rw length-set c.loop-i.invariant.long;
       rest = drop_set Top now tops i new c.loop-i.invariant.rest;
       changed = changed_top R now tops i new d (omega arith) (omega arith) c.loop-i.invariant.changed
-          (subst (λ (top : Top). AllZip R (leaves top.mirror) (leaves new.mirror)) here c.change_top.ensures.leaves);
+          (subst (λ (top : Top). AllZip R (leaves top.mirror) (leaves new.mirror)) here c.change.ensures.leaves);
       built = same_more Top (List Mark) top_marks now tops i new d (omega arith) (omega arith) c.loop-i.invariant.built
-          (ap (λ (m : List Mark). m ∷ []) (c.change_top.ensures.built ∙ ap (λ (top : Top). marks top.mirror) here));
+          (ap (λ (m : List Mark). m ∷ []) (c.change.ensures.built ∙ ap (λ (top : Top). marks top.mirror) here));
       sectors = same_more Top ℕ top_sectors now tops i new d (omega arith) (omega arith) c.loop-i.invariant.sectors
-          (ap (λ (n : ℕ). n ∷ []) (c.change_top.ensures.sectors ∙ ap (λ (top : Top). top.sectors) here));
+          (ap (λ (n : ℕ). n ∷ []) (c.change.ensures.sectors ∙ ap (λ (top : Top). top.sectors) here));
     }
 
 pub returns : goal.returns

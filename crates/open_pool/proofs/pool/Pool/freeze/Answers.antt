@@ -53,10 +53,12 @@ invariant_of-self c =
     let new : FreezeParts = record { unfrozen = n.group; map = n.map; pins = n.pins; trees = n.tops.items } in
     let why = c.in_err-frozen.field-0.0 in
     let held = c.keeps_its_form.ensures in
-    let start = starts _ c.args.self.now old c.self.view_is refl c.in_default.is c.if-self-ge-LAST_NUMBER.false held.pool held.rise held.counted in
-    subst (λ (q : PoolParts). IsPool (with_parts q new)) (sym c.self.view_is)
-    (refused_form c.args.self.now old new start why
-    (subst (λ (q : PoolParts). RefusesParts (group_at (q.highest + 1)) old new why) c.self.view_is c.in_err-frozen.ensures.err))
+    let start = starts _ c.args.self.now old c.self.view_is refl c.in_default.is c.if-self-ge-LAST_NUMBER.false held.pool held.rise held.counted in (
+      subst (λ (q : PoolParts). IsPool (with_parts q new)) (sym c.self.view_is)
+          (refused_form c.args.self.now old new start why
+          (subst (λ (q : PoolParts). RefusesParts (group_at (q.highest + 1)) old new why) c.self.view_is c.in_err-frozen.ensures.err)),
+      c.self.invariant.1,
+    )
 
 pub returns-in_err-frozen : goal.returns-in_err-frozen
 returns-in_err-frozen c =
@@ -83,10 +85,12 @@ invariant_of-self-2 c =
     let new : FreezeParts = record { unfrozen = n.group; map = n.map; pins = n.pins; trees = n.tops.items } in
     let group = c.in_ok-frozen.frozen in
     let held = c.keeps_its_form.ensures in
-    let start = starts _ c.args.self.now old c.self.view_is refl c.in_default.is c.if-self-ge-LAST_NUMBER.false held.pool held.rise held.counted in
-    subst (λ (q : PoolParts). IsPool (begun_parts q new group)) (sym c.self.view_is)
-    (begun_form c.args.self.now old new start group
-    (subst (λ (q : PoolParts). FreezesParts (group_at (q.highest + 1)) old new group) c.self.view_is c.in_ok-frozen.ensures.ok) c.keeps_its_form-3.ensures)
+    let start = starts _ c.args.self.now old c.self.view_is refl c.in_default.is c.if-self-ge-LAST_NUMBER.false held.pool held.rise held.counted in (
+      subst (λ (q : PoolParts). IsPool (begun_parts q new group)) (sym c.self.view_is)
+          (begun_form c.args.self.now old new start group
+          (subst (λ (q : PoolParts). FreezesParts (group_at (q.highest + 1)) old new group) c.self.view_is c.in_ok-frozen.ensures.ok) c.keeps_its_form-3.ensures),
+      c.self.invariant.1,
+    )
 
 pub returns : goal.returns
 returns c =

@@ -21,7 +21,7 @@ leave-requires-clause-ready c =
     let p = c.args.self.now in
     let frozen : p.frozen ≡ Some c.in-Some.frozen = ap (λ (q : PoolParts). q.frozen) (sym c.self.view_is) ∙ c.in-Some.is in
     let parts : p.tops ≡ all_parts c.self.inside.tops.items = ap (λ (q : PoolParts). q.tops) (sym c.self.view_is) in
-    let pool : IsPool p = subst IsPool c.self.view_is c.self.invariant in
+    let pool : IsPool p = subst IsPool c.self.view_is c.self.invariant.0 in
     let had : HasGroup p c.in-Some.frozen = subst (λ f. IfSome f (HasGroup p)) frozen pool.group in
     subst (λ (trees : List Top). All (IsReady c.in-Some.frozen.board c.in-Some.frozen.numbers.last.0) (leaves_of trees)) (sym c.deref_mut.ensures.value)
     (subst (All (IsReady c.in-Some.frozen.board c.in-Some.frozen.numbers.last.0)) (leaves_are c.self.inside.tops.items p parts) had.ready)
@@ -36,7 +36,7 @@ left_it c held =
     let value = c.deref_mut.ensures.value in
     let group = c.in-Some.frozen in
     leaves_board p group c.self.inside.tops.items c.leave.new.tops c.args.at held (ap (λ (q : PoolParts). q.tops) (sym c.self.view_is))
-    (ap (λ (q : PoolParts). q.frozen) (sym c.self.view_is) ∙ c.in-Some.is) (subst IsPool c.self.view_is c.self.invariant) c.keeps_its_form.ensures.low
+    (ap (λ (q : PoolParts). q.frozen) (sym c.self.view_is) ∙ c.in-Some.is) (subst IsPool c.self.view_is c.self.invariant.0) c.keeps_its_form.ensures.low
     (c.leave.ensures.built ∙ ap marks_of value) (c.leave.ensures.sectors ∙ ap sectors_of value)
     (λ on. subst (λ (trees : List Top). AreGrown (is_leaf c.args.at) group.numbers.first.0 group.numbers.last.0 (leaves_of trees) (leaves_of c.leave.new.tops))
     value (c.leave.ensures.leaves on))
@@ -66,7 +66,7 @@ back c P has =
     (subst (λ (g : FrozenGroup). P (record (c.args.self.now) { tops = all_parts c.leave.new.tops; frozen = Some g })) (sym c.leave.ensures.group) has))
 
 pub invariant_of-self : goal.invariant_of-self
-invariant_of-self c = back c IsPool (left_it c []).kept
+invariant_of-self c = (back c IsPool (left_it c []).kept, c.self.invariant.1)
 
 pub returns-in-Some-clause-left : goal.returns-in-Some-clause-left
 returns-in-Some-clause-left c = λ s stands.

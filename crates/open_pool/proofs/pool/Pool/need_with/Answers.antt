@@ -9,14 +9,14 @@ use Rattle.open_pool.proofs.pool.Pool.need_with.Goals as goal
 
 pub dirty_pages-requires : goal.dirty_pages-requires
 dirty_pages-requires c =
-    let most = few_writes _ c.self.invariant c.keeps_its_form.ensures.rise in
+    let most = few_writes _ c.self.invariant.0 c.keeps_its_form.ensures.rise in
     let few = c.in_ok-addrs.ensures.few in
     let same = ap length c.deref.ensures.value in
     omega arith
 
 pub overflow_add-result : goal.overflow_add-result
 overflow_add-result c =
-    let most = few_writes _ c.self.invariant c.keeps_its_form.ensures.rise in
+    let most = few_writes _ c.self.invariant.0 c.keeps_its_form.ensures.rise in
     let few = c.in_ok-addrs.ensures.few in
     let same = ap length c.deref.ensures.value in
     let pages = few_pages c.deref.result.now in
@@ -26,7 +26,7 @@ pub returns : goal.returns
 returns c =
     let addrs = c.in_ok-addrs.addrs.items in
     let low = subst (λ (p : PoolParts). c.args.addr < p.map.blocks) (sym c.self.view_is) c.requires in
-    let need = need_is _ c.self.invariant c.keeps_its_form.ensures.rise c.args.addr addrs low
+    let need = need_is _ c.self.invariant.0 c.keeps_its_form.ensures.rise c.args.addr addrs low
     c.in_ok-addrs.ensures.rise c.in_ok-addrs.ensures.are in
     let pages : c.dirty_pages.result ≡ dirty_pages addrs = c.dirty_pages.ensures ∙ ap dirty_pages c.deref.ensures.value in
     let many : c.len.result ≡ length addrs =

@@ -96,10 +96,12 @@ invariant_of-self-2 c =
     one_more p pool c.args.addr low
     ∙ ap (λ n. n + bool_byte (not (is_dirty p c.args.addr))) dirty_is
     ∙ ap (λ b. c.self.inside.dirty + bool_byte (not b)) (sym c.is_dirty-is_new.ensures)
-    ∙ ap (λ n. c.self.inside.dirty + n) (sym c.from.ensures) in
-    subst (λ (q : PoolParts). IsPool (with_open q c.put.new.self (c.self.inside.dirty + c.from.result))) (sym c.self.view_is)
-    (write_taken p pool c.args.addr c.args.block.now c.put.new.self low blocks room (c.self.inside.dirty + c.from.result) count
-    (subst (λ n. n ≤ 4096) count few))
+    ∙ ap (λ n. c.self.inside.dirty + n) (sym c.from.ensures) in (
+      subst (λ (q : PoolParts). IsPool (with_open q c.put.new.self (c.self.inside.dirty + c.from.result))) (sym c.self.view_is)
+          (write_taken p pool c.args.addr c.args.block.now c.put.new.self low blocks room (c.self.inside.dirty + c.from.result) count
+          (subst (λ n. n ≤ 4096) count few)),
+      c.self.invariant.1,
+    )
 
 pub returns : goal.returns
 returns c =

@@ -20,13 +20,13 @@ use Rattle.open_pool.proofs.pool.Pool.read_copies.Goals as goal
 pub read_at-requires-clause-sizes : goal.read_at-requires-clause-sizes
 read_at-requires-clause-sizes g c =
     subst (λ ts. AreTops (sectors_of ts)) (sym c.deref_mut.ensures.value)
-    (subst AreTops (c.self.invariant.tops ∙ sectors_told c.self.inside.tops.items) c.keeps_its_form-2.ensures.tops)
+    (subst AreTops (c.self.invariant.0.tops ∙ sectors_told c.self.inside.tops.items) c.keeps_its_form-2.ensures.tops)
 
 pub read_at-requires-clause-place : goal.read_at-requires-clause-place
 read_at-requires-clause-place g c =
     let at = c.requires.pointer ∙ ap (λ (p : PoolParts). pointer_at p.map (key 0 c.args.addr)) (sym c.self.view_is) in
     subst (λ ts. IsPlace (sectors_of ts) c.args.pointer.place) (sym c.deref_mut.ensures.value)
-    (subst (λ ns. IsPlace ns c.args.pointer.place) (c.self.invariant.tops ∙ sectors_told c.self.inside.tops.items)
+    (subst (λ ns. IsPlace ns c.args.pointer.place) (c.self.invariant.0.tops ∙ sectors_told c.self.inside.tops.items)
     ((subst (IsPointer c.self.inside.map.sectors) (sym at) (c.keeps_its_form-2.ensures.pointers (key 0 c.args.addr))).place c.requires.stored))
 
 pub read_at-requires-clause-few : goal.read_at-requires-clause-few
@@ -51,11 +51,13 @@ invariant_of-self g c =
     let frozen : p.frozen ≡ c.self.inside.frozen = ap (λ (q : PoolParts). q.frozen) (sym c.self.view_is) in
     let r = reads_of p tops frozen c.read_at.ensures.read in
     let all : all_parts (with_items c.self.inside.tops c.read_at.new.tops).items ≡ all_parts c.read_at.new.tops =
-    ap all_parts (take_at c.read_at.new.tops _ c.self.inside.tops.len (c.read_at.ensures.long ∙ c.deref_mut.ensures.len)) in
-    subst (λ (x : PoolParts). IsPool (record x { tops = all_parts (with_items c.self.inside.tops c.read_at.new.tops).items; frozen = c.read_at.new.frozen })) (sym c.self.view_is)
-    (subst (λ ts. IsPool (record p { tops = ts; frozen = c.read_at.new.frozen })) (sym all)
-    (form_counted c.self.inside.tops.items p parts c.keeps_its_form.ensures.pool c.args.addr c.requires.low c.requires.unwritten c.args.pointer c.requires.pointer
-    c.requires.stored (all_parts c.read_at.new.tops) c.read_at.new.frozen (answered c.read_at.new.out c.read_at.result) _ _ r))
+    ap all_parts (take_at c.read_at.new.tops _ c.self.inside.tops.len (c.read_at.ensures.long ∙ c.deref_mut.ensures.len)) in (
+      subst (λ (x : PoolParts). IsPool (record x { tops = all_parts (with_items c.self.inside.tops c.read_at.new.tops).items; frozen = c.read_at.new.frozen })) (sym c.self.view_is)
+          (subst (λ ts. IsPool (record p { tops = ts; frozen = c.read_at.new.frozen })) (sym all)
+          (form_counted c.self.inside.tops.items p parts c.keeps_its_form.ensures.pool c.args.addr c.requires.low c.requires.unwritten c.args.pointer c.requires.pointer
+          c.requires.stored (all_parts c.read_at.new.tops) c.read_at.new.frozen (answered c.read_at.new.out c.read_at.result) _ _ r)),
+      c.self.invariant.1,
+    )
 
 pub returns : goal.returns
 returns g c =

@@ -2,12 +2,8 @@ use Rattle.vdev_tree.specs.declared.vdev.LeafVdev.{LeafVdev}
 use Rattle.vdev_tree.specs.Tree.{leaves}
 use Rattle.vdev_tree.specs.Changes.{with_state}
 use Rattle.vdev_tree.proofs.Lists.{AllZip-mapped}
-use Rattle.vdev_tree.proofs.Built.{is_top_form}
 use Rattle.vdev_tree.proofs.top.Top.set_state.Goals as goal
-
-pub invariant_of-self : goal.invariant_of-self
-invariant_of-self c = record { valid = is_top_form c.change_leaves.new.vdev c.args.self.now.mirror c.change_leaves.ensures.form c.args.self.now.valid }
 
 pub returns-clause-leaves : goal.returns-clause-leaves
 returns-clause-leaves c =
-    AllZip-mapped LeafVdev (with_state c.args.at c.args.state c.args.temporary) (leaves c.args.self.now.mirror) (leaves c.change_leaves.new.vdev) c.change_leaves.ensures.leaves
+    AllZip-mapped LeafVdev (with_state c.args.at c.args.state c.args.temporary) (leaves c.args.self.now.mirror) (leaves c.change.new.self.mirror) c.change.ensures.leaves

@@ -1,5 +1,0 @@
-use Rattle.vdev_tree.proofs.Built.{is_top_form}
-use Rattle.vdev_tree.proofs.top.Top.owe.Goals as goal
-
-pub invariant_of-self : goal.invariant_of-self
-invariant_of-self c = record { valid = is_top_form c.change_leaves.new.vdev c.args.self.now.mirror c.change_leaves.ensures.form c.args.self.now.valid }
