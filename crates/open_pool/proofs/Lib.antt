@@ -68,6 +68,7 @@ pub mod PartsRead
 pub mod PartsTurned
 pub mod PlacesEnd
 pub mod PlacesGiven
+pub mod PoolReopened
 pub mod PoolsCounted
 pub mod ReadRows
 pub mod ReadingsGoOn
