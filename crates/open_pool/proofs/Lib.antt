@@ -43,6 +43,7 @@ pub mod LeavesInForm
 pub mod LeavesKept
 pub mod LeavesOwe
 pub mod LeavesPlaced
+pub mod LeavesPut
 pub mod LeavesShown
 pub mod LeavesSought
 pub mod LeavesStay

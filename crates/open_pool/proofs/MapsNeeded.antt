@@ -17,7 +17,7 @@ use Rattle.vdev_tree.specs.declared.top.Top.{Top}
 use Rattle.vdev_tree.specs.declared.vdev.LeafVdev.{LeafVdev}
 use Rattle.dtl_rules.specs.Widening.{leaves_of, sectors_of}
 use Rattle.pool_config.specs.declared.config.Config.{Config}
-use Rattle.pool_config.specs.Seen.{TopSeen, config_seen, leaf_seen, leaf_name, top_seen, leaves_among, all_vdevs}
+use Rattle.pool_config.specs.Seen.{TopSeen, config_seen, leaf_seen, leaf_name, top_seen, leaves_among, all_vdevs, number_of_vdev}
 use Rattle.pool_config.specs.Validity.{IsIn, IsHole, IsPlaced, IsTop, IsValid}
 use Rattle.pool_codec.specs.Tops.{room_of, kept_leaves_from}
 use Rattle.pool_moves.specs.OpeningRow.{AreSought}
@@ -28,6 +28,8 @@ use Rattle.open_pool.specs.Pages.{HaveOwnDevices}
 use Rattle.open_pool.specs.Parts.{all_parts}
 use Rattle.open_pool.proofs.DevicesFound.{AreTwo, handed_by, are_handed, found_apart, found_here}
 use Rattle.open_pool.proofs.FormReopened.{own_devices}
+use Rattle.open_pool.proofs.LeavesInForm.{numbered, numbers_differ, leaves_differ_too, seen_numbers}
+use Rattle.open_pool.proofs.NumbersApart.{AreNumbered, Differ}
 use Rattle.open_pool.proofs.RecordKept.{tops_seen}
 use Rattle.open_pool.proofs.RecordReopened.{ArePlaced}
 use Rattle.open_pool.proofs.RecordStill.{leaves_in}
@@ -102,6 +104,11 @@ module _ (c : Config) (valid : IsValid (config_seen c)) where
 
   pub names_are_apart : AllPairs (λ a b. a ≢ b) (map leaf_name (map leaf_seen (leaves_of c.tops.items)))
   names_are_apart = subst (λ ls. AllPairs (λ a b. a ≢ b) (map leaf_name ls)) seen_leaves valid.devices
+
+  pub numbers_are_apart : AreNumbered (leaves_of c.tops.items)
+  numbers_are_apart =
+      numbered (leaves_of c.tops.items) (subst Differ (ap (map {B = ℕ} (λ leaf. leaf.guid.0)) seen_leaves ∙ seen_numbers (leaves_of c.tops.items))
+      (leaves_differ_too (all_vdevs (config_seen c)) (numbers_differ (map number_of_vdev (all_vdevs (config_seen c))) valid.apart)))
 
   -- and the reading of its map
   pub has_volume : IsVolume c.blocks

@@ -31,6 +31,7 @@ use Rattle.open_pool.proofs.DevicesFound.{AreTwo}
 use Rattle.open_pool.proofs.FormReopened as form
 use Rattle.open_pool.proofs.LeavesPlaced.{IsDecoded}
 use Rattle.open_pool.proofs.MapsNeeded as needs
+use Rattle.open_pool.proofs.NumbersApart.{AreNumbered}
 use Rattle.open_pool.proofs.RecordReopened as rows
 use Rattle.open_pool.proofs.RecordReopened.{reopened, ArePlaced}
 use Rattle.open_pool.proofs.ValidLeaves.{are_decoded}
@@ -44,6 +45,9 @@ module _ (c : Config) (found : Found) (reads : config_in found.blob.items ≡ So
 
   pub few : length (leaves_of c.tops.items) ≤ 32
   few = needs.leaves_are_few c valid
+
+  pub numbered : AreNumbered (leaves_of c.tops.items)
+  numbered = needs.numbers_are_apart c valid
 
   pub volume : IsVolume c.blocks
   volume = needs.has_volume c valid
