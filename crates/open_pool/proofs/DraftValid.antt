@@ -29,7 +29,7 @@ use Rattle.open_pool.proofs.RecordKept.{few_recorded, valid_kept, tops_seen}
 use Rattle.open_pool.proofs.TurnSteps.{going, sectors_are}
 
 -- a place of the tops is one of a top that a record has
-placed_top : (trees : List Top) (i sector : ℕ) → i < length (sectors_of trees) → sector < slice_index (sectors_of trees) i
+pub placed_top : (trees : List Top) (i sector : ℕ) → i < length (sectors_of trees) → sector < slice_index (sectors_of trees) i
     → (top : TopSeen) × (slice_get (map top_seen trees) i ≡ Some top) × (sector < top.sectors)
 placed_top [] i sector inside less = absurd (omega (arith, inside))
 placed_top (t ∷ trees) zero sector inside less = (top_seen t, refl, less)

@@ -44,14 +44,14 @@ fewer_differ n [] differ = tt
 fewer_differ n (leaf_vdev leaf ∷ vdevs) differ = (differ.0, fewer_differ n vdevs differ.1)
 fewer_differ n (inner_vdev guid kind count ∷ vdevs) differ = fewer_differ n vdevs differ.1
 
-leaves_differ_too : (vdevs : List VdevSeen) → Differ (map number_of_vdev vdevs)
+pub leaves_differ_too : (vdevs : List VdevSeen) → Differ (map number_of_vdev vdevs)
     → Differ (map {B = ℕ} (λ leaf. leaf.guid.0) (leaves_among vdevs))
 unfolding leaves_among
 leaves_differ_too [] differ = tt
 leaves_differ_too (leaf_vdev leaf ∷ vdevs) differ = (fewer_differ leaf.guid.0 vdevs differ.0, leaves_differ_too vdevs differ.1)
 leaves_differ_too (inner_vdev guid kind count ∷ vdevs) differ = leaves_differ_too vdevs differ.1
 
-seen_numbers : (leaves : List LeafVdev) → map {B = ℕ} (λ leaf. leaf.guid.0) (map leaf_seen leaves) ≡ leaf_numbers leaves
+pub seen_numbers : (leaves : List LeafVdev) → map {B = ℕ} (λ leaf. leaf.guid.0) (map leaf_seen leaves) ≡ leaf_numbers leaves
 seen_numbers [] = refl
 seen_numbers (leaf ∷ leaves) = ap (λ ns. leaf.guid.0 ∷ ns) (seen_numbers leaves)
 
@@ -64,7 +64,7 @@ others_numbered leaf (x ∷ leaves) differ =
     (λ same. true≢false (sym (sym (ap (λ n. leaf.guid.0 == n) same) ∙ itself leaf.guid.0) ∙ differ.0))
     (others_numbered leaf leaves differ.1)
 
-numbered : (leaves : List LeafVdev) → Differ (leaf_numbers leaves) → AreNumbered leaves
+pub numbered : (leaves : List LeafVdev) → Differ (leaf_numbers leaves) → AreNumbered leaves
 numbered [] differ = λ i j d lt within. absurd (omega (arith, within))
 numbered (leaf ∷ leaves) differ =
     AllPairs-cons (λ a b. a.guid.0 ≢ b.guid.0) leaf leaves (others_numbered leaf leaves differ.0)

@@ -62,7 +62,7 @@ one_placed top leaf (Some dev) d =
     (ap (recorded leaf.state) d.recorded.temporary ∙ d.recorded.state)
 
 -- leaves with these tops, as a record has them
-abbrev kept_at : List ℕ → List LeafVdev → List LeafKept
+abbrev pub kept_at : List ℕ → List LeafVdev → List LeafKept
 kept_at [] leaves = []
 kept_at (top ∷ tops) [] = []
 kept_at (top ∷ tops) (leaf ∷ leaves) = kept_of top leaf ∷ kept_at tops leaves
@@ -72,7 +72,7 @@ kept_front : (top : ℕ) (under : List LeafVdev) (tops : List ℕ) (rest : List 
 kept_front top [] tops rest = refl
 kept_front top (leaf ∷ under) tops rest = ap (λ ls. kept_of top leaf ∷ ls) (kept_front top under tops rest)
 
-kept_by_tops : (first : ℕ) (tops : List Top) → kept_leaves_from first tops ≡ kept_at (tops_from first (leaves_under (all_parts tops))) (leaves_of tops)
+pub kept_by_tops : (first : ℕ) (tops : List Top) → kept_leaves_from first tops ≡ kept_at (tops_from first (leaves_under (all_parts tops))) (leaves_of tops)
 kept_by_tops first [] = refl
 kept_by_tops first (top ∷ tops) =
     ap (λ ls. map (kept_of first) (leaves top.mirror) ++ ls) (kept_by_tops (suc first) tops)

@@ -142,7 +142,7 @@ parted (top ∷ tops) zero = omega arith
 parted (top ∷ tops) (suc i) =
     omega (arith, length-append (leaves top.mirror) (leaves_of (take i tops)), length-append (leaves top.mirror) (leaves_of tops), parted tops i)
 
-pub leaves_more : (tops : List Top) (i : ℕ) (top : Top) → slice_get tops i ≡ Some top → leaves_of (drop i tops) ≡ leaves top.mirror ++ leaves_of (drop (i + 1) tops)
+leaves_more : (tops : List Top) (i : ℕ) (top : Top) → slice_get tops i ≡ Some top → leaves_of (drop i tops) ≡ leaves top.mirror ++ leaves_of (drop (i + 1) tops)
 leaves_more tops i top is =
     ap leaves_of (drop_more tops i top (got_inside tops i top is) ∙ ap (λ (t : Top). t ∷ drop (i + 1) tops) (got_there tops i top top is))
 

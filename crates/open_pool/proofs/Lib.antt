@@ -9,6 +9,7 @@ pub mod CopiesRead
 pub mod CountsAsMoves
 pub mod CountsBelow
 pub mod CountsMade
+pub mod DevicesFound
 pub mod DirtyWithOne
 pub mod DraftFits
 pub mod DraftValid
@@ -18,6 +19,7 @@ pub mod FewKeys
 pub mod FewRanges
 pub mod FormCounted
 pub mod FormKept
+pub mod FormReopened
 pub mod FreezeAnswered
 pub mod FreezeBegins
 pub mod FreezeForm
@@ -43,13 +45,14 @@ pub mod LeavesInForm
 pub mod LeavesKept
 pub mod LeavesOwe
 pub mod LeavesPlaced
-pub mod LeavesPutOn
+pub mod LeavesPut
 pub mod LeavesShown
 pub mod LeavesSought
 pub mod LeavesStay
 pub mod LeftServed
 pub mod LogsTold
 pub mod LogsWidened
+pub mod MapsNeeded
 pub mod MapsRead
 pub mod MembersAgree
 pub mod NamesFound
@@ -68,11 +71,13 @@ pub mod PartsRead
 pub mod PartsTurned
 pub mod PlacesEnd
 pub mod PlacesGiven
+pub mod PoolReopened
 pub mod PoolsCounted
 pub mod ReadRows
 pub mod ReadingsGoOn
 pub mod ReadsCounted
 pub mod RecordKept
+pub mod RecordReopened
 pub mod RecordSealed
 pub mod RecordStill
 pub mod RecordsSought
@@ -105,6 +110,7 @@ pub mod TurnSuspended
 pub mod TurnsAnswered
 pub mod TurnsGoOn
 pub mod UnwritableTops
+pub mod ValidLeaves
 pub mod VdevNumbers
 pub mod WriteRows
 pub mod WritesCounted

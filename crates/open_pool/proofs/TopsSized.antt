@@ -17,7 +17,7 @@ sized : (trees : List Top) → AllByRecursion IsTop (map top_seen trees) → All
 sized [] all = tt
 sized (top ∷ trees) all = (all.0.sectors.1, sized trees all.1)
 
-as_many : (trees : List Top) → length (sectors_of trees) ≡ length (map top_seen trees)
+pub as_many : (trees : List Top) → length (sectors_of trees) ≡ length (map top_seen trees)
 as_many [] = refl
 as_many (top ∷ trees) = let rest = as_many trees in omega (arith, rest)
 

@@ -86,13 +86,12 @@ pub leaves_all : (vdev : Vdev) (inner : InnerVdev) (vdevs : List Vdev) (i : ℕ)
     → flat_map leaves (take i vdevs) ≡ leaves vdev
 leaves_all vdev inner vdevs i is same all = ap (flat_map leaves) (take_all i vdevs all ∙ same) ∙ sym (leaves_inner inner) ∙ sym (ap leaves is)
 
--- a place among the leaves before some others, and one behind them
-pub get_behind : (xs ys : List LeafVdev) (n k : ℕ) → n ≡ length xs + k → slice_get (xs ++ ys) n ≡ slice_get ys k
+get_behind : (xs ys : List LeafVdev) (n k : ℕ) → n ≡ length xs + k → slice_get (xs ++ ys) n ≡ slice_get ys k
 get_behind [] ys n k is = ap (slice_get ys) (let e : n ≡ k = omega arith in e)
 get_behind (x ∷ xs) ys zero k is = absurd (omega arith)
 get_behind (x ∷ xs) ys (suc n) k is = get_behind xs ys n k (omega arith)
 
-pub get_within : (xs ys : List LeafVdev) (k : ℕ) (x : LeafVdev) → slice_get xs k ≡ Some x → slice_get (xs ++ ys) k ≡ Some x
+get_within : (xs ys : List LeafVdev) (k : ℕ) (x : LeafVdev) → slice_get xs k ≡ Some x → slice_get (xs ++ ys) k ≡ Some x
 get_within [] ys k x at = absurd (none-some x at)
 get_within (y ∷ xs) ys zero x at = at
 get_within (y ∷ xs) ys (suc k) x at = get_within xs ys k x at

@@ -166,7 +166,7 @@ impl Vdev {
     }
 
     /// The leaf at this place in tree order, or how many places behind the last leaf it is.
-    pub fn leaf_or_rest(&self, place: usize) -> Result<&LeafVdev, usize>
+    pub(crate) fn leaf_or_rest(&self, place: usize) -> Result<&LeafVdev, usize>
         ensures leaf { IfOk result (λ leaf. slice_get (leaves self.now) place ≡ Some leaf.now) }
         ensures rest { IfErr result (λ rest. place ≡ length (leaves self.now) + rest) }
     {
