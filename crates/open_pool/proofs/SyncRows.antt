@@ -176,3 +176,8 @@ pub idle_sync : (p q : PoolParts) (s : PoolState) (from to : BankView) (answer :
     → Syncing (SyncOpen pool_codec from.size s) answer s q from to → Syncing (RowSync pool_codec from.size s) answer s q from to
 idle_sync p q s from to answer stands idle =
     subst (λ f. Syncing (SyncBy f pool_codec from.size s) answer s q from to) (sym (frozen_is p s stands ∙ idle))
+
+-- so where there was no memory none was frozen
+pub idle_too : {A B C : Type 0} → C → A ⊎ B → A ⊎ (B × C)
+idle_too idle (inl is) = inl is
+idle_too idle (inr none) = inr (none, idle)

@@ -59,7 +59,7 @@ impl Pool {
         requires { AreHere (B.view bank.old).size self.old.tops }
         ensures row { (s : PoolState) → Stands self.old s
             → Does (RowSync pool_codec (B.view bank.old).size s) sync_says result s self.new (B.view bank.old) (B.view bank.new)
-            ⊎ (OutOfMemory (Err SyncFault.Memory) result s self.new × ((B.view bank.new) ≡ (B.view bank.old))) }
+            ⊎ ((OutOfMemory (Err SyncFault.Memory) result s self.new × ((B.view bank.new) ≡ (B.view bank.old))) × (is_some self.old.frozen ≡ false)) }
         ensures here { (size : ℕ → ℕ) → AreHere size self.old.tops → AreHere size self.new.tops }
     {
         if self.frozen.is_none() {

@@ -2,13 +2,13 @@ use Rattle.std.proofs.Common.{inl, is_some, sym, ap, ◌∙◌, subst}
 use Rattle.open_pool.specs.Here.{AreHere}
 use Rattle.open_pool.specs.Parts.{PoolParts}
 use Rattle.open_pool.proofs.GroupsEnded.{err_is}
-use Rattle.open_pool.proofs.SyncRows.{idle_sync, fails_first, goes_first}
+use Rattle.open_pool.proofs.SyncRows.{idle_sync, idle_too, fails_first, goes_first}
 use Rattle.open_pool.proofs.pool.Pool.sync.Goals as goal
 
 pub returns-then-is_none-clause-row : goal.returns-then-is_none-clause-row
 returns-then-is_none-clause-row g c = λ s stands.
-    idle_sync _ _ s _ _ _ stands
-    (ap (λ (q : PoolParts). is_some q.frozen) (sym c.self.view_is) ∙ c.if-is_none.ensures) (c.sync_open.ensures.row s stands)
+    let idle = ap (λ (q : PoolParts). is_some q.frozen) (sym c.self.view_is) ∙ c.if-is_none.ensures in
+    idle_too idle (idle_sync _ _ s _ _ _ stands idle (c.sync_open.ensures.row s stands))
 
 pub returns-in_err-end_group-clause-row : goal.returns-in_err-end_group-clause-row
 returns-in_err-end_group-clause-row g c = λ s stands.
