@@ -27,6 +27,7 @@ use Rattle.pool_moves.specs.Moves.{Leave, Move, on_dev, steps}
 use Rattle.pool_moves.specs.States.{PoolState, Sums}
 use Rattle.pool_moves.specs.Widening.{seen_along}
 use Rattle.pool_moves.proofs.KindsOfMoves.{AnyLeaf, AnySet, IsWithin as IsWithinGroup, within_kind, any_failing, all_leave}
+use Rattle.txg_engine.proofs.TopsServed.{taken_seated}
 use Rattle.open_pool.specs.Form.{all_leaves, HasGroup, IsPool}
 use Rattle.open_pool.specs.Offline.{IsStillIt, LeavesBoard, numbers_under}
 use Rattle.open_pool.specs.Parts.{PoolParts, all_parts}
@@ -294,6 +295,7 @@ module _ (b : PoolParts) (group : FrozenGroup) (old new : List Top) (at : Guid) 
       few = few;
       board = board_mapped (without at) (leave_keeps at) (map (as_taken at) group.board) p q (built_sizes old new built) same
           (board_mapped (as_taken at) (taken_keeps at).seats group.board p p refl (same_leaves (all_leaves p)) pool.board);
+      seated = λ top. taken_seated at top group.board;
       ready = ready;
     }
 

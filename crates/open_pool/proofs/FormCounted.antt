@@ -24,8 +24,9 @@ use Rattle.pool_moves.specs.FreezeRow.{IsAtPlace}
 use Rattle.pool_moves.specs.Refusing.{count_below}
 use Rattle.pool_moves.specs.Leaves.{LeafSeen}
 use Rattle.pool_moves.specs.States.{Sums, sums, PoolState}
+use Rattle.txg_engine.specs.Boards.{count_up, has_seat}
 use Rattle.open_pool.specs.declared.count.Counted.{Counted}
-use Rattle.open_pool.specs.Counting.{counts_with, counted_leaf, counted_top, counted_seat, counted_group, counted_tops, counted_groups}
+use Rattle.open_pool.specs.Counting.{has_fault, counts_with, counted_leaf, counted_top, counted_seat, counted_group, counted_tops, counted_groups}
 use Rattle.open_pool.specs.Form.{ArePlacesApart, HasBoard, HasGroup, HasPlaces, IsPool, all_leaves, config_of}
 use Rattle.open_pool.specs.Parts.{TopParts, PoolParts}
 use Rattle.open_pool.specs.State.{sums_of, cells_in, seats_in, leaves_under, state_of, seen_of}
@@ -88,6 +89,17 @@ ready_still c seats last leaf ready = record {
   settled = ready.settled;
 }
 
+seats_there : (c : Counted) (top : ℕ) (seats : List Seat) → has_seat top (map (counted_seat c) seats) ≡ has_seat top seats
+seats_there c top [] = refl
+seats_there c top (seat ∷ seats) =
+    ap (λ t. (t == top) || has_seat top (map (counted_seat c) seats)) (by (has_fault c) (seat.member.guid.0 == c.member.0))
+    ∙ ap (λ b. (seat.top == top) || b) (seats_there c top seats)
+  where
+    by : (fault t : Bool) → (cond fault (cond t (record seat { faults = count_up seat.faults }) seat) seat).top ≡ seat.top
+    by true true = refl
+    by true false = refl
+    by false t = refl
+
 -- Its group and its places.
 group_still : (c : Counted) (p : PoolParts) (frozen : Option FrozenGroup) → IfSome frozen (HasGroup p) → IfSome (option_map (counted_group c) frozen) (HasGroup (counted_pool c p))
 group_still c p None has = tt
@@ -101,6 +113,7 @@ group_still c p (Some group) has = record {
   ready = board_ready group.board (map (counted_seat c) group.board) group.numbers.last.0 (all_leaves (counted_pool c p)) (board_same c group.board)
       (all_still c p (IsReady group.board group.numbers.last.0) (ready_still c group.board group.numbers.last.0) has.ready);
   pins_room = has.pins_room;
+  tops = λ top inside. seats_there c top group.board ∙ has.tops top inside;
 }
 
 places_still : (c : Counted) (p : PoolParts) → HasPlaces p → HasPlaces (counted_pool c p)

@@ -18,11 +18,12 @@ use Rattle.pool_codec.specs.Pointers.{sum_in}
 use Rattle.pool_config.specs.Seen.{leaf_seen, ranges_of}
 use Rattle.pool_config.specs.Validity.{IsValid, log_length}
 use Rattle.pool_config.proofs.Bounds.{sum_cons}
+use Rattle.vdev_tree.specs.declared.top.Top.{Top}
 use Rattle.txg_engine.specs.declared.item.Item.{Item}
 use Rattle.txg_engine.specs.declared.seat.Numbers.{Numbers}
 use Rattle.txg_engine.specs.declared.seat.Seat.{Seat}
 use Rattle.txg_engine.specs.declared.write.Write.{Write}
-use Rattle.txg_engine.specs.Boards.{seats_of}
+use Rattle.txg_engine.specs.Boards.{has_seat, seats_of}
 use Rattle.txg_engine.specs.Freezing.{IsSigned}
 use Rattle.txg_engine.specs.Frozen.{FrozenGroup, KeysRise}
 use Rattle.txg_engine.specs.Items.{cell_of, place_of, places_of}
@@ -36,12 +37,14 @@ use Rattle.pool_moves.specs.Moves.{Move, Widen, step}
 use Rattle.pool_moves.specs.Refusing.{count_below}
 use Rattle.pool_moves.specs.States.{sums, PoolSeen}
 use Rattle.pool_moves.specs.Widening.{AreWidens, ranges_together, seen_along}
+use Rattle.txg_engine.proofs.TopsServed.{each_seated}
 use Rattle.open_pool.specs.Form.{IsPool, ArePlacesApart, HasPlaces, HasBoard, HasGroup, HasOpen, IsRecordable, all_leaves, config_of, is_dirty}
 use Rattle.open_pool.specs.Freezing.{FreezeParts, FreezesParts, group_at}
 use Rattle.open_pool.specs.Parts.{PoolParts, all_parts}
 use Rattle.open_pool.specs.State.{cells_of, leaves_from, leaves_under, seen_of, sums_of}
 use Rattle.open_pool.proofs.BoardKept.{AreSameLeaves, board_frozen}
 use Rattle.open_pool.proofs.CountsBelow.{count_same}
+use Rattle.open_pool.proofs.TurnSteps.{sectors_are}
 use Rattle.open_pool.proofs.FreezeBegins.{begun_parts, freezing, owes, same_leaves_then, sectors_same}
 use Rattle.open_pool.proofs.FreezeRefused.{idle_parts}
 use Rattle.open_pool.proofs.GroupBlocks.{has_block}
@@ -235,6 +238,9 @@ module _ (r : PoolParts) (old new : FreezeParts) (group : FrozenGroup) (f : Free
         ready = subst (λ n. All (IsReady group.board n) (all_leaves q)) (sym last)
             (subst (All (IsReady group.board (r.highest + 1))) (sym (leaves_are new.trees q refl)) f.ready);
         pins_room = f.pins_room;
+        tops = λ top inside. subst (λ seats. has_seat top seats ≡ true) (sym b.board) (each_seated (length old.trees) (seats_of 0 old.trees) b.everywhere top
+            (let same = ap length t.volume.sectors in let tops = ap length pool.tops in let trees = ap length (sectors_are old.trees) in
+            let many = length-map old.trees (λ (tree : Top). tree.sectors) in omega (arith, inside, same, tops, trees, many)));
       }
 
   dirty_still : (x : ℕ) → is_dirty q x ≡ is_dirty p x

@@ -24,7 +24,7 @@ use Rattle.txg_engine.specs.declared.item.Item.{Item}
 use Rattle.txg_engine.specs.declared.seat.Numbers.{Numbers}
 use Rattle.txg_engine.specs.Frozen.{FrozenGroup}
 use Rattle.txg_engine.specs.Logs.{AreBehind, AreGrown, Counted, is_leaf, IsReady}
-use Rattle.txg_engine.specs.Boards.{count_up}
+use Rattle.txg_engine.specs.Boards.{count_up, has_seat}
 use Rattle.txg_engine.specs.Writes.{is_written}
 use Rattle.txg_engine.proofs.Ready.{nothing}
 use Rattle.pool_moves.specs.FreezeRow.{IsAtPlace}
@@ -134,6 +134,7 @@ pub record GoesOn (b : PoolParts) (was is : FrozenGroup) (old new : List Top) : 
   pub within : AllByRecursion (IsWithin is.numbers.last.0) (leaves_of new)
   pub few : ranges_in_all is.numbers.last.0 (leaves_of new) ≤ 4096
   pub board : HasBoard is.board (going b is new)
+  pub seated : (top : ℕ) → has_seat top is.board ≡ has_seat top was.board
   pub ready : All (IsReady is.board is.numbers.last.0) (leaves_of new)
 
 module _ (b : PoolParts) (was is : FrozenGroup) (old new : List Top) (pool : IsPool (going b was old)) (goes : GoesOn b was is old new) where
@@ -202,6 +203,7 @@ module _ (b : PoolParts) (was is : FrozenGroup) (old new : List Top) (pool : IsP
             (subst (λ (n : Group). All (IsSigned n.0) was.items) (sym goes.first) had.signed);
         ready = subst (All (IsReady is.board is.numbers.last.0)) (sym (trees_leaves new)) goes.ready;
         pins_room = subst (λ (items : List Item). length b.pins.places + length items ≤ b.pins.room) (sym goes.items) had.pins_room;
+        tops = λ top inside. goes.seated top ∙ had.tops top inside;
       }
 
   pub going_kept : IsPool (going b is new)

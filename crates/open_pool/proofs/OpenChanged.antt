@@ -27,6 +27,7 @@ group_kept p writes dirty (Some group) has = record {
   signed = has.signed;
   ready = has.ready;
   pins_room = has.pins_room;
+  tops = has.tops;
 }
 
 pub open_changed : (p : PoolParts) (group : OpenGroup) (dirty : ℕ) → IsPool p → HasOpen (with_open p group dirty)

@@ -16,6 +16,7 @@ use Rattle.txg_engine.specs.Boards.{behind_turn}
 use Rattle.txg_engine.specs.Frozen.{FrozenGroup, IsGroup}
 use Rattle.txg_engine.specs.Logs.{AreBehind, AreGrown, IsReady, is_off}
 use Rattle.txg_engine.specs.Turns.{emptied_top, numbers_of, with_next}
+use Rattle.txg_engine.proofs.TopsServed.{behind_seated}
 use Rattle.open_pool.specs.Form.{all_leaves, IsPool}
 use Rattle.open_pool.specs.Parts.{TopParts, PoolParts, all_parts}
 use Rattle.open_pool.specs.State.{leaves_under, sectors_in, vdevs_in}
@@ -239,6 +240,7 @@ module _ (size : ℕ → ℕ) (held : List Sums) (b : PoolParts) (group : Frozen
         board = board_behind (engine.board_of group.board) done group.board p q (built_sizes old new built)
             (subst (λ ls. AreSameLeaves ls (all_leaves q)) (sym (trees_leaves old))
             (subst (AreSameLeaves (leaves_of old)) (sym (trees_leaves new)) all_same)) pool.board;
+        seated = λ top. behind_seated (engine.board_of group.board) done top group.board;
         ready = ready;
       }
 

@@ -318,6 +318,7 @@ module _ (m : Guid) (temporary : Bool) (r : PoolParts) (old new : List Top) (set
     signed = has.signed;
     ready = all_then (IsReady group.board group.numbers.last.0) ready has.ready;
     pins_room = has.pins_room;
+    tops = has.tops;
   }
     where
       ready : (leaf : LeafVdev) → IsReady group.board group.numbers.last.0 leaf

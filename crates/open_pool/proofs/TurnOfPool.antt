@@ -1,14 +1,16 @@
 -- A turn of an open pool, from what its parts were and what the engine left of them.
-use Rattle.std.proofs.Common.{◌≡◌, ℕ, ◌≤◌, ◌++◌, true, false, List, length, take, drop, Some, Result, Ok, refl, sym, ap, ◌∙◌, subst}
+use Rattle.std.proofs.Common.{◌≡◌, ℕ, ◌≤◌, ◌++◌, true, false, List, length, take, drop, Some, Result, Ok, Err, refl, sym, ap, ◌∙◌, subst, arith}
 use Rattle.std.specs.Prelude.{All, IfSome}
 use Rattle.std.specs.List.{AllZip}
 use Rattle.std.proofs.Math.Seq.{take-append_seam}
+use Rattle.std.proofs.lemmas.List.{length-map}
 use Rattle.std.proofs.lemmas.List.Elements.{All-map}
 use Rattle.bank_core.specs.BankView.{BankView}
 use Rattle.mp_base.specs.declared.number.Group.{Group}
 use Rattle.block_map.specs.Keys.{root}
 use Rattle.block_map.specs.Map.{Map, pointer_at}
 use Rattle.block_map.specs.Places.{IsPlace}
+use Rattle.vdev_tree.specs.Tree.{guid_of}
 use Rattle.vdev_tree.specs.declared.top.Top.{Top}
 use Rattle.dtl_rules.specs.Widening.{leaves_of, marks_of, sectors_of}
 use Rattle.pool_config.specs.Seen.{parts_seen}
@@ -24,6 +26,7 @@ use Rattle.txg_engine.specs.Logs.{IsCut, IsReady}
 use Rattle.txg_engine.specs.Pins.{PinsSeen}
 use Rattle.txg_engine.specs.Turns.{KeepsKeys, numbers_of}
 use Rattle.txg_engine.specs.Writes.{OpenGroup, RiseFrom}
+use Rattle.txg_engine.proofs.Seating.{got_inside}
 use Rattle.open_pool.specs.declared.turn.TurnDone.{TurnDone}
 use Rattle.open_pool.specs.declared.turn.TurnDone.TheVariants as done
 use Rattle.open_pool.specs.Answering.{Does}
@@ -40,6 +43,7 @@ use Rattle.open_pool.proofs.SeatedHere.{group_places, seated_here}
 use Rattle.open_pool.proofs.TreesBuilt.{built_sizes}
 use Rattle.open_pool.proofs.TurnAnswers.{IsBurned}
 use Rattle.open_pool.proofs.TurnLeft.{HasTurned, Leaves, MayTurn, TurnLeaves}
+use Rattle.open_pool.proofs.TurnSuspended.{same_numbers}
 use Rattle.open_pool.proofs.TurnsAnswered.{turn_leaves}
 use Rattle.open_pool.proofs.TurnsGoOn.{TurnsOn, here_still, is_idle, turns_on}
 use Rattle.open_pool.proofs.TurnSteps.{going, sectors_are}
@@ -120,8 +124,20 @@ module _ (v : PoolParts) (was is : FrozenGroup) (old new : List Top) (from to : 
   pub leaves_it : TurnLeaves from.size v was is old new from to result
   leaves_it = turn_leaves v was is old new from to result made.may made.turned made.due
 
-  pub on : TurnsOn was is (leaves_of old) (leaves_of new) result
+  pub on : TurnsOn (numbers_of new) was is (leaves_of old) (leaves_of new) result
   on = turns_on (numbers_of new) was is (leaves_of old) (leaves_of new) from to result made.may.kept made.kept (drawn_of v was old) made.due
+
+  -- a suspended group tells at least one failed call
+  pub one_told : (why : Suspended) → result ≡ Err why → 1 ≤ why.faults
+  one_told why err =
+      let told = on.told why err in
+      let tops = ap length made.may.pool.tops in
+      let trees = ap length (sectors_are old) in
+      let many = length-map old (λ (top : Top). top.sectors) in
+      let low = got_inside (numbers_of new) told.0 why.top told.1.top_is in
+      let numbers = ap length (same_numbers old new made.turned.built) in
+      let as_many = length-map old (λ (top : Top). guid_of top.mirror) in
+      told.1.some (on.seated told.0 ∙ made.may.pool.group.tops told.0 (omega (arith, tops, trees, many, low, numbers, as_many)))
 
   pub here_on : (size : ℕ → ℕ) → AreHere size (all_parts old) → AreHere size (all_parts new)
   here_on = trees_here old new made.turned.built made.turned.sectors on.same

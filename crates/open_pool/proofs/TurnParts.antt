@@ -15,6 +15,7 @@ use Rattle.pool_moves.specs.Moves.{steps}
 use Rattle.pool_moves.specs.States.{Sums, PoolSeen, PoolState}
 use Rattle.pool_moves.specs.Widening.{ranges_together}
 use Rattle.pool_moves.proofs.KindsOfMoves.{counts_set}
+use Rattle.txg_engine.proofs.TopsServed.{behind_seated}
 use Rattle.open_pool.specs.Form.{all_leaves, config_of, IsPool}
 use Rattle.open_pool.specs.Parts.{PoolParts, TopParts, all_parts}
 use Rattle.open_pool.specs.State.{leaves_from, leaves_under, seen_of, state_of}
@@ -119,5 +120,6 @@ module _ (b : PoolParts) (group : FrozenGroup) (old : List Top) (pool : IsPool (
           board = board_behind ms done group.board p (going b (is flushed begun written) new) (built_sizes old new built)
               (subst (λ ls. AreSameLeaves ls (all_leaves (going b (is flushed begun written) new))) (sym (trees_leaves old))
               (subst (AreSameLeaves (leaves_of old)) (sym (trees_leaves new)) same)) pool.board;
+          seated = λ top. behind_seated ms done top group.board;
           ready = ready;
         }

@@ -20,11 +20,12 @@ use Rattle.txg_engine.specs.declared.close_turn.Closed.TheVariants as closed
 use Rattle.txg_engine.specs.declared.item.Item.{Item}
 use Rattle.txg_engine.specs.declared.seat.Seat.{Seat}
 use Rattle.txg_engine.specs.declared.seat.Suspended.{Suspended}
-use Rattle.txg_engine.specs.Boards.{behind_turn, board_of, board_under}
+use Rattle.txg_engine.specs.Boards.{behind_turn, board_of, board_under, has_seat}
 use Rattle.txg_engine.specs.Frozen.{FrozenGroup, IsGroup, is_written_out}
 use Rattle.txg_engine.specs.Items.{cell_of}
 use Rattle.txg_engine.specs.Logs.{is_off}
-use Rattle.txg_engine.specs.Turns.{Scene, EndsRound, GoesOn, IsCloseTurnBy, IsTold, IsTurnBy, Works, all_done, emptied_top}
+use Rattle.txg_engine.specs.Turns.{Answers, Scene, EndsRound, GoesOn, IsCloseTurnBy, IsSuspended, IsTold, IsTurnBy, Works, all_done, emptied_top}
+use Rattle.txg_engine.proofs.TopsServed.{behind_seated}
 use Rattle.open_pool.specs.declared.turn.TurnDone.{TurnDone}
 use Rattle.open_pool.specs.declared.turn.TurnDone.TheVariants as done
 use Rattle.open_pool.specs.Here.{AreHere, IsHere}
@@ -39,9 +40,16 @@ abbrev pub is_idle : Result TurnDone Suspended → Bool
 is_idle (Ok done.Idle) = true
 is_idle result = false
 
--- Behind a turn the leaves are the same, and where the group goes on fewer turns are left. Something was done.
-pub record TurnsOn (was is : FrozenGroup) (old new : List LeafVdev) (result : Result TurnDone Suspended) : Type 0 where
+-- a suspended group is told by some top of it
+abbrev pub Tells : List Guid → FrozenGroup → Result TurnDone Suspended → Type 0
+Tells tops group result = (why : Suspended) → result ≡ Err why → (top : ℕ) × IsTold tops group.numbers.first group.board top why
+
+-- Behind a turn the leaves are the same, each top has its seats, and where the group goes on fewer turns are left. Something was done; and what is
+-- told of a suspended group is told of a top of it.
+pub record TurnsOn (tops : List Guid) (was is : FrozenGroup) (old new : List LeafVdev) (result : Result TurnDone Suspended) : Type 0 where
   pub same : AreSameLeaves old new
+  pub seated : (top : ℕ) → has_seat top is.board ≡ has_seat top was.board
+  pub told : Tells tops is result
   pub busy : is_idle result ≡ false
   pub fewer : goes_on result ≡ true → turns_left is < turns_left was
 
@@ -67,6 +75,19 @@ err_closes : (outcome : Result Closed Suspended) (Told : Suspended → Type 0) �
 err_closes (Ok x) Told is = absurd is
 err_closes (Err told) Told is = refl
 
+told_part : (of : TurnDone) (tops : List Guid) (group : FrozenGroup) (o : Option ℕ) (outcome : Result (Unit {0}) Suspended)
+    → Answers tops group o outcome → Tells tops group (answered of outcome)
+told_part of tops group o (Ok x) answers why is = absurd (let no : Ok of ≡ Err why = is in cc)
+told_part of tops group None (Err told) answers why is = absurd (let no : false ≡ true = answers in cc)
+told_part of tops group (Some top) (Err told) answers why is =
+    (top, subst (IsTold tops group.numbers.first group.board top) (let same : Err told ≡ Err why = is in cc) answers)
+
+told_round : (tops : List Guid) (group : FrozenGroup) (top : ℕ) (outcome : Result Closed Suspended) → IsErrAnd outcome (IsSuspended tops group top)
+    → Tells tops group (closed_as outcome)
+told_round tops group top (Ok x) answers why is = absurd answers
+told_round tops group top (Err told) answers why is =
+    (top, subst (IsTold tops group.numbers.first group.board top) (let same : Err told ≡ Err why = is in cc) answers)
+
 module _ (tops : List Guid) (was is : FrozenGroup) (old new : List LeafVdev) (from to : BankView) (result : Result TurnDone Suspended) where
   abbrev before : Scene
   before = record { group = was; leaves = old; bank = from }
@@ -75,8 +96,10 @@ module _ (tops : List Guid) (was is : FrozenGroup) (old new : List LeafVdev) (fr
   after = record { group = is; leaves = new; bank = to }
 
   -- nothing was done
-  stays : after ≡ before → goes_on result ≡ false → is_idle result ≡ false → TurnsOn was is old new result
-  stays still off busy = record {
+  stays : after ≡ before → Tells tops was result → goes_on result ≡ false → is_idle result ≡ false → TurnsOn tops was is old new result
+  stays still told off busy = record {
+    seated = λ top. ap (λ (s : Scene). has_seat top s.group.board) still;
+    told = subst (λ g. Tells tops g result) (sym (ap (λ (s : Scene). s.group) still)) told;
     busy = busy;
     same = subst (AreSameLeaves old) (sym (ap (λ (s : Scene). s.leaves) still)) (same_leaves old);
     fewer = λ on. absurd (true≢false (sym on ∙ off));
@@ -84,14 +107,16 @@ module _ (tops : List Guid) (was is : FrozenGroup) (old new : List LeafVdev) (fr
 
   -- a part was done, behind which fewer are left
   works : (plan : Member → List Ask) (ms : List Member) (noted : FrozenGroup) → Works plan ms noted before after
-      → ((board : List Seat) → turns_left (record noted { board = board }) < turns_left was) → is_idle result ≡ false → TurnsOn was is old new result
-  works plan ms noted w less busy = record {
+      → ((board : List Seat) → turns_left (record noted { board = board }) < turns_left was) → Tells tops is result → is_idle result ≡ false → TurnsOn tops was is old new result
+  works plan ms noted w less told busy = record {
+    seated = λ top. ap (λ (g : FrozenGroup). has_seat top g.board) w.group ∙ behind_seated ms w.results top was.board;
+    told = told;
     busy = busy;
     same = behind_same was.numbers ms w.results old new w.leaves;
     fewer = λ on. subst (λ g. turns_left g < turns_left was) (sym w.group) (less (behind_turn ms w.results was.board));
   }
 
-  pub write_on : IsGroup was → is_written_out was ≡ false → WritesKey tops before after result → TurnsOn was is old new result
+  pub write_on : IsGroup was → is_written_out was ≡ false → WritesKey tops before after result → TurnsOn tops was is old new result
   write_on kept out w = by (emptied_top tops was) (w.turn item.0 item.1)
     where
       inside : was.written < length was.items
@@ -102,40 +127,49 @@ module _ (tops : List Guid) (was is : FrozenGroup) (old new : List LeafVdev) (fr
 
       by : (o : Option ℕ)
           → IsTurnBy o tops (write_plan (cell_of item.0)) (board_under item.0.pointer.place.top was.board) (record was { written = was.written + 1 }) before after w.outcome
-          → TurnsOn was is old new result
-      by (Some top) turn = stays turn.0 (ap goes_on w.says ∙ err_stops done.Write w.outcome (IsTold tops was.numbers.first was.board top) turn.1)
+          → TurnsOn tops was is old new result
+      by (Some top) turn = stays turn.0 (subst (Tells tops was) (sym w.says) (told_part done.Write tops was (Some top) w.outcome turn.1))
+          (ap goes_on w.says ∙ err_stops done.Write w.outcome (IsTold tops was.numbers.first was.board top) turn.1)
           (ap is_idle w.says ∙ (busy_part w.outcome).0)
       by None turn = works (write_plan (cell_of item.0)) (board_under item.0.pointer.place.top was.board) (record was { written = was.written + 1 }) turn.0
-          (λ board. omega (arith, inside)) (ap is_idle w.says ∙ (busy_part w.outcome).0)
+          (λ board. omega (arith, inside)) (subst (Tells tops is) (sym w.says) (told_part done.Write tops is (emptied_top tops is) w.outcome turn.1))
+          (ap is_idle w.says ∙ (busy_part w.outcome).0)
 
-  pub flush_on : was.flushed ≡ false → FlushesBoard tops before after result → TurnsOn was is old new result
+  pub flush_on : was.flushed ≡ false → FlushesBoard tops before after result → TurnsOn tops was is old new result
   flush_on unflushed w = by (emptied_top tops was) w.turn
     where
       more : turns_left was ≡ (length was.items - was.written) + 1 + (2 ^ 62 - was.numbers.last.0)
       more = ap (λ t. (length was.items - was.written) + cond t 0 1 + (2 ^ 62 - was.numbers.last.0)) unflushed
 
-      by : (o : Option ℕ) → IsTurnBy o tops flush_plan (board_of was.board) (record was { flushed = true }) before after w.outcome → TurnsOn was is old new result
-      by (Some top) turn = stays turn.0 (ap goes_on w.says ∙ err_stops done.Flush w.outcome (IsTold tops was.numbers.first was.board top) turn.1)
+      by : (o : Option ℕ) → IsTurnBy o tops flush_plan (board_of was.board) (record was { flushed = true }) before after w.outcome → TurnsOn tops was is old new result
+      by (Some top) turn = stays turn.0 (subst (Tells tops was) (sym w.says) (told_part done.Flush tops was (Some top) w.outcome turn.1))
+          (ap goes_on w.says ∙ err_stops done.Flush w.outcome (IsTold tops was.numbers.first was.board top) turn.1)
           (ap is_idle w.says ∙ (busy_part w.outcome).1)
       by None turn = works flush_plan (board_of was.board) (record was { flushed = true }) turn.0 (λ board. omega (arith, more))
+          (subst (Tells tops is) (sym w.says) (told_part done.Flush tops is (emptied_top tops is) w.outcome turn.1))
           (ap is_idle w.says ∙ (busy_part w.outcome).1)
 
-  pub round_on : IsGroup is → (c : ConfigSeen) → ClosesRound c tops before after result → TurnsOn was is old new result
+  pub round_on : IsGroup is → (c : ConfigSeen) → ClosesRound c tops before after result → TurnsOn tops was is old new result
   round_on kept c w = by (emptied_top tops was) w.turn
     where
       busy : is_idle result ≡ false
       busy = ap is_idle w.says ∙ busy_round w.outcome
 
       goes : (o : Option ℕ) (between : List LeafVdev) (board : List Seat) → AreSameLeaves old between
-          → GoesOn o tops (record was { begun = true; board = board }) between after w.outcome → TurnsOn was is old new result
-      goes (Some top) between board same end = record {
+          → ((top : ℕ) → has_seat top board ≡ has_seat top was.board) → GoesOn o tops (record was { begun = true; board = board }) between after w.outcome → TurnsOn tops was is old new result
+      goes (Some top) between board same seats end = record {
         busy = busy;
+        seated = λ t. ap (λ (g : FrozenGroup). has_seat t g.board) end.0 ∙ seats t;
+        told = subst (Tells tops is) (sym w.says) (subst (λ g. Tells tops g (closed_as w.outcome)) (sym end.0)
+            (told_round tops (record was { begun = true; board = board }) top w.outcome end.2));
         same = subst (AreSameLeaves old) (sym end.1) same;
         fewer = λ on. absurd (true≢false (sym on ∙ ap goes_on w.says
             ∙ err_closes w.outcome (IsTold tops was.numbers.first board top) end.2));
       }
-      goes None between board same end = record {
+      goes None between board same seats end = record {
         busy = busy;
+        seated = λ t. ap (λ (g : FrozenGroup). has_seat t g.board) end.0.group ∙ seats t;
+        told = λ why err. absurd (let no : Ok (done.Round was.numbers.last) ≡ Err why = sym (w.says ∙ ap closed_as end.1) ∙ err in cc);
         same = same_twice old between new same
             (like_leaves between new (are_grown_like (is_off board) (was.numbers.last.0 + 1) (was.numbers.last.0 + 1) between new end.0.grown));
         fewer = λ on.
@@ -144,26 +178,28 @@ module _ (tops : List Guid) (was is : FrozenGroup) (old new : List LeafVdev) (fr
             subst (λ g. turns_left g < turns_left was) (sym end.0.group) (omega (arith, high, last));
       }
 
-      ends : (whole : Bool) (results : List Bool) → EndsRound whole tops results (record was { begun = true }) before after w.outcome → TurnsOn was is old new result
+      ends : (whole : Bool) (results : List Bool) → EndsRound whole tops results (record was { begun = true }) before after w.outcome → TurnsOn tops was is old new result
       ends true results end = record {
         busy = busy;
+        seated = λ t. ap (λ (g : FrozenGroup). has_seat t g.board) end.0;
+        told = λ why err. absurd (let no : Ok (done.Committed was.numbers.last) ≡ Err why = sym (w.says ∙ ap closed_as end.2) ∙ err in cc);
         same = settled_same old new end.1;
         fewer = λ on. absurd (true≢false (sym on ∙ ap goes_on (w.says ∙ ap closed_as end.2)));
       }
       ends false results end =
           let board = behind_turn (board_of was.board) results was.board in
           goes (emptied_top tops (record was { begun = true; board = board })) end.0 board
-          (behind_same was.numbers (board_of was.board) results old end.0 end.1) end.2
+          (behind_same was.numbers (board_of was.board) results old end.0 end.1) (λ top. behind_seated (board_of was.board) results top was.board) end.2
 
-      by : (o : Option ℕ) → IsCloseTurnBy o pool_codec.head_of w.commit tops before after w.outcome → TurnsOn was is old new result
-      by (Some top) turn = stays turn.0 (ap goes_on w.says ∙ err_closes w.outcome (IsTold tops was.numbers.first was.board top) turn.1) busy
+      by : (o : Option ℕ) → IsCloseTurnBy o pool_codec.head_of w.commit tops before after w.outcome → TurnsOn tops was is old new result
+      by (Some top) turn = stays turn.0 (subst (Tells tops was) (sym w.says) (told_round tops was top w.outcome turn.1)) (ap goes_on w.says ∙ err_closes w.outcome (IsTold tops was.numbers.first was.board top) turn.1) busy
       by None turn = ends (all_done turn.results) turn.results turn.ends
 
   -- so each turn
-  pub turns_on : IsGroup was → IsGroup is → (c : ConfigSeen) → IsDue c tops before after result → TurnsOn was is old new result
+  pub turns_on : IsGroup was → IsGroup is → (c : ConfigSeen) → IsDue c tops before after result → TurnsOn tops was is old new result
   turns_on kept kept' c = by (is_written_out was) was.flushed refl refl
     where
-      by : (out flushed : Bool) → is_written_out was ≡ out → was.flushed ≡ flushed → IsDueBy out flushed c tops before after result → TurnsOn was is old new result
+      by : (out flushed : Bool) → is_written_out was ≡ out → was.flushed ≡ flushed → IsDueBy out flushed c tops before after result → TurnsOn tops was is old new result
       by false flushed out is w = write_on kept out w
       by true false out unflushed w = flush_on unflushed w
       by true true out is w = round_on kept' c w

@@ -17,6 +17,7 @@ use Rattle.pool_config.specs.Validity.{IsValid}
 use Rattle.txg_history.specs.Pages.{Sum}
 use Rattle.txg_history.specs.Records.{Cell, AreAtOne, key}
 use Rattle.txg_engine.specs.declared.seat.Seat.{Seat}
+use Rattle.txg_engine.specs.Boards.{has_seat}
 use Rattle.txg_engine.specs.Freezing.{IsSigned}
 use Rattle.txg_engine.specs.Frozen.{FrozenGroup}
 use Rattle.txg_engine.specs.Logs.{IsReady}
@@ -95,7 +96,8 @@ pub record HasLeaves (p : PoolParts) : Type 0 where
   pub settled : All (λ leaf. (g : ℕ) → p.highest < g → holds leaf.settled g ≡ false) (all_leaves p)
 
 -- A frozen group: no round of it was acknowledged, its numbers are the highest drawn, its keys are the volume's, at places of the tops, were born in its
--- first number, and have the sums of their blocks; each leaf has the room for what its turns put into logs, and there is room to pin its places.
+-- first number, and have the sums of their blocks; each leaf has the room for what its turns put into logs, and there is room to pin its places. Of each
+-- top some leaf was on the board at the freeze.
 pub record HasGroup (p : PoolParts) (group : FrozenGroup) : Type 0 where
   pub unacked : group.acked ≡ false
   pub after : p.read < group.numbers.first.0
@@ -105,6 +107,7 @@ pub record HasGroup (p : PoolParts) (group : FrozenGroup) : Type 0 where
   pub signed : All (IsSigned group.numbers.first.0) group.items
   pub ready : All (IsReady group.board group.numbers.last.0) (all_leaves p)
   pub pins_room : length p.pins.places + length group.items ≤ p.pins.room
+  pub tops : (top : ℕ) → top < length p.map.sectors → has_seat top group.board ≡ true
 
 -- the addresses that the open group and the frozen one have
 abbrev pub is_dirty : PoolParts → ℕ → Bool

@@ -1,5 +1,5 @@
 //! Turns: the frozen group comes onto the devices, one small step after another.
-ghost use Rattle.std.specs.Prelude.{◌≡◌, ℕ, ◌<◌, ◌≤◌, true, false, length, map, is_some, All, OnErr};
+ghost use Rattle.std.specs.Prelude.{◌≡◌, ℕ, ◌<◌, ◌≤◌, true, false, length, map, is_some, All, IfErr, OnErr};
 ghost use Rattle.block_map.specs.Keys.{root};
 ghost use Rattle.block_map.specs.Map.{pointer_at};
 ghost use Rattle.dtl_rules.specs.Widening.{leaves_of, marks_of, sectors_of};
@@ -200,6 +200,7 @@ impl Pool {
         requires { AreHere (B.view bank.old).size self.old.tops }
         ensures row { (s : PoolState) → Stands self.old s
             → Does (RowTurn pool_codec (B.view bank.old).size s) turn_says result s self.new (B.view bank.old) (B.view bank.new) }
+        ensures told { IfErr result (λ suspended. 1 ≤ suspended.faults) }
         ensures here { (size : ℕ → ℕ) → AreHere size self.old.tops → AreHere size self.new.tops }
         ensures goes_on { is_some self.new.frozen ≡ goes_on result }
         ensures fewer { is_some self.old.frozen ≡ true → turns_in self.new.frozen < turns_in self.old.frozen }

@@ -35,7 +35,7 @@ use Rattle.open_pool.proofs.NeedCounted.{few_writes}
 use Rattle.open_pool.proofs.PlacesEnd.{acknowledged, burned_pool}
 use Rattle.open_pool.proofs.TurnAnswers.{IsBurned, idle_turn}
 use Rattle.open_pool.proofs.TurnLeft.{MayTurn}
-use Rattle.open_pool.proofs.TurnOfPool.{MadeTurn, came_back, going_leaves, goes_there, group_there, here_on, is_burned, is_going, leaves_it, made_turn, may_turn, of_stands, on, trees_here}
+use Rattle.open_pool.proofs.TurnOfPool.{MadeTurn, came_back, going_leaves, goes_there, group_there, here_on, is_burned, is_going, leaves_it, made_turn, may_turn, of_stands, on, one_told, trees_here}
 use Rattle.open_pool.proofs.TurnSteps.{going}
 use Rattle.open_pool.proofs.pool.Pool.turn.Given.{Over}
 use Rattle.open_pool.proofs.pool.Pool.turn.Goals as goal
@@ -154,6 +154,9 @@ returns-in-Err-clause-row g c = λ s stands.
     (λ held. leaves_it v _ _ _ _ _ _ _ (was_suspended g c) held c.burn.new.tops c.burn.new.map c.burn.new.pins c.burn.result c.keeps_its_form-2.ensures (burned g c))
     s stands)
 
+pub returns-in-Err-clause-told : goal.returns-in-Err-clause-told
+returns-in-Err-clause-told g c = one_told (the_view c.self.inside) _ _ _ _ _ _ _ (was_suspended g c) c.in-Err.suspended refl
+
 pub returns-in-Err-clause-here : goal.returns-in-Err-clause-here
 returns-in-Err-clause-here g c = λ size here.
     let was = burned g c in
@@ -215,6 +218,7 @@ returns-in_default-done g c =
           (of_stands p (going v is c.make_turn-turn.new.tops) (going v was trees) from to result (is_going from.size p v was trees c.self.view_is refl frozen pool)
           (going_leaves v was is trees c.make_turn-turn.new.tops from to c.in-Ok.done c.in_default-done.not-Committed
           (leaves_it v was is trees c.make_turn-turn.new.tops from to result made)) s stands);
+      told = tt;
       here = λ size here. went_back g c (λ q. AreHere size q.tops)
           (here_on v was is trees c.make_turn-turn.new.tops from to result made size (subst (λ (q : PoolParts). AreHere size q.tops) (sym c.self.view_is) here));
       goes_on = goes;
