@@ -161,6 +161,7 @@ module _ (held : List Sums) (b : PoolParts) (group : FrozenGroup) (trees : List 
     pool_is = draws.pool;
     number_is = ap (λ (g : Group). g.0) draws.number;
     is_record = a_record;
+    sealed = draws.sealed;
     name_is = λ head is. let same : Some (head_of_seen (drawn_of b group trees)) ≡ Some head = sym read ∙ is in
         let one : head_of_seen (drawn_of b group trees) ≡ head = cc in ap (λ (h : Head). h.name) (sym one);
     room_is = ap (λ (x : ConfigSeen). room_of (map top_sectors x.tops)) seen_is ∙ ap room_of (sectors_seen trees ∙ sym (sectors_are trees));

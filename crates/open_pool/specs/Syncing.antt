@@ -1,5 +1,5 @@
 -- What a sync answers.
-use Rattle.std.specs.Prelude.{Result, Ok, Err}
+use Rattle.std.specs.Prelude.{◌≤◌, Result, Ok, Err}
 use Rattle.mp_base.specs.declared.number.Group.{Group}
 use Rattle.txg_engine.specs.declared.seat.Suspended.{Suspended}
 use Rattle.pool_moves.specs.LineRows as rows
@@ -16,6 +16,11 @@ use Rattle.open_pool.specs.Freezing.{refusal_says}
 abbrev pub sync_fault : FreezeFault → SyncFault
 sync_fault freezes.Memory = syncs.Memory
 sync_fault fault = syncs.Unfrozen fault
+
+-- a suspended group tells at least one failed call
+abbrev pub TellsOne : SyncFault → Type 0
+TellsOne (syncs.Suspended told) = 1 ≤ told.faults
+TellsOne fault = Unit {0}
 
 -- What the last turn of a group answers; another turn ends no group.
 abbrev pub ended_as : Result TurnDone Suspended → Result Group SyncFault

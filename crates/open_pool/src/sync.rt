@@ -1,5 +1,5 @@
 //! A sync: the frozen group is ended, and then the open one.
-ghost use Rattle.std.specs.Prelude.{◌≡◌, ◌⊎◌, ℕ, true, false, Err, is_some};
+ghost use Rattle.std.specs.Prelude.{◌≡◌, ◌⊎◌, ℕ, true, false, Err, IfErr, is_some};
 ghost use Rattle.pool_codec.specs.Codecs.{pool_codec};
 ghost use Rattle.pool_moves.specs.LineRows.{EndsGroup, SyncOpen, RowSync};
 ghost use Rattle.pool_moves.specs.States.{PoolState};
@@ -51,7 +51,7 @@ impl Pool {
     ghost use Rattle.open_pool.specs.Answering.{Does, OutOfMemory};
     ghost use Rattle.open_pool.specs.Here.{AreHere};
     ghost use Rattle.open_pool.specs.State.{Stands};
-    ghost use Rattle.open_pool.specs.Syncing.{end_says, sync_says};
+    ghost use Rattle.open_pool.specs.Syncing.{TellsOne, end_says, sync_says};
 
     /// Ends the frozen group, if there is one, and then freezes and ends the open one. At `Ok` everything that was written is
     /// acknowledged, in the record of this number. Where there was no memory and no group was frozen, nothing has changed.
@@ -60,6 +60,7 @@ impl Pool {
         ensures row { (s : PoolState) → Stands self.old s
             → Does (RowSync pool_codec (B.view bank.old).size s) sync_says result s self.new (B.view bank.old) (B.view bank.new)
             ⊎ ((OutOfMemory (Err SyncFault.Memory) result s self.new × ((B.view bank.new) ≡ (B.view bank.old))) × (is_some self.old.frozen ≡ false)) }
+        ensures told { IfErr result TellsOne }
         ensures here { (size : ℕ → ℕ) → AreHere size self.old.tops → AreHere size self.new.tops }
     {
         if self.frozen.is_none() {
@@ -76,6 +77,7 @@ impl Pool {
         ensures row { (s : PoolState) → Stands self.old s
             → Does (SyncOpen pool_codec (B.view bank.old).size s) sync_says result s self.new (B.view bank.old) (B.view bank.new)
             ⊎ (OutOfMemory (Err SyncFault.Memory) result s self.new × ((B.view bank.new) ≡ (B.view bank.old))) }
+        ensures told { IfErr result TellsOne }
         ensures here { (size : ℕ → ℕ) → AreHere size self.old.tops → AreHere size self.new.tops }
     {
         self.freeze()?;
@@ -88,6 +90,7 @@ impl Pool {
         requires here { AreHere (B.view bank.old).size self.old.tops }
         ensures row { (s : PoolState) → Stands self.old s
             → Does (EndsGroup pool_codec (B.view bank.old).size s) end_says result s self.new (B.view bank.old) (B.view bank.new) }
+        ensures told { IfErr result TellsOne }
         ensures here { (size : ℕ → ℕ) → AreHere size self.old.tops → AreHere size self.new.tops }
         ensures idle { is_some self.new.frozen ≡ false }
         ensures sizes { (B.view bank.new).size ≡ (B.view bank.old).size }

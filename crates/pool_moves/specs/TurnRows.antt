@@ -6,6 +6,7 @@ use Rattle.bank_core.specs.Disk.{Noted}
 use Rattle.label_store.specs.declared.member.Member.{Member}
 use Rattle.label_store.specs.declared.rule.Head.{Head}
 use Rattle.label_store.specs.Phases.{IsTurn, IsPhase}
+use Rattle.label_store.specs.Committing.{IsSealed}
 use Rattle.label_store.specs.Records.{IsRecord}
 use Rattle.label_store.specs.Rounds.{first_plan, second_plan, third_plan, config_of, uberblock_of}
 use Rattle.label_store.specs.Seats.{AreSeated}
@@ -52,11 +53,13 @@ pub record RowFlushTurn (s : PoolSeen) (vs : List Move) : Type 0 where
   pub leaves : AreLeaves s (board_of s.leaves) results leaving
   pub moves : vs ≡ turn_moves made leaving Flushed_all
 
--- What the configuration of a draft says of the record that is drawn up from this state. Each key is one of its volume.
+-- What the configuration of a draft says of the record that is drawn up from this state. Each key is one of its volume. Its bytes are whole sectors, the last
+-- of which is filled up with zeros.
 pub record FitsState (c : Codec) (s : PoolSeen) (draft : Draft) : Type 0 where
   pub pool_is : draft.commit.pool ≡ s.pool
   pub number_is : draft.commit.number.0 ≡ s.number
   pub is_record : (m : Member) → m.guid.0 < 2 ^ 64 → IsRecord c.head_of (uberblock_of draft.commit m) draft.commit.blob (config_of draft.commit)
+  pub sealed : IsSealed draft.commit.blob draft.commit.length
   pub name_is : (head : Head) → c.head_of (config_of draft.commit) ≡ Some head → head.name ≡ s.name
   pub room_is : c.room (config_of draft.commit) ≡ s.room
   pub inside : (k : Key) (sum : Sum) → sums_over s.group.cells s.committed k ≡ Some sum → IsOfVolume (c.blocks (config_of draft.commit)) k

@@ -1,5 +1,5 @@
 -- A small run is one.
-use Rattle.std.proofs.Common.{◌≡◌, ◌≢◌, inl, inr, ℕ, zero, suc, ◌+◌, ◌*◌, ◌≤◌, ◌<◌, ◌^◌, nat_lt, ◌%◌, ◌/◌, ◌==◌, ◌&&◌, Bool, true, false, cond, List, [], ◌∷◌, ◌++◌, map, length, take, append-nil, Option, Some, None, refl, sym, ap, ◌∙◌, subst, arith}
+use Rattle.std.proofs.Common.{◌≡◌, ◌≢◌, inl, inr, ℕ, zero, suc, ◌+◌, ◌-◌, ◌*◌, ◌≤◌, ◌<◌, ◌^◌, nat_lt, ◌%◌, ◌/◌, ◌==◌, ◌&&◌, Bool, true, false, cond, List, [], ◌∷◌, ◌++◌, map, length, take, append-nil, Option, Some, None, refl, sym, ap, ◌∙◌, subst, arith}
 use Rattle.std.specs.List.{AllByRecursion, list_all}
 use Rattle.std.specs.Option.{option_map}
 use Rattle.std.specs.Str.{bytes_eq}
@@ -17,6 +17,8 @@ use Rattle.label_store.specs.declared.rule.Head.{Head}
 use Rattle.label_store.specs.Layout.{config_sectors}
 use Rattle.mp_base.specs.declared.place.Key.{Key}
 use Rattle.group_set.specs.Ranges.{ranges_upto}
+use Rattle.mp_base.specs.Block.{zeros}
+use Rattle.label_store.specs.Committing.{IsSealed}
 use Rattle.label_store.specs.Records.{IsRecord}
 use Rattle.label_store.specs.Rounds.{uberblock_of, config_of, first_plan, second_plan, third_plan}
 use Rattle.txg_history.specs.Branches.{cell_on, branch_cells}
@@ -181,6 +183,17 @@ small_is block n m one two low = record {
   headed = record { head = small_head n; reads = refl; pool_is = refl; number_is = refl };
 }
 
+small_sealed : (n : ℕ) → IsSealed (small_commit n).blob (small_commit n).length
+unfolding sector_size zeros
+small_sealed n = let long = small_blob n in record {
+  whole = ap (λ k. k % sector_size) long;
+  most = subst (λ k. k / sector_size ≤ config_sectors) (sym long) (omega arith);
+  some = omega arith;
+  within = omega (arith, long);
+  last = omega (arith, long);
+  rest = ap zeros (let rest : 4095 ≡ length (small_commit n).blob - 1 = omega (arith, long) in rest);
+}
+
 no_sums : (k : Key) (sum : Sum) → sums_over (λ j. None) (λ j. None) k ≡ Some sum → IsOfVolume 1 k
 no_sums k sum is = absurd (cc)
 
@@ -189,6 +202,7 @@ fits_first block = record {
   pool_is = refl;
   number_is = refl;
   is_record = λ m low. small_is block 1 m (omega arith) (omega arith) low;
+  sealed = small_sealed 1;
   name_is = λ head is. ap (λ h. h.name) (same_head (small_head 1) head is);
   room_is = refl;
   inside = no_sums;
@@ -585,6 +599,7 @@ small_fits block = record {
   pool_is = refl;
   number_is = refl;
   is_record = λ m low. small_is block 2 m (omega arith) (omega arith) low;
+  sealed = small_sealed 2;
   name_is = λ head is. ap (λ h. h.name) (same_head (small_head 2) head is);
   room_is = refl;
   inside = volume_keys block;
