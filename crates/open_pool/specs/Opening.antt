@@ -30,7 +30,7 @@ all_placed (dev ∷ devs) (leaf ∷ leaves) = placed dev leaf ∷ all_placed dev
 abbrev pub AreHanded : (size : ℕ → ℕ) → List (Option ℕ) → Type 0
 AreHanded size devs = AllPairs (λ a b. (d : ℕ) → a ≡ Some d → b ≡ Some d → ⊥) devs × All (λ dev. IfSome dev (λ d. 0 < size d)) devs
 
--- It would be a pool, had it acknowledged its record; and nothing was written.
+-- It would be a pool, had it acknowledged its record; its open group is empty, and none is frozen.
 pub record IsReopened (p : PoolParts) : Type 0 where
   pub pool : IsPool (record p { opened = true })
   pub same : p.read ≡ p.highest

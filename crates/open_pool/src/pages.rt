@@ -69,7 +69,7 @@ impl Shown {
 pub enum PageFault {
     /// None of the leaves of its top, which has this place in the list of tops, gave this page.
     Lost { page: Key, top: u32, shown: Shown },
-    /// There was no memory, and no call was made.
+    /// There was no memory.
     Memory,
 }
 

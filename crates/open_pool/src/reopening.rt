@@ -19,7 +19,7 @@ use std::marker::Model;
 use txg_engine::{MOST_LEAVES, Open, Pins};
 use vdev_tree::Top;
 
-/// It has all that the pool has, and has written nothing. Its commit makes a `Pool` of it.
+/// It has all that an open pool has, with an empty open group, and none frozen. Its commit makes a `Pool` of it.
 #[derive(Drop)]
 pub struct Reopened {
     alloc: Global,
@@ -78,8 +78,8 @@ impl Model for Reopened {
 
 impl Reopened {
     /// Reads a pool back by a record that was found, whose bytes are this configuration: each leaf is looked for on the device
-    /// that was handed in under its name, then the map is read from the leaves that were found. It takes all memory of the pool,
-    /// and writes nothing but copies of pages that were wrong.
+    /// that was handed in under its name, then the map is read from the leaves that were found. It writes nothing but copies of
+    /// pages that were wrong. At `Memory` nothing was written.
     pub fn read<B: Bank>(
         alloc: Global,
         bank: &mut B,
