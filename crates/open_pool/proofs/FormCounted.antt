@@ -142,7 +142,6 @@ pool_counted c p pool = record {
   recordable = subst (λ (tops : List TopSeen). IsValid (record (config_of p (record { 0 = p.highest }) (pointer_at p.map root)) { tops = tops }))
       (sym (same_tops c p.tops)) pool.recordable;
   tops = pool.tops ∙ sym (same_sectors c p.tops);
-  opened = pool.opened;
   read = pool.read;
   births = pool.births;
   places = places_still c p pool.places;

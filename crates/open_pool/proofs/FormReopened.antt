@@ -198,7 +198,7 @@ module _ (c : Config) (valid : IsValid (config_seen c)) (is : List Top) (devs : 
     (form : (k : Key) → IsInForm (pointer_at m k))
     (pins : PinsSeen) (unpinned : pins.places ≡ []) (unfrozen : OpenGroup) (none : unfrozen.writes ≡ []) (room : 4096 ≤ unfrozen.room) where
   abbrev as_pool : PoolParts
-  as_pool = record (reopened c is m pins unfrozen) { opened = true }
+  as_pool = reopened c is m pins unfrozen
 
   lying : (leaves : List LeafVdev) → AllByRecursion IsDecoded leaves → AllByRecursion (λ leaf. LiesWithin leaf.log) leaves
   lying [] all = tt
@@ -235,7 +235,6 @@ module _ (c : Config) (valid : IsValid (config_seen c)) (is : List Top) (devs : 
   is_pool = record {
     recordable = recordable;
     tops = sectors ∙ sym (sectors_are is);
-    opened = refl;
     read = omega arith;
     births = born;
     places = record {
@@ -267,4 +266,4 @@ module _ (c : Config) (valid : IsValid (config_seen c)) (is : List Top) (devs : 
   }
 
   pub is_reopened : IsReopened (reopened c is m pins unfrozen)
-  is_reopened = record { pool = is_pool; same = refl; unfrozen = none; frozen = refl; pins = unpinned }
+  is_reopened = record { pool = is_pool; unopened = refl; same = refl; unfrozen = none; frozen = refl; pins = unpinned }

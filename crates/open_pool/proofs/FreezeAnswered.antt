@@ -98,8 +98,8 @@ module _ (p : PoolParts) (old new : FreezeParts) (start : Starts p old) where
         forms = forms;
       }
 
-      pub begun_row : (s : PoolState) → Stands p s
+      pub begun_row : p.opened ≡ true → (s : PoolState) → Stands p s
           → Answers (RowFreezeLine pool_codec s) freeze_says (Ok (group_at (p.highest + 1))) s (begun_parts p new group)
-      begun_row s stands =
-          begun p old new group f start.pool more start.rise start.counted start.below is.rise has_forms s
+      begun_row opened s stands =
+          begun p old new group f start.pool more start.rise start.counted start.below is.rise has_forms opened s
           (subst (λ q. Stands q s) (sym start.whole) stands)

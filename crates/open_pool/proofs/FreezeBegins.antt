@@ -141,7 +141,7 @@ module _ (r : PoolParts) (old new : FreezeParts) (group : FrozenGroup) (f : Free
       omega (arith, count, places, keys, all)
 
   module _ (rise : RiseFrom 0 old.unfrozen.writes) (counted : CountsPlaces (is_open old.map) old.map.count) (below : r.highest < last_number)
-      (keys : KeysRise group.items) (forms : HasForms (idle_parts r old) group.items) where
+      (keys : KeysRise group.items) (forms : HasForms (idle_parts r old) group.items) (opened : r.opened ≡ true) where
     row_at : (held : List Sums) → ArePinned held (idle_parts r old)
         → Answers (RowFreezeLine pool_codec (state_of held (idle_parts r old))) freeze_says (Ok (group_at (r.highest + 1)))
         (state_of held (idle_parts r old)) (begun_parts r new group)
@@ -156,7 +156,7 @@ module _ (r : PoolParts) (old new : FreezeParts) (group : FrozenGroup) (f : Free
         (
           record {
             idle = refl;
-            opened = pool.opened;
+            opened = opened;
             tops = tops_count [] 1 (leaves_under (all_parts old.trees)) (omega arith);
             cells = cells_of group.items;
             dirty = dirty_keys_are (idle_parts r old) held new.map group.items forms f.begins.freeze;

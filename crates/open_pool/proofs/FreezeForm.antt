@@ -300,7 +300,6 @@ module _ (r : PoolParts) (old new : FreezeParts) (group : FrozenGroup) (f : Free
   pool_then = record {
     recordable = recordable_then;
     tops = f.begins.freeze.takes.volume.sectors ∙ pool.tops ∙ sectors_same r old new group f pool more;
-    opened = pool.opened;
     read = (let read = pool.read in omega (arith, read));
     births = λ k. subst (λ (pointer : Pointer). pointer.birth.0 ≤ r.read) (sym (f.begins.freeze.takes.keys k)) (pool.births k);
     places = places_then;

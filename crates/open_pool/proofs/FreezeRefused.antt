@@ -158,7 +158,6 @@ module _ (r : PoolParts) (old : FreezeParts) (pins : PinsSeen) (trees : List Top
             (placed_still old.trees trees (record { 0 = r.highest }) (record { 0 = r.highest }) (pointer_at old.map root) sectors (omega arith)
             pool.recordable.root);
         tops = pool.tops ∙ sym sectors_same;
-        opened = pool.opened;
         read = pool.read;
         births = pool.births;
         places = record {

@@ -210,7 +210,6 @@ module _ (b : PoolParts) (was is : FrozenGroup) (old new : List Top) (pool : IsP
   going_kept = record {
     recordable = recordable;
     tops = pool.tops ∙ sectors_are old ∙ sym goes.sectors ∙ sym (sectors_are new);
-    opened = pool.opened;
     read = (let read = pool.read in let later = goes.later in omega (arith, read, later));
     births = pool.births;
     places = has_places;

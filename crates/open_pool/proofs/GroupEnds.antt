@@ -240,7 +240,6 @@ module _ (b : PoolParts) (group : FrozenGroup) (old new : List Top) (pool : IsPo
       record {
         recordable = recorded_still b group old new pool m adopted.volume built sectors same within few settled (pointer_at m root) placed;
         tops = tops_end b group old new pool m adopted.volume built sectors same within few settled;
-        opened = refl;
         read = omega arith;
         births = λ k. subst (λ (p : Pointer). p.birth.0 ≤ group.numbers.last.0) (sym (adopted.keys k))
             (laid_births group.numbers.last.0 group.numbers.first.0 group.items (pointer_at b.map) k order pool.group.signed
@@ -314,7 +313,6 @@ module _ (b : PoolParts) (group : FrozenGroup) (old new : List Top) (pool : IsPo
             (sym (gives.keys root))
             (recorded_still b group old new pool m gives.volume built sectors same within few settled r placed);
         tops = tops_end b group old new pool m gives.volume built sectors same within few settled;
-        opened = pool.opened;
         read = pool.read;
         births = λ k. subst (λ (p : Pointer). p.birth.0 ≤ b.read) (sym (gives.keys k)) (pool.births k);
         places = places;

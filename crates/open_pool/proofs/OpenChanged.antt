@@ -35,7 +35,6 @@ pub open_changed : (p : PoolParts) (group : OpenGroup) (dirty : ℕ) → IsPool 
 open_changed p group dirty pool has = record {
   recordable = pool.recordable;
   tops = pool.tops;
-  opened = pool.opened;
   read = pool.read;
   births = pool.births;
   places = record {

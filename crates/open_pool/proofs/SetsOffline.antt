@@ -334,7 +334,6 @@ module _ (m : Guid) (temporary : Bool) (r : PoolParts) (old new : List Top) (set
   pool_then away pool = record {
     recordable = recordable_then pool.leaves pool.recordable;
     tops = pool.tops ∙ sym same_sectors;
-    opened = pool.opened;
     read = pool.read;
     births = pool.births;
     places = record {

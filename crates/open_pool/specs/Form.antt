@@ -124,7 +124,6 @@ pub record HasOpen (p : PoolParts) : Type 0 where
 pub record IsPool (p : PoolParts) : Type 0 where
   pub recordable : IsRecordable p
   pub tops : p.map.sectors ≡ sectors_in p.tops
-  pub opened : p.opened ≡ true
   pub read : p.read ≤ p.highest
   pub births : (k : Key) → (pointer_at p.map k).birth.0 ≤ p.read
   pub places : HasPlaces p

@@ -1,5 +1,5 @@
 -- A pool whose record was read by an opening, before it is committed again.
-use Rattle.std.specs.Prelude.{◌≡◌, ◌⊎◌, ◌<◌, ℕ, List, [], ◌∷◌, map, All, AllPairs, Option, Some, None, IfSome, Result, Ok, Err, true}
+use Rattle.std.specs.Prelude.{◌≡◌, ◌⊎◌, ◌<◌, ℕ, List, [], ◌∷◌, map, All, AllPairs, Option, Some, None, IfSome, Result, Ok, Err, false}
 use Rattle.bank_core.specs.BankView.{BankView}
 use Rattle.bank_core.specs.Calls.{Makes}
 use Rattle.bank_core.specs.Disk.{Noted}
@@ -30,9 +30,10 @@ all_placed (dev ∷ devs) (leaf ∷ leaves) = placed dev leaf ∷ all_placed dev
 abbrev pub AreHanded : (size : ℕ → ℕ) → List (Option ℕ) → Type 0
 AreHanded size devs = AllPairs (λ a b. (d : ℕ) → a ≡ Some d → b ≡ Some d → ⊥) devs × All (λ dev. IfSome dev (λ d. 0 < size d)) devs
 
--- It would be a pool, had it acknowledged its record; its open group is empty, and none is frozen.
+-- It has the form of an open pool, but it has acknowledged no record yet; its open group is empty, and none is frozen.
 pub record IsReopened (p : PoolParts) : Type 0 where
-  pub pool : IsPool (record p { opened = true })
+  pub pool : IsPool p
+  pub unopened : p.opened ≡ false
   pub same : p.read ≡ p.highest
   pub unfrozen : p.unfrozen.writes ≡ []
   pub frozen : p.frozen ≡ None

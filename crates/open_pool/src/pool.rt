@@ -19,8 +19,6 @@ pub struct Pool {
     pub(crate) highest: Group,
     /// The number of the record that the pool reads.
     pub(crate) read: Group,
-    /// It has acknowledged a record since its opening.
-    pub(crate) opened: bool,
     pub(crate) map: BlockMap,
     pub(crate) pins: Pins,
     pub(crate) tops: Vec<Top>,
@@ -46,7 +44,7 @@ impl Model for Pool {
       next = pool.next;
       highest = pool.highest.0;
       read = pool.read.0;
-      opened = pool.opened;
+      opened = true;
       map = pool.map;
       pins = pool.pins;
       tops = all_parts pool.tops.items;
@@ -62,7 +60,7 @@ impl Model for Pool {
       next = pool.next;
       highest = pool.highest.0;
       read = pool.read.0;
-      opened = pool.opened;
+      opened = true;
       map = pool.map;
       pins = pool.pins;
       tops = all_parts pool.tops.items;

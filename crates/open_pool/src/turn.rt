@@ -242,7 +242,6 @@ impl Pool {
         };
         frozen.adopt(&mut self.map, &mut self.pins);
         self.read = number;
-        self.opened = true;
         self.dirty = self.open.len();
         Ok(done)
     }

@@ -105,7 +105,7 @@ returns-clause-row c =
     (sym c.self.view_is)
     (begun_row c.args.self.now old new start group
     (subst (λ (q : PoolParts). FreezesParts (group_at (q.highest + 1)) old new group) c.self.view_is c.in_ok-frozen.ensures.ok)
-    c.keeps_its_form-3.ensures map.tops map.pointers map.form s stands))
+    c.keeps_its_form-3.ensures map.tops map.pointers map.form (ap (λ (q : PoolParts). q.opened) (sym c.self.view_is)) s stands))
 
 pub returns-clause-here : goal.returns-clause-here
 returns-clause-here c = λ size here.
