@@ -1,10 +1,10 @@
 -- Reading a line word by word: a function on lists, which answers what the line asks, or none.
-use Rattle.std.specs.Prelude.{◌≡◌, ℕ, Bool, true, false, ◌==◌, ◌&&◌, ◌||◌, nat_le, not, List, [], ◌∷◌, ◌++◌, length, map, slice_index, codes, Option, Some, None, option_map, Result, Ok, Err, if◌then◌else◌}
+use Rattle.std.specs.Prelude.{◌≡◌, ℕ, Bool, true, false, ◌==◌, ◌&&◌, ◌||◌, nat_le, not, List, [], ◌∷◌, ◌++◌, length, map, slice_index, codes, Option, Some, None, Result, Ok, Err, if◌then◌else◌}
 use Rattle.std.specs.List.{list_all, slice_split}
 use Rattle.std.specs.Result.{result_ok}
 use Rattle.std.specs.Str.{bytes_eq}
 use Rattle.std.specs.Str.Parse.{digits_value}
-use Rattle.hex.specs.Hex.{decode_of}
+use Rattle.hex.specs.Hex.{decode_of, encode_lower}
 use Rattle.mp_base.specs.Block.{padded, zero_block}
 use Rattle.mp_base.specs.Name.{is_name}
 use Rattle.pool_lines.specs.Grammar.{alone, are_names, is_group}
@@ -65,17 +65,21 @@ is_number text =
 unfoldable pub number_of : List ℕ → Option ℕ
 number_of text = if is_number text then Some (digits_value 10 text) else None
 
-abbrev pub is_capital : ℕ → Bool
-is_capital b = nat_le 65 b && nat_le b 90
-
--- 1 to 4,096 pairs by their length, with no capital letter
+-- 1 to 4,096 pairs by the length
 abbrev pub may_be_pairs : List ℕ → Bool
-may_be_pairs text =
-    nat_le 1 (length text) && (nat_le (length text) 8192 && list_all (λ b. not (is_capital b)) text)
+may_be_pairs text = nat_le 1 (length text) && nat_le (length text) 8192
+
+-- the block that begins with these bytes, where the text is their one spelling in lower-case digits
+unfoldable pub spelled_block : List ℕ → List ℕ → Option (List ℕ)
+spelled_block text bytes = if bytes_eq (encode_lower bytes) text then Some (padded bytes) else None
 
 -- the block that begins with these pairs of digits
 unfoldable pub pairs_of : List ℕ → Option (List ℕ)
-pairs_of text = if may_be_pairs text then option_map padded (result_ok (decode_of text)) else None
+pairs_of text =
+    if may_be_pairs text then (do
+      bytes ← result_ok (decode_of text)
+      spelled_block text bytes)
+    else None
 
 unfoldable pub data_of : List ℕ → Option (List ℕ)
 data_of text = if bytes_eq text (codes "-") then Some zero_block else pairs_of text
