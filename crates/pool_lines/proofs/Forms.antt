@@ -227,8 +227,8 @@ vdevs_plain words tops is =
     groups_plain [] are = refl
     groups_plain (group ∷ groups) are =
         let parts = and_parts (is_group group) (list_all is_group groups) are in
-        let own = and_parts (nat_le 2 (length group)) (are_names group) parts.0 in
-        rw (list_all-append is_plain group (flat_map group_words groups)) (and_from _ _ (names_plain group own.1) (groups_plain groups parts.1))
+        let own = and_parts (are_names group) (nat_le 2 (length group)) parts.0 in
+        rw (list_all-append is_plain group (flat_map group_words groups)) (and_from _ _ (names_plain group own.0) (groups_plain groups parts.1))
 
 -- a line of a verb is read as what stands behind it
 line_again : (b : ℕ) (bs line word : List ℕ) (words : List (List ℕ)) (r : Request) → (b == 35) ≡ false → is_plain (b ∷ bs) ≡ true

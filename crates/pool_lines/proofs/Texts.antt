@@ -55,12 +55,6 @@ commas_more f xs i d x text comma within item text_is comma_is =
     let split : map f (take (i + 1) xs) ≡ map f (take i xs) ++ f x ∷ [] = rw (take_more xs i d within, ← item, map-append) refl in
     rw (split, commas_pushed, count, comma_is, text_is) refl
 
--- ---- a refusal with its fields
-
-pub exhausted_joined : (front level index leaves text : List ℕ) → text ≡ (front ++ (level ++ (32 ∷ (index ++ 32 ∷ [])))) ++ leaves
-    → text ≡ front ++ (level ++ (32 ∷ (index ++ (32 ∷ leaves))))
-exhausted_joined front level index leaves text e = e ∙ simp append_assoc
-
 -- ---- what is told of a block is DATA
 
 zeros_are : (bytes : List ℕ) → list_all is_zero bytes ≡ true → replicate (length bytes) 0 ≡ bytes

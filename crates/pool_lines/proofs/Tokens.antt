@@ -1,16 +1,16 @@
 -- The readers of words, in terms of lists.
 use Rattle.std.proofs.Common.{◌≡◌, ℕ, suc, add-one, ◌+◌, ◌-◌, ◌*◌, ◌^◌, ◌<◌, ◌≤◌, true, List, length, take, get_or, Ok, refl, arith}
-use Rattle.std.specs.Prelude.{not, nat_le, ◌&&◌, IsTrue}
+use Rattle.std.specs.Prelude.{nat_le, IsTrue}
 use Rattle.std.specs.Char.{digit_value}
 use Rattle.std.specs.List.{list_all}
 use Rattle.std.specs.Str.Parse.{digits_value}
 use Rattle.std.proofs.Math.Nat.{pow-suc, pow-le-pow_right}
-use Rattle.std.proofs.lemmas.Bool.{and_parts}
+use Rattle.std.proofs.lemmas.Bool.{and_parts, leb-true}
 use Rattle.std.proofs.lemmas.Int.Digits.{digits_value_more}
 use Rattle.std.proofs.lemmas.List.Sums.{AllPass-from_list_all}
 use Rattle.hex.specs.Hex.{decode_of}
 use Rattle.hex.proofs.HexLemmas.{decode_of-ok}
-use Rattle.pool_lines.specs.Reading.{is_capital, is_digit, may_be_pairs}
+use Rattle.pool_lines.specs.Reading.{is_digit, may_be_pairs}
 
 -- a digit of the text
 pub digit_at : (text : List ℕ) (i : ℕ) → IsTrue (list_all is_digit text) → i < length text
@@ -35,15 +35,8 @@ digit_step text value d i value_is within low high d_is =
     let digit : digit_value (get_or text i 0) ≡ d = grind arith in
     rw (digits_value_more 10 text i within, digit, value_is) refl
 
-may_be_short : (text : List ℕ) → may_be_pairs text ≡ true → length text ≤ 8192
-may_be_short text may =
-    let rest = (and_parts (nat_le 1 (length text)) (nat_le (length text) 8192 && list_all (λ b. not (is_capital b)) text) may).1 in
-    let most : nat_le (length text) 8192 ≡ true = (and_parts (nat_le (length text) 8192) (list_all (λ b. not (is_capital b)) text) rest).0 in
-    grind arith
-
--- a text that may be pairs of digits has no more of them than a block has bytes
+-- pairs of digits have no more bytes than a block
 pub pairs_fit : (text bytes : List ℕ) → may_be_pairs text ≡ true → decode_of text ≡ Ok bytes → length bytes ≤ 4096
 pairs_fit text bytes may read =
-    let long = (decode_of-ok text bytes read).2 in
-    let most : length text ≤ 8192 = may_be_short text may in
-    omega (arith, long)
+    let most = leb-true _ _ (and_parts (nat_le 1 (length text)) (nat_le (length text) 8192) may).1 in
+    omega (arith, most, (decode_of-ok text bytes read).2)

@@ -24,7 +24,7 @@ alone name = name ∷ []
 
 -- the names of a group: at least two
 abbrev pub is_group : List (List ℕ) → Bool
-is_group names = nat_le 2 (length names) && are_names names
+is_group names = are_names names && nat_le 2 (length names)
 
 -- the words of a group: `mirror`, and its names
 abbrev pub group_words : List (List ℕ) → List (List ℕ)

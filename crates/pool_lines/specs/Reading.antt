@@ -1,13 +1,13 @@
 -- Reading a line word by word: a function on lists, which answers what the line asks, or none.
-use Rattle.std.specs.Prelude.{◌≡◌, ℕ, Bool, true, false, ◌==◌, ◌&&◌, ◌||◌, nat_le, not, List, [], ◌∷◌, ◌++◌, length, slice_index, codes, Option, Some, None, option_map, Result, Ok, Err, if◌then◌else◌}
+use Rattle.std.specs.Prelude.{◌≡◌, ℕ, Bool, true, false, ◌==◌, ◌&&◌, ◌||◌, nat_le, not, List, [], ◌∷◌, ◌++◌, length, map, slice_index, codes, Option, Some, None, Result, Ok, Err, if◌then◌else◌}
 use Rattle.std.specs.List.{list_all, slice_split}
 use Rattle.std.specs.Result.{result_ok}
 use Rattle.std.specs.Str.{bytes_eq}
 use Rattle.std.specs.Str.Parse.{digits_value}
-use Rattle.hex.specs.Hex.{decode_of}
+use Rattle.hex.specs.Hex.{decode_of, encode_lower}
 use Rattle.mp_base.specs.Block.{padded, zero_block}
 use Rattle.mp_base.specs.Name.{is_name}
-use Rattle.pool_lines.specs.Grammar.{alone}
+use Rattle.pool_lines.specs.Grammar.{alone, are_names, is_group}
 use Rattle.pool_lines.specs.declared.request.LineFault.{LineFault}
 use Rattle.pool_lines.specs.declared.request.LineFault.TheVariants.{Bad, Memory}
 use Rattle.pool_lines.specs.declared.request.Request.{Request}
@@ -65,22 +65,46 @@ is_number text =
 unfoldable pub number_of : List ℕ → Option ℕ
 number_of text = if is_number text then Some (digits_value 10 text) else None
 
-abbrev pub is_capital : ℕ → Bool
-is_capital b = nat_le 65 b && nat_le b 90
-
--- 1 to 4,096 pairs by their length, with no capital letter
+-- 1 to 4,096 pairs by the length
 abbrev pub may_be_pairs : List ℕ → Bool
-may_be_pairs text =
-    nat_le 1 (length text) && (nat_le (length text) 8192 && list_all (λ b. not (is_capital b)) text)
+may_be_pairs text = nat_le 1 (length text) && nat_le (length text) 8192
+
+-- the block that begins with these bytes, where the text is their one spelling in lower-case digits
+unfoldable pub spelled_block : List ℕ → List ℕ → Option (List ℕ)
+spelled_block text bytes = if bytes_eq (encode_lower bytes) text then Some (padded bytes) else None
 
 -- the block that begins with these pairs of digits
 unfoldable pub pairs_of : List ℕ → Option (List ℕ)
-pairs_of text = if may_be_pairs text then option_map padded (result_ok (decode_of text)) else None
+pairs_of text =
+    if may_be_pairs text then (do
+      bytes ← result_ok (decode_of text)
+      spelled_block text bytes)
+    else None
 
 unfoldable pub data_of : List ℕ → Option (List ℕ)
 data_of text = if bytes_eq text (codes "-") then Some zero_block else pairs_of text
 
 -- ---- VDEVS
+
+abbrev pub is_mirror : List ℕ → Bool
+is_mirror word = bytes_eq word (codes "mirror")
+
+-- the tops of names and of the groups behind them
+unfoldable pub tops_in : List (List (List ℕ)) → Option (List (List (List ℕ)))
+tops_in [] = None
+tops_in (names ∷ groups) = if are_names names && list_all is_group groups then Some (map alone names ++ groups) else None
+
+-- one top at least
+abbrev pub some_of : List (List (List ℕ)) → Option (List (List (List ℕ)))
+some_of tops = if length tops == 0 then None else Some tops
+
+-- the tops of VDEVS, whose groups begin behind the words `mirror`
+unfoldable pub tops_of : List (List ℕ) → Option (List (List (List ℕ)))
+tops_of words = do
+  tops ← tops_in (slice_split is_mirror words)
+  some_of tops
+
+-- The same word by word: what was read so far is tops, and the names of a group where one was begun.
 
 -- the tops, the group among them that was begun, which has two names then
 unfoldable pub closed : Begun → Option (List (List (List ℕ)))
@@ -101,28 +125,18 @@ with_name begun name = named_by begun.group
 -- what was read behind one more word
 unfoldable pub take_word : Begun → List ℕ → Option Begun
 take_word begun word =
-    if bytes_eq word (codes "mirror") then (do
+    if is_mirror word then (do
       tops ← closed begun
       Some (record { tops = tops; group = Some [] }))
     else (do
       name ← name_of word
       Some (with_name begun name))
 
--- all tops, of which there is one at least
+-- behind the last word
 unfoldable pub whole : Begun → Option (List (List (List ℕ)))
 whole begun = do
   tops ← closed begun
-  if length tops == 0 then None else Some tops
-
--- the tops, by what was read so far and the words behind it
-unfoldable pub read_on : Begun → List (List ℕ) → Option (List (List (List ℕ)))
-read_on begun [] = whole begun
-read_on begun (word ∷ words) = do
-  more ← take_word begun word
-  read_on more words
-
-unfoldable pub tops_of : List (List ℕ) → Option (List (List (List ℕ)))
-tops_of words = read_on (record { tops = []; group = None }) words
+  some_of tops
 
 -- ---- the forms, by the words behind the first
 

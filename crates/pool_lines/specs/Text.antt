@@ -82,7 +82,7 @@ three_numbers one two three = decimal one ++ (32 ∷ (decimal two ++ (32 ∷ dec
 
 -- `LEVEL INDEX LEAVES`
 abbrev pub exhausted_text : ℕ → ℕ → List NamedLeaf → List ℕ
-exhausted_text level index leaves = decimal level ++ (32 ∷ (decimal index ++ (32 ∷ with_commas (map named_leaf_text leaves))))
+exhausted_text level index leaves = two_numbers level index ++ (32 ∷ with_commas (map named_leaf_text leaves))
 
 -- `no`, and the number, the word and the fields of the refusal
 abbrev pub refusal_text : Refusal → List ℕ

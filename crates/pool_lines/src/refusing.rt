@@ -83,8 +83,9 @@ fn write_exhausted(
 ) -> Result<Vec<u8>, MemFault>
     ensures { IfOk result (λ bytes. bytes.items ≡ codes "no 15 exhausted " ++ exhausted_text level index leaves.now) }
 {
-    let mut text = format!(in alloc; "no 15 exhausted {level} {index} ")?.into_bytes();
     let leaves = write_leaves(alloc, leaves)?;
+    let mut text = with_two(alloc, b"no 15 exhausted ", u64::from(level), index)?;
+    text.push(b' ')?;
     text.extend_from_slice(&leaves)?;
     Ok(text)
 }

@@ -1,8 +1,8 @@
 //! The words of a line.
-ghost use Rattle.std.specs.Prelude.{◌≡◌, ◌≤◌, length, map, not, IsTrue, IfOk};
+ghost use Rattle.std.specs.Prelude.{◌≡◌, ◌≤◌, length, map, IsTrue, IfOk};
 ghost use Rattle.std.specs.List.{list_all};
 ghost use Rattle.std.specs.Str.Parse.{digits_value};
-ghost use Rattle.pool_lines.specs.Reading.{Gives, data_of, first_of, is_capital, is_digit, is_number, may_be_pairs, name_of, number_of, one_of, pairs_of, two_of, words_of};
+ghost use Rattle.pool_lines.specs.Reading.{Gives, data_of, first_of, is_digit, is_number, may_be_pairs, name_of, number_of, one_of, pairs_of, spelled_block, two_of, words_of};
 
 use crate::LineFault;
 use hex::FromHexError;
@@ -126,7 +126,7 @@ fn read_pairs(alloc: Global, text: &[u8]) -> Result<Block, LineFault>
         return Err(LineFault::Bad);
     }
     match hex::decode(alloc, text) {
-        Ok(bytes) => Ok(Block::padded(alloc, &bytes)?),
+        Ok(bytes) => spelled_block(alloc, text, &bytes),
         Err(FromHexError::OutOfMemory) => Err(LineFault::Memory),
         Err(_) => Err(LineFault::Bad),
     }
@@ -135,23 +135,19 @@ fn read_pairs(alloc: Global, text: &[u8]) -> Result<Block, LineFault>
 fn may_be_pairs(text: &[u8]) -> bool
     ensures { result ≡ may_be_pairs text.now }
 {
-    if text.is_empty() {
-        return false;
-    }
-    if text.len() > 2 * BLOCK_BYTES {
-        return false;
-    }
-    has_no_capital(text)
+    !text.is_empty() && text.len() <= 2 * BLOCK_BYTES
 }
 
-fn has_no_capital(text: &[u8]) -> bool
-    ensures { result ≡ list_all (λ b. not (is_capital b)) text.now }
+/// The block that begins with these bytes. Digits are read in either case, but bytes have one spelling in
+/// lower-case digits, and the text has to be this one.
+#[tactic(auto, unfolding(crate::specs::Reading::spelled_block))]
+fn spelled_block(alloc: Global, text: &[u8], bytes: &[u8]) -> Result<Block, LineFault>
+    requires { length bytes.now ≤ 4096 }
+    ensures { Gives (λ block. block) result (spelled_block text.now bytes.now) }
 {
-    text.iter().all(|b| !is_capital(*b))
-}
-
-fn is_capital(b: u8) -> bool
-    ensures { result ≡ is_capital b }
-{
-    b.is_ascii_uppercase()
+    let digits = hex::encode(alloc, bytes)?;
+    if digits.as_bytes() != text {
+        return Err(LineFault::Bad);
+    }
+    Ok(Block::padded(alloc, bytes)?)
 }

@@ -1,11 +1,10 @@
-use Rattle.std.proofs.Common.{rules, [], refl, sym, ◌∙◌}
-use Rattle.pool_lines.specs.Reading.{tops_of}
-use Rattle.pool_lines.proofs.TopsOfWords.{read_end, read_next}
+use Rattle.std.proofs.Common.{rules, [], sym, ◌∙◌}
+use Rattle.std.specs.Prelude.{map}
+use Rattle.pool_lines.proofs.TopsOfWords.{read_end, read_first, read_next}
 use Rattle.pool_lines.proofs.vdevs.read_tops.Goals as goal
 
 pub loop-word-init : goal.loop-word-init
-unfolding tops_of
-loop-word-init c = rw c.new.ensures refl
+loop-word-init c = rw c.new.ensures (read_first (map (λ w. w.now) c.args.words.now))
 
 pub returns-in_err-begun : goal.returns-in_err-begun
 returns-in_err-begun c =

@@ -1,6 +1,7 @@
 use Rattle.std.proofs.Common.{◌≡◌, drop}
 use Rattle.std.specs.Prelude.{map}
-use Rattle.pool_lines.specs.Reading.{read_on, tops_of}
+use Rattle.pool_lines.specs.Reading.{tops_of}
+use Rattle.pool_lines.proofs.TopsOfWords.{read_on}
 use Rattle.pool_lines.proofs.vdevs.read_tops.Given as goal
 
 -- what is asked is what was read so far with the words behind it
