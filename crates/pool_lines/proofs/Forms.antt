@@ -1,6 +1,6 @@
 -- Laws of lines: what is read is in the grammar, and what is in the grammar is read.
-use Rattle.std.proofs.Common.{◌≡◌, ℕ, true, false, inl, inr, List, [], ◌∷◌, ◌++◌, length, Some, None, Result, Ok, Err, refl, sym, ap, subst, ◌∙◌, arith}
-use Rattle.std.specs.Prelude.{◌==◌, codes, IfOk, IsErrOf, IsTrue}
+use Rattle.std.proofs.Common.{◌≡◌, ℕ, true, false, inl, inr, List, [], ◌∷◌, ◌++◌, length, Option, Some, Result, Ok, Err, refl, sym, ap, subst, ◌∙◌, arith}
+use Rattle.std.specs.Prelude.{◌==◌, codes, if◌then◌else◌, IfOk, IsErrOf, IsTrue}
 use Rattle.std.specs.List.{flat_map, list_all}
 use Rattle.std.specs.Str.{bytes_eq}
 use Rattle.std.proofs.lemmas.Bool.{and_from, and_parts, eqb-true, ne_eqb}
@@ -134,31 +134,26 @@ online_found words r e =
     let l = leaf_found words leaf.0 leaf.1 in
     rw (← same_Some _ _ leaf.2) (l.0, l.1, ap (λ ws. spaced (codes "online" ∷ ws)) l.2)
 
--- a word that compares alike with the verb of a line
-verb_is : (verb word : List ℕ) (words : List (List ℕ)) (r : Request) → bytes_eq verb word ≡ true
-    → Asks (spaced (word ∷ words)) r → Asks (spaced (verb ∷ words)) r
-verb_is verb word words r same asks = subst (λ v. Asks (spaced (v ∷ words)) r) (sym (same_bytes verb word same)) asks
+-- the verb is this word, or another one is looked for
+one_of_verbs : (verb word : List ℕ) (words : List (List ℕ)) (r : Request) (asked others : Option Request)
+    → (if bytes_eq verb word then asked else others) ≡ Some r → (asked ≡ Some r → Asks (spaced (word ∷ words)) r)
+    → (others ≡ Some r → Asks (spaced (verb ∷ words)) r) → Asks (spaced (verb ∷ words)) r
+one_of_verbs verb word words r asked others e this other =
+    elim (chosen (bytes_eq verb word) asked others _ e) [
+      | inl f ↦ subst (λ v. Asks (spaced (v ∷ words)) r) (sym (same_bytes verb word f.0)) (this f.1)
+      | inr n ↦ other n.1
+    ]
 
 of_pool_found : (verb pool : List ℕ) (r : Request) → IsTrue (is_name pool) → of_pool verb pool ≡ Some r
     → Asks (spaced (verb ∷ pool ∷ [])) r
 unfolding of_pool
 of_pool_found verb pool r is e =
-    elim (chosen (bytes_eq verb (codes "import")) (Some (Import pool)) _ _ e) [
-      | inl i ↦ verb_is verb _ (pool ∷ []) r i.0 (rw (← same_Some _ _ i.1) (is, refl))
-      | inr n1 ↦ elim (chosen (bytes_eq verb (codes "freeze")) (Some (Freeze pool)) _ _ n1.1) [
-        | inl f ↦ verb_is verb _ (pool ∷ []) r f.0 (rw (← same_Some _ _ f.1) (is, refl))
-        | inr n2 ↦ elim (chosen (bytes_eq verb (codes "turn")) (Some (Turn pool)) _ _ n2.1) [
-          | inl t ↦ verb_is verb _ (pool ∷ []) r t.0 (rw (← same_Some _ _ t.1) (is, refl))
-          | inr n3 ↦ elim (chosen (bytes_eq verb (codes "sync")) (Some (Sync pool)) _ _ n3.1) [
-            | inl s ↦ verb_is verb _ (pool ∷ []) r s.0 (rw (← same_Some _ _ s.1) (is, refl))
-            | inr n4 ↦ elim (chosen (bytes_eq verb (codes "logs")) (Some (Logs pool)) None _ n4.1) [
-              | inl l ↦ verb_is verb _ (pool ∷ []) r l.0 (rw (← same_Some _ _ l.1) (is, refl))
-              | inr n5 ↦ cc n5.1
-            ]
-          ]
-        ]
-      ]
-    ]
+    let words = pool ∷ [] in
+    one_of_verbs verb (codes "import") words r _ _ e (λ e. rw (← same_Some _ _ e) (is, refl)) (λ e.
+    one_of_verbs verb (codes "freeze") words r _ _ e (λ e. rw (← same_Some _ _ e) (is, refl)) (λ e.
+    one_of_verbs verb (codes "turn") words r _ _ e (λ e. rw (← same_Some _ _ e) (is, refl)) (λ e.
+    one_of_verbs verb (codes "sync") words r _ _ e (λ e. rw (← same_Some _ _ e) (is, refl)) (λ e.
+    one_of_verbs verb (codes "logs") words r _ _ e (λ e. rw (← same_Some _ _ e) (is, refl)) (λ e. cc e)))))
 
 pool_verb_found : (verb : List ℕ) (words : List (List ℕ)) (r : Request) → pool_verb_of verb words ≡ Some r
     → Asks (spaced (verb ∷ words)) r
@@ -174,28 +169,16 @@ leaf_verb_found : (verb : List ℕ) (words : List (List ℕ)) (r : Request) → 
     → Asks (spaced (verb ∷ words)) r
 unfolding leaf_verb_of
 leaf_verb_found verb words r e =
-    elim (chosen (bytes_eq verb (codes "offline")) (offline_of words) _ _ e) [
-      | inl f ↦ verb_is verb (codes "offline") words r f.0 (offline_found words r f.1)
-      | inr n1 ↦ elim (chosen (bytes_eq verb (codes "online")) (online_of words) _ _ n1.1) [
-        | inl o ↦ verb_is verb (codes "online") words r o.0 (online_found words r o.1)
-        | inr n2 ↦ pool_verb_found verb words r n2.1
-      ]
-    ]
+    one_of_verbs verb (codes "offline") words r _ _ e (offline_found words r) (λ e.
+    one_of_verbs verb (codes "online") words r _ _ e (online_found words r) (pool_verb_found verb words r))
 
 verb_found : (verb : List ℕ) (words : List (List ℕ)) (r : Request) → verb_of verb words ≡ Some r
     → Asks (spaced (verb ∷ words)) r
 unfolding verb_of
 verb_found verb words r e =
-    elim (chosen (bytes_eq verb (codes "create")) (create_of words) _ _ e) [
-      | inl c ↦ verb_is verb (codes "create") words r c.0 (create_found words r c.1)
-      | inr n1 ↦ elim (chosen (bytes_eq verb (codes "write")) (write_of words) _ _ n1.1) [
-        | inl w ↦ verb_is verb (codes "write") words r w.0 (write_found words r w.1)
-        | inr n2 ↦ elim (chosen (bytes_eq verb (codes "read")) (read_of words) _ _ n2.1) [
-          | inl d ↦ verb_is verb (codes "read") words r d.0 (read_found words r d.1)
-          | inr n3 ↦ leaf_verb_found verb words r n3.1
-        ]
-      ]
-    ]
+    one_of_verbs verb (codes "create") words r _ _ e (create_found words r) (λ e.
+    one_of_verbs verb (codes "write") words r _ _ e (write_found words r) (λ e.
+    one_of_verbs verb (codes "read") words r _ _ e (read_found words r) (leaf_verb_found verb words r)))
 
 -- a line with a byte is not empty
 some_byte : (b : ℕ) (bs : List ℕ) → (length (b ∷ bs) == 0) ≡ false
