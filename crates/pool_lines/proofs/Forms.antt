@@ -1,6 +1,6 @@
 -- Laws of lines: what is read is in the grammar, and what is in the grammar is read.
-use Rattle.std.proofs.Common.{◌≡◌, ℕ, true, false, inl, inr, List, [], ◌∷◌, ◌++◌, length, Some, None, Result, Ok, Err, refl, sym, ap, subst, ◌∙◌, arith}
-use Rattle.std.specs.Prelude.{◌==◌, codes, IfOk, IsErrOf, IsTrue, nat_le}
+use Rattle.std.proofs.Common.{◌≡◌, ℕ, true, false, inl, inr, List, [], ◌∷◌, ◌++◌, length, Option, Some, Result, Ok, Err, refl, sym, ap, subst, ◌∙◌, arith}
+use Rattle.std.specs.Prelude.{◌==◌, codes, if◌then◌else◌, IfOk, IsErrOf, IsTrue}
 use Rattle.std.specs.List.{flat_map, list_all}
 use Rattle.std.specs.Str.{bytes_eq}
 use Rattle.std.proofs.lemmas.Bool.{and_from, and_parts, eqb-true, ne_eqb}
@@ -9,6 +9,7 @@ use Rattle.std.proofs.lemmas.Option.{same_Some}
 use Rattle.mp_base.specs.Name.{is_name}
 use Rattle.pool_lines.specs.declared.request.Request.{Request}
 use Rattle.pool_lines.specs.declared.request.Request.TheVariants.{Nothing, Create, Import, Write, Read, Freeze, Turn, Sync, Offline, Online, Logs}
+use Rattle.pool_lines.specs.declared.tops.Tops.{Tops}
 use Rattle.pool_lines.specs.declared.request.LineFault.{LineFault}
 use Rattle.pool_lines.specs.declared.request.LineFault.TheVariants.{Bad, Memory}
 use Rattle.pool_lines.specs.Grammar.{Asks, IsVdevs, are_names, group_words, is_group, spaced}
@@ -38,7 +39,8 @@ unfolding two_of
 two_found words pair e =
     let first = bind_some (first_of words) _ pair e in
     let second = bind_some (one_of first.0.1) _ pair first.2 in
-    first_found words first.0 first.1 ∙ ap (λ ws. first.0.0 ∷ ws) (one_found first.0.1 second.0 second.1) ∙ ap (λ p. p.0 ∷ p.1 ∷ []) (same_Some _ _ second.2)
+    first_found words first.0 first.1 ∙ ap (λ ws. first.0.0 ∷ ws) (one_found first.0.1 second.0 second.1)
+    ∙ ap (λ p. p.0 ∷ p.1 ∷ []) (same_Some _ _ second.2)
 
 read_found : (words : List (List ℕ)) (r : Request) → read_of words ≡ Some r → Asks (spaced (codes "read" ∷ words)) r
 unfolding read_of
@@ -107,7 +109,8 @@ leaf_found words leaf e =
       two_found words cut.0 cut.1 ∙ ap (λ w. w ∷ cut.0.1 ∷ []) n.1 ∙ ap (λ w. pool.0 ∷ w ∷ []) d.1,
     )
 
-offline_found : (words : List (List ℕ)) (r : Request) → offline_of words ≡ Some r → Asks (spaced (codes "offline" ∷ words)) r
+offline_found : (words : List (List ℕ)) (r : Request) → offline_of words ≡ Some r
+    → Asks (spaced (codes "offline" ∷ words)) r
 unfolding offline_of away_of
 offline_found words r e =
     let first = bind_some (first_of words) _ r e in
@@ -115,8 +118,9 @@ offline_found words r e =
       | inl flag ↦
           let leaf = bind_some (leaf_in first.0.1) _ r flag.1 in
           let l = leaf_found first.0.1 leaf.0 leaf.1 in
-          let behind = first_found words first.0 first.1 ∙ ap (λ w. w ∷ first.0.1) (same_bytes first.0.0 (codes "-t") flag.0) in
-          rw (← same_Some _ _ leaf.2) (l.0, l.1, ap (λ ws. spaced (codes "offline" ∷ ws)) (behind ∙ ap (λ ws. codes "-t" ∷ ws) l.2))
+          let behind = first_found words first.0 first.1 ∙ ap (λ w. w ∷ first.0.1) (same_bytes _ (codes "-t") flag.0) in
+          let all = ap (λ ws. spaced (codes "offline" ∷ ws)) (behind ∙ ap (λ ws. codes "-t" ∷ ws) l.2) in
+          rw (← same_Some _ _ leaf.2) (l.0, l.1, all)
       | inr none ↦
           let leaf = bind_some (leaf_in words) _ r none.1 in
           let l = leaf_found words leaf.0 leaf.1 in
@@ -130,31 +134,29 @@ online_found words r e =
     let l = leaf_found words leaf.0 leaf.1 in
     rw (← same_Some _ _ leaf.2) (l.0, l.1, ap (λ ws. spaced (codes "online" ∷ ws)) l.2)
 
--- a word that compares alike with the verb of a line
-verb_is : (verb word : List ℕ) (words : List (List ℕ)) (r : Request) → bytes_eq verb word ≡ true → Asks (spaced (word ∷ words)) r → Asks (spaced (verb ∷ words)) r
-verb_is verb word words r same asks = subst (λ v. Asks (spaced (v ∷ words)) r) (sym (same_bytes verb word same)) asks
-
-of_pool_found : (verb pool : List ℕ) (r : Request) → IsTrue (is_name pool) → of_pool verb pool ≡ Some r → Asks (spaced (verb ∷ pool ∷ [])) r
-unfolding of_pool
-of_pool_found verb pool r is e =
-    elim (chosen (bytes_eq verb (codes "import")) (Some (Import pool)) _ _ e) [
-      | inl i ↦ verb_is verb _ (pool ∷ []) r i.0 (rw (← same_Some _ _ i.1) (is, refl))
-      | inr n1 ↦ elim (chosen (bytes_eq verb (codes "freeze")) (Some (Freeze pool)) _ _ n1.1) [
-        | inl f ↦ verb_is verb _ (pool ∷ []) r f.0 (rw (← same_Some _ _ f.1) (is, refl))
-        | inr n2 ↦ elim (chosen (bytes_eq verb (codes "turn")) (Some (Turn pool)) _ _ n2.1) [
-          | inl t ↦ verb_is verb _ (pool ∷ []) r t.0 (rw (← same_Some _ _ t.1) (is, refl))
-          | inr n3 ↦ elim (chosen (bytes_eq verb (codes "sync")) (Some (Sync pool)) _ _ n3.1) [
-            | inl s ↦ verb_is verb _ (pool ∷ []) r s.0 (rw (← same_Some _ _ s.1) (is, refl))
-            | inr n4 ↦ elim (chosen (bytes_eq verb (codes "logs")) (Some (Logs pool)) None _ n4.1) [
-              | inl l ↦ verb_is verb _ (pool ∷ []) r l.0 (rw (← same_Some _ _ l.1) (is, refl))
-              | inr n5 ↦ cc n5.1
-            ]
-          ]
-        ]
-      ]
+-- the verb is this word, or another one is looked for
+one_of_verbs : (verb word : List ℕ) (words : List (List ℕ)) (r : Request) (asked others : Option Request)
+    → (if bytes_eq verb word then asked else others) ≡ Some r → (asked ≡ Some r → Asks (spaced (word ∷ words)) r)
+    → (others ≡ Some r → Asks (spaced (verb ∷ words)) r) → Asks (spaced (verb ∷ words)) r
+one_of_verbs verb word words r asked others e this other =
+    elim (chosen (bytes_eq verb word) asked others _ e) [
+      | inl f ↦ subst (λ v. Asks (spaced (v ∷ words)) r) (sym (same_bytes verb word f.0)) (this f.1)
+      | inr n ↦ other n.1
     ]
 
-pool_verb_found : (verb : List ℕ) (words : List (List ℕ)) (r : Request) → pool_verb_of verb words ≡ Some r → Asks (spaced (verb ∷ words)) r
+of_pool_found : (verb pool : List ℕ) (r : Request) → IsTrue (is_name pool) → of_pool verb pool ≡ Some r
+    → Asks (spaced (verb ∷ pool ∷ [])) r
+unfolding of_pool
+of_pool_found verb pool r is e =
+    let words = pool ∷ [] in
+    one_of_verbs verb (codes "import") words r _ _ e (λ e. rw (← same_Some _ _ e) (is, refl)) (λ e.
+    one_of_verbs verb (codes "freeze") words r _ _ e (λ e. rw (← same_Some _ _ e) (is, refl)) (λ e.
+    one_of_verbs verb (codes "turn") words r _ _ e (λ e. rw (← same_Some _ _ e) (is, refl)) (λ e.
+    one_of_verbs verb (codes "sync") words r _ _ e (λ e. rw (← same_Some _ _ e) (is, refl)) (λ e.
+    one_of_verbs verb (codes "logs") words r _ _ e (λ e. rw (← same_Some _ _ e) (is, refl)) (λ e. cc e)))))
+
+pool_verb_found : (verb : List ℕ) (words : List (List ℕ)) (r : Request) → pool_verb_of verb words ≡ Some r
+    → Asks (spaced (verb ∷ words)) r
 unfolding pool_verb_of
 pool_verb_found verb words r e =
     let word = bind_some (one_of words) _ r e in
@@ -163,30 +165,20 @@ pool_verb_found verb words r e =
     let behind : words ≡ name.0 ∷ [] = one_found words word.0 word.1 ∙ ap (λ w. w ∷ []) n.1 in
     rw behind (of_pool_found verb name.0 r n.0 name.2)
 
-leaf_verb_found : (verb : List ℕ) (words : List (List ℕ)) (r : Request) → leaf_verb_of verb words ≡ Some r → Asks (spaced (verb ∷ words)) r
+leaf_verb_found : (verb : List ℕ) (words : List (List ℕ)) (r : Request) → leaf_verb_of verb words ≡ Some r
+    → Asks (spaced (verb ∷ words)) r
 unfolding leaf_verb_of
 leaf_verb_found verb words r e =
-    elim (chosen (bytes_eq verb (codes "offline")) (offline_of words) _ _ e) [
-      | inl f ↦ verb_is verb (codes "offline") words r f.0 (offline_found words r f.1)
-      | inr n1 ↦ elim (chosen (bytes_eq verb (codes "online")) (online_of words) _ _ n1.1) [
-        | inl o ↦ verb_is verb (codes "online") words r o.0 (online_found words r o.1)
-        | inr n2 ↦ pool_verb_found verb words r n2.1
-      ]
-    ]
+    one_of_verbs verb (codes "offline") words r _ _ e (offline_found words r) (λ e.
+    one_of_verbs verb (codes "online") words r _ _ e (online_found words r) (pool_verb_found verb words r))
 
-verb_found : (verb : List ℕ) (words : List (List ℕ)) (r : Request) → verb_of verb words ≡ Some r → Asks (spaced (verb ∷ words)) r
+verb_found : (verb : List ℕ) (words : List (List ℕ)) (r : Request) → verb_of verb words ≡ Some r
+    → Asks (spaced (verb ∷ words)) r
 unfolding verb_of
 verb_found verb words r e =
-    elim (chosen (bytes_eq verb (codes "create")) (create_of words) _ _ e) [
-      | inl c ↦ verb_is verb (codes "create") words r c.0 (create_found words r c.1)
-      | inr n1 ↦ elim (chosen (bytes_eq verb (codes "write")) (write_of words) _ _ n1.1) [
-        | inl w ↦ verb_is verb (codes "write") words r w.0 (write_found words r w.1)
-        | inr n2 ↦ elim (chosen (bytes_eq verb (codes "read")) (read_of words) _ _ n2.1) [
-          | inl d ↦ verb_is verb (codes "read") words r d.0 (read_found words r d.1)
-          | inr n3 ↦ leaf_verb_found verb words r n3.1
-        ]
-      ]
-    ]
+    one_of_verbs verb (codes "create") words r _ _ e (create_found words r) (λ e.
+    one_of_verbs verb (codes "write") words r _ _ e (write_found words r) (λ e.
+    one_of_verbs verb (codes "read") words r _ _ e (read_found words r) (leaf_verb_found verb words r)))
 
 -- a line with a byte is not empty
 some_byte : (b : ℕ) (bs : List ℕ) → (length (b ∷ bs) == 0) ≡ false
@@ -200,7 +192,8 @@ request_found (b ∷ bs) r e =
       | inl remark ↦ rw (← same_Some _ _ remark.1) (inr (bs, ap (λ c. c ∷ bs) (eqb-true b 35 remark.0)))
       | inr other ↦
           let cut = bind_some (first_of (words_of (b ∷ bs))) _ r other.1 in
-          rw (words_found (b ∷ bs) ∙ ap spaced (first_found (words_of (b ∷ bs)) cut.0 cut.1)) (verb_found cut.0.0 cut.0.1 r cut.2)
+          let all = words_found (b ∷ bs) ∙ ap spaced (first_found (words_of (b ∷ bs)) cut.0 cut.1) in
+          rw all (verb_found cut.0.0 cut.0.1 r cut.2)
     ]
 
 -- ---- what is in the grammar is read
@@ -208,68 +201,79 @@ request_found (b ∷ bs) r e =
 pool_again : (pool : List ℕ) → IsTrue (is_name pool) → list_all is_plain (pool ∷ []) ≡ true
 pool_again pool is = and_from _ _ (name_plain pool is) refl
 
-leaf_again : (pool device : List ℕ) → IsTrue (is_name pool) → IsTrue (is_name device) → leaf_in (pool ∷ device ∷ []) ≡ Some (pool, device)
+leaf_again : (pool device : List ℕ) → IsTrue (is_name pool) → IsTrue (is_name device)
+    → leaf_in (pool ∷ device ∷ []) ≡ Some (pool, device)
 unfolding leaf_in two_of first_of one_of
 leaf_again pool device is one = rw (name_again pool is, name_again device one) refl
 
-leaf_plain : (pool device : List ℕ) → IsTrue (is_name pool) → IsTrue (is_name device) → list_all is_plain (pool ∷ device ∷ []) ≡ true
+leaf_plain : (pool device : List ℕ) → IsTrue (is_name pool) → IsTrue (is_name device)
+    → list_all is_plain (pool ∷ device ∷ []) ≡ true
 leaf_plain pool device is one = and_from _ _ (name_plain pool is) (pool_again device one)
 
 -- the words of VDEVS have no spaces
-vdevs_plain : (words : List (List ℕ)) (tops : List (List (List ℕ))) → IsVdevs words tops → list_all is_plain words ≡ true
+vdevs_plain : (words : List (List ℕ)) (tops : Tops) → IsVdevs words tops → list_all is_plain words ≡ true
 vdevs_plain words tops is =
-    rw (is.4, list_all-append is_plain is.0 (flat_map group_words is.1)) (and_from _ _ (names_plain is.0 is.2) (groups_plain is.1 is.3))
+    let both = and_from _ _ (names_plain is.0 is.2) (groups_plain is.1 is.3) in
+    rw (is.4, list_all-append is_plain is.0 (flat_map group_words is.1)) both
   where
     names_plain : (names : List (List ℕ)) → IsTrue (are_names names) → list_all is_plain names ≡ true
     names_plain names are = all_weaker is_name is_plain name_plain names are
 
-    groups_plain : (groups : List (List (List ℕ))) → IsTrue (list_all is_group groups) → list_all is_plain (flat_map group_words groups) ≡ true
+    groups_plain : (groups : Tops) → IsTrue (list_all is_group groups) → list_all is_plain (flat_map group_words groups) ≡ true
     groups_plain [] are = refl
     groups_plain (group ∷ groups) are =
-        let parts = and_parts (is_group group) (list_all is_group groups) are in
-        let own = and_parts (are_names group) (nat_le 2 (length group)) parts.0 in
-        rw (list_all-append is_plain group (flat_map group_words groups)) (and_from _ _ (names_plain group own.0) (groups_plain groups parts.1))
+        let parts = and_parts _ _ are in
+        let own = and_parts _ _ parts.0 in
+        let both = and_from _ _ (names_plain group own.0) (groups_plain groups parts.1) in
+        rw (list_all-append is_plain group (flat_map group_words groups)) both
 
 -- a line of a verb is read as what stands behind it
 line_again : (b : ℕ) (bs line word : List ℕ) (words : List (List ℕ)) (r : Request) → (b == 35) ≡ false → is_plain (b ∷ bs) ≡ true
-    → list_all is_plain (word ∷ words) ≡ true → line ≡ spaced ((b ∷ bs) ∷ word ∷ words) → verb_of (b ∷ bs) (word ∷ words) ≡ Some r → request_of line ≡ Some r
+    → line ≡ spaced ((b ∷ bs) ∷ word ∷ words) → list_all is_plain (word ∷ words) ≡ true → verb_of (b ∷ bs) (word ∷ words) ≡ Some r
+    → request_of line ≡ Some r
 unfolding request_of request_in first_of
-line_again b bs line word words r mark plain rest line_is read =
-    rw (line_is, some_byte b (bs ++ 32 ∷ spaced (word ∷ words)), mark, words_again (b ∷ bs) (word ∷ words) (and_from _ _ plain rest)) read
+line_again b bs line word words r mark plain line_is rest read =
+    let cut = words_again (b ∷ bs) (word ∷ words) (and_from _ _ plain rest) in
+    rw (line_is, some_byte b (bs ++ 32 ∷ spaced (word ∷ words)), mark, cut) read
+
+-- the same of a line that names a pool and nothing else
+pool_line_again : (b : ℕ) (bs line pool : List ℕ) (r : Request) → (b == 35) ≡ false → is_plain (b ∷ bs) ≡ true
+    → line ≡ spaced ((b ∷ bs) ∷ pool ∷ []) → IsTrue (is_name pool) → verb_of (b ∷ bs) (pool ∷ []) ≡ pool_verb_of (b ∷ bs) (pool ∷ [])
+    → of_pool (b ∷ bs) pool ≡ Some r → request_of line ≡ Some r
+unfolding pool_verb_of one_of
+pool_line_again b bs line pool r mark plain line_is is verb read =
+    line_again b bs line pool [] r mark plain line_is (pool_again pool is) (verb ∙ rw (name_again pool is) read)
 
 request_again : (line : List ℕ) (r : Request) → Asks line r → request_of line ≡ Some r
 unfolding request_of verb_of leaf_verb_of pool_verb_of of_pool create_of write_of read_of offline_of away_of online_of two_of first_of one_of
 request_again line Nothing (inl empty) = rw empty refl
 request_again line Nothing (inr remark) = rw (remark.1, some_byte 35 remark.0) refl
 request_again line (Create pool blocks tops) a =
-    line_again 99 (codes "reate") line pool (a.0 ∷ a.1) _ refl refl
-    (and_from _ _ (name_plain pool a.2) (and_from _ _ (number_plain a.0 blocks a.3) (vdevs_plain a.1 tops a.4))) a.5
+    let vdevs = and_from _ _ (number_plain a.0 blocks a.3) (vdevs_plain a.1 tops a.4) in
+    line_again 99 (codes "reate") line pool (a.0 ∷ a.1) _ refl refl a.5 (and_from _ _ (name_plain pool a.2) vdevs)
     (rw (name_again pool a.2, number_again a.0 blocks a.3, vdevs_again a.1 tops a.4) refl)
-request_again line (Import pool) a =
-    line_again 105 (codes "mport") line pool [] _ refl refl (pool_again pool a.0) a.1 (rw (name_again pool a.0) refl)
+request_again line (Import pool) a = pool_line_again 105 (codes "mport") line pool _ refl refl a.1 a.0 refl refl
 request_again line (Write pool address block) a =
-    line_again 119 (codes "rite") line pool (a.0 ∷ a.1 ∷ []) _ refl refl
-    (and_from _ _ (name_plain pool a.2) (and_from _ _ (number_plain a.0 address a.3) (and_from _ _ (data_plain a.1 block a.4) refl))) a.5
+    let behind = and_from _ _ (number_plain a.0 address a.3) (and_from _ _ (data_plain a.1 block a.4) refl) in
+    line_again 119 (codes "rite") line pool (a.0 ∷ a.1 ∷ []) _ refl refl a.5 (and_from _ _ (name_plain pool a.2) behind)
     (rw (name_again pool a.2, number_again a.0 address a.3, data_again a.1 block a.4) refl)
 request_again line (Read pool address) a =
-    line_again 114 (codes "ead") line pool (a.0 ∷ []) _ refl refl (and_from _ _ (name_plain pool a.1) (and_from _ _ (number_plain a.0 address a.2) refl)) a.3
+    let number = and_from _ _ (number_plain a.0 address a.2) refl in
+    line_again 114 (codes "ead") line pool (a.0 ∷ []) _ refl refl a.3 (and_from _ _ (name_plain pool a.1) number)
     (rw (name_again pool a.1, number_again a.0 address a.2) refl)
-request_again line (Freeze pool) a =
-    line_again 102 (codes "reeze") line pool [] _ refl refl (pool_again pool a.0) a.1 (rw (name_again pool a.0) refl)
-request_again line (Turn pool) a =
-    line_again 116 (codes "urn") line pool [] _ refl refl (pool_again pool a.0) a.1 (rw (name_again pool a.0) refl)
-request_again line (Sync pool) a =
-    line_again 115 (codes "ync") line pool [] _ refl refl (pool_again pool a.0) a.1 (rw (name_again pool a.0) refl)
+request_again line (Freeze pool) a = pool_line_again 102 (codes "reeze") line pool _ refl refl a.1 a.0 refl refl
+request_again line (Turn pool) a = pool_line_again 116 (codes "urn") line pool _ refl refl a.1 a.0 refl refl
+request_again line (Sync pool) a = pool_line_again 115 (codes "ync") line pool _ refl refl a.1 a.0 refl refl
 request_again line (Offline pool device false) a =
-    line_again 111 (codes "ffline") line pool (device ∷ []) _ refl refl (leaf_plain pool device a.0 a.1) a.2
+    line_again 111 (codes "ffline") line pool (device ∷ []) _ refl refl a.2 (leaf_plain pool device a.0 a.1)
     (rw (name_no_word pool (codes "-t") a.0 refl, leaf_again pool device a.0 a.1) refl)
 request_again line (Offline pool device true) a =
-    line_again 111 (codes "ffline") line (codes "-t") (pool ∷ device ∷ []) _ refl refl (leaf_plain pool device a.0 a.1) a.2
+    line_again 111 (codes "ffline") line (codes "-t") (pool ∷ device ∷ []) _ refl refl a.2 (leaf_plain pool device a.0 a.1)
     (rw (leaf_again pool device a.0 a.1) refl)
 request_again line (Online pool device) a =
-    line_again 111 (codes "nline") line pool (device ∷ []) _ refl refl (leaf_plain pool device a.0 a.1) a.2 (rw (leaf_again pool device a.0 a.1) refl)
-request_again line (Logs pool) a =
-    line_again 108 (codes "ogs") line pool [] _ refl refl (pool_again pool a.0) a.1 (rw (name_again pool a.0) refl)
+    line_again 111 (codes "nline") line pool (device ∷ []) _ refl refl a.2 (leaf_plain pool device a.0 a.1)
+    (rw (leaf_again pool device a.0 a.1) refl)
+request_again line (Logs pool) a = pool_line_again 108 (codes "ogs") line pool _ refl refl a.1 a.0 refl refl
 
 -- a line asks one thing at most
 pub one_request : (line : List ℕ) (a b : Request) → Asks line a → Asks line b → a ≡ b
@@ -277,7 +281,8 @@ one_request line a b h i = same_Some _ _ (sym (request_again line a h) ∙ reque
 
 -- ---- what a reader returned
 
-pub line_found : (line : List ℕ) (result : Result Request LineFault) → Gives (λ r. r) result (request_of line) → IfOk result (Asks line)
+pub line_found : (line : List ℕ) (result : Result Request LineFault) → Gives (λ r. r) result (request_of line)
+    → IfOk result (Asks line)
 line_found line (Ok r) gives = request_found line r gives
 line_found line (Err e) gives = tt
 
@@ -289,7 +294,8 @@ pub line_bad : (line : List ℕ) (result : Result Request LineFault) → Gives (
     → IsErrOf result Bad → (request : Request) → ¬ (Asks line request)
 line_bad line result gives bad request asks = bad_gives result request bad (line_only line result gives request asks)
   where
-    bad_gives : (result : Result Request LineFault) (request : Request) → IsErrOf result Bad → Gives (λ r. r) result (Some request) → ⊥
+    bad_gives : (result : Result Request LineFault) (request : Request) → IsErrOf result Bad
+        → Gives (λ r. r) result (Some request) → ⊥
     bad_gives (Ok r) request bad gives = cc bad
     bad_gives (Err Bad) request bad gives = cc gives
     bad_gives (Err Memory) request bad gives = cc bad

@@ -1,9 +1,9 @@
 -- Laws of numbers: a text that is read as a number is its one text, and that text is read again.
 use Rattle.std.proofs.Common.{rules, ◌≡◌, ℕ, ◌^◌, ◌<◌, ◌≤◌, true, inl, inr, List, length, get_or, Some, refl, sym, arith}
-use Rattle.std.specs.Prelude.{◌&&◌, ◌||◌, ◌==◌, not, nat_le, decimal}
+use Rattle.std.specs.Prelude.{◌==◌, not, decimal}
 use Rattle.std.specs.List.{list_all}
 use Rattle.std.specs.Str.Parse.{digits_value}
-use Rattle.std.proofs.lemmas.Bool.{and_from, and_parts, cases_eq, cond-true, eq-eqb, eqb-true, le-leb, leb-true, ne_eqb, not-true, not_from_false, or_cases, or_left, or_right}
+use Rattle.std.proofs.lemmas.Bool.{cases_eq, cond-true}
 use Rattle.std.proofs.lemmas.Fmt.{decimal-digits_value, decimal_digit, decimal_nonempty, digits_decimal, digits_value-decimal, first_decimal, length-decimal-le}
 use Rattle.std.proofs.lemmas.Option.{cond_some}
 use Rattle.std.proofs.lemmas.Str.Parse.{IsNumeralModel, digits_value_short, numerals_by_value}
@@ -22,27 +22,15 @@ pub record NumberFacts (text : List ℕ) : Type 0 where
   lead : get_or text 0 0 ≡ 48 → length text ≡ 1
 
 facts_of : (text : List ℕ) → is_number text ≡ true → NumberFacts text
-facts_of text h =
-    let a = and_parts (nat_le 1 (length text)) (nat_le (length text) 19 && (list_all is_digit text && ((length text == 1) || not (get_or text 0 0 == 48)))) h in
-    let b = and_parts (nat_le (length text) 19) (list_all is_digit text && ((length text == 1) || not (get_or text 0 0 == 48))) a.1 in
-    let c = and_parts (list_all is_digit text) ((length text == 1) || not (get_or text 0 0 == 48)) b.1 in
-    record {
-      some = leb-true _ _ a.0;
-      short = leb-true _ _ b.0;
-      digits = c.0;
-      lead = λ zero. elim (or_cases (length text == 1) (not (get_or text 0 0 == 48)) c.1) [
-        | inl one ↦ eqb-true _ _ one
-        | inr other ↦ cc (not-true _ other, eq-eqb _ _ zero)
-      ];
-    }
+facts_of text h = record { some = grind arith; short = grind arith; digits = grind arith; lead = λ zero. grind arith }
 
 test_from : (text : List ℕ) → NumberFacts text → is_number text ≡ true
 test_from text f =
-    and_from _ _ (le-leb _ _ f.some) (and_from _ _ (le-leb _ _ f.short) (and_from _ _ f.digits
-    (elim (cases_eq (get_or text 0 0) 48) [
-      | inl zero ↦ or_left _ _ (eq-eqb _ _ (f.lead zero))
-      | inr other ↦ or_right _ _ (not_from_false _ (ne_eqb _ _ other))
-    ])))
+    let some = f.some in
+    let short = f.short in
+    let digits = f.digits in
+    let lead = f.lead in
+    grind arith
 
 pub number_found : (text : List ℕ) (n : ℕ) → number_of text ≡ Some n → IsNumber text n
 unfolding number_of

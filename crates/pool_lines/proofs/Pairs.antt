@@ -32,7 +32,8 @@ pairs_again text block is =
     let some : 1 ≤ length (encode_lower bytes) = omega (arith, long, is.1) in
     let most : length (encode_lower bytes) ≤ 8192 = omega (arith, long, is.2) in
     let may : may_be_pairs (encode_lower bytes) ≡ true = and_from _ _ (le-leb _ _ some) (le-leb _ _ most) in
-    rw (is.4, is.5, may, decode_of-encode_lower bytes (are_bytes_at bytes is.3), (bytes_eq-Decides (encode_lower bytes) (encode_lower bytes)).1 refl) refl
+    let same = (bytes_eq-Decides (encode_lower bytes) (encode_lower bytes)).1 refl in
+    rw (is.4, is.5, may, decode_of-encode_lower bytes (are_bytes_at bytes is.3), same) refl
 
 ok_found : {A : Type 0} (r : Result A FromHexError) (x : A) → result_ok r ≡ Some x → r ≡ Ok x
 ok_found (Ok y) x e = ap Ok (same_Some _ _ e)

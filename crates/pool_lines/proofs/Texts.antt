@@ -1,6 +1,6 @@
 -- The texts of replies, in terms of lists.
 use Rattle.std.proofs.Common.{◌≡◌, ℕ, zero, suc, ◌+◌, ◌-◌, ◌<◌, ◌≤◌, true, false, inl, inr, List, replicate, [], ◌∷◌, ◌++◌, length, take, get_or, refl, sym, ap, ◌∙◌, arith, add-one, append_assoc}
-use Rattle.std.specs.Prelude.{◌==◌, map, nat_lt, if◌then◌else◌}
+use Rattle.std.specs.Prelude.{◌==◌, map, if◌then◌else◌}
 use Rattle.std.specs.List.{list_all}
 use Rattle.std.proofs.lemmas.Bool.{and_from, and_parts, cases_Bool, eqb-true, ne_eqb}
 use Rattle.std.proofs.lemmas.List.{take_more, map-append, length-map, length-take}
@@ -60,7 +60,7 @@ commas_more f xs i d x text comma within item text_is comma_is =
 zeros_are : (bytes : List ℕ) → list_all is_zero bytes ≡ true → replicate (length bytes) 0 ≡ bytes
 zeros_are [] h = refl
 zeros_are (b ∷ bs) h =
-    let parts = and_parts (is_zero b) (list_all is_zero bs) h in
+    let parts = and_parts _ _ h in
     let zero_byte : b ≡ 0 = eqb-true b 0 parts.0 in
     rw (zero_byte, zeros_are bs parts.1) refl
 
@@ -91,7 +91,7 @@ trimmed_bytes (b ∷ bs) h =
     elim (cases_Bool (list_all is_zero (b ∷ bs))) [
       | inl all ↦ rw all refl
       | inr mixed ↦
-          let parts = and_parts (nat_lt b 256) (are_bytes bs) h in
+          let parts = and_parts _ _ h in
           rw mixed (and_from _ _ parts.0 (trimmed_bytes bs parts.1))
     ]
 

@@ -1,11 +1,10 @@
 -- The readers of words, in terms of lists.
 use Rattle.std.proofs.Common.{◌≡◌, ℕ, suc, add-one, ◌+◌, ◌-◌, ◌*◌, ◌^◌, ◌<◌, ◌≤◌, true, List, length, take, get_or, Ok, refl, arith}
-use Rattle.std.specs.Prelude.{nat_le, IsTrue}
+use Rattle.std.specs.Prelude.{IsTrue}
 use Rattle.std.specs.Char.{digit_value}
 use Rattle.std.specs.List.{list_all}
 use Rattle.std.specs.Str.Parse.{digits_value}
 use Rattle.std.proofs.Math.Nat.{pow-suc, pow-le-pow_right}
-use Rattle.std.proofs.lemmas.Bool.{and_parts, leb-true}
 use Rattle.std.proofs.lemmas.Int.Digits.{digits_value_more}
 use Rattle.std.proofs.lemmas.List.Sums.{AllPass-from_list_all}
 use Rattle.hex.specs.Hex.{decode_of}
@@ -38,5 +37,5 @@ digit_step text value d i value_is within low high d_is =
 -- pairs of digits have no more bytes than a block
 pub pairs_fit : (text bytes : List ℕ) → may_be_pairs text ≡ true → decode_of text ≡ Ok bytes → length bytes ≤ 4096
 pairs_fit text bytes may read =
-    let most = leb-true _ _ (and_parts (nat_le 1 (length text)) (nat_le (length text) 8192) may).1 in
+    let most : length text ≤ 8192 = grind arith in
     omega (arith, most, (decode_of-ok text bytes read).2)

@@ -1,5 +1,5 @@
 -- Laws of VDEVS: what is read is in the grammar, and what is in the grammar is read.
-use Rattle.std.proofs.Common.{◌≡◌, ℕ, ◌+◌, ◌<◌, ◌≤◌, false, inl, inr, List, [], ◌∷◌, ◌++◌, length, drop, get_or, Option, Some, None, refl, sym, ap, subst, ◌∙◌, arith, add-one, drop-cons, append-nil, append_assoc, All}
+use Rattle.std.proofs.Common.{◌≡◌, ℕ, ◌+◌, ◌<◌, ◌≤◌, false, inl, inr, List, [], ◌∷◌, ◌++◌, length, drop, get_or, Bor, Option, Some, None, refl, sym, ap, subst, ◌∙◌, arith, add-one, drop-cons, append-nil, append_assoc, All}
 use Rattle.std.specs.Prelude.{IsTrue, codes, ◌==◌, ◌&&◌, map, nat_le, if◌then◌else◌}
 use Rattle.std.specs.List.{flat_map, list_all, onto_first, slice_split}
 use Rattle.std.proofs.lemmas.Bool.{and_parts, cases_Bool, ne_eqb}
@@ -9,26 +9,34 @@ use Rattle.std.proofs.lemmas.List.Splits.{length-slice_split, slice_split-cons_n
 use Rattle.std.proofs.lemmas.Option.{same_Some}
 use Rattle.mp_base.specs.Name.{is_name}
 use Rattle.pool_lines.specs.Grammar.{IsVdevs, alone, are_names, group_words, is_group}
-use Rattle.pool_lines.specs.Reading.{closed, is_mirror, name_of, some_of, take_word, tops_in, tops_of, whole, with_name, ◌>>=◌}
+use Rattle.pool_lines.specs.Reading.{is_mirror, name_of, some_of, tops_in, tops_of, ◌>>=◌}
+use Rattle.pool_lines.specs.WordByWord.{closed, take_word, whole, with_name}
+use Rattle.pool_lines.specs.declared.tops.Names.{Names}
+use Rattle.pool_lines.specs.declared.tops.Tops.{Tops}
 use Rattle.pool_lines.specs.declared.vdevs.Begun.{Begun}
 use Rattle.pool_lines.proofs.Splitting.{bind_some, chosen, chosen_some, name_no_word, same_bytes}
 
 -- ---- word by word
 
+-- what was read so far
+abbrev so_far : Tops → Option Names → Begun
+so_far tops group = record { tops = tops; group = group }
+
 -- the tops, by what was read so far and what is behind it: further names, and groups
-abbrev pub finish : Begun → List (List (List ℕ)) → Option (List (List (List ℕ)))
+abbrev pub finish : Begun → List (List (List ℕ)) → Option Tops
 finish begun [] = None
 finish begun (names ∷ groups) = finish_by begun.group
   where
-    finish_by : Option (List (List ℕ)) → Option (List (List (List ℕ)))
-    finish_by None = if are_names names && list_all is_group groups then Some ((begun.tops ++ map alone names) ++ groups) else None
+    finish_by : Option Names → Option Tops
+    finish_by None =
+        if are_names names && list_all is_group groups then Some ((begun.tops ++ map alone names) ++ groups) else None
     finish_by (Some own) =
-        if (are_names names && nat_le 2 (length (own ++ names))) && list_all is_group groups then Some (begun.tops ++ (own ++ names) ∷ groups) else None
+        if (are_names names && nat_le 2 (length (own ++ names))) && list_all is_group groups
+        then Some (begun.tops ++ (own ++ names) ∷ groups) else None
 
 -- the next word begins a group
-next_group : (tops : List (List (List ℕ))) (group : Option (List (List ℕ))) (parts : List (List (List ℕ))) → 0 < length parts
-    → finish (record { tops = tops; group = group }) ([] ∷ parts)
-    ≡ (closed (record { tops = tops; group = group }) >>= (λ tops. finish (record { tops = tops; group = Some [] }) parts))
+next_group : (tops : Tops) (group : Option Names) (parts : List (List (List ℕ))) → 0 < length parts
+    → finish (so_far tops group) ([] ∷ parts) ≡ (closed (so_far tops group) >>= (λ tops. finish (so_far tops (Some [])) parts))
 unfolding closed
 next_group tops group [] some = absurd (omega arith)
 next_group tops None (names ∷ groups) some = rw (append-nil tops) refl
@@ -39,9 +47,9 @@ next_group tops (Some own) (names ∷ groups) some =
     ]
 
 -- the next word is a name
-next_name : (tops : List (List (List ℕ))) (group : Option (List (List ℕ))) (name : List ℕ) (names : List (List ℕ)) (groups : List (List (List ℕ)))
-    → finish (record { tops = tops; group = group }) ((name ∷ names) ∷ groups)
-    ≡ (name_of name >>= (λ name. finish (with_name (record { tops = tops; group = group }) name) (names ∷ groups)))
+next_name : (tops : Tops) (group : Option Names) (name : List ℕ) (names : Names) (groups : Tops)
+    → finish (so_far tops group) ((name ∷ names) ∷ groups)
+    ≡ (name_of name >>= (λ name. finish (with_name (so_far tops group) name) (names ∷ groups)))
 unfolding name_of with_name
 next_name tops None name names groups =
     elim (cases_Bool (is_name name)) [
@@ -54,25 +62,28 @@ next_name tops (Some own) name names groups =
       | inr other ↦ rw other refl
     ]
 
-abbrev pub read_on : Begun → List (List ℕ) → Option (List (List (List ℕ)))
-read_on begun words = finish begun (slice_split is_mirror words) >>= some_of
-
-bind_assoc : {A B C : Type 0} (o : Option A) (f : A → Option B) (g : B → Option C) → ((o >>= f) >>= g) ≡ (o >>= (λ x. f x >>= g))
+bind_assoc : {A B C : Type 0} (o : Option A) (f : A → Option B) (g : B → Option C)
+    → ((o >>= f) >>= g) ≡ (o >>= (λ x. f x >>= g))
 bind_assoc (Some x) f g = refl
 bind_assoc None f g = refl
 
+-- the words are cut into parts, of which there is one at least
+some_part : (words : List (List ℕ)) → 0 < length (slice_split is_mirror words)
+some_part words = rw (length-slice_split is_mirror words) (omega arith)
+
 next_word : (begun : Begun) (word : List ℕ) (words : List (List ℕ))
-    → finish begun (slice_split is_mirror (word ∷ words)) ≡ (take_word begun word >>= (λ more. finish more (slice_split is_mirror words)))
+    → finish begun (slice_split is_mirror (word ∷ words))
+    ≡ (take_word begun word >>= (λ more. finish more (slice_split is_mirror words)))
 unfolding take_word
 next_word begun word words =
-    let some : 0 < length (slice_split is_mirror words) = rw (length-slice_split is_mirror words) (omega arith) in
+    let parts = slice_split is_mirror words in
+    let rest = λ (more : Begun). finish more parts in
     elim (cases_Bool (is_mirror word)) [
       | inl mirror ↦
-          rw (mirror, bind_assoc (closed begun) (λ tops. Some (record { tops = tops; group = Some [] })) (λ more. finish more (slice_split is_mirror words)))
-          (next_group begun.tops begun.group (slice_split is_mirror words) some)
+          rw (mirror, bind_assoc (closed begun) (λ tops. Some (so_far tops (Some []))) rest)
+          (next_group begun.tops begun.group parts (some_part words))
       | inr other ↦
-          rw (other, bind_assoc (name_of word) (λ name. Some (with_name begun name)) (λ more. finish more (slice_split is_mirror words)))
-          (named (slice_split is_mirror words) some)
+          rw (other, bind_assoc (name_of word) (λ name. Some (with_name begun name)) rest) (named parts (some_part words))
     ]
   where
     named : (parts : List (List (List ℕ))) → 0 < length parts
@@ -80,33 +91,37 @@ next_word begun word words =
     named [] some = absurd (omega arith)
     named (names ∷ groups) some = next_name begun.tops begun.group word names groups
 
+-- what the words ask behind what was read so far
+abbrev pub read_on : Begun → List (Bor (List ℕ)) → Option Tops
+read_on begun words = finish begun (slice_split is_mirror (map (λ w. w.now) words)) >>= some_of
+
 -- no word was read
-pub read_first : (words : List (List ℕ)) → read_on (record { tops = []; group = None }) words ≡ tops_of words
+pub read_first : (words : List (Bor (List ℕ))) → read_on (so_far [] None) words ≡ tops_of (map (λ w. w.now) words)
 unfolding tops_of tops_in
-read_first words = ap (λ o. o >>= some_of) (alike (slice_split is_mirror words))
+read_first words = ap (λ o. o >>= some_of) (alike (slice_split is_mirror (map (λ w. w.now) words)))
   where
-    alike : (parts : List (List (List ℕ))) → finish (record { tops = []; group = None }) parts ≡ tops_in parts
+    alike : (parts : List (List (List ℕ))) → finish (so_far [] None) parts ≡ tops_in parts
     alike [] = refl
     alike (names ∷ groups) = refl
 
 -- the next word of those that are left
-pub read_next : {A : Type 0} (f : A → List ℕ) (begun : Begun) (items : List A) (i : ℕ) (d : A) → i < length items
-    → read_on begun (map f (drop i items)) ≡ (take_word begun (f (get_or items i d)) >>= (λ more. read_on more (map f (drop (i + 1) items))))
-read_next f begun items i d within =
-    let word = f (get_or items i d) in
-    let words = map f (drop (i + 1) items) in
-    let split : map f (drop i items) ≡ word ∷ words = rw (drop-cons items i d within, add-one) refl in
-    ap (read_on begun) split ∙ ap (λ o. o >>= some_of) (next_word begun word words)
-    ∙ bind_assoc (take_word begun word) (λ more. finish more (slice_split is_mirror words)) some_of
+pub read_next : (begun : Begun) (words : List (Bor (List ℕ))) (i : ℕ) → i < length words
+    → read_on begun (drop i words)
+    ≡ (take_word begun (get_or words i (record { ref_ptr = (0, 0); now = [] })).now >>= (λ more. read_on more (drop (i + 1) words)))
+read_next begun words i within =
+    let none : Bor (List ℕ) = record { ref_ptr = (0, 0); now = [] } in
+    let word = get_or words i none in
+    let rest = map (λ w. w.now) (drop (i + 1) words) in
+    let split : drop i words ≡ word ∷ drop (i + 1) words = rw (drop-cons words i none within, add-one) refl in
+    ap (read_on begun) split ∙ ap (λ o. o >>= some_of) (next_word begun word.now rest)
+    ∙ bind_assoc (take_word begun word.now) (λ more. finish more (slice_split is_mirror rest)) some_of
 
 -- no word is left
-pub read_end : {A : Type 0} (f : A → List ℕ) (begun : Begun) (items : List A) (i : ℕ) → length items ≤ i
-    → read_on begun (map f (drop i items)) ≡ whole begun
+pub read_end : (begun : Begun) (words : List (Bor (List ℕ))) (i : ℕ) → length words ≤ i → read_on begun (drop i words) ≡ whole begun
 unfolding whole closed
-read_end f begun items i behind = rw (drop_all i items behind) (ap (λ o. o >>= some_of) (ended begun.tops begun.group))
+read_end begun words i behind = rw (drop_all i words behind) (ap (λ o. o >>= some_of) (ended begun.tops begun.group))
   where
-    ended : (tops : List (List (List ℕ))) (group : Option (List (List ℕ)))
-        → finish (record { tops = tops; group = group }) ([] ∷ []) ≡ closed (record { tops = tops; group = group })
+    ended : (tops : Tops) (group : Option Names) → finish (so_far tops group) ([] ∷ []) ≡ closed (so_far tops group)
     ended tops None = rw (append-nil tops, append-nil tops) refl
     ended tops (Some own) =
         elim (cases_Bool (nat_le 2 (length own))) [
@@ -124,36 +139,38 @@ rejoined (names ∷ groups) = names ++ flat_map group_words groups
 joined : (words : List (List ℕ)) → words ≡ rejoined (slice_split is_mirror words)
 joined [] = refl
 joined (word ∷ words) =
-    let some : 0 < length (slice_split is_mirror words) = rw (length-slice_split is_mirror words) (omega arith) in
+    let parts = slice_split is_mirror words in
     elim (cases_Bool (is_mirror word)) [
       | inl mirror ↦
-          rw (slice_split-cons_yes is_mirror word words mirror)
-          (ap (λ w. w ∷ words) (same_bytes word (codes "mirror") mirror) ∙ ap (λ ws. codes "mirror" ∷ ws) (joined words) ∙ sym (behind_mirror (slice_split is_mirror words) some))
+          let same = ap (λ w. w ∷ words) (same_bytes word (codes "mirror") mirror) ∙ ap (λ ws. codes "mirror" ∷ ws) (joined words) in
+          rw (slice_split-cons_yes is_mirror word words mirror) (same ∙ sym (behind_mirror parts (some_part words)))
       | inr other ↦
-          rw (slice_split-cons_no is_mirror word words other) (ap (λ ws. word ∷ ws) (joined words) ∙ sym (behind_name word (slice_split is_mirror words)))
+          rw (slice_split-cons_no is_mirror word words other) (ap (λ ws. word ∷ ws) (joined words) ∙ sym (behind_name parts))
     ]
   where
-    behind_mirror : (parts : List (List (List ℕ))) → 0 < length parts → flat_map group_words parts ≡ codes "mirror" ∷ rejoined parts
+    behind_mirror : (parts : List (List (List ℕ))) → 0 < length parts
+        → flat_map group_words parts ≡ codes "mirror" ∷ rejoined parts
     behind_mirror [] some = absurd (omega arith)
     behind_mirror (names ∷ groups) some = refl
 
-    behind_name : (word : List ℕ) (parts : List (List (List ℕ))) → rejoined (onto_first word parts) ≡ word ∷ rejoined parts
-    behind_name word [] = refl
-    behind_name word (names ∷ groups) = refl
+    behind_name : (parts : List (List (List ℕ))) → rejoined (onto_first word parts) ≡ word ∷ rejoined parts
+    behind_name [] = refl
+    behind_name (names ∷ groups) = refl
 
-tops_in_found : (parts tops : List (List (List ℕ))) → tops_in parts ≡ Some tops → (length tops == 0) ≡ false → IsVdevs (rejoined parts) tops
+tops_in_found : (parts : List (List (List ℕ))) (tops : Tops) → tops_in parts ≡ Some tops → (length tops == 0) ≡ false
+    → IsVdevs (rejoined parts) tops
 unfolding tops_in
 tops_in_found [] tops e some = cc e
 tops_in_found (names ∷ groups) tops e some =
     let s = chosen_some (are_names names && list_all is_group groups) (Some (map alone names ++ groups)) tops e in
-    let both = and_parts (are_names names) (list_all is_group groups) s.0 in
+    let both = and_parts _ _ s.0 in
     (names, groups, both.0, both.1, refl, sym (same_Some _ _ s.1), positive tops some)
   where
-    positive : (tops : List (List (List ℕ))) → (length tops == 0) ≡ false → 0 < length tops
+    positive : (tops : Tops) → (length tops == 0) ≡ false → 0 < length tops
     positive [] some = cc some
     positive (top ∷ tops) some = omega arith
 
-pub vdevs_found : (words : List (List ℕ)) (tops : List (List (List ℕ))) → tops_of words ≡ Some tops → IsVdevs words tops
+pub vdevs_found : (words : List (List ℕ)) (tops : Tops) → tops_of words ≡ Some tops → IsVdevs words tops
 unfolding tops_of
 vdevs_found words tops e =
     let all = bind_some (tops_in (slice_split is_mirror words)) some_of tops e in
@@ -161,7 +178,8 @@ vdevs_found words tops e =
       | inl none ↦ cc none.1
       | inr some ↦
           let same : all.0 ≡ tops = same_Some _ _ some.1 in
-          subst (λ ws. IsVdevs ws tops) (sym (joined words)) (tops_in_found (slice_split is_mirror words) tops (all.1 ∙ some.1) (rw same at some.0))
+          let is = tops_in_found (slice_split is_mirror words) tops (all.1 ∙ some.1) (rw same at some.0) in
+          subst (λ ws. IsVdevs ws tops) (sym (joined words)) is
     ]
 
 -- ---- what is in the grammar is read
@@ -169,20 +187,22 @@ vdevs_found words tops e =
 names_are_none : (names : List (List ℕ)) → IsTrue (are_names names) → All (λ w. is_mirror w ≡ false) names
 names_are_none [] are = All-nil (λ w. is_mirror w ≡ false)
 names_are_none (name ∷ names) are =
-    let parts = and_parts (is_name name) (are_names names) are in
-    All-cons (λ w. is_mirror w ≡ false) name names (name_no_word name (codes "mirror") parts.0 refl) (names_are_none names parts.1)
+    let parts = and_parts _ _ are in
+    let other = name_no_word name (codes "mirror") parts.0 refl in
+    All-cons (λ w. is_mirror w ≡ false) name names other (names_are_none names parts.1)
 
-parts_again : (names : List (List ℕ)) (groups : List (List (List ℕ))) → IsTrue (are_names names) → IsTrue (list_all is_group groups)
+parts_again : (names : List (List ℕ)) (groups : Tops) → IsTrue (are_names names) → IsTrue (list_all is_group groups)
     → slice_split is_mirror (names ++ flat_map group_words groups) ≡ names ∷ groups
 parts_again names [] are all = rw (append-nil names) (slice_split_none is_mirror names (names_are_none names are))
 parts_again names (group ∷ groups) are all =
-    let parts = and_parts (is_group group) (list_all is_group groups) all in
-    let own = and_parts (are_names group) (nat_le 2 (length group)) parts.0 in
+    let parts = and_parts _ _ all in
+    let own = and_parts _ _ parts.0 in
     slice_split_at is_mirror names (codes "mirror") (group ++ flat_map group_words groups) (names_are_none names are) refl
     ∙ ap (λ l. names ∷ l) (parts_again group groups own.0 parts.1)
 
-pub vdevs_again : (words : List (List ℕ)) (tops : List (List (List ℕ))) → IsVdevs words tops → tops_of words ≡ Some tops
+pub vdevs_again : (words : List (List ℕ)) (tops : Tops) → IsVdevs words tops → tops_of words ≡ Some tops
 unfolding tops_of tops_in
 vdevs_again words tops is =
-    let some : (length (map alone is.0 ++ is.1) == 0) ≡ false = ne_eqb _ _ (λ none. absurd (omega (arith, rw is.5 at is.6))) in
+    let all = map alone is.0 ++ is.1 in
+    let some : (length all == 0) ≡ false = ne_eqb _ _ (λ none. absurd (omega (arith, rw is.5 at is.6))) in
     rw (is.4, is.5, parts_again is.0 is.1 is.2 is.3, is.2, is.3, some) refl

@@ -5,6 +5,8 @@ use Rattle.std.specs.List.{flat_map, join_with_byte, list_all}
 use Rattle.mp_base.specs.Name.{is_name}
 use Rattle.pool_lines.specs.Words.{IsNumber, IsData}
 use Rattle.pool_lines.specs.declared.request.Request.{Request}
+use Rattle.pool_lines.specs.declared.tops.Names.{Names}
+use Rattle.pool_lines.specs.declared.tops.Tops.{Tops}
 use Rattle.pool_lines.specs.declared.request.Request.TheVariants.{Nothing, Create, Import, Write, Read, Freeze, Turn, Sync, Offline, Online, Logs}
 
 -- an empty line, and a line that begins with `#`, whatever follows
@@ -19,22 +21,22 @@ abbrev pub are_names : List (List ℕ) → Bool
 are_names words = list_all is_name words
 
 -- a top of one device
-abbrev pub alone : List ℕ → List (List ℕ)
+abbrev pub alone : List ℕ → Names
 alone name = name ∷ []
 
 -- the names of a group: at least two
-abbrev pub is_group : List (List ℕ) → Bool
+abbrev pub is_group : Names → Bool
 is_group names = are_names names && nat_le 2 (length names)
 
 -- the words of a group: `mirror`, and its names
-abbrev pub group_words : List (List ℕ) → List (List ℕ)
+abbrev pub group_words : Names → List (List ℕ)
 group_words names = codes "mirror" ∷ names
 
 -- VDEVS: any number of names, each a top of one device; then any number of groups, each the word `mirror` and at
 -- least two names; at least one top in all.
-abbrev pub IsVdevs : List (List ℕ) → List (List (List ℕ)) → Type 0
+abbrev pub IsVdevs : List (List ℕ) → Tops → Type 0
 IsVdevs words tops =
-    (names : List (List ℕ)) × (groups : List (List (List ℕ))) × IsTrue (are_names names) × IsTrue (list_all is_group groups)
+    (names : Names) × (groups : Tops) × IsTrue (are_names names) × IsTrue (list_all is_group groups)
     × (words ≡ names ++ flat_map group_words groups) × (tops ≡ map alone names ++ groups) × (0 < length tops)
 
 -- The words of each form.

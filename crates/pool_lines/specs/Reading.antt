@@ -12,7 +12,7 @@ use Rattle.pool_lines.specs.declared.request.LineFault.{LineFault}
 use Rattle.pool_lines.specs.declared.request.LineFault.TheVariants.{Bad, Memory}
 use Rattle.pool_lines.specs.declared.request.Request.{Request}
 use Rattle.pool_lines.specs.declared.request.Request.TheVariants.{Nothing, Create, Import, Write, Read, Freeze, Turn, Sync, Offline, Online, Logs}
-use Rattle.pool_lines.specs.declared.vdevs.Begun.{Begun}
+use Rattle.pool_lines.specs.declared.tops.Tops.{Tops}
 
 infixl 10 ◌>>=◌
 abbrev pub ◌>>=◌ : {A B : Type 0} → Option A → (A → Option B) → Option B
@@ -90,52 +90,18 @@ abbrev pub is_mirror : List ℕ → Bool
 is_mirror word = bytes_eq word (codes "mirror")
 
 -- the tops of names and of the groups behind them
-unfoldable pub tops_in : List (List (List ℕ)) → Option (List (List (List ℕ)))
+unfoldable pub tops_in : List (List (List ℕ)) → Option Tops
 tops_in [] = None
 tops_in (names ∷ groups) = if are_names names && list_all is_group groups then Some (map alone names ++ groups) else None
 
 -- one top at least
-abbrev pub some_of : List (List (List ℕ)) → Option (List (List (List ℕ)))
+abbrev pub some_of : Tops → Option Tops
 some_of tops = if length tops == 0 then None else Some tops
 
 -- the tops of VDEVS, whose groups begin behind the words `mirror`
-unfoldable pub tops_of : List (List ℕ) → Option (List (List (List ℕ)))
+unfoldable pub tops_of : List (List ℕ) → Option Tops
 tops_of words = do
   tops ← tops_in (slice_split is_mirror words)
-  some_of tops
-
--- The same word by word: what was read so far is tops, and the names of a group where one was begun.
-
--- the tops, the group among them that was begun, which has two names then
-unfoldable pub closed : Begun → Option (List (List (List ℕ)))
-closed begun = closed_by begun.group
-  where
-    closed_by : Option (List (List ℕ)) → Option (List (List (List ℕ)))
-    closed_by None = Some begun.tops
-    closed_by (Some names) = if nat_le 2 (length names) then Some (begun.tops ++ names ∷ []) else None
-
--- a name is the next of its group, or a top of one device where no group was begun
-unfoldable pub with_name : Begun → List ℕ → Begun
-with_name begun name = named_by begun.group
-  where
-    named_by : Option (List (List ℕ)) → Begun
-    named_by None = record { tops = begun.tops ++ alone name ∷ []; group = None }
-    named_by (Some names) = record { tops = begun.tops; group = Some (names ++ name ∷ []) }
-
--- what was read behind one more word
-unfoldable pub take_word : Begun → List ℕ → Option Begun
-take_word begun word =
-    if is_mirror word then (do
-      tops ← closed begun
-      Some (record { tops = tops; group = Some [] }))
-    else (do
-      name ← name_of word
-      Some (with_name begun name))
-
--- behind the last word
-unfoldable pub whole : Begun → Option (List (List (List ℕ)))
-whole begun = do
-  tops ← closed begun
   some_of tops
 
 -- ---- the forms, by the words behind the first
@@ -205,7 +171,7 @@ pool_verb_of verb words = do
   name ← name_of pool
   of_pool verb name
 
--- the same of the lines that name a leaf, and of those
+-- the same of the lines that name a leaf too, and of those that don't
 unfoldable pub leaf_verb_of : List ℕ → List (List ℕ) → Option Request
 leaf_verb_of verb words =
     if bytes_eq verb (codes "offline") then offline_of words

@@ -1,6 +1,7 @@
 //! VDEVS, read word by word.
 ghost use Rattle.std.specs.Prelude.{◌≡◌, map, IfOk};
-ghost use Rattle.pool_lines.specs.Reading.{Gives, closed, take_word, tops_of, whole, with_name};
+ghost use Rattle.pool_lines.specs.Reading.{Gives, tops_of};
+ghost use Rattle.pool_lines.specs.WordByWord.{closed, take_word, whole, with_name};
 
 use crate::words::read_name;
 use crate::{LineFault, Names, Tops};
@@ -27,7 +28,7 @@ pub(crate) fn read_tops(alloc: Global, words: &[&[u8]]) -> Result<Tops, LineFaul
     whole(begun)
 }
 
-#[tactic(auto, unfolding(crate::specs::Reading::take_word))]
+#[tactic(auto, unfolding(crate::specs::WordByWord::take_word))]
 fn take_word(alloc: Global, begun: Begun, word: &[u8]) -> Result<Begun, LineFault>
     ensures { Gives (λ begun. begun) result (take_word begun word.now) }
 {
@@ -42,7 +43,7 @@ fn take_word(alloc: Global, begun: Begun, word: &[u8]) -> Result<Begun, LineFaul
 }
 
 /// A name is the next of its group, or a top of one device where no group was begun.
-#[tactic(auto, unfolding(crate::specs::Reading::with_name))]
+#[tactic(auto, unfolding(crate::specs::WordByWord::with_name))]
 fn with_name(alloc: Global, begun: Begun, name: Name) -> Result<Begun, MemFault>
     ensures { IfOk result (λ longer. longer ≡ with_name begun name) }
 {
@@ -60,8 +61,8 @@ fn with_name(alloc: Global, begun: Begun, name: Name) -> Result<Begun, MemFault>
     })
 }
 
-/// The tops, the group among them that was begun, which has two names then.
-#[tactic(auto, unfolding(crate::specs::Reading::closed))]
+/// The tops, behind them the group that was begun, which needs two names for that.
+#[tactic(auto, unfolding(crate::specs::WordByWord::closed))]
 fn closed(begun: Begun) -> Result<Tops, LineFault>
     ensures { Gives (λ tops. tops) result (closed begun) }
 {
@@ -77,7 +78,7 @@ fn closed(begun: Begun) -> Result<Tops, LineFault>
 }
 
 /// All tops, of which there is one at least.
-#[tactic(auto, unfolding(crate::specs::Reading::whole))]
+#[tactic(auto, unfolding(crate::specs::WordByWord::whole))]
 fn whole(begun: Begun) -> Result<Tops, LineFault>
     ensures { Gives (λ tops. tops) result (whole begun) }
 {

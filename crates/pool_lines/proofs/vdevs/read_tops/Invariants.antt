@@ -6,4 +6,4 @@ use Rattle.pool_lines.proofs.vdevs.read_tops.Given as goal
 
 -- what is asked is what was read so far with the words behind it
 abbrev pub invariant-loop-word : goal.invariant-loop-word
-invariant-loop-word l = read_on l.begun (map (λ w. w.now) (drop l.word-index l.words)) ≡ tops_of (map (λ w. w.now) l.words)
+invariant-loop-word l = read_on l.begun (drop l.word-index l.words) ≡ tops_of (map (λ w. w.now) l.words)
