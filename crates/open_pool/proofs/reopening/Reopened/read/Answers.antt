@@ -119,7 +119,7 @@ placing_pool g c =
 pub invariant_of-result : goal.invariant_of-result
 invariant_of-result g c = (
   subst (λ ts. IsReopened (reopened c.args.config ts c.in_ok-map.map c.new-pins.result c.in_ok-unfrozen.unfrozen)) c.deref-2.ensures.value
-      (opening.leaves_pool _ _ _ _ _ _ _ (placing_pool g c) c.in_ok-map.map c.new-pins.result c.in_ok-unfrozen.unfrozen c.in_ok-map.ensures.volume.0
+      (opening.leaves_pool _ _ _ _ _ _ _ (placing_pool g c) c.requires.below c.in_ok-map.map c.new-pins.result c.in_ok-unfrozen.unfrozen c.in_ok-map.ensures.volume.0
       c.in_ok-map.ensures.volume.1 c.in_ok-map.ensures.places c.in_ok-map.ensures.born c.keeps_its_form.ensures.pointers c.keeps_its_form.ensures.form
       c.new-pins.ensures c.in_ok-unfrozen.ensures.none c.in_ok-unfrozen.ensures.room),
   c.in_ok-part.ensures,
