@@ -5,6 +5,7 @@ ghost use Rattle.pool_config.specs.Reading.{config_in};
 ghost use Rattle.pool_config.specs.Seen.{config_seen, IsRecorded};
 ghost use Rattle.pool_moves.specs.OpeningRow.{last_numbers};
 ghost use Rattle.open_pool.specs.Finding.{handed_to};
+ghost use Rattle.open_pool.specs.Here.{AreHere};
 ghost use Rattle.open_pool.specs.Opening.{AreHanded, ReopensOrStops};
 
 use crate::finding::find_leaves;
@@ -97,6 +98,7 @@ impl Reopened {
         requires handed { AreHanded (B.view bank.old).size devs.now }
         ensures row { (handed : List ℕ → Option ℕ) → handed_to handed (leaves_of config.tops.items) ≡ devs.now
             → ReopensOrStops handed (config_seen config).name found result (B.view bank.old) (B.view bank.new) }
+        ensures here { IfOk result (λ pool. AreHere (B.view bank.new).size pool.tops) }
     {
         let pins = Pins::new(alloc);
         let unfrozen = Open::new(alloc)?;
