@@ -57,19 +57,12 @@ impl Reopened {
             mut pins,
             mut tops,
             spares,
-            mut unfrozen,
+            unfrozen: mut open,
             config,
         } = self;
         map.keeps_its_form();
         let number = Group(read.0 + 1);
-        let frozen = match freeze_parts(
-            alloc,
-            &mut unfrozen,
-            &mut map,
-            &mut tops,
-            &mut pins,
-            number,
-        ) {
+        let frozen = match freeze_parts(alloc, &mut open, &mut map, &mut tops, &mut pins, number) {
             Ok(frozen) => frozen,
             Err(why) => return Err(why_unfrozen(why)),
         };
@@ -85,7 +78,7 @@ impl Reopened {
             pins,
             tops,
             spares,
-            open: unfrozen,
+            open,
             frozen: Some(frozen),
             dirty: 0,
             config,
