@@ -62,20 +62,20 @@ module _ (f : LeafSeen → OwnLeaf) where
   abbrev pub sets : List LeafSeen → List Move
   sets xs = map (λ leaf. Sets leaf.guid (f leaf)) xs
 
-  abbrev set_one : LeafSeen → LeafSeen → LeafSeen
+  abbrev pub set_one : LeafSeen → LeafSeen → LeafSeen
   set_one x leaf = cond (leaf.guid.0 == x.guid.0) (record leaf { own = f x }) leaf
 
-  abbrev set_along : List LeafSeen → LeafSeen → LeafSeen
+  abbrev pub set_along : List LeafSeen → LeafSeen → LeafSeen
   set_along [] leaf = leaf
   set_along (x ∷ xs) leaf = set_along xs (set_one x leaf)
 
-  steps_sets : (xs : List LeafSeen) (s : PoolState) → steps (sets xs) s ≡ with_leaves (map (set_along xs) s.core.leaves) s
+  pub steps_sets : (xs : List LeafSeen) (s : PoolState) → steps (sets xs) s ≡ with_leaves (map (set_along xs) s.core.leaves) s
   steps_sets [] s = ap (λ ls. with_leaves ls s) (sym (same_map s.core.leaves))
   steps_sets (x ∷ xs) s =
       steps_sets xs (state_step (Sets x.guid (f x)) s)
       ∙ ap (λ ls. with_leaves ls s) (twice_map (set_one x) (set_along xs) s.core.leaves)
 
-  unset : (xs : List LeafSeen) (leaf : LeafSeen) → NoneOf leaf.guid.0 xs → set_along xs leaf ≡ leaf
+  pub unset : (xs : List LeafSeen) (leaf : LeafSeen) → NoneOf leaf.guid.0 xs → set_along xs leaf ≡ leaf
   unset [] leaf none = refl
   unset (x ∷ xs) leaf none = ap (λ b. set_along xs (cond b (record leaf { own = f x }) leaf)) none.0 ∙ unset xs leaf none.1
 

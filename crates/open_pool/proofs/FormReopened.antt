@@ -30,6 +30,7 @@ use Rattle.pool_codec.specs.Pointers.{told}
 use Rattle.pool_codec.specs.Tops.{LiesWithin}
 use Rattle.pool_moves.specs.FreezeRow.{IsAtPlace}
 use Rattle.pool_moves.specs.Refusing.{count_below}
+use Rattle.pool_moves.specs.OpeningRow.{last_numbers}
 use Rattle.open_pool.specs.Form.{IsPool, IsRecordable, all_leaves}
 use Rattle.open_pool.specs.Opening.{placed, all_placed, IsReopened}
 use Rattle.open_pool.specs.Pages.{HaveOwnDevices}
@@ -265,5 +266,5 @@ module _ (c : Config) (valid : IsValid (config_seen c)) (is : List Top) (devs : 
     };
   }
 
-  pub is_reopened : IsReopened (reopened c is m pins unfrozen)
-  is_reopened = record { pool = is_pool; unopened = refl; same = refl; unfrozen = none; frozen = refl; pins = unpinned }
+  pub is_reopened : c.number.0 < last_numbers → IsReopened (reopened c is m pins unfrozen)
+  is_reopened below = record { pool = is_pool; below = below; unopened = refl; same = refl; unfrozen = none; frozen = refl; pins = unpinned }

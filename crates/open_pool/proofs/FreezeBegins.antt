@@ -53,7 +53,7 @@ widens_own (Widen m low high ∷ vs) s are = widens_own vs (state_step (Widen m 
 widens_own (v ∷ vs) s are = absurd are
 
 -- every leaf is under a top
-tops_count : (seats : List Seat) (first : ℕ) (tops : List (List LeafVdev)) → 1 ≤ first
+pub tops_count : (seats : List Seat) (first : ℕ) (tops : List (List LeafVdev)) → 1 ≤ first
     → AllByRecursion (λ leaf. 1 ≤ leaf.top) (leaves_from seats first tops)
 tops_count seats first [] some = tt
 tops_count seats first (under ∷ tops) some = front under (tops_count seats (suc first) tops (omega arith))
@@ -116,7 +116,7 @@ module _ (r : PoolParts) (old new : FreezeParts) (group : FrozenGroup) (f : Free
       let children = alike.children in
       cc
 
-  steps_are : (held : List Sums) → steps (owes held).moves (state_of held (idle_parts r old)) ≡ state_of held (begun_parts r new group)
+  pub steps_are : (held : List Sums) → steps (owes held).moves (state_of held (idle_parts r old)) ≡ state_of held (begun_parts r new group)
   steps_are held =
       let o = owes held in
       let s = state_of held (idle_parts r old) in
@@ -126,7 +126,7 @@ module _ (r : PoolParts) (old new : FreezeParts) (group : FrozenGroup) (f : Free
       ∙ ap (λ core. record { own = record (own_state (idle_parts r old)) { writes = λ a. None }; core = core }) (seen_is held)
       ∙ ap (λ own. record { own = own; core = seen_of held (begun_parts r new group) }) own_is
 
-  pins_then : (held : List Sums) → ArePinned held (idle_parts r old) → ArePinned held (begun_parts r new group)
+  pub pins_then : (held : List Sums) → ArePinned held (idle_parts r old) → ArePinned held (begun_parts r new group)
   pins_then held pins = record {
     pinned = λ place is. pins.pinned place (sym (f.begins.freeze.takes.pinned place) ∙ is);
     held_places = λ place at. f.begins.freeze.takes.pinned place ∙ pins.held_places place at;

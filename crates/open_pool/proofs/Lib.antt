@@ -7,6 +7,7 @@ pub mod CopiesOfTops
 pub mod CopiesOnDevices
 pub mod CopiesRead
 pub mod CountsAsMoves
+pub mod CountsBegin
 pub mod CountsBelow
 pub mod CountsMade
 pub mod DevicesFound
@@ -29,6 +30,7 @@ pub mod FreezeRefused
 pub mod FreezeRows
 pub mod FreezeSeats
 pub mod FreezesAreRows
+pub mod FreezesNone
 pub mod GoingKept
 pub mod GroupBlocks
 pub mod GroupEnds
@@ -72,6 +74,7 @@ pub mod PartsTurned
 pub mod PlacesEnd
 pub mod PlacesGiven
 pub mod PoolReopened
+pub mod PoolResumed
 pub mod PoolsCounted
 pub mod ReadRows
 pub mod ReadingsGoOn
@@ -109,6 +112,7 @@ pub mod TurnSteps
 pub mod TurnSuspended
 pub mod TurnsAnswered
 pub mod TurnsGoOn
+pub mod TurnsUnopened
 pub mod UnwritableTops
 pub mod ValidLeaves
 pub mod VdevNumbers

@@ -1,7 +1,8 @@
 -- An opening, from what its calls tell: the leaves of a record were looked for and put on their devices, and then its map is read.
-use Rattle.std.proofs.Common.{◌≡◌, inl, ℕ, ◌≤◌, List, [], length, Option, Some, Ok, Err, sym, ap, ◌∙◌, subst}
+use Rattle.std.proofs.Common.{◌≡◌, inl, ℕ, ◌<◌, ◌≤◌, List, [], length, Option, Some, Ok, Err, sym, ap, ◌∙◌, subst}
 use Rattle.std.specs.Prelude.{All, AllPairs}
 use Rattle.std.specs.List.{AllByRecursion}
+use Rattle.mp_base.specs.declared.number.Group.{Group}
 use Rattle.mp_base.specs.declared.place.Key.{Key}
 use Rattle.bank_core.specs.BankView.{BankView}
 use Rattle.label_store.specs.declared.found.Found.{Found}
@@ -21,6 +22,7 @@ use Rattle.pool_config.proofs.Deciding.{is_config}
 use Rattle.txg_engine.specs.Pins.{PinsSeen}
 use Rattle.txg_engine.specs.Writes.{OpenGroup}
 use Rattle.pool_codec.specs.Tops.{LiesWithin, room_of, kept_leaves_from}
+use Rattle.pool_moves.specs.OpeningRow.{last_numbers}
 use Rattle.open_pool.specs.declared.pages.PageFault.{PageFault}
 use Rattle.open_pool.specs.Finding.{FindsLeaves, handed_to}
 use Rattle.open_pool.specs.Here.{AreHere}
@@ -118,14 +120,14 @@ module _ (c : Config) (found : Found) (given devs : List (Option ℕ)) (is : Lis
   here = needs.leaves_here c (valid c found p.reads) given p.paired p.two found.pool devs old mid p.finds is p.on
 
   -- the pool that is read back, and the answers
-  pub leaves_pool : (m : Map) (pins : PinsSeen) (unfrozen : OpenGroup) → m.blocks ≡ c.blocks → m.sectors ≡ sectors_of is → NamesPlaces m
+  pub leaves_pool : found.number.0 < last_numbers → (m : Map) (pins : PinsSeen) (unfrozen : OpenGroup) → m.blocks ≡ c.blocks → m.sectors ≡ sectors_of is → NamesPlaces m
       → ((k : Key) → (pointer_at m k).birth.0 ≤ c.number.0) → ((k : Key) → IsPointer m.sectors (pointer_at m k))
       → ((k : Key) → IsInForm (pointer_at m k)) → pins.places ≡ [] → unfrozen.writes ≡ [] → 4096 ≤ unfrozen.room
       → IsReopened (reopened c is m pins unfrozen)
-  leaves_pool m pins unfrozen blocks sectors places births fits forms unpinned none room =
+  leaves_pool below m pins unfrozen blocks sectors places births fits forms unpinned none room =
       form.is_reopened c (valid c found p.reads) is devs decoded p.on
       (needs.found_two c (valid c found p.reads) given p.paired p.two found.pool devs old mid p.finds)
-      m blocks sectors places births fits forms pins unpinned unfrozen none room
+      m blocks sectors places births fits forms pins unpinned unfrozen none room (subst (λ (n : Group). n.0 < last_numbers) p.number_is below)
 
   pub answers_pool : (m : Map) (pins : PinsSeen) (unfrozen : OpenGroup) (new : BankView) → ReadsWhole (source_of is c.blocks c.number.0 c.root) m mid new
       → m.blocks ≡ c.blocks → NamesPlaces m → unfrozen.writes ≡ [] → (handed : List ℕ → Option ℕ) → handed_to handed (leaves_of c.tops.items) ≡ given

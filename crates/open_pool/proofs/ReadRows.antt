@@ -126,7 +126,7 @@ numbers_under : (seats : List Seat) (top : ℕ) (under : List LeafVdev) → numb
 numbers_under seats top [] = refl
 numbers_under seats top (leaf ∷ under) = ap (λ ns. leaf.guid.0 ∷ ns) (numbers_under seats top under)
 
-numbers_seen : (seats : List Seat) (top : ℕ) (tops : List (List LeafVdev)) → numbers_of (leaves_from seats top tops) ≡ leaf_numbers (under_all tops)
+pub numbers_seen : (seats : List Seat) (top : ℕ) (tops : List (List LeafVdev)) → numbers_of (leaves_from seats top tops) ≡ leaf_numbers (under_all tops)
 numbers_seen seats top [] = refl
 numbers_seen seats top (under ∷ tops) =
     map-append (λ (leaf : LeafSeen). leaf.guid.0) (map (leaf_of seats top) under) (leaves_from seats (suc top) tops)

@@ -123,7 +123,7 @@ round_calls draft first second third thirds vs is none =
     ∙ ap (λ l. first ++ l) (made_calls second thirds ∙ ap (λ l. second ++ l) is)
 
 -- where all answered nobody is counted
-none_counted : (leaves : List LeafSeen) (ms : List Member) (done : List Bool) → all_true done ≡ true → count_moves leaves ms done ≡ []
+pub none_counted : (leaves : List LeafSeen) (ms : List Member) (done : List Bool) → all_true done ≡ true → count_moves leaves ms done ≡ []
 none_counted leaves [] done all = refl
 none_counted leaves (m ∷ ms) [] all = refl
 none_counted leaves (m ∷ ms) (true ∷ done) all = none_counted leaves ms done all

@@ -8,7 +8,7 @@ use Rattle.label_store.specs.Newest.{ReadsOnly}
 use Rattle.vdev_tree.specs.declared.vdev.LeafVdev.{LeafVdev}
 use Rattle.vdev_tree.specs.declared.vdev.State.TheVariants.{Unavail}
 use Rattle.pool_codec.specs.Codecs.{pool_codec}
-use Rattle.pool_moves.specs.OpeningRow.{OpenReply, Opens_state, NoPage, RowOpen}
+use Rattle.pool_moves.specs.OpeningRow.{OpenReply, Opens_state, NoPage, RowOpen, last_numbers}
 use Rattle.open_pool.specs.declared.pages.PageFault.{PageFault}
 use Rattle.open_pool.specs.declared.pages.PageFault.TheVariants as fault
 use Rattle.open_pool.specs.Form.{IsPool}
@@ -30,9 +30,11 @@ all_placed (dev ∷ devs) (leaf ∷ leaves) = placed dev leaf ∷ all_placed dev
 abbrev pub AreHanded : (size : ℕ → ℕ) → List (Option ℕ) → Type 0
 AreHanded size devs = AllPairs (λ a b. (d : ℕ) → a ≡ Some d → b ≡ Some d → ⊥) devs × All (λ dev. IfSome dev (λ d. 0 < size d)) devs
 
--- It has the form of an open pool, but it has acknowledged no record yet; its open group is empty, and none is frozen.
+-- It has the form of an open pool, but it has acknowledged no record yet; its record isn't the last one of the pool, its open group
+-- is empty, and none is frozen.
 pub record IsReopened (p : PoolParts) : Type 0 where
   pub pool : IsPool p
+  pub below : p.highest < last_numbers
   pub unopened : p.opened ≡ false
   pub same : p.read ≡ p.highest
   pub unfrozen : p.unfrozen.writes ≡ []

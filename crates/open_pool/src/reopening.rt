@@ -1,9 +1,11 @@
 //! A pool whose record was read by an opening, before it is committed again.
-ghost use Rattle.std.specs.Prelude.{◌≡◌, ◌≤◌, ℕ, List, Option, Some, length, take, All, IfOk};
+ghost use Rattle.std.specs.Prelude.{◌≡◌, ◌<◌, ◌≤◌, ℕ, List, Option, Some, length, take, All, IfOk};
 ghost use Rattle.dtl_rules.specs.Widening.{leaves_of};
 ghost use Rattle.pool_config.specs.Reading.{config_in};
 ghost use Rattle.pool_config.specs.Seen.{config_seen, IsRecorded};
+ghost use Rattle.pool_moves.specs.OpeningRow.{last_numbers};
 ghost use Rattle.open_pool.specs.Finding.{handed_to};
+ghost use Rattle.open_pool.specs.Here.{AreHere};
 ghost use Rattle.open_pool.specs.Opening.{AreHanded, ReopensOrStops};
 
 use crate::finding::find_leaves;
@@ -22,18 +24,18 @@ use vdev_tree::Top;
 /// It has all that an open pool has, with an empty open group, and none frozen. Its commit makes a `Pool` of it.
 #[derive(Drop)]
 pub struct Reopened {
-    alloc: Global,
-    name: Name,
-    pool: Guid,
-    next: u64,
-    number: Group,
-    map: BlockMap,
-    pins: Pins,
-    tops: Vec<Top>,
-    spares: Vec<Name>,
-    unfrozen: Open,
+    pub(crate) alloc: Global,
+    pub(crate) name: Name,
+    pub(crate) pool: Guid,
+    pub(crate) next: u64,
+    pub(crate) number: Group,
+    pub(crate) map: BlockMap,
+    pub(crate) pins: Pins,
+    pub(crate) tops: Vec<Top>,
+    pub(crate) spares: Vec<Name>,
+    pub(crate) unfrozen: Open,
     /// A buffer of a configuration part, 114,688 bytes.
-    config: Vec<u8>,
+    pub(crate) config: Vec<u8>,
 }
 
 impl Model for Reopened {
@@ -90,11 +92,13 @@ impl Reopened {
         requires found { config_in found.blob.items ≡ Some (config_seen config) }
         requires pool { found.pool ≡ config.pool }
         requires number { found.number ≡ config.number }
+        requires below { found.number.0 < last_numbers }
         requires recorded { All IsRecorded (leaves_of config.tops.items) }
         requires paired { length devs.now ≡ length (leaves_of config.tops.items) }
         requires handed { AreHanded (B.view bank.old).size devs.now }
         ensures row { (handed : List ℕ → Option ℕ) → handed_to handed (leaves_of config.tops.items) ≡ devs.now
             → ReopensOrStops handed (config_seen config).name found result (B.view bank.old) (B.view bank.new) }
+        ensures here { IfOk result (λ pool. AreHere (B.view bank.new).size pool.tops) }
     {
         let pins = Pins::new(alloc);
         let unfrozen = Open::new(alloc)?;

@@ -85,7 +85,7 @@ impl Pool {
     }
 
     // Makes turns of the frozen group up to its end.
-    fn end_group<B: Bank>(&mut self, bank: &mut B) -> Result<Group, SyncFault>
+    pub(crate) fn end_group<B: Bank>(&mut self, bank: &mut B) -> Result<Group, SyncFault>
         requires frozen { is_some self.old.frozen ≡ true }
         requires here { AreHere (B.view bank.old).size self.old.tops }
         ensures row { (s : PoolState) → Stands self.old s

@@ -6,7 +6,7 @@ ghost use Rattle.dtl_rules.specs.Widening.{leaves_of, marks_of, sectors_of};
 use vdev_tree::{LeafChange, Top};
 
 /// Does this to each leaf of each top.
-pub(crate) fn change_tops<C: LeafChange>(tops: &mut [Top], change: &C)
+pub fn change_tops<C: LeafChange>(tops: &mut [Top], change: &C)
     requires { All (C.may change.now) (leaves_of tops.old) }
     ensures leaves { AllZip (C.changes change.now) (leaves_of tops.old) (leaves_of tops.new) }
     ensures built { marks_of tops.new ≡ marks_of tops.old }

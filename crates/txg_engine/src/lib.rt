@@ -33,6 +33,7 @@ pub use freezing::{FreezeFault, Unfrozen, freeze};
 pub use frozen::Frozen;
 pub use item::Item;
 pub use laws::{groups_count_their_addresses, groups_seat_each_top};
+pub use leaves::change_tops;
 pub use open::{MOST_WRITES, Open};
 pub use pins::Pins;
 pub use seat::{MOST_LEAVES, Numbers, Seat, Suspended};

@@ -1,6 +1,8 @@
 use Rattle.std.specs.Prelude.{All, Result}
 use Rattle.std.specs.Result.{IsErrAnd}
-use Rattle.open_pool.specs.Parts.{PoolParts}
+use mathlib.Core.Path.{fun_ext}
+use Rattle.open_pool.specs.Here.{AreHere}
+use Rattle.open_pool.specs.Parts.{PoolParts, all_parts}
 use Rattle.open_pool.specs.declared.pages.PageFault.{PageFault}
 use Rattle.pool_config.specs.Validity.{IsIn}
 use Rattle.std.proofs.Common.{◌≡◌, ◌≤◌, List, Ok, Err, length, take, sym, ap, ◌∙◌, subst, arith}
@@ -19,21 +21,17 @@ err_is : (r : Result PoolParts PageFault) (e : PageFault) → IsErrAnd r (λ x. 
 err_is (Ok x) e is = absurd is
 err_is (Err x) e is = ap Err is
 
-pub returns-in_err-unfrozen : goal.returns-in_err-unfrozen
-returns-in_err-unfrozen g c = record {
-  row = λ handed are.
-      subst (λ r. ReopensOrStops handed c.args.config.name c.args.found r (g.B.Bank.view c.args.bank.now) (g.B.Bank.view c.args.bank.now))
-      (sym (err_is c.from_residual.result fault.Memory c.from_residual.ensures.1))
-      (stops_first handed c.args.config.name c.args.found (g.B.Bank.view c.args.bank.now));
-}
+pub returns-in_err-unfrozen-clause-row : goal.returns-in_err-unfrozen-clause-row
+returns-in_err-unfrozen-clause-row g c = λ handed are.
+    subst (λ r. ReopensOrStops handed c.args.config.name c.args.found r (g.B.Bank.view c.args.bank.now) (g.B.Bank.view c.args.bank.now))
+    (sym (err_is c.from_residual.result fault.Memory c.from_residual.ensures.1))
+    (stops_first handed c.args.config.name c.args.found (g.B.Bank.view c.args.bank.now))
 
-pub returns-in_err-part : goal.returns-in_err-part
-returns-in_err-part g c = record {
-  row = λ handed are.
-      subst (λ r. ReopensOrStops handed c.args.config.name c.args.found r (g.B.Bank.view c.args.bank.now) (g.B.Bank.view c.args.bank.now))
-      (sym (err_is c.from_residual-in_err-part.result fault.Memory c.from_residual-in_err-part.ensures.1))
-      (stops_first handed c.args.config.name c.args.found (g.B.Bank.view c.args.bank.now));
-}
+pub returns-in_err-part-clause-row : goal.returns-in_err-part-clause-row
+returns-in_err-part-clause-row g c = λ handed are.
+    subst (λ r. ReopensOrStops handed c.args.config.name c.args.found r (g.B.Bank.view c.args.bank.now) (g.B.Bank.view c.args.bank.now))
+    (sym (err_is c.from_residual-in_err-part.result fault.Memory c.from_residual-in_err-part.ensures.1))
+    (stops_first handed c.args.config.name c.args.found (g.B.Bank.view c.args.bank.now))
 
 pub devices_of-list-requires : goal.devices_of-list-requires
 devices_of-list-requires g c =
@@ -96,13 +94,11 @@ placing_err g c =
     c.find_leaves.ensures.found c.find_leaves.ensures.paired c.place_leaves.ensures.leaves c.place_leaves.ensures.built c.place_leaves.ensures.sectors
     c.place_leaves.ensures.lie
 
-pub returns-in_err-map : goal.returns-in_err-map
-returns-in_err-map g c = record {
-  row = λ handed are.
-      subst (λ r. ReopensOrStops handed c.args.config.name c.args.found r (g.B.Bank.view c.args.bank.now) (g.B.Bank.view c.read_map.new.bank))
-      (sym (err_is c.from_residual-in_err-map.result c.in_err-map.field-0.0 c.from_residual-in_err-map.ensures.1))
-      (opening.answers_stop _ _ _ _ _ _ _ (placing_err g c) c.in_err-map.field-0.0 (g.B.Bank.view c.read_map.new.bank) c.in_err-map.ensures.stops handed are);
-}
+pub returns-in_err-map-clause-row : goal.returns-in_err-map-clause-row
+returns-in_err-map-clause-row g c = λ handed are.
+    subst (λ r. ReopensOrStops handed c.args.config.name c.args.found r (g.B.Bank.view c.args.bank.now) (g.B.Bank.view c.read_map.new.bank))
+    (sym (err_is c.from_residual-in_err-map.result c.in_err-map.field-0.0 c.from_residual-in_err-map.ensures.1))
+    (opening.answers_stop _ _ _ _ _ _ _ (placing_err g c) c.in_err-map.field-0.0 (g.B.Bank.view c.read_map.new.bank) c.in_err-map.ensures.stops handed are)
 
 placing_pool : (g : Over) (c : goal.After-result-2-1 g) → opening.IsPlacing c.args.config c.args.found c.args.devs.now c.find_leaves.new.devs c.deref-2.result.now
     (g.B.Bank.view c.args.bank.now) (g.B.Bank.view c.find_leaves.new.bank)
@@ -119,7 +115,7 @@ placing_pool g c =
 pub invariant_of-result : goal.invariant_of-result
 invariant_of-result g c = (
   subst (λ ts. IsReopened (reopened c.args.config ts c.in_ok-map.map c.new-pins.result c.in_ok-unfrozen.unfrozen)) c.deref-2.ensures.value
-      (opening.leaves_pool _ _ _ _ _ _ _ (placing_pool g c) c.in_ok-map.map c.new-pins.result c.in_ok-unfrozen.unfrozen c.in_ok-map.ensures.volume.0
+      (opening.leaves_pool _ _ _ _ _ _ _ (placing_pool g c) c.requires.below c.in_ok-map.map c.new-pins.result c.in_ok-unfrozen.unfrozen c.in_ok-map.ensures.volume.0
       c.in_ok-map.ensures.volume.1 c.in_ok-map.ensures.places c.in_ok-map.ensures.born c.keeps_its_form.ensures.pointers c.keeps_its_form.ensures.form
       c.new-pins.ensures c.in_ok-unfrozen.ensures.none c.in_ok-unfrozen.ensures.room),
   c.in_ok-part.ensures,
@@ -137,11 +133,15 @@ placing_ok g c =
     c.find_leaves.ensures.found c.find_leaves.ensures.paired c.place_leaves.ensures.leaves c.place_leaves.ensures.built c.place_leaves.ensures.sectors
     c.place_leaves.ensures.lie
 
-pub returns : goal.returns
-returns g c = record {
-  row = λ handed are.
-      subst (λ ts. ReopensOrStops handed c.args.config.name c.args.found (Ok (reopened c.args.config ts c.in_ok-map.map c.new-pins.result c.in_ok-unfrozen.unfrozen))
-      (g.B.Bank.view c.args.bank.now) (g.B.Bank.view c.read_map.new.bank)) c.deref-2.ensures.value
-      (opening.answers_pool _ _ _ _ _ _ _ (placing_ok g c) c.in_ok-map.map c.new-pins.result c.in_ok-unfrozen.unfrozen (g.B.Bank.view c.read_map.new.bank)
-      c.in_ok-map.ensures.read c.in_ok-map.ensures.volume.0 c.in_ok-map.ensures.places c.in_ok-unfrozen.ensures.none handed are);
-}
+pub returns-clause-row : goal.returns-clause-row
+returns-clause-row g c = λ handed are.
+    subst (λ ts. ReopensOrStops handed c.args.config.name c.args.found (Ok (reopened c.args.config ts c.in_ok-map.map c.new-pins.result c.in_ok-unfrozen.unfrozen))
+    (g.B.Bank.view c.args.bank.now) (g.B.Bank.view c.read_map.new.bank)) c.deref-2.ensures.value
+    (opening.answers_pool _ _ _ _ _ _ _ (placing_ok g c) c.in_ok-map.map c.new-pins.result c.in_ok-unfrozen.unfrozen (g.B.Bank.view c.read_map.new.bank)
+    c.in_ok-map.ensures.read c.in_ok-map.ensures.volume.0 c.in_ok-map.ensures.places c.in_ok-unfrozen.ensures.none handed are)
+
+pub returns-clause-here : goal.returns-clause-here
+returns-clause-here g c =
+    subst (λ (ts : List Top). AreHere (g.B.Bank.view c.read_map.new.bank).size (all_parts ts)) c.deref-2.ensures.value
+    (subst (λ size. AreHere size (all_parts c.deref-2.result.now)) (sym (fun_ext c.in_ok-map.ensures.read.calls.frame.sizes))
+    (opening.here _ _ _ _ _ _ _ (placing_ok g c)))
