@@ -12,6 +12,7 @@ pub mod Opening
 pub mod Pages
 pub mod Parts
 pub mod Reading
+pub mod Scanning
 pub mod Seeking
 pub mod Space
 pub mod State

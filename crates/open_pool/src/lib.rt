@@ -16,6 +16,8 @@ mod placing;
 mod pool;
 mod read;
 mod reopening;
+mod resilver;
+mod scan;
 mod seeking;
 mod space;
 mod spares;
