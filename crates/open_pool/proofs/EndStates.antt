@@ -20,10 +20,11 @@ use Rattle.txg_engine.specs.Pins.{PinsSeen}
 use Rattle.txg_engine.specs.Writes.{OpenGroup, block_at}
 use Rattle.pool_moves.specs.Leaves.{LeafSeen}
 use Rattle.pool_moves.specs.Moves.{Draft, Burn, Commits, burned, sum_over, steps}
-use Rattle.pool_moves.specs.States.{Sums, sums, no_group_seen, no_scan_seen, PoolState}
+use Rattle.pool_moves.specs.States.{Sums, sums, no_group_seen, PoolState}
 use Rattle.open_pool.specs.Form.{all_leaves, HasLeaves}
 use Rattle.open_pool.specs.Parts.{PoolParts, all_parts}
 use Rattle.open_pool.specs.State.{cells_of, group_of, leaves_from, leaves_under, sectors_in, seen_of, state_of, sums_of, vdevs_in}
+use Rattle.open_pool.specs.Scanning.{scan_of}
 use Rattle.open_pool.proofs.GoingKept.{trees_leaves}
 use Rattle.open_pool.proofs.GroupBlocks.{blocks_of_cells}
 use Rattle.open_pool.proofs.LeavesAtEnd.{burns_leaves, commits_leaves}
@@ -55,7 +56,7 @@ idle_state b number read opened held blocks writes numbers children committed ro
     room = room;
     leaves = leaves;
     group = no_group_seen;
-    scan = no_scan_seen;
+    scan = scan_of b.scan;
     pinned = held;
   };
 }

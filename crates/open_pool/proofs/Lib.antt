@@ -91,6 +91,9 @@ pub mod RoundAnswers
 pub mod RoundDraws
 pub mod RoundParts
 pub mod RoundsTurned
+pub mod ScanChanged
+pub mod ScansSeen
+pub mod ScansStart
 pub mod SeatedHere
 pub mod SeatsOfFreeze
 pub mod SetsOffline

@@ -24,11 +24,11 @@ use Rattle.txg_engine.proofs.Places.{only_one}
 use Rattle.txg_engine.proofs.Seating.{got_inside, got_there}
 use Rattle.pool_codec.specs.Tops.{children_of}
 use Rattle.pool_moves.specs.AwayRows as rows
-use Rattle.pool_moves.specs.AwayRows.{GoesAway, IsRequired, LeaveIf, LeastOut, OfflineBy, OfflineHere, OfflineLeaf, OfflineReply, RowOffline, drop_if, drops_leaf, gone, is_listed, is_offline, is_spare, leaf_named, siblings, unnamed}
+use Rattle.pool_moves.specs.AwayRows.{GoesAway, IsRequired, LeaveIf, LeastOut, OfflineBy, OfflineHere, OfflineLeaf, OfflineReply, RowOffline, drops_leaf, gone, is_listed, is_offline, is_spare, leaf_named, siblings, unnamed}
 use Rattle.pool_moves.specs.Leaves.{LeafSeen, OwnLeaf}
-use Rattle.pool_moves.specs.Moves.{Move, Sets, on_dev, steps}
+use Rattle.pool_moves.specs.Moves.{Move, Sets, steps}
 use Rattle.pool_moves.specs.States.{PoolState}
-use Rattle.pool_moves.specs.Widening.{seen_along}
+use Rattle.pool_moves.proofs.Widenings.{seen_of}
 use Rattle.pool_moves.specs.Trees.{is_spare_leaf}
 use Rattle.pool_moves.proofs.FreeWalks.{steps_more}
 use Rattle.open_pool.specs.declared.named.Found.{Found}
@@ -41,6 +41,9 @@ use Rattle.open_pool.specs.Offline.{IsNamedOwn, IsStillIt, LeavesBoard, numbers_
 use Rattle.open_pool.specs.Parts.{PoolParts, TopParts, all_parts, top_parts}
 use Rattle.open_pool.specs.State.{Stands, leaf_of, leaves_from, leaves_under, own_of, seat_in, seats_in, vdevs_in}
 use Rattle.open_pool.proofs.BoardIsSeats.{board_on}
+use Rattle.open_pool.proofs.ScanChanged.{with_scan}
+use Rattle.open_pool.proofs.ScansSeen.{stands_dropped}
+use Rattle.open_pool.specs.Scanning.{dropped_from}
 use Rattle.open_pool.proofs.LeavesInForm.{leaves_are, leaves_few, leaves_numbered}
 use Rattle.open_pool.proofs.LeftServed.{left_served, seated_at}
 use Rattle.open_pool.proofs.NumbersApart.{Differ, leaf_numbers, leaves_differ, on_of}
@@ -129,11 +132,6 @@ among_all (t ∷ tops) zero top leaf at among =
     let same : t ≡ top = cc in
     Contains-append_left (leaves t.mirror) (leaves_of tops) leaf (subst (λ (x : Top). Contains (leaves x.mirror) leaf) (sym same) among)
 among_all (t ∷ tops) (suc i) top leaf at among = Contains-append_right (leaves t.mirror) (leaves_of tops) leaf (among_all tops i top leaf at among)
-
--- where no scan runs no leaf is eligible
-no_drops : (dev : Option ℕ) → drop_if (on_dev (λ d. false) dev) dev ≡ []
-no_drops None = refl
-no_drops (Some d) = refl
 
 -- ---- the rows
 
@@ -242,6 +240,16 @@ module _ (p : PoolParts) (trees : List Top) (parts : p.tops ≡ all_parts trees)
         named : leaf_named name s.core.leaves ≡ Some seen
         named = ap (leaf_named name) (leaves_is s stands) ∙ is.named seats
 
+        -- what its scan loses, and the pool behind that
+        abbrev pub drops : List Move
+        drops = drops_leaf s.core.scan seen
+
+        abbrev pub without_it : PoolParts
+        without_it = with_scan p (dropped_from found.dev p.scan)
+
+        pub drops_stand : Stands (with_scan p (dropped_from found.dev p.scan)) (steps (drops_leaf s.core.scan seen) s)
+        drops_stand = stands_dropped p seen found.dev is.dev_is s stands
+
         by_row : (spare : Bool) → ((place : ℕ) (tops : List Top) → slice_get tops place ≡ Some is.under
             → spare ≡ is_spare_leaf found.guid (children_of (vdevs_in (all_parts tops)) (suc place)))
             → (vs : List Move) (reply : OfflineReply) → OfflineHere spare s seen temporary vs reply → RowOffline s name temporary vs reply
@@ -304,31 +312,31 @@ module _ (p : PoolParts) (trees : List Top) (parts : p.tops ≡ all_parts trees)
             leaves = then;
           }
 
-          -- it leaves the board, and is OFFLINE then
+          -- the scan and the board lose it, and it is OFFLINE then
           pub gone_row : spare ≡ false → is_offline found.state ≡ false → ¬ (rules.IsRequired is.under found.guid)
-              → (mid q : PoolParts) → (left : LeavesBoard found.guid p s mid) → Stands q (steps (sets ∷ []) (steps left.leaving s))
+              → (base mid q : PoolParts) → base ≡ without_it → (left : LeavesBoard found.guid base (steps drops s) mid)
+              → Stands q (steps (sets ∷ []) (steps left.leaving (steps drops s)))
               → Answers (RowOffline s name temporary) offline_says (Ok tt) s q
-          gone_row isnt state free mid q left then = record {
-            moves = left.leaving ++ (sets ∷ []);
+          gone_row isnt state free base mid q same left then = record {
+            moves = drops ++ (left.leaving ++ (sets ∷ []));
             reply = rows.Gone;
-            is = by_leaf isnt false state (left.leaving ++ (sets ∷ [])) rows.Gone (inr (
+            is = by_leaf isnt false state (drops ++ (left.leaving ++ (sets ∷ []))) rows.Gone (inr (
               (λ needed. not_required seats trees found.top is.under leaf all_apart is.at is.among
                   (subst (λ g. ¬ (rules.IsRequired is.under g)) (sym is.guid_is) free)
                   (subst (IsRequired seen) (leaves_is s stands) needed)),
               record {
                 leaving = left.leaving;
-                leaves = subst (λ drops. LeaveIf seen.on leaf.dev (seen_along drops s.core) left.leaving) (sym none)
-                    (subst (λ g. LeaveIf (on_board seats g) leaf.dev s.core left.leaving) (sym is.guid_is) (left.are leaf leaf_is_there is.guid_is));
-                moves = ap (λ g. left.leaving ++ (Sets g own ∷ [])) (sym is.guid_is) ∙ ap (λ drops. drops ++ (left.leaving ++ (Sets leaf.guid own ∷ []))) (sym none);
+                leaves = subst (λ core. LeaveIf seen.on leaf.dev core left.leaving) (seen_of drops s)
+                    (subst (λ g. LeaveIf (on_board seats g) leaf.dev (steps drops s).core left.leaving) (sym is.guid_is)
+                    (subst (λ (x : PoolParts). LeaveIf (on_board (seats_in x.frozen) found.guid) leaf.dev (steps drops s).core left.leaving) same
+                    (left.are leaf (subst (λ (x : PoolParts). Contains (all_leaves x) leaf) (sym same) leaf_is_there) is.guid_is)));
+                moves = ap (λ g. drops ++ (left.leaving ++ (Sets g own ∷ []))) (sym is.guid_is);
               },
               refl,
             ));
             says_so = refl;
-            leaves = subst (Stands q) (sym (steps_more left.leaving (sets ∷ []) s)) then;
+            leaves = subst (Stands q) (sym (steps_more drops (left.leaving ++ (sets ∷ [])) s ∙ steps_more left.leaving (sets ∷ []) (steps drops s))) then;
           }
-            where
-              none : drops_leaf s.core.scan seen ≡ []
-              none = ap (λ (x : PoolState). drops_leaf x.core.scan seen) stands.is ∙ no_drops leaf.dev
 
 -- the top that was asked is the one that it stands under
 pub same_top : (tops : List Top) (i : ℕ) (under asked : Top) → slice_get tops i ≡ Some under → asked ≡ get_or tops i asked → under ≡ asked

@@ -64,6 +64,7 @@ reopened c tops map pins unfrozen = record {
   spares = c.spares.items;
   unfrozen = unfrozen;
   frozen = None;
+  scan = None;
   dirty = 0;
 }
 

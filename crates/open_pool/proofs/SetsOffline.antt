@@ -31,10 +31,11 @@ use Rattle.txg_engine.specs.Frozen.{FrozenGroup}
 use Rattle.txg_engine.specs.Logs.{IsReady}
 use Rattle.pool_moves.specs.Leaves.{OwnLeaf}
 use Rattle.pool_moves.specs.Moves.{Sets, leaf_step, steps}
-use Rattle.pool_moves.specs.States.{ScanSeen, no_scan_seen, Sums, PoolState}
+use Rattle.pool_moves.specs.States.{ScanSeen, Sums, PoolState}
 use Rattle.open_pool.specs.Form.{IsPool, HasBoard, HasGroup, HasLeaves, IsRecordable, IsSeated, IsSeatOf, all_leaves, config_of}
 use Rattle.open_pool.specs.Offline.{IsNamedOwn}
 use Rattle.open_pool.specs.Parts.{PoolParts, TopParts, all_parts, top_parts}
+use Rattle.open_pool.specs.Scanning.{scan_of}
 use Rattle.open_pool.specs.State.{Stands, group_of, leaves_from, leaves_under, sectors_in, seat_in, seats_in, state_of}
 use Rattle.open_pool.proofs.BoardIsSeats.{board_on}
 use Rattle.open_pool.proofs.FreezeRefused.{sectors_are}
@@ -378,7 +379,7 @@ module _ (m : Guid) (temporary : Bool) (r : PoolParts) (old new : List Top) (set
       let names = alike.numbers in
       let children = alike.children in
       let room : room_of (sectors_in (all_parts new)) ≡ room_of (sectors_in (all_parts old)) = ap room_of same_sectors in
-      let seen = seen_off own r.highest (group_of r.frozen).first no_scan_seen are in
+      let seen = seen_off own r.highest (group_of r.frozen).first (scan_of r.scan) are in
       cc
 
   stands_then : (s : PoolState) (own : OwnLeaf) → Stands p s

@@ -13,6 +13,7 @@ pub mod Pages
 pub mod Parts
 pub mod Reading
 pub mod Resuming
+pub mod Scanning
 pub mod Seeking
 pub mod Space
 pub mod State

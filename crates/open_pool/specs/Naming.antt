@@ -16,5 +16,6 @@ pub record IsFound (name : List ℕ) (tops : List Top) (found : Found) : Type 0 
   pub leaf : LeafVdev
   pub among : Contains (leaves under.mirror) leaf
   pub guid_is : leaf.guid ≡ found.guid
+  pub dev_is : leaf.dev ≡ found.dev
   pub state_is : leaf.state ≡ found.state
   pub named : (seats : List Seat) → leaf_named name (leaves_from seats 1 (leaves_under (all_parts tops))) ≡ Some (leaf_of seats (suc found.top) leaf)

@@ -9,6 +9,7 @@ use Rattle.pool_config.specs.Seen.{VdevSeen, mirror_vdevs}
 use Rattle.txg_engine.specs.Frozen.{FrozenGroup}
 use Rattle.txg_engine.specs.Pins.{PinsSeen}
 use Rattle.txg_engine.specs.Writes.{OpenGroup}
+use Rattle.open_pool.specs.declared.scan.Scan.{Scan}
 
 -- A top: its data sectors, its vdevs and its leaves, both in tree order.
 pub record TopParts : Type 0 where
@@ -38,4 +39,5 @@ pub record PoolParts : Type 0 where
   pub spares : List (List ℕ)
   pub unfrozen : OpenGroup
   pub frozen : Option FrozenGroup
+  pub scan : Option Scan
   pub dirty : ℕ

@@ -20,8 +20,9 @@ use Rattle.pool_codec.specs.Pointers.{sum_in}
 use Rattle.pool_codec.specs.Tops.{room_of, number_of, children_of}
 use Rattle.pool_moves.specs.FreezeRow.{IsAtPinned}
 use Rattle.pool_moves.specs.Leaves.{LeafSeen, OwnLeaf}
-use Rattle.pool_moves.specs.States.{Sums, GroupSeen, no_group_seen, no_scan_seen, PoolSeen, Own, PoolState}
+use Rattle.pool_moves.specs.States.{Sums, GroupSeen, no_group_seen, PoolSeen, Own, PoolState}
 use Rattle.open_pool.specs.Parts.{TopParts, PoolParts}
+use Rattle.open_pool.specs.Scanning.{scan_of}
 
 -- the pointers of a map
 abbrev pub sums_of : Map → Sums
@@ -128,7 +129,7 @@ seen_of held p = record {
   room = room_of (sectors_in p.tops);
   leaves = leaves_from (seats_in p.frozen) 1 (leaves_under p.tops);
   group = group_of p.frozen;
-  scan = no_scan_seen;
+  scan = scan_of p.scan;
   pinned = held;
 }
 

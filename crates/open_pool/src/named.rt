@@ -17,11 +17,12 @@ use mp_base::{Guid, Name};
 use txg_engine::MOST_LEAVES;
 use vdev_tree::{LeafVdev, State, Top};
 
-/// Where a leaf is: its top's place, its member number, and its state.
+/// Where a leaf is: its top's place, its member number, its device, and its state.
 #[derive(Clone, Copy)]
 pub(crate) struct Found {
     pub(crate) top: usize,
     pub(crate) guid: Guid,
+    pub(crate) dev: Option<u32>,
     pub(crate) state: State,
 }
 
@@ -47,6 +48,7 @@ pub(crate) fn find_leaf(tops: &[Top], name: &Name) -> Option<Found>
             return Some(Found {
                 top: place,
                 guid: leaf.guid,
+                dev: leaf.dev,
                 state: leaf.state,
             });
         }

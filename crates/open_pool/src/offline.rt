@@ -10,9 +10,11 @@ ghost use Rattle.pool_moves.specs.States.{PoolState};
 ghost use Rattle.open_pool.specs.Form.{all_leaves};
 ghost use Rattle.open_pool.specs.Offline.{IsNamedOwn, IsStillIt, LeavesBoard, numbers_under, offline_says};
 ghost use Rattle.open_pool.specs.Parts.{TopParts};
+ghost use Rattle.open_pool.specs.Scanning.{dropped_from};
 
 use crate::Pool;
 use crate::named::find_leaf;
+use crate::scan::drop_from;
 use crate::spares::{is_listed, is_spare_leaf};
 use dtl_rules::required;
 use mp_base::{Group, Guid, Name, PlaceRule};
@@ -34,7 +36,7 @@ impl Pool {
     ghost use Rattle.open_pool.specs.State.{Stands, seats_in};
 
     /// Takes the leaf on the device of this name offline, with `temporary` only until the next opening. It leaves the board of a
-    /// frozen group, whose numbers it then owes. At `Err` nothing has changed.
+    /// frozen group, whose numbers it then owes, and the running scan. At `Err` nothing has changed.
     pub fn offline(&mut self, name: &Name, temporary: bool) -> Result<(), OfflineFault>
         ensures row { (s : PoolState) → Stands self.old s → Answers (RowOffline s name.now temporary) offline_says result s self.new }
     {
@@ -54,6 +56,7 @@ impl Pool {
         if let Some(group) = required(top, found.guid) {
             return Err(OfflineFault::Required { group });
         }
+        self.drop_from_scan(found.dev);
         self.leave_board(found.guid);
         self.set_offline(found.top, found.guid, temporary);
         Ok(())
@@ -68,6 +71,13 @@ impl Pool {
             return OfflineFault::Misplaced { rule };
         }
         OfflineFault::NoVdev
+    }
+
+    // The leaf on this device, if it has one, is no longer eligible in the running scan.
+    fn drop_from_scan(&mut self, dev: Option<u32>)
+        ensures { self.new ≡ record self.old { scan = dropped_from dev self.old.scan } }
+    {
+        drop_from(&mut self.scan, dev);
     }
 
     // The leaf of this number leaves the board of the frozen group, where it is on it. Its top keeps somebody there, or had a

@@ -1,4 +1,5 @@
 //! An open pool, part by part.
+use crate::scan::Scan;
 use block_map::BlockMap;
 use mp_base::{Group, Guid, Name};
 use std::alloc::Global;
@@ -25,6 +26,7 @@ pub struct Pool {
     pub(crate) spares: Vec<Name>,
     pub(crate) open: Open,
     pub(crate) frozen: Option<Frozen>,
+    pub(crate) scan: Option<Scan>,
     /// How many addresses the open and the frozen group have together.
     pub(crate) dirty: usize,
     /// A buffer of a configuration part, 114,688 bytes.
@@ -51,6 +53,7 @@ impl Model for Pool {
       spares = pool.spares.items;
       unfrozen = pool.open;
       frozen = pool.frozen;
+      scan = pool.scan;
       dirty = pool.dirty;
     } };
 
@@ -67,6 +70,7 @@ impl Model for Pool {
       spares = pool.spares.items;
       unfrozen = pool.open;
       frozen = pool.frozen;
+      scan = pool.scan;
       dirty = pool.dirty;
     }) × (length pool.config.items ≡ 114688) };
 }

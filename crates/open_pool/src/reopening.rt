@@ -21,7 +21,7 @@ use std::marker::Model;
 use txg_engine::{MOST_LEAVES, Open, Pins};
 use vdev_tree::Top;
 
-/// It has all that an open pool has, with an empty open group, and none frozen. Its commit makes a `Pool` of it.
+/// It has all that an open pool has, with an empty open group, none frozen, and no scan. Its commit makes a `Pool` of it.
 #[derive(Drop)]
 pub struct Reopened {
     pub(crate) alloc: Global,
@@ -58,6 +58,7 @@ impl Model for Reopened {
       spares = pool.spares.items;
       unfrozen = pool.unfrozen;
       frozen = None;
+      scan = None;
       dirty = 0;
     } };
 
@@ -74,6 +75,7 @@ impl Model for Reopened {
       spares = pool.spares.items;
       unfrozen = pool.unfrozen;
       frozen = None;
+      scan = None;
       dirty = 0;
     }) × (length pool.config.items ≡ 114688) };
 }

@@ -18,6 +18,7 @@ returns-in-Some-clause-some c =
       leaf = c.in-Some.leaf.now;
       among = found_among (is_named name) (leaves top.mirror) c.in-Some.leaf.now (sym c.in-Some.ensures);
       guid_is = refl;
+      dev_is = refl;
       state_is = refl;
       named = λ seats. named_at name seats 1 c.loop-place.place c.args.tops.now top c.in-Some.leaf.now c.loop-place.invariant at (sym c.in-Some.ensures)
           ∙ ap (λ i. Some (leaf_of seats i c.in-Some.leaf.now)) one_more;
