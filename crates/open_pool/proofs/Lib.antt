@@ -28,6 +28,7 @@ pub mod FreezeNeeds
 pub mod FreezeRefused
 pub mod FreezeRows
 pub mod FreezeSeats
+pub mod FreezeSteps
 pub mod FreezesAreRows
 pub mod GoingKept
 pub mod GroupBlocks
@@ -57,6 +58,17 @@ pub mod MapsRead
 pub mod MembersAgree
 pub mod NamesFound
 pub mod NeedCounted
+pub mod NewAsked
+pub mod NewCommit
+pub mod NewForm
+pub mod NewLeavesMade
+pub mod NewRecord
+pub mod NewRound
+pub mod NewSeats
+pub mod NewStamps
+pub mod NewState
+pub mod NewTopsBuilt
+pub mod NewTopsShown
 pub mod NumbersApart
 pub mod NumbersOwed
 pub mod OfflineRows

@@ -87,7 +87,7 @@ impl Pool {
 }
 
 // Freezes the open group over these parts of a pool. An empty one comes in its place.
-fn freeze_parts(
+pub(crate) fn freeze_parts(
     alloc: Global,
     group: &mut Open,
     map: &mut BlockMap,
