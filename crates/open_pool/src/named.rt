@@ -12,6 +12,7 @@ ghost use Rattle.open_pool.specs.Naming.{IsFound};
 ghost use Rattle.open_pool.specs.Parts.{all_parts};
 ghost use Rattle.open_pool.specs.State.{leaves_from, leaves_under};
 
+use crate::Pool;
 use mp_base::{Guid, Name};
 use txg_engine::MOST_LEAVES;
 use vdev_tree::{LeafVdev, State, Top};
@@ -22,6 +23,17 @@ pub(crate) struct Found {
     pub(crate) top: usize,
     pub(crate) guid: Guid,
     pub(crate) state: State,
+}
+
+impl Pool {
+    ghost use Rattle.std.specs.Str.{bytes_eq};
+
+    /// Whether the pool has this name.
+    pub fn is_named(&self, name: &Name) -> bool
+        ensures { result ≡ bytes_eq self.now.name name.now }
+    {
+        self.name == *name
+    }
 }
 
 /// The leaf of this name, the first in tree order.

@@ -297,5 +297,6 @@ entry_keeps c h e d p (inl row) is = ⊎_elim (λ keeps. inl (acts_held (record 
     (λ taken. inr taken) (entry_row c h e p d e.asked refl row.0)
 entry_keeps c h e d p (inr out) is = let x : Held = record { pool = p.pool.0; d = d; guid = p.guid d } in
     inl (acts_held x e.acts p
-    (⊎_elim (λ early. none_keeps x e.acts early.0) (λ rewrites. rewrite_front c h e.asked e.acts out.rest out.reply x rewrites out.goes_on) out.early)
+    (⊎_elim (λ none. subst (Keep x) (sym none) tt) (λ b. ⊎_elim (λ early. none_keeps x e.acts early.0)
+    (λ rewrites. rewrite_front c h e.asked e.acts b.rest b.reply x rewrites b.goes_on) out.early) out.begun)
     (record { number = refl; member = is; guid_is = refl })).member

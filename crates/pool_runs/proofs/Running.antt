@@ -259,7 +259,8 @@ row_may c h p (Asks_create name blocks tops) acts reply knows made row = create_
 
 pub entry_may : (c : Codec) (h : Host) (p : Pool) (e : Entry) → Knows c h p → HostRow c h e → MayActs c h p e.acts
 entry_may c h p e knows (inl row) = row_may c h p e.asked e.acts e.reply knows row.1 row.0
-entry_may c h p e knows (inr out) = may_front c h p e.acts out.rest (row_may c h p e.asked (e.acts ++ out.rest) out.reply knows out.made out.goes_on)
+entry_may c h p e knows (inr out) = ⊎_elim (λ none. subst (MayActs c h p) (sym none) tt)
+    (λ b. may_front c h p e.acts b.rest (row_may c h p e.asked (e.acts ++ b.rest) b.reply knows b.made b.goes_on)) out.begun
 
 -- the clock
 pub heard : (c : Codec) (h : Host) (p : Pool) (second : ℕ) → Knows c h p → Knows c (host_by (Hears second) h) p

@@ -524,7 +524,8 @@ short_leaves c h p e rest reply asked knows made is row early = leaves_still c h
 
 entry_leaves : (c : Codec) (h : Host) (p : Pool) (e : Entry) → Knows c h p → HostRow c h e → Leaves c h p e
 entry_leaves c h p e knows (inl row) = row_leaves c h p e e.asked knows row.1 refl row.0
-entry_leaves c h p e knows (inr out) = short_leaves c h p e out.rest out.reply e.asked knows out.made refl out.goes_on out.early
+entry_leaves c h p e knows (inr out) = ⊎_elim (λ none. leaves_still c h p e (subst AllStill (sym none) tt))
+    (λ b. short_leaves c h p e b.rest b.reply e.asked knows b.made refl b.goes_on out.early) out.begun
 
 pub entry_writes : (c : Codec) (h : Host) (p : Pool) (e : Entry) → Knows c h p → HostRow c h e → KeepsWrites c h p (pool_along e.acts p) e
 entry_writes c h p e knows row = record { puts = λ a block w x. write_puts c h p e a block row w x; leaves = entry_leaves c h p e knows row }

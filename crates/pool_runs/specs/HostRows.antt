@@ -196,14 +196,19 @@ abbrev pub TakesMemory : Asked → Type 0
 TakesMemory (Asks_turn name) = ⊥
 TakesMemory asked = Unit {0}
 
--- A line for which there was no memory, where it takes any: it did what some row of this line begins with. Each call so far answered Ok; none of them wrote or
--- flushed, and no open pool changed, but where an import rewrote pages of its own. (A sync that ended a group before is a row of its own.)
-pub record RunsOut (c : Codec) (h : Host) (e : Entry) : Type 0 where
-  pub takes : TakesMemory e.asked
+-- What was done is what some row of this line begins with, and its calls were made.
+pub record BeginsRow (c : Codec) (h : Host) (e : Entry) : Type 0 where
   pub rest : List Act
   pub reply : Reply
   pub goes_on : RowOf c h e.asked (e.acts ++ rest) reply
   pub made : AreMade h (calls_along (e.acts ++ rest))
+
+-- A line for which there was no memory, where it takes any: it did nothing, or what some row of this line begins with. Each call so far answered Ok;
+-- none of them wrote or flushed, and no open pool changed, but where an import rewrote pages of its own. (A sync that ended a group before is a row of
+-- its own.)
+pub record RunsOut (c : Codec) (h : Host) (e : Entry) : Type 0 where
+  pub takes : TakesMemory e.asked
+  pub begun : (e.acts ≡ []) ⊎ BeginsRow c h e
   pub answered : AllByRecursion (λ noted. fault_of noted.call ≡ None) (calls_along e.acts)
   pub early : (AllByRecursion ChangesNone e.acts × AreReads (calls_along e.acts)) ⊎ MayRewrite e.asked e.acts
   pub says : e.reply ≡ No_memory

@@ -227,7 +227,7 @@ returns-in_default-done g c =
     }
 
 -- The record is acknowledged.
-was_acknowledged : (g : Over) (c : goal.After-self-6-1 g) → MadeTurn (the_view c.self.inside) c.in-Some.frozen c.make_turn-turn.new.frozen c.self.inside.tops.items
+was_acknowledged : (g : Over) (c : goal.After-self-5-1 g) → MadeTurn (the_view c.self.inside) c.in-Some.frozen c.make_turn-turn.new.frozen c.self.inside.tops.items
     c.make_turn-turn.new.tops (g.B.Bank.view c.args.bank.now) (g.B.Bank.view c.make_turn-turn.new.bank) (Ok (done.Committed c.in-Committed.number))
 was_acknowledged g c =
     let held = c.keeps_its_form.ensures in
@@ -238,7 +238,7 @@ was_acknowledged g c =
     held.pool held.rise held.group c.requires _ _ _ c.blocks-2.ensures.blocks c.deref_mut.ensures.value c.deref.ensures.value
     told.turn told.ready told.keys told.acked told.built told.sectors c.keeps_its_form-2.ensures)
 
-adopted_back : (g : Over) (c : goal.After-self-6-1 g) (P : PoolParts → Type 0) → c.in-Committed.number ≡ c.make_turn-turn.new.frozen.numbers.last
+adopted_back : (g : Over) (c : goal.After-self-5-1 g) (P : PoolParts → Type 0) → c.in-Committed.number ≡ c.make_turn-turn.new.frozen.numbers.last
     → P (acknowledged (the_view c.self.inside) c.make_turn-turn.new.frozen c.adopt.new.map c.adopt.new.pins c.make_turn-turn.new.tops)
     → P (record (the_view c.self.inside) {
       highest = c.numbers.result.last.0;
