@@ -1,5 +1,5 @@
 -- Behind a freeze the pool has its form.
-use Rattle.std.proofs.Common.{◌≡◌, ◌⊎◌, inl, inr, ⊎_elim, ℕ, suc, ◌+◌, ◌<◌, ◌≤◌, ◌^◌, ◌||◌, ◌&&◌, not, cond, Bool, true, false, List, [], ◌∷◌, length, map, All, Contains, Option, Some, None, refl, sym, ap, ◌∙◌, subst, arith}
+use Rattle.std.proofs.Common.{◌≡◌, ◌⊎◌, inl, inr, ⊎_elim, ℕ, suc, ◌+◌, ◌<◌, ◌≤◌, ◌^◌, ◌||◌, ◌&&◌, not, cond, Bool, true, false, List, [], ◌∷◌, length, All, Contains, Option, Some, None, refl, sym, ap, ◌∙◌, subst, arith}
 use Rattle.std.specs.Prelude.{is_some, sum}
 use Rattle.std.specs.List.{AllByRecursion}
 use Rattle.std.proofs.lemmas.List.{get_or-map, length-map}
@@ -12,36 +12,29 @@ use Rattle.block_map.specs.Keys.{IsKey, root}
 use Rattle.block_map.specs.Map.{pointer_at, is_free, is_pinned}
 use Rattle.block_map.specs.Places.{IsPlace}
 use Rattle.block_map.specs.Pointers.{IsPointer}
-use Rattle.vdev_tree.specs.declared.vdev.LeafVdev.{LeafVdev}
-use Rattle.dtl_rules.specs.Widening.{leaves_of}
 use Rattle.pool_codec.specs.Pointers.{sum_in}
-use Rattle.pool_config.specs.Seen.{leaf_seen, ranges_of}
-use Rattle.pool_config.specs.Validity.{IsValid, log_length}
-use Rattle.pool_config.proofs.Bounds.{sum_cons}
+use Rattle.pool_config.specs.Validity.{IsValid}
 use Rattle.vdev_tree.specs.declared.top.Top.{Top}
 use Rattle.txg_engine.specs.declared.item.Item.{Item}
 use Rattle.txg_engine.specs.declared.seat.Numbers.{Numbers}
-use Rattle.txg_engine.specs.declared.seat.Seat.{Seat}
 use Rattle.txg_engine.specs.declared.write.Write.{Write}
 use Rattle.txg_engine.specs.Boards.{has_seat, seats_of}
 use Rattle.txg_engine.specs.Freezing.{IsSigned}
 use Rattle.txg_engine.specs.Frozen.{FrozenGroup, KeysRise}
 use Rattle.txg_engine.specs.Items.{cell_of, place_of, places_of}
-use Rattle.txg_engine.specs.Logs.{IsReady, is_off}
+use Rattle.txg_engine.specs.Logs.{IsReady}
 use Rattle.txg_engine.specs.Writes.{is_written}
 use Rattle.txg_engine.proofs.Places.{cases_among, only_one, same_key_self, same_place}
 use Rattle.txg_history.specs.Pages.{Sum, sum_of}
 use Rattle.txg_history.specs.Records.{Cell, key}
 use Rattle.pool_moves.specs.FreezeRow.{IsAtPlace}
-use Rattle.pool_moves.specs.Moves.{Move, Widen, step}
 use Rattle.pool_moves.specs.Refusing.{count_below}
-use Rattle.pool_moves.specs.States.{sums, PoolSeen}
-use Rattle.pool_moves.specs.Widening.{AreWidens, ranges_together, seen_along}
+use Rattle.pool_moves.specs.States.{sums}
 use Rattle.txg_engine.proofs.TopsServed.{each_seated}
 use Rattle.open_pool.specs.Form.{IsPool, ArePlacesApart, HasPlaces, HasBoard, HasGroup, HasOpen, IsRecordable, all_leaves, config_of, is_dirty}
 use Rattle.open_pool.specs.Freezing.{FreezeParts, FreezesParts, group_at}
-use Rattle.open_pool.specs.Parts.{PoolParts, all_parts}
-use Rattle.open_pool.specs.State.{cells_of, leaves_from, leaves_under, seen_of, sums_of}
+use Rattle.open_pool.specs.Parts.{PoolParts}
+use Rattle.open_pool.specs.State.{cells_of, sums_of}
 use Rattle.open_pool.proofs.BoardKept.{AreSameLeaves, board_frozen}
 use Rattle.open_pool.proofs.CountsBelow.{count_same}
 use Rattle.open_pool.proofs.TurnSteps.{sectors_are}
@@ -51,13 +44,12 @@ use Rattle.open_pool.proofs.TurnLeaves.{AreInForm}
 use Rattle.open_pool.proofs.FreezeRefused.{idle_parts}
 use Rattle.open_pool.proofs.GroupBlocks.{has_block}
 use Rattle.open_pool.proofs.KeysFound.{found_item}
-use Rattle.open_pool.proofs.LeavesByTops.{leaves_at, by_tops, tops_from, under_all, under_trees, HaveTops, have_tops}
 use Rattle.open_pool.proofs.LeavesInForm.{leaves_are, leaves_numbered, on_leaves}
-use Rattle.open_pool.proofs.LeavesKept.{AreKept, owing_kept, leaves_kept}
+use Rattle.open_pool.proofs.LeavesKept.{AreKept, leaves_kept}
 use Rattle.open_pool.proofs.LogsWidened.{IsWithin}
 use Rattle.open_pool.proofs.NumbersApart.{AreNumbered}
 use Rattle.open_pool.proofs.PlacesGiven.{are_given, behind_first, cells_apart, differ, keys_rise_on, rises_to}
-use Rattle.open_pool.proofs.RecordStill.{valid_still, placed_still, ranges_at}
+use Rattle.open_pool.proofs.RecordStill.{valid_still, placed_still}
 use Rattle.open_pool.proofs.TreesBuilt.{built_sizes}
 
 -- The places of the keys.

@@ -1,29 +1,21 @@
 -- The steps of a freeze: its moves lead to the state with the group that begins, and logs stay small.
-use Rattle.std.proofs.Common.{◌≡◌, ℕ, suc, ◌+◌, ◌<◌, ◌≤◌, ◌^◌, cond, false, List, [], ◌∷◌, ◌++◌, length, map, Some, None, Ok, refl, sym, ap, ◌∙◌, subst, arith}
+use Rattle.std.proofs.Common.{◌≡◌, ℕ, suc, ◌+◌, ◌≤◌, ◌^◌, false, List, [], ◌∷◌, ◌++◌, length, map, Some, None, refl, sym, ap, ◌∙◌, subst, arith}
 use mathlib.Core.Path.{fun_ext}
 use Rattle.std.specs.List.{AllByRecursion}
-use Rattle.std.proofs.lemmas.Bool.{le-ltb}
-use Rattle.std.proofs.lemmas.List.{length-map}
 use Rattle.mp_base.specs.declared.place.Key.{Key}
-use Rattle.block_map.specs.Map.{is_open, CountsPlaces}
 use Rattle.vdev_tree.specs.declared.vdev.LeafVdev.{LeafVdev}
 use Rattle.dtl_rules.specs.Widening.{leaves_of}
-use Rattle.pool_codec.specs.Codecs.{pool_codec}
 use Rattle.pool_codec.specs.Pointers.{sum_in}
 use Rattle.pool_codec.specs.Tops.{room_of}
 use Rattle.txg_engine.specs.declared.item.Item.{Item}
 use Rattle.txg_engine.specs.declared.seat.Numbers.{Numbers}
 use Rattle.txg_engine.specs.declared.seat.Seat.{Seat}
 use Rattle.txg_engine.specs.Boards.{seats_of}
-use Rattle.txg_engine.specs.Frozen.{FrozenGroup, KeysRise}
-use Rattle.txg_engine.specs.Items.{key_of, place_of}
+use Rattle.txg_engine.specs.Frozen.{FrozenGroup}
 use Rattle.txg_engine.specs.Logs.{AreOwing, is_off}
-use Rattle.txg_engine.specs.Refusing.{need}
-use Rattle.txg_engine.specs.Writes.{RiseFrom, block_at}
+use Rattle.txg_engine.specs.Writes.{block_at}
 use Rattle.pool_moves.specs.FreezeRow.{up_devs}
-use Rattle.pool_moves.specs.LineRows.{Frozen, RowFreezeLine}
 use Rattle.pool_moves.specs.Moves.{Move, Freeze, Widen, steps, state_step}
-use Rattle.pool_moves.specs.Refusing.{NoRoom, last_number}
 use Rattle.pool_moves.specs.States.{Sums, PoolState, frozen_seen}
 use Rattle.pool_moves.specs.Widening.{AreWidens, seen_along}
 use Rattle.std.specs.Prelude.{sum}
@@ -40,20 +32,14 @@ use Rattle.open_pool.proofs.LeavesKept.{AreKept, owing_kept}
 use Rattle.open_pool.proofs.LogsWidened.{IsWithin}
 use Rattle.open_pool.proofs.RecordStill.{ranges_at}
 use Rattle.open_pool.proofs.TurnLeaves.{AreInForm}
-use Rattle.open_pool.specs.Answering.{Answers}
-use Rattle.open_pool.specs.Form.{IsPool}
-use Rattle.open_pool.specs.Freezing.{FreezeParts, FreezesParts, HasForms, group_at, freeze_says}
+use Rattle.open_pool.specs.Freezing.{FreezeParts, FreezesParts, group_at}
 use Rattle.open_pool.specs.Parts.{PoolParts, all_parts}
-use Rattle.open_pool.specs.State.{ArePinned, Stands, cells_of, is_done, group_of, leaf_of, leaves_from, leaves_under, sectors_in, own_state, seen_of, state_of, sums_of}
+use Rattle.open_pool.specs.State.{cells_of, is_done, group_of, leaf_of, leaves_from, leaves_under, sectors_in, own_state, seen_of, state_of, sums_of}
 use Rattle.open_pool.proofs.BoardKept.{AreSameLeaves}
 use Rattle.open_pool.proofs.FreezeRefused.{idle_parts, sectors_are}
-use Rattle.open_pool.proofs.FreezeRows.{room_by}
-use Rattle.open_pool.proofs.FreezesAreRows.{dirty_keys_are}
-use Rattle.open_pool.proofs.LeavesInForm.{in_form, on_leaves}
+use Rattle.open_pool.proofs.LeavesInForm.{on_leaves}
 use Rattle.open_pool.proofs.LeavesOwe.{OwesNumber, freezes_number}
 use Rattle.open_pool.proofs.LeavesStay.{owing_same}
-use Rattle.open_pool.proofs.PlacesGiven.{places_given}
-use Rattle.open_pool.proofs.StatesStand.{stands_there, by_state}
 use Rattle.open_pool.proofs.TreesBuilt.{built_sizes, trees_told}
 
 -- The pool with the group that begins.

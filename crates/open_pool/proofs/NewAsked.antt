@@ -1,12 +1,11 @@
 -- What is asked for of a new pool, as its code has it, and what the tops made of it are.
-use Rattle.std.proofs.Common.{◌≡◌, ℕ, suc, ◌+◌, ◌-◌, ◌<◌, ◌≤◌, true, List, [], ◌∷◌, ◌++◌, length, map, min, Option, Some, None, refl, sym, ap, ◌∙◌, subst, arith}
+use Rattle.std.proofs.Common.{◌≡◌, ℕ, suc, ◌+◌, ◌-◌, ◌≤◌, List, [], ◌∷◌, length, min, Option, Some, None, refl, sym, ◌∙◌, subst, arith}
 use Rattle.std.specs.Global.{Vec}
 use Rattle.std.specs.Prelude.{All}
 use Rattle.std.specs.List.{AllByRecursion}
 use Rattle.std.proofs.lemmas.List.{length-map}
 use Rattle.std.proofs.lemmas.List.Elements.{All-from_recursion, recursion_from_All}
 use Rattle.block_map.specs.Places.{AreTops}
-use Rattle.vdev_tree.specs.Leaf.{is_readable}
 use Rattle.vdev_tree.specs.Tree.{leaves}
 use Rattle.vdev_tree.specs.declared.top.Top.{Top}
 use Rattle.vdev_tree.specs.declared.vdev.LeafVdev.{LeafVdev}
@@ -14,7 +13,7 @@ use Rattle.dtl_rules.specs.Widening.{leaves_of, sectors_of}
 use Rattle.pool_config.specs.Validity.{IsTop}
 use Rattle.pool_moves.specs.StampRow.{NewMember, NewLeaf, leaves_from, least_with, new_leaves}
 use Rattle.open_pool.specs.declared.new_tops.NewLeaf as code
-use Rattle.open_pool.specs.Creating.{AreMade, AreNewTops, IsAsked, IsNewTop, least_room, members_in, members_of, member_of}
+use Rattle.open_pool.specs.Creating.{AreMade, AreNewTops, IsAsked, least_room, members_in, members_of, member_of}
 use Rattle.open_pool.specs.Here.{AreHere, IsHere}
 use Rattle.open_pool.specs.Parts.{TopParts, all_parts}
 use Rattle.open_pool.proofs.NewLeavesMade as made

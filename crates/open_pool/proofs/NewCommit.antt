@@ -1,9 +1,9 @@
 -- The stamps and the first commit of a pool that is begun, and what they answer.
-use Rattle.std.proofs.Common.{◌≡◌, ◌⊎◌, ℕ, ◌+◌, ◌<◌, ◌≤◌, ◌==◌, ◌^◌, Bool, true, false, List, [], ◌∷◌, ◌++◌, length, map, Some, None, Option, Result, Ok, Err, refl, sym, ap, ◌∙◌, subst, arith, append-nil}
+use Rattle.std.proofs.Common.{◌≡◌, ◌⊎◌, ℕ, ◌<◌, ◌≤◌, ◌^◌, Bool, true, false, List, [], ◌∷◌, ◌++◌, length, map, Some, None, Option, Result, Ok, Err, refl, sym, ap, ◌∙◌, subst, arith, append-nil}
 use mathlib.Core.Path.{fun_ext}
 use Rattle.std.specs.Prelude.{All, IsErrAnd, IsTrue, slice_get}
 use Rattle.std.specs.List.{AllZip}
-use Rattle.std.proofs.lemmas.Bool.{eq-eqb, false≢true, true≢false}
+use Rattle.std.proofs.lemmas.Bool.{true≢false}
 use Rattle.std.proofs.lemmas.List.{length-map}
 use Rattle.std.proofs.lemmas.List.Elements.{All-from_recursion}
 use Rattle.mp_base.specs.Name.{is_name}
@@ -11,9 +11,8 @@ use Rattle.mp_base.specs.declared.number.Group.{Group}
 use Rattle.mp_base.specs.declared.number.Guid.{Guid}
 use Rattle.bank_core.specs.BankView.{BankView}
 use Rattle.bank_core.specs.Calls.{Makes}
-use Rattle.bank_core.specs.Disk.{Noted}
 use Rattle.bank_core.proofs.Framing.{makes_more}
-use Rattle.label_store.specs.Rounds.{IsRound, third_plan}
+use Rattle.label_store.specs.Rounds.{third_plan}
 use Rattle.label_store.specs.Seats as seats
 use Rattle.label_store.specs.declared.member.Member.{Member}
 use Rattle.block_map.specs.Keys.{root}
@@ -28,22 +27,21 @@ use Rattle.pool_config.specs.Validity.{IsHole, IsPlaced, IsValid}
 use Rattle.txg_engine.specs.Items.{laid}
 use Rattle.pool_codec.specs.Codecs.{pool_codec}
 use Rattle.txg_engine.specs.declared.close_turn.Closed.{Closed}
-use Rattle.txg_engine.specs.declared.close_turn.Closed.TheVariants as closed
 use Rattle.txg_engine.specs.declared.seat.Numbers.{Numbers}
 use Rattle.txg_engine.specs.declared.seat.Seat.{Seat}
 use Rattle.txg_engine.specs.declared.seat.Suspended.{Suspended}
-use Rattle.txg_engine.specs.Boards.{behind_turn, board_of, emptied, member_of, seats_of}
+use Rattle.txg_engine.specs.Boards.{behind_turn, board_of, emptied, member_of}
 use Rattle.txg_engine.specs.Ending.{IsAdopted}
-use Rattle.txg_engine.specs.Frozen.{AreSeated, FrozenGroup, IsGroup, is_written_out}
+use Rattle.txg_engine.specs.Frozen.{AreSeated, FrozenGroup, IsGroup}
 use Rattle.txg_engine.specs.Logs.{AreBehind, IsReady, IsSettled}
 use Rattle.txg_engine.specs.Pins.{PinsSeen}
-use Rattle.txg_engine.specs.Turns.{EndsRound, GoesOn, IsCloseTurnBy, KeepsKeys, MakesRound, Scene, all_done, emptied_top, numbers_of}
+use Rattle.txg_engine.specs.Turns.{EndsRound, GoesOn, IsCloseTurnBy, MakesRound, Scene, all_done, emptied_top, numbers_of}
 use Rattle.txg_engine.specs.Writes.{RiseFrom}
 use Rattle.txg_engine.proofs.Closing.{seated_members}
 use Rattle.pool_moves.specs.FreezeRow.{RowEmptyFreeze}
 use Rattle.pool_moves.specs.Moves.{Move, Flushed_all, steps}
 use Rattle.pool_moves.specs.ReadRow.{made_in}
-use Rattle.pool_moves.specs.StampRow.{CommitsFirst, CreateReply, Created, FaultOn, NewMember, NewLeaf, calls_of_stamps, name_in, new_leaf_seen, new_leaves, new_state, next_from}
+use Rattle.pool_moves.specs.StampRow.{CommitsFirst, CreateReply, Created, FaultOn, NewMember, calls_of_stamps, name_in, new_leaves, new_state, next_from}
 use Rattle.pool_moves.specs.States.{PoolState}
 use Rattle.open_pool.specs.declared.create.Begun.{Begun}
 use Rattle.open_pool.specs.declared.turn.TurnDone.{TurnDone}
@@ -53,8 +51,8 @@ use Rattle.open_pool.specs.Form.{IsPool}
 use Rattle.open_pool.specs.Freezing.{FreezeParts}
 use Rattle.open_pool.specs.Here.{AreHere}
 use Rattle.open_pool.specs.Parts.{PoolParts, all_parts}
-use Rattle.open_pool.specs.State.{ArePinned, Stands, own_state, state_of}
-use Rattle.open_pool.specs.Turning.{ClosesRound, IsDueBy, closed_as, is_committed_turn}
+use Rattle.open_pool.specs.State.{Stands, own_state, state_of}
+use Rattle.open_pool.specs.Turning.{ClosesRound, closed_as, is_committed_turn}
 use Rattle.open_pool.proofs.BoardKept.{AreSameLeaves}
 use Rattle.open_pool.proofs.DraftFits.{drawn_of}
 use Rattle.open_pool.proofs.DraftValid.{drawn_valid, root_placed}
@@ -72,11 +70,9 @@ use Rattle.open_pool.proofs.NewState as state
 use Rattle.open_pool.proofs.PlacesEnd.{acknowledged, adopted_apart, adopted_pins, adopted_places}
 use Rattle.open_pool.proofs.SeatedHere.{seated_here}
 use Rattle.open_pool.proofs.StatesStand.{stands_there}
-use Rattle.open_pool.proofs.TurnLeft.{HasTurned, MayTurn, TurnLeaves}
 use Rattle.open_pool.proofs.TurnOfPool.{trees_here}
 use Rattle.open_pool.proofs.TurnSteps.{going}
 use Rattle.open_pool.proofs.TurnSuspended.{same_numbers}
-use Rattle.open_pool.proofs.TurnsAnswered.{turn_leaves}
 
 -- A pool that was created, as its code has it.
 abbrev pub as_pool : Begun → Guid → Map → PinsSeen → (number next : ℕ) → List Top → (spares : List (List ℕ)) → PoolParts

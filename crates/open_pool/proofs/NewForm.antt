@@ -1,5 +1,5 @@
 -- A new pool, before its first commit, has the form of an open one whose group is frozen.
-use Rattle.std.proofs.Common.{true≢false, ◌≡◌, ◌⊎◌, inl, inr, ℕ, suc, ◌+◌, ◌<◌, ◌≤◌, ◌||◌, ◌^◌, true, false, List, [], ◌∷◌, length, map, Option, Some, None, refl, sym, ap, ◌∙◌, subst, arith, Contains}
+use Rattle.std.proofs.Common.{true≢false, ◌≡◌, inl, ℕ, suc, ◌<◌, ◌≤◌, ◌||◌, ◌^◌, true, false, List, [], ◌∷◌, length, map, Some, None, refl, sym, ap, ◌∙◌, subst, arith, Contains}
 use Rattle.std.specs.Prelude.{All, IsTrue, is_some, sum}
 use Rattle.std.specs.List.{AllByRecursion}
 use Rattle.std.proofs.lemmas.List.{length-map}
@@ -12,13 +12,13 @@ use Rattle.mp_base.specs.declared.place.Place.{Place}
 use Rattle.mp_base.specs.declared.place.Pointer.{Pointer}
 use Rattle.block_map.specs.Dirty.{pages_above, pages_from}
 use Rattle.block_map.specs.Keys.{IsKey, root}
-use Rattle.block_map.specs.Map.{IsEmpty, Map, pointer_at, is_free, is_pinned}
+use Rattle.block_map.specs.Map.{IsEmpty, pointer_at, is_free}
 use Rattle.block_map.specs.Places.{IsPlace}
 use Rattle.block_map.specs.Pointers.{IsPointer}
 use Rattle.block_map.proofs.PlaceNumbers.{is_place_of}
 use Rattle.vdev_tree.specs.declared.top.Top.{Top}
 use Rattle.vdev_tree.specs.declared.vdev.LeafVdev.{LeafVdev}
-use Rattle.dtl_rules.specs.Widening.{leaves_of, marks_of, sectors_of}
+use Rattle.dtl_rules.specs.Widening.{leaves_of, sectors_of}
 use Rattle.pool_codec.specs.Pointers.{sum_in}
 use Rattle.pool_config.specs.Validity.{IsHole, IsValid, log_length}
 use Rattle.pool_config.specs.Seen.{leaf_seen}
@@ -28,12 +28,12 @@ use Rattle.txg_engine.specs.Boards.{has_seat, seats_of}
 use Rattle.txg_engine.specs.Freezing.{IsSigned, dirty_keys}
 use Rattle.txg_engine.specs.Frozen.{FrozenGroup}
 use Rattle.txg_engine.specs.Items.{keys_of, places_of}
-use Rattle.txg_engine.specs.Logs.{IsReady, is_off}
+use Rattle.txg_engine.specs.Logs.{IsReady}
 use Rattle.txg_engine.specs.declared.write.Write.{Write}
 use Rattle.txg_engine.specs.Writes.{is_written}
 use Rattle.txg_engine.proofs.TopsServed.{each_seated}
-use Rattle.txg_history.specs.Pages.{Sum, sum_of}
-use Rattle.txg_history.specs.Records.{Cell, key}
+use Rattle.txg_history.specs.Pages.{sum_of}
+use Rattle.txg_history.specs.Records.{key}
 use Rattle.pool_moves.specs.FreezeRow.{IsAtPlace}
 use Rattle.pool_moves.specs.Refusing.{count_below}
 use Rattle.pool_moves.specs.StampRow.{NewMember, new_leaves, next_from}
@@ -43,7 +43,7 @@ use Rattle.open_pool.specs.Form.{IsPool, HasBoard, HasGroup, HasLeaves, IsRecord
 use Rattle.open_pool.specs.Freezing.{FreezeParts, FreezesParts, group_at}
 use Rattle.open_pool.specs.Pages.{HaveOwnDevices}
 use Rattle.open_pool.specs.Parts.{PoolParts, all_parts}
-use Rattle.open_pool.specs.State.{cells_in, cells_of, leaves_under, sums_of}
+use Rattle.open_pool.specs.State.{cells_of, sums_of}
 use Rattle.open_pool.proofs.BoardKept.{AreSameLeaves, board_frozen}
 use Rattle.open_pool.proofs.CountsBelow.{none_pass}
 use Rattle.open_pool.proofs.FreezeRefused.{idle_parts, sectors_are}
@@ -55,7 +55,7 @@ use Rattle.open_pool.proofs.LogsWidened.{IsWithin}
 use Rattle.open_pool.proofs.NewLeavesMade as made
 use Rattle.open_pool.proofs.NewRecord.{first_config, first_valid}
 use Rattle.open_pool.proofs.NumbersApart.{AreNumbered}
-use Rattle.open_pool.proofs.RecordStill.{seen_tops, valid_still}
+use Rattle.open_pool.proofs.RecordStill.{valid_still}
 use Rattle.open_pool.proofs.TreesBuilt.{built_sizes}
 use Rattle.open_pool.proofs.TurnLeaves.{AreInForm}
 use Rattle.open_pool.proofs.TurnSteps.{going}

@@ -1,12 +1,11 @@
 -- New leaves in memory, one after another: their names, their devices and their logs.
-use Rattle.std.proofs.Common.{◌≡◌, ◌≢◌, ℕ, zero, suc, ◌+◌, ◌<◌, ◌≤◌, ◌==◌, ◌^◌, true, false, List, [], ◌∷◌, ◌++◌, length, map, Option, Some, None, refl, sym, ap, ◌∙◌, subst, arith}
-use Rattle.std.specs.Prelude.{All, AllPairs, IsTrue, is_some, sum}
+use Rattle.std.proofs.Common.{◌≡◌, ◌≢◌, ℕ, suc, ◌+◌, ◌<◌, ◌≤◌, ◌==◌, ◌^◌, true, false, List, [], ◌∷◌, ◌++◌, length, map, Some, refl, sym, ap, ◌∙◌, subst, arith}
+use Rattle.std.specs.Prelude.{All, AllPairs, is_some, sum}
 use Rattle.std.specs.List.{AllByRecursion}
 use Rattle.std.proofs.lemmas.Bool.{eq-eqb, false≢true, true≢false}
 use Rattle.std.proofs.lemmas.List.Elements.{All-cons, All-head, All-nil, All-tail}
 use Rattle.std.proofs.lemmas.List.Kept.{AllPairs-cons}
 use Rattle.mp_base.specs.Ranges.{Rises}
-use Rattle.mp_base.specs.declared.number.Group.{Group}
 use Rattle.mp_base.specs.declared.range.GroupRange.{GroupRange}
 use Rattle.group_set.specs.Groups.{holds}
 use Rattle.group_set.specs.Ranges.{ranges_upto}
@@ -15,7 +14,6 @@ use Rattle.vdev_tree.specs.Leaf.{is_readable, is_up}
 use Rattle.vdev_tree.specs.Tree.{leaves}
 use Rattle.vdev_tree.specs.declared.top.Top.{Top}
 use Rattle.vdev_tree.specs.declared.vdev.LeafVdev.{LeafVdev}
-use Rattle.vdev_tree.specs.declared.vdev.State.TheVariants.{Online}
 use Rattle.dtl_rules.specs.Widening.{leaves_of}
 use Rattle.pool_config.specs.Flags.{is_recorded, recorded}
 use Rattle.pool_config.specs.Seen.{leaf_seen, leaf_name, ranges_of}

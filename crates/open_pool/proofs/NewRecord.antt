@@ -1,9 +1,9 @@
 -- The first record of a new pool is a valid configuration.
-use Rattle.std.proofs.Common.{◌≡◌, ◌≢◌, inl, ℕ, suc, ◌+◌, ◌-◌, ◌<◌, ◌≤◌, ◌^◌, true, List, [], ◌∷◌, ◌++◌, length, map, min, Some, None, Option, refl, sym, ap, ◌∙◌, subst, arith, length-append}
+use Rattle.std.proofs.Common.{◌≡◌, ◌≢◌, inl, ℕ, suc, ◌+◌, ◌-◌, ◌<◌, ◌≤◌, ◌^◌, List, [], ◌∷◌, ◌++◌, length, map, min, Some, None, Option, refl, sym, ap, ◌∙◌, subst, arith, length-append}
 use Rattle.std.specs.Prelude.{All, AllPairs, IsTrue, sum}
 use Rattle.std.specs.List.{AllByRecursion, flat_map}
 use Rattle.std.proofs.lemmas.List.{length-map, map-append}
-use Rattle.std.proofs.lemmas.List.Elements.{All-cons, All-head, All-nil, All-tail, All-from_recursion, recursion_from_All}
+use Rattle.std.proofs.lemmas.List.Elements.{All-cons, All-nil, All-from_recursion, recursion_from_All}
 use Rattle.std.proofs.lemmas.List.Kept.{AllPairs-cons}
 use Rattle.mp_base.specs.Name.{is_name}
 use Rattle.mp_base.specs.declared.number.Guid.{Guid}
@@ -12,15 +12,15 @@ use Rattle.vdev_tree.specs.Tree.{leaves}
 use Rattle.vdev_tree.specs.declared.top.Top.{Top}
 use Rattle.vdev_tree.specs.declared.vdev.LeafVdev.{LeafVdev}
 use Rattle.dtl_rules.specs.Widening.{leaves_of}
-use Rattle.pool_config.specs.Seen.{ConfigSeen, TopSeen, VdevSeen, leaf_vdev, leaf_seen, leaf_name, leaves_among, number_of_vdev, all_vdevs, mirror_vdevs, top_vdevs}
+use Rattle.pool_config.specs.Seen.{ConfigSeen, leaf_vdev, leaf_seen, leaf_name, leaves_among, number_of_vdev, mirror_vdevs, top_vdevs}
 use Rattle.pool_config.specs.Validity.{IsHole, IsIn, IsTop, IsLeaf, IsDrawn, IsValid, log_length}
 use Rattle.pool_config.proofs.Shaping.{tree_is_top}
 use Rattle.pool_moves.specs.StampRow.{NewMember, NewLeaf, leaves_from, new_leaves, next_from, least_with, top_leaves}
 use Rattle.open_pool.specs.Creating.{AreMade, AreNewTops, IsNewTop, IsAsked, least_room}
 use Rattle.open_pool.specs.Form.{top_of}
 use Rattle.open_pool.specs.Parts.{all_parts, top_parts}
-use Rattle.open_pool.proofs.LeavesInForm.{vdevs_of_trees, leaves_of_trees}
-use Rattle.open_pool.proofs.NewLeavesMade.{AreLeavesOf, as_many, names_differ, no_ranges_together, recordable, trees_made}
+use Rattle.open_pool.proofs.LeavesInForm.{vdevs_of_trees}
+use Rattle.open_pool.proofs.NewLeavesMade.{as_many, names_differ, no_ranges_together, recordable, trees_made}
 use Rattle.open_pool.proofs.RecordStill.{seen_tops, leaves_in}
 
 -- Numbers that go up one by one from here on.

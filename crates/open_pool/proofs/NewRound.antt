@@ -1,9 +1,8 @@
 -- The round of a new pool's first record: a row, whether or not a leaf fails in it.
-use Rattle.std.proofs.Common.{◌≡◌, ℕ, ◌+◌, ◌≤◌, Bool, true, false, List, [], ◌∷◌, ◌++◌, length, map, Some, None, Option, refl, sym, ap, ◌∙◌, subst, arith}
+use Rattle.std.proofs.Common.{◌≡◌, ℕ, Bool, true, false, List, [], ◌∷◌, ◌++◌, length, Some, None, refl, sym, ap, ◌∙◌, subst}
 use Rattle.std.specs.List.{AllZip}
 use Rattle.label_store.specs.Rounds.{Commit, IsRound}
 use Rattle.label_store.specs.Seats.{AreSeated}
-use Rattle.label_store.specs.declared.member.Member.{Member}
 use Rattle.bank_core.specs.Disk.{Noted}
 use Rattle.block_map.specs.Map.{Map}
 use Rattle.mp_base.specs.declared.number.Guid.{Guid}
@@ -19,13 +18,12 @@ use Rattle.txg_engine.specs.Turns.{emptied_top, numbers_of}
 use Rattle.txg_history.specs.Rounds.{all_true}
 use Rattle.pool_codec.specs.Codecs.{pool_codec}
 use Rattle.pool_moves.specs.Boards.{board_of}
-use Rattle.pool_moves.specs.CommitRows.{RowFound}
 use Rattle.pool_moves.specs.Drafts.{draft_of}
 use Rattle.pool_moves.specs.FreezeRow.{RowEmptyFreeze}
 use Rattle.pool_moves.specs.Moves.{Move, Commits, Flushed_all, Starts, step, steps}
 use Rattle.pool_moves.specs.ReadRow.{made_in}
-use Rattle.pool_moves.specs.StampRow.{CommitsFirst, CreateReply, Created, FaultOn, NewLeaf, first_failed, found_reply, name_in, new_leaf_seen}
-use Rattle.pool_moves.specs.States.{PoolState, Sums}
+use Rattle.pool_moves.specs.StampRow.{CommitsFirst, CreateReply, Created, FaultOn, first_failed, found_reply, name_in}
+use Rattle.pool_moves.specs.States.{PoolState}
 use Rattle.pool_moves.specs.TurnRows.{FitsOwn, RowRound}
 use Rattle.pool_moves.proofs.FreeWalks.{steps_more}
 use Rattle.open_pool.specs.Form.{IsPool, all_leaves}
@@ -93,8 +91,7 @@ module _ (size : ℕ → ℕ) (s : PoolState) (first : List Move) (freeze : RowE
       → marks_of new ≡ marks_of old → sectors_of new ≡ sectors_of old → AllZip IsSettled (leaves_of old) (leaves_of new)
       → (c : FirstCommit size s Created made) × (steps c.moves s ≡ state_of [] (acknowledged b group m pins new))
   commits whole new m pins adopted none built sectors settles =
-      let r = whole_round size [] b group old pool kept flushed full seated commit draws made done round whole all in
-      (
+      let r = whole_round size [] b group old pool kept flushed full seated commit draws made done round whole all in (
         record {
           moves = before ++ (r.moves ++ Commits r.draft ∷ []);
           commits = found (r.moves ++ Commits r.draft ∷ []) true Created r.row (subst (λ own. FitsOwn pool_codec own r.row.draft) (sym own_is) r.own)
@@ -102,8 +99,8 @@ module _ (size : ℕ → ℕ) (s : PoolState) (first : List Move) (freeze : RowE
           calls = all_calls (r.moves ++ Commits r.draft ∷ []) r.calls;
         },
         steps_more before (r.moves ++ Commits r.draft ∷ []) s
-        ∙ ap (steps (r.moves ++ Commits r.draft ∷ [])) leads
-        ∙ whole_leads size [] b group old new m pins made pool kept r adopted none built sectors settles,
+            ∙ ap (steps (r.moves ++ Commits r.draft ∷ [])) leads
+            ∙ whole_leads size [] b group old new m pins made pool kept r adopted none built sectors settles,
       )
 
   -- A leaf failed, the first of them this one.

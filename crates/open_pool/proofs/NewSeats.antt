@@ -1,5 +1,5 @@
 -- The board of a new pool's first group: a seat for each leaf, and the first leaf that left it.
-use Rattle.std.proofs.Common.{◌≡◌, ℕ, zero, suc, ◌+◌, ◌<◌, ◌≤◌, ◌==◌, ◌&&◌, ◌||◌, not, cond, Bool, true, false, List, [], ◌∷◌, ◌++◌, length, map, Option, Some, None, refl, sym, ap, ◌∙◌, subst, arith}
+use Rattle.std.proofs.Common.{◌≡◌, ℕ, zero, suc, ◌+◌, ◌<◌, ◌≤◌, ◌==◌, ◌&&◌, ◌||◌, not, cond, Bool, true, false, List, [], ◌∷◌, ◌++◌, length, map, Some, None, refl, sym, ap, ◌∙◌, subst, arith}
 use mathlib.Core.Path.{fun_ext}
 use Rattle.std.specs.Prelude.{filter, slice_get}
 use Rattle.std.specs.List.{AllByRecursion, cons_option, filter_map}
@@ -18,7 +18,7 @@ use Rattle.txg_engine.specs.declared.seat.Seat.{Seat}
 use Rattle.txg_engine.specs.Boards.{behind_turn, board_of, count_up, failed, is_on, member_of, seat_of, seats_of, without}
 use Rattle.txg_history.specs.Rounds.{all_true}
 use Rattle.pool_moves.specs.StampRow.{NewMember, NewLeaf, first_failed, leaves_from, name_in, new_leaf_seen, top_leaves}
-use Rattle.open_pool.specs.Creating.{AreMade, AreNewTops, AreSeatsOf, IsMade, IsSeatOf, first_off}
+use Rattle.open_pool.specs.Creating.{AreMade, AreNewTops, AreSeatsOf, IsMade, first_off}
 
 -- Each new leaf has a seat.
 abbrev seat_at : (top : ℕ) → NewMember → LeafVdev → Seat

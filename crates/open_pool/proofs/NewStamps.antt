@@ -104,13 +104,17 @@ module _ (pool : Guid) (leaves : List NewLeaf) (seats : List Seat) (are : AreSea
   pub stamp_failed : (fault : Fault)
       → Part seat.member.dev (stamp_plan seat.member.dev (mid.size seat.member.dev) pool seat.member.guid) mid new (Some fault)
       → (leaf : NewLeaf) × (slice_get leaves i ≡ Some leaf) × Stamps pool leaves (Some leaf) old new
-  stamp_failed fault part = (here.leaf, here.there, record {
-    stamps = so_far.stamps ++ record { dev = here.leaf.dev; made = part.made } ∷ [];
-    are = subst (λ ls. AreStamps old.size pool ls (so_far.stamps ++ record { dev = here.leaf.dev; made = part.made } ∷ []) (Some here.leaf)) (sym here.whole)
-        (stamps_fail old.size pool (take i leaves) so_far.stamps here.leaf (drop (i + 1) leaves) part.made fault so_far.are
-        (planned part.made (Some fault) part.part));
-    calls = stamps_then part.made (record { frame = part.frame; calls = part.calls });
-  })
+  stamp_failed fault part = (
+    here.leaf,
+    here.there,
+    record {
+      stamps = so_far.stamps ++ record { dev = here.leaf.dev; made = part.made } ∷ [];
+      are = subst (λ ls. AreStamps old.size pool ls (so_far.stamps ++ record { dev = here.leaf.dev; made = part.made } ∷ []) (Some here.leaf)) (sym here.whole)
+          (stamps_fail old.size pool (take i leaves) so_far.stamps here.leaf (drop (i + 1) leaves) part.made fault so_far.are
+          (planned part.made (Some fault) part.part));
+      calls = stamps_then part.made (record { frame = part.frame; calls = part.calls });
+    },
+  )
 
 pub all_stamped : (pool : Guid) (leaves : List NewLeaf) (i : ℕ) (old new : BankView) → length leaves ≤ i → Stamps pool (take i leaves) None old new
     → Stamps pool leaves None old new

@@ -1,32 +1,28 @@
 -- The state of a new pool is that of its parts, and a freeze without keys leads to that of its first group.
-use Rattle.std.proofs.Common.{◌≡◌, ℕ, ◌+◌, ◌<◌, ◌≤◌, ◌^◌, true, List, [], ◌∷◌, ◌++◌, length, map, None, Some, Option, refl, sym, ap, ◌∙◌, subst, arith}
+use Rattle.std.proofs.Common.{◌≡◌, ℕ, ◌<◌, ◌≤◌, ◌^◌, true, List, [], ◌∷◌, ◌++◌, None, refl, sym, ap, ◌∙◌, subst, arith}
 use mathlib.Core.Path.{fun_ext}
 use Rattle.std.specs.Prelude.{IsTrue}
 use Rattle.std.specs.List.{AllByRecursion}
 use Rattle.mp_base.specs.Name.{is_name}
 use Rattle.mp_base.specs.declared.number.Guid.{Guid}
-use Rattle.mp_base.specs.declared.place.Key.{Key}
 use Rattle.block_map.specs.Map.{IsEmpty}
 use Rattle.dtl_rules.specs.Widening.{sectors_of}
 use Rattle.pool_codec.specs.Pointers.{sum_in}
-use Rattle.pool_codec.specs.Tops.{room_of}
 use Rattle.txg_engine.specs.declared.seat.Numbers.{Numbers}
 use Rattle.txg_engine.specs.Boards.{seats_of}
 use Rattle.txg_engine.specs.Frozen.{FrozenGroup}
 use Rattle.txg_engine.specs.Writes.{block_at}
-use Rattle.txg_history.specs.Records.{Cell, Cells}
 use Rattle.pool_moves.specs.FreezeRow.{RowEmptyFreeze, up_devs}
-use Rattle.pool_moves.specs.Leaves.{LeafSeen}
 use Rattle.pool_moves.specs.Moves.{Move, Freeze, Flushed_all, step, steps}
 use Rattle.pool_moves.specs.ReadRow.{made_in}
-use Rattle.pool_moves.specs.StampRow.{NewMember, new_leaf_seen, new_leaves, new_state, new_top_number, new_room, children_under, next_from}
-use Rattle.pool_moves.specs.States.{PoolState, Sums}
+use Rattle.pool_moves.specs.StampRow.{NewMember, new_state, next_from}
+use Rattle.pool_moves.specs.States.{PoolState}
 use Rattle.pool_moves.specs.Widening.{IsWidened}
 use Rattle.pool_moves.proofs.FreeWalks.{steps_more}
 use Rattle.open_pool.specs.Creating.{AreNewTops, IsAsked}
 use Rattle.open_pool.specs.Freezing.{FreezeParts, FreezesParts, group_at}
 use Rattle.open_pool.specs.Parts.{PoolParts, all_parts}
-use Rattle.open_pool.specs.State.{cells_of, leaves_under, own_state, sectors_in, seen_of, state_of, sums_of}
+use Rattle.open_pool.specs.State.{cells_of, leaves_under, own_state, seen_of, state_of, sums_of}
 use Rattle.open_pool.proofs.FreezeSteps as freeze_steps
 use Rattle.open_pool.proofs.FreezeSteps.{begun_parts, tops_count}
 use Rattle.open_pool.proofs.NewForm as forms

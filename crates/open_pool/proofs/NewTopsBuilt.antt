@@ -1,10 +1,10 @@
 -- How the tops of a new pool are built, leaf by leaf and top by top.
-use Rattle.std.proofs.Common.{◌≡◌, ℕ, suc, ◌+◌, ◌-◌, ◌<◌, ◌≤◌, ◌==◌, ◌&&◌, nat_le, Bool, true, cond, List, [], ◌∷◌, ◌++◌, length, map, drop, take, get_or, min, Option, Some, None, refl, sym, ap, ◌∙◌, subst, arith}
+use Rattle.std.proofs.Common.{◌≡◌, ℕ, suc, ◌+◌, ◌-◌, ◌<◌, ◌≤◌, ◌&&◌, nat_le, true, cond, List, [], ◌∷◌, ◌++◌, length, map, drop, get_or, min, Option, Some, None, refl, sym, ap, ◌∙◌, subst, arith}
 use Rattle.std.specs.List.{flat_map, list_all}
 use Rattle.std.proofs.lemmas.Bool.{le-leb}
 use Rattle.std.proofs.lemmas.List.{length-map, map-append, drop_all, drop_more}
 use Rattle.mp_base.specs.declared.number.Guid.{Guid}
-use Rattle.vdev_tree.specs.Tree.{Form, a_leaf, a_mirror, form_of, form_over, is_mirror, is_top, leaves, may_be_mirrored, no_form}
+use Rattle.vdev_tree.specs.Tree.{Form, a_mirror, form_of, form_over, is_mirror, is_top, leaves, may_be_mirrored, no_form}
 use Rattle.vdev_tree.specs.declared.top.Top.{Top}
 use Rattle.std.specs.Global.{Vec}
 use Rattle.vdev_tree.specs.declared.vdev.InnerVdev.{InnerVdev, roll-InnerVdev, out-roll-InnerVdev, outs-InnerVdev'}
@@ -14,7 +14,7 @@ use Rattle.vdev_tree.specs.declared.vdev.LeafVdev.{LeafVdev}
 use Rattle.vdev_tree.specs.declared.vdev.Vdev.{Vdev}
 use Rattle.vdev_tree.specs.declared.vdev.Vdev.TheVariants.{Leaf, Inner}
 use Rattle.vdev_tree.proofs.Folds.{leaves_leaf, leaves_inner, form_leaf, form_inner}
-use Rattle.pool_config.specs.Seen.{VdevSeen, leaf_vdev, inner_vdev, leaf_seen, vdevs_of}
+use Rattle.pool_config.specs.Seen.{leaf_vdev, inner_vdev, leaf_seen, vdevs_of}
 use Rattle.pool_config.proofs.Rooms.{vdevs_leaf, vdevs_inner}
 use Rattle.pool_moves.specs.StampRow.{NewMember, least_with, next_from}
 use Rattle.open_pool.specs.Creating.{AreMade, AreNewTops, IsMade, IsMirror, IsNewTop, least_room}

@@ -1,5 +1,5 @@
 -- What a state shows of new tops: their leaves, their numbers and children, and their room.
-use Rattle.std.proofs.Common.{◌≡◌, ℕ, zero, suc, ◌+◌, ◌-◌, ◌<◌, ◌≤◌, ◌==◌, Bool, true, false, cond, List, [], ◌∷◌, ◌++◌, length, map, take, Option, Some, None, refl, sym, ap, ◌∙◌, subst, arith}
+use Rattle.std.proofs.Common.{◌≡◌, ℕ, zero, suc, ◌+◌, ◌-◌, ◌<◌, cond, List, [], ◌∷◌, ◌++◌, length, map, take, Some, None, refl, sym, ap, ◌∙◌, arith}
 use mathlib.Core.Path.{fun_ext}
 use Rattle.std.specs.Prelude.{slice_index}
 use Rattle.std.proofs.Math.Seq.{take-length}
@@ -9,17 +9,14 @@ use Rattle.mp_base.specs.declared.number.Guid.{Guid}
 use Rattle.group_set.specs.Groups.{holds}
 use Rattle.vdev_tree.specs.Tree.{leaves}
 use Rattle.vdev_tree.specs.declared.top.Top.{Top}
-use Rattle.vdev_tree.specs.declared.vdev.Kind.TheVariants.{Mirror}
 use Rattle.vdev_tree.specs.declared.vdev.LeafVdev.{LeafVdev}
-use Rattle.dtl_rules.specs.Widening.{sectors_of}
 use Rattle.pool_codec.specs.Tops.{room_of, number_of, children_of}
-use Rattle.pool_codec.specs.Vdevs.{Node, a_child, nodes, children_in, mirror_number, mirror_children, no_guid}
-use Rattle.pool_config.specs.Seen.{VdevSeen, leaf_vdev, inner_vdev, leaf_seen, mirror_vdevs}
-use Rattle.pool_moves.specs.Leaves.{LeafSeen}
+use Rattle.pool_codec.specs.Vdevs.{a_child, nodes, children_in, mirror_number, mirror_children}
+use Rattle.pool_config.specs.Seen.{leaf_vdev, leaf_seen, mirror_vdevs}
 use Rattle.pool_moves.specs.StampRow.{NewMember, NewLeaf, top_leaves, leaves_from as new_from, mirror_from, new_leaves, new_top_number, least_with, least_room as room_under, room_or_none, new_room, children_under, new_leaf_seen}
 use Rattle.pool_moves.specs.Trees.{Child, Plain, Single}
 use Rattle.txg_history.specs.Groups.{no_log}
-use Rattle.open_pool.specs.Creating.{IsMade, AreMade, IsMirror, IsNewTop, AreNewTops, least_room}
+use Rattle.open_pool.specs.Creating.{IsMade, AreMade, IsNewTop, AreNewTops, least_room}
 use Rattle.open_pool.specs.Parts.{all_parts}
 use Rattle.open_pool.specs.State.{leaf_of, leaves_from, leaves_under, vdevs_in, sectors_in}
 

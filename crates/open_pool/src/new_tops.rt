@@ -48,12 +48,7 @@ pub(crate) fn new_tops<B: Bank>(
 }
 
 // A top over these leaves. It has as many data sectors as its smallest one.
-fn new_top<B: Bank>(
-    alloc: Global,
-    bank: &B,
-    next: u64,
-    leaves: &[NewLeaf],
-) -> Result<Top, MemFault>
+fn new_top<B: Bank>(alloc: Global, bank: &B, next: u64, leaves: &[NewLeaf]) -> Result<Top, MemFault>
     requires some { 1 ≤ length leaves.now }
     requires few { length leaves.now ≤ 8 }
     requires room { next + 9 ≤ 2 ^ 62 }

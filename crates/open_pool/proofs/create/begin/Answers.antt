@@ -1,10 +1,8 @@
-use Rattle.std.proofs.Common.{◌≡◌, ◌+◌, ◌≤◌, List, length, take, sym, ap, ◌∙◌, subst, arith}
+use Rattle.std.proofs.Common.{◌≡◌, length, take, sym, ap, ◌∙◌, subst, arith}
 use Rattle.block_map.specs.Places.{AreTops}
 use Rattle.dtl_rules.specs.Widening.{sectors_of}
-use Rattle.open_pool.specs.Creating.{AreNewTops, members_of}
+use Rattle.open_pool.specs.Creating.{members_of}
 use Rattle.open_pool.proofs.NewAsked.{big_asked, few_asked, few_leaves, few_tops, tops_are}
-use Rattle.open_pool.proofs.NewState.{quiet}
-use Rattle.open_pool.proofs.NewCommit.{stamp_fails}
 use Rattle.open_pool.proofs.create.begin.Goals as goal
 
 pub new_tops-requires-clause-members : goal.new_tops-requires-clause-members

@@ -21,7 +21,7 @@ loop-i-preserved g c =
     let size = (g.B.Bank.view c.args.bank.now).size in
     let leaves = c.index-tops-i.result in
     let more = map_more (λ (ls : Vec NewLeaf). members_in ls.items) tops i leaves c.loop-i-test.true
-        ∙ ap (λ (ls : Vec NewLeaf). members_of (take i tops) ++ members_in ls.items ∷ []) (sym c.index-tops-i.is) in
+    ∙ ap (λ (ls : Vec NewLeaf). members_of (take i tops) ++ members_in ls.items ∷ []) (sym c.index-tops-i.is) in
     let one = subst (λ (ls : List NewLeaf). IsNewTop size c.loop-i.next (members_in ls) c.in_ok-new_top.field-0) c.deref.ensures.value c.in_ok-new_top.ensures in
     let long = length-map leaves.items member_of in
     let again = c.index-tops-i-in-loop-i.result in

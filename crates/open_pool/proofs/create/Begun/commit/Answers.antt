@@ -1,7 +1,5 @@
-use Rattle.std.proofs.Common.{◌≡◌, ◌<◌, ◌≤◌, ◌^◌, ℕ, List, [], ◌++◌, length, take, drop, Ok, Err, refl, sym, ap, ◌∙◌, subst, arith}
+use Rattle.std.proofs.Common.{◌≤◌, List, ◌++◌, length, take, drop, Err, sym, ap, ◌∙◌, subst, arith}
 use Rattle.std.specs.Prelude.{All}
-use Rattle.std.proofs.lemmas.List.Elements.{All-nil}
-use Rattle.vdev_tree.specs.declared.top.Top.{Top}
 use Rattle.txg_engine.specs.declared.seat.Seat.{Seat}
 use Rattle.pool_moves.specs.StampRow.{NewMember}
 use Rattle.open_pool.specs.Creating.{Creates, IsAsked, IsBegun, StampsSeats, first_off}
