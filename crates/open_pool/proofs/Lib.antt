@@ -56,6 +56,7 @@ pub mod LogsWidened
 pub mod MapsNeeded
 pub mod MapsRead
 pub mod MembersAgree
+pub mod NamesAsked
 pub mod NamesFound
 pub mod NeedCounted
 pub mod NewAsked

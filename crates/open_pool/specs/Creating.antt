@@ -1,6 +1,7 @@
 -- A pool that a create makes: its tops in memory, the group of its first commit, the stamps of its members, and what is answered.
 use Rattle.std.specs.Prelude.{◌≡◌, ◌≢◌, ◌+◌, ◌-◌, ◌≤◌, ℕ, suc, List, [], ◌∷◌, ◌++◌, map, length, All, AllPairs, Option, Some, None, Result, Ok, Err, true, false, cond, slice_get, IsTrue}
 use Rattle.std.specs.Global.{Vec}
+use Rattle.std.specs.List.{flat_map}
 use Rattle.mp_base.specs.Name.{is_name}
 use Rattle.mp_base.specs.declared.number.Guid.{Guid}
 use Rattle.group_set.specs.Groups.{holds}
@@ -144,6 +145,23 @@ StampsTo pool leaves (Err place) old new =
 abbrev pub StampsSeats : (pool : Guid) → List Seat → Result (Unit {0}) ℕ → (old new : BankView) → Type 0
 StampsSeats pool seats result old new = (leaves : List NewLeaf) → AreSeatsOf leaves seats → StampsTo pool leaves result old new
 
+-- the names that are asked for, in tree order
+abbrev pub names_in : List asked.NewLeaf → List (List ℕ)
+names_in leaves = map (λ leaf. leaf.name) leaves
+
+abbrev pub names_of : List (Vec asked.NewLeaf) → List (List ℕ)
+names_of tops = flat_map (λ leaves. names_in leaves.items) tops
+
+-- It does what its row says: the stamps, and then the first commit; and what it answers is the row's reply, behind these moves.
+pub record CreatesAs (name : List ℕ) (pool : Guid) (blocks : ℕ) (asked : List (List NewMember)) (answers : CreateReply → PoolState → Type 0)
+    (old new : BankView) : Type 0 where
+  pub stamps : List Stamp
+  pub moves : List Move
+  pub reply : CreateReply
+  pub row : RowCreate pool_codec old.size name pool blocks asked stamps moves reply
+  pub calls : Makes (calls_of_stamps stamps ++ made_in moves) old new
+  pub says_so : answers reply (steps moves (new_state old.size name pool blocks asked))
+
 -- What a create answers: the pool that stands for this state, or the first device that failed, by the place of its leaf in tree order.
 abbrev pub IsNamedAt : List NewLeaf → (name : List ℕ) → (place : ℕ) → Type 0
 IsNamedAt leaves name place = (leaf : NewLeaf) × (slice_get leaves place ≡ Some leaf) × (leaf.name ≡ name)
@@ -154,19 +172,17 @@ IsCreatedAs leaves Created s (Err place) = ⊥
 IsCreatedAs leaves (FaultOn name) s (Ok pool) = ⊥
 IsCreatedAs leaves (FaultOn name) s (Err place) = IsNamedAt leaves name place
 
--- So it does what its row says: the stamps, and then the first commit.
-pub record Creates (name : List ℕ) (pool : Guid) (blocks : ℕ) (asked : List (List NewMember)) (result : Result PoolParts ℕ) (old new : BankView)
-    : Type 0 where
-  pub stamps : List Stamp
-  pub moves : List Move
-  pub reply : CreateReply
-  pub row : RowCreate pool_codec old.size name pool blocks asked stamps moves reply
-  pub calls : Makes (calls_of_stamps stamps ++ made_in moves) old new
-  pub says_so : IsCreatedAs (new_leaves asked) reply (steps moves (new_state old.size name pool blocks asked)) result
+abbrev pub Creates : (name : List ℕ) → (pool : Guid) → (blocks : ℕ) → (asked : List (List NewMember)) → Result PoolParts ℕ → (old new : BankView) → Type 0
+Creates name pool blocks asked result old new = CreatesAs name pool blocks asked (λ reply s. IsCreatedAs (new_leaves asked) reply s result) old new
 
--- or there was no memory, and it made no call
+-- or by its name
+abbrev pub IsFaultOn : (name : List ℕ) → CreateReply → PoolState → Type 0
+IsFaultOn name Created s = ⊥
+IsFaultOn name (FaultOn other) s = other ≡ name
+
+-- So it is, or there was no memory, and it made no call.
 abbrev pub CreatesOrStops : (name : List ℕ) → (pool : Guid) → (blocks : ℕ) → List (List NewMember) → Result PoolParts CreateFault → (old new : BankView)
     → Type 0
 CreatesOrStops name pool blocks asked (Ok made) old new = Creates name pool blocks asked (Ok made) old new
-CreatesOrStops name pool blocks asked (Err (fault.Device place)) old new = Creates name pool blocks asked (Err place) old new
+CreatesOrStops name pool blocks asked (Err (fault.Device device)) old new = CreatesAs name pool blocks asked (IsFaultOn device.now) old new
 CreatesOrStops name pool blocks asked (Err fault.Memory) old new = new ≡ old

@@ -1,7 +1,7 @@
 //! A create: the members of a new pool are stamped, and its first record is committed.
-ghost use Rattle.std.specs.Prelude.{◌≡◌, ◌≤◌, ℕ, List, Some, length, All, IfOk, IfSome, IfNone, Ok, false};
+ghost use Rattle.std.specs.Prelude.{◌≡◌, ◌<◌, slice_get, ◌≤◌, ℕ, List, Some, length, All, IfOk, IfSome, IfNone, Ok, false};
 ghost use Rattle.pool_moves.specs.StampRow.{NewMember};
-ghost use Rattle.open_pool.specs.Creating.{Creates, CreatesOrStops, IsAsked, IsBegun, MayCommit, StampsSeats, first_off, members_of};
+ghost use Rattle.open_pool.specs.Creating.{Creates, CreatesOrStops, IsAsked, IsBegun, MayCommit, StampsSeats, first_off, members_of, names_of};
 ghost use Rattle.open_pool.specs.Here.{AreHere};
 ghost use Rattle.open_pool.specs.Turning.{is_committed_turn};
 
@@ -20,10 +20,10 @@ use txg_engine::{Frozen, Open, Pins, Seat, Suspended};
 use vdev_tree::Top;
 
 /// Why no pool is there.
-#[derive(Clone, Copy, Debug, PartialEq, Eq)]
-pub enum CreateFault {
-    /// The device of the leaf at this place in tree order failed.
-    Device(usize),
+#[derive(Clone, Copy)]
+pub enum CreateFault<'a> {
+    /// This device is the first that failed.
+    Device(&'a Name),
     /// There was no memory.
     Memory,
 }
@@ -47,14 +47,14 @@ impl Pool {
     ///
     /// Where a stamp or the round fails, no pool is there, and the first device that failed is named. At `Memory` no call was
     /// made.
-    pub fn create<B: Bank>(
+    pub fn create<'a, B: Bank>(
         alloc: Global,
         bank: &mut B,
         name: &Name,
         pool: Guid,
         blocks: u64,
-        tops: &[Vec<NewLeaf>],
-    ) -> Result<Pool, CreateFault>
+        tops: &'a [Vec<NewLeaf>],
+    ) -> Result<Pool, CreateFault<'a>>
         requires { IsAsked (B.view bank.old).size blocks (members_of tops.now) }
         ensures row { CreatesOrStops name.now pool blocks (members_of tops.now) result (B.view bank.old) (B.view bank.new) }
         ensures here { IfOk result (λ pool. AreHere (B.view bank.new).size pool.tops) }
@@ -64,9 +64,25 @@ impl Pool {
         };
         match begun.commit(alloc, bank, pool, blocks) {
             Ok(pool) => Ok(pool),
-            Err(place) => Err(CreateFault::Device(place)),
+            Err(place) => Err(CreateFault::Device(name_at(tops, place))),
         }
     }
+}
+
+// The name of the leaf at this place in tree order.
+fn name_at(tops: &[Vec<NewLeaf>], place: usize) -> &Name
+    requires { place < length (names_of tops.now) }
+    ensures { slice_get (names_of tops.now) place ≡ Some result.now }
+{
+    let mut rest = place;
+    for i in 0..tops.len() {
+        let leaves: &[NewLeaf] = &tops[i];
+        if rest < leaves.len() {
+            return &leaves[rest].name;
+        }
+        rest -= leaves.len();
+    }
+    unreachable!()
 }
 
 // Takes all memory of a create.
