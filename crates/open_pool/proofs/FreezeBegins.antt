@@ -1,130 +1,41 @@
 -- Behind a freeze: the moves of its row lead to the state that the pool stands for then.
-use Rattle.std.proofs.Common.{◌≡◌, ℕ, suc, ◌+◌, ◌<◌, ◌≤◌, ◌^◌, cond, true, false, List, [], ◌∷◌, ◌++◌, length, map, Some, None, Ok, refl, sym, ap, ◌∙◌, subst, arith}
-use mathlib.Core.Path.{fun_ext}
-use Rattle.std.specs.List.{AllByRecursion}
+use Rattle.std.proofs.Common.{◌≡◌, ◌+◌, ◌<◌, ◌≤◌, ◌^◌, cond, true, List, [], length, Some, None, Ok, refl, sym, ap, ◌∙◌, subst, arith}
 use Rattle.std.proofs.lemmas.Bool.{le-ltb}
 use Rattle.std.proofs.lemmas.List.{length-map}
-use Rattle.mp_base.specs.declared.place.Key.{Key}
 use Rattle.block_map.specs.Map.{is_open, CountsPlaces}
-use Rattle.vdev_tree.specs.declared.vdev.LeafVdev.{LeafVdev}
 use Rattle.dtl_rules.specs.Widening.{leaves_of}
 use Rattle.pool_codec.specs.Codecs.{pool_codec}
-use Rattle.pool_codec.specs.Pointers.{sum_in}
-use Rattle.pool_codec.specs.Tops.{room_of}
-use Rattle.txg_engine.specs.declared.item.Item.{Item}
-use Rattle.txg_engine.specs.declared.seat.Numbers.{Numbers}
-use Rattle.txg_engine.specs.declared.seat.Seat.{Seat}
-use Rattle.txg_engine.specs.Boards.{seats_of}
 use Rattle.txg_engine.specs.Frozen.{FrozenGroup, KeysRise}
 use Rattle.txg_engine.specs.Items.{key_of, place_of}
-use Rattle.txg_engine.specs.Logs.{AreOwing, is_off}
 use Rattle.txg_engine.specs.Refusing.{need}
-use Rattle.txg_engine.specs.Writes.{RiseFrom, block_at}
-use Rattle.pool_moves.specs.FreezeRow.{up_devs}
+use Rattle.txg_engine.specs.Writes.{RiseFrom}
 use Rattle.pool_moves.specs.LineRows.{Frozen, RowFreezeLine}
-use Rattle.pool_moves.specs.Moves.{Move, Freeze, Widen, steps, state_step}
 use Rattle.pool_moves.specs.Refusing.{NoRoom, last_number}
-use Rattle.pool_moves.specs.States.{Sums, PoolState, frozen_seen}
-use Rattle.pool_moves.specs.Widening.{AreWidens, seen_along}
+use Rattle.pool_moves.specs.States.{Sums, PoolState}
 use Rattle.open_pool.specs.Answering.{Answers}
 use Rattle.open_pool.specs.Form.{IsPool}
 use Rattle.open_pool.specs.Freezing.{FreezeParts, FreezesParts, HasForms, group_at, freeze_says}
 use Rattle.open_pool.specs.Parts.{PoolParts, all_parts}
-use Rattle.open_pool.specs.State.{ArePinned, Stands, cells_of, is_done, group_of, leaf_of, leaves_from, leaves_under, sectors_in, own_state, seen_of, state_of, sums_of}
+use Rattle.open_pool.specs.State.{ArePinned, Stands, cells_of, leaves_under, state_of}
 use Rattle.open_pool.proofs.BoardKept.{AreSameLeaves}
-use Rattle.open_pool.proofs.FreezeRefused.{idle_parts, sectors_are}
+use Rattle.open_pool.proofs.FreezeRefused.{idle_parts}
+pub use Rattle.open_pool.proofs.FreezeSteps.{begun_parts}
+use Rattle.open_pool.proofs.FreezeSteps.{tops_count}
+use Rattle.open_pool.proofs.FreezeSteps as freeze_steps
+use Rattle.open_pool.proofs.TurnLeaves.{AreInForm}
 use Rattle.open_pool.proofs.FreezeRows.{room_by}
 use Rattle.open_pool.proofs.FreezesAreRows.{dirty_keys_are}
-use Rattle.open_pool.proofs.LeavesInForm.{in_form, on_leaves}
-use Rattle.open_pool.proofs.LeavesOwe.{OwesNumber, freezes_number}
-use Rattle.open_pool.proofs.LeavesStay.{owing_same}
+use Rattle.open_pool.proofs.LeavesInForm.{in_form}
 use Rattle.open_pool.proofs.PlacesGiven.{places_given}
 use Rattle.open_pool.proofs.StatesStand.{stands_there, by_state}
-use Rattle.open_pool.proofs.TreesBuilt.{built_sizes, trees_told}
-
--- The pool with the group that begins.
-abbrev pub begun_parts : PoolParts → FreezeParts → FrozenGroup → PoolParts
-begun_parts r parts group = record (idle_parts r parts) { highest = r.highest + 1; frozen = Some group }
-
--- widenings change the leaves alone
-widens_own : (vs : List Move) (s : PoolState) → AreWidens s.core vs → steps vs s ≡ record { own = s.own; core = seen_along vs s.core }
-widens_own [] s are = refl
-widens_own (Widen m low high ∷ vs) s are = widens_own vs (state_step (Widen m low high) s) are.2
-widens_own (v ∷ vs) s are = absurd are
-
--- every leaf is under a top
-pub tops_count : (seats : List Seat) (first : ℕ) (tops : List (List LeafVdev)) → 1 ≤ first
-    → AllByRecursion (λ leaf. 1 ≤ leaf.top) (leaves_from seats first tops)
-tops_count seats first [] some = tt
-tops_count seats first (under ∷ tops) some = front under (tops_count seats (suc first) tops (omega arith))
-  where
-    front : (under : List LeafVdev) → AllByRecursion (λ leaf. 1 ≤ leaf.top) (leaves_from seats (suc first) tops)
-        → AllByRecursion (λ leaf. 1 ≤ leaf.top) (map (leaf_of seats first) under ++ leaves_from seats (suc first) tops)
-    front [] rest = rest
-    front (leaf ∷ under) rest = (some, front under rest)
-
-none_done : (items : List Item) (written : ℕ) → written ≡ 0 → (k : Key) → is_done items written k ≡ false
-none_done items written none k = ap (λ n. is_done items n k) none
 
 module _ (r : PoolParts) (old new : FreezeParts) (group : FrozenGroup) (f : FreezesParts (group_at (r.highest + 1)) old new group)
     (pool : IsPool (idle_parts r old)) (more : r.highest + 1 ≤ 2 ^ 62) where
+  pub form : AreInForm (idle_parts r old)
+  form = in_form old.trees (idle_parts r old) refl pool.recordable pool.leaves
+
   pub same_leaves_then : AreSameLeaves (leaves_of old.trees) (leaves_of new.trees)
-  same_leaves_then = owing_same (is_off (seats_of 0 old.trees)) (r.highest + 1) (leaves_of old.trees) (leaves_of new.trees) f.logs
-
-  abbrev pub freezing : (held : List Sums) → Move
-  freezing held = Freeze (cells_of group.items) (up_devs (seen_of held (idle_parts r old)).leaves)
-
-  -- the leaves' part
-  pub owes : (held : List Sums) → OwesNumber (seen_of held (idle_parts r old)) (freezing held) (seats_of 0 old.trees) (begun_parts r new group)
-  owes held =
-      freezes_number (seen_of held (idle_parts r old)) (idle_parts r old) (begun_parts r new group) refl
-      (in_form old.trees (idle_parts r old) refl pool.recordable pool.leaves) more (built_sizes old.trees new.trees f.built)
-      old.trees refl (cells_of group.items) refl
-      (on_leaves (AreOwing (is_off (seats_of 0 old.trees)) (r.highest + 1)) old.trees new.trees (idle_parts r old) (begun_parts r new group)
-      refl refl f.logs)
-
-  group_is : frozen_seen (r.highest + 1) (cells_of group.items) ≡ group_of (Some group)
-  group_is =
-      let b = f.begins in
-      let first : r.highest + 1 ≡ group.numbers.first.0 = ap (λ (n : Numbers). n.first.0) (sym b.numbers) in
-      let done : (λ k. false) ≡ is_done group.items group.written =
-      fun_ext (λ k. sym (none_done group.items group.written b.unwritten k)) in
-      let flushed : false ≡ group.flushed = sym b.unflushed in
-      let begun : false ≡ group.begun = sym b.unbegun in
-      cc
-
-  pub sectors_same : sectors_in (all_parts old.trees) ≡ sectors_in (all_parts new.trees)
-  sectors_same = sectors_are old.trees ∙ sym f.sectors ∙ sym (sectors_are new.trees)
-
-  seen_is : (held : List Sums) → seen_along (owes held).moves (seen_of held (idle_parts r old)) ≡ seen_of held (begun_parts r new group)
-  seen_is held =
-      let leads = (owes held).leads in
-      let committed : sums_of old.map ≡ sums_of new.map = fun_ext (λ k. ap sum_in (sym (f.begins.freeze.takes.keys k))) in
-      let room : room_of (sectors_in (all_parts old.trees)) ≡ room_of (sectors_in (all_parts new.trees)) = ap room_of sectors_same in
-      let leaves : leaves_from (seats_of 0 old.trees) 1 (leaves_under (all_parts new.trees))
-      ≡ leaves_from group.board 1 (leaves_under (all_parts new.trees)) =
-      ap (λ seats. leaves_from seats 1 (leaves_under (all_parts new.trees))) (sym f.begins.board) in
-      let seen = group_is in
-      leads ∙ cc
-
-  own_is : record (own_state (idle_parts r old)) { writes = λ a. None } ≡ own_state (begun_parts r new group)
-  own_is =
-      let blocks : old.map.blocks ≡ new.map.blocks = sym f.begins.freeze.takes.volume.blocks in
-      let writes : (λ a. None) ≡ block_at new.unfrozen.writes = fun_ext (λ a. ap (λ ws. block_at ws a) (sym f.empty)) in
-      let alike = trees_told old.trees new.trees f.built same_leaves_then in
-      let numbers = alike.numbers in
-      let children = alike.children in
-      cc
-
-  pub steps_are : (held : List Sums) → steps (owes held).moves (state_of held (idle_parts r old)) ≡ state_of held (begun_parts r new group)
-  steps_are held =
-      let o = owes held in
-      let s = state_of held (idle_parts r old) in
-      ap (λ vs. steps vs s) o.are.moves
-      ∙ widens_own o.are.widens (state_step (freezing held) s) o.are.are
-      ∙ ap (λ vs. record { own = record (own_state (idle_parts r old)) { writes = λ a. None }; core = seen_along vs s.core }) (sym o.are.moves)
-      ∙ ap (λ core. record { own = record (own_state (idle_parts r old)) { writes = λ a. None }; core = core }) (seen_is held)
-      ∙ ap (λ own. record { own = own; core = seen_of held (begun_parts r new group) }) own_is
+  same_leaves_then = freeze_steps.same_leaves_then r old new group f form more
 
   pub pins_then : (held : List Sums) → ArePinned held (idle_parts r old) → ArePinned held (begun_parts r new group)
   pins_then held pins = record {
@@ -146,7 +57,7 @@ module _ (r : PoolParts) (old new : FreezeParts) (group : FrozenGroup) (f : Free
         → Answers (RowFreezeLine pool_codec (state_of held (idle_parts r old))) freeze_says (Ok (group_at (r.highest + 1)))
         (state_of held (idle_parts r old)) (begun_parts r new group)
     row_at held pins = record {
-      moves = (owes held).moves;
+      moves = (freeze_steps.owes r old new group f form more held).moves;
       reply = Frozen (r.highest + 1);
       is = (
         None,
@@ -161,13 +72,13 @@ module _ (r : PoolParts) (old new : FreezeParts) (group : FrozenGroup) (f : Free
             cells = cells_of group.items;
             dirty = dirty_keys_are (idle_parts r old) held new.map group.items forms f.begins.freeze;
             places = places_given (idle_parts r old) held pool.places pins (λ k. refl) pool.tops group.items keys f.begins.freeze.places;
-            moves = (owes held).are;
+            moves = (freeze_steps.owes r old new group f form more held).are;
           },
           refl,
         ),
       );
       says_so = refl;
-      leaves = subst (Stands (begun_parts r new group)) (sym (steps_are held))
+      leaves = subst (Stands (begun_parts r new group)) (sym (freeze_steps.steps_are r old new group f form more held))
           (stands_there held (begun_parts r new group) (pins_then held pins));
     }
 

@@ -1,5 +1,5 @@
 -- Behind a freeze the pool has its form.
-use Rattle.std.proofs.Common.{◌≡◌, ◌⊎◌, inl, inr, ⊎_elim, ℕ, suc, ◌+◌, ◌<◌, ◌≤◌, ◌^◌, ◌||◌, ◌&&◌, not, cond, Bool, true, false, List, [], ◌∷◌, length, map, All, Contains, Option, Some, None, refl, sym, ap, ◌∙◌, subst, arith}
+use Rattle.std.proofs.Common.{◌≡◌, ◌⊎◌, inl, inr, ⊎_elim, ℕ, suc, ◌+◌, ◌<◌, ◌≤◌, ◌^◌, ◌||◌, ◌&&◌, not, cond, Bool, true, false, List, [], ◌∷◌, length, All, Contains, Option, Some, None, refl, sym, ap, ◌∙◌, subst, arith}
 use Rattle.std.specs.Prelude.{is_some, sum}
 use Rattle.std.specs.List.{AllByRecursion}
 use Rattle.std.proofs.lemmas.List.{get_or-map, length-map}
@@ -12,69 +12,45 @@ use Rattle.block_map.specs.Keys.{IsKey, root}
 use Rattle.block_map.specs.Map.{pointer_at, is_free, is_pinned}
 use Rattle.block_map.specs.Places.{IsPlace}
 use Rattle.block_map.specs.Pointers.{IsPointer}
-use Rattle.vdev_tree.specs.declared.vdev.LeafVdev.{LeafVdev}
-use Rattle.dtl_rules.specs.Widening.{leaves_of}
 use Rattle.pool_codec.specs.Pointers.{sum_in}
-use Rattle.pool_config.specs.Seen.{leaf_seen, ranges_of}
-use Rattle.pool_config.specs.Validity.{IsValid, log_length}
-use Rattle.pool_config.proofs.Bounds.{sum_cons}
+use Rattle.pool_config.specs.Validity.{IsValid}
 use Rattle.vdev_tree.specs.declared.top.Top.{Top}
 use Rattle.txg_engine.specs.declared.item.Item.{Item}
 use Rattle.txg_engine.specs.declared.seat.Numbers.{Numbers}
-use Rattle.txg_engine.specs.declared.seat.Seat.{Seat}
 use Rattle.txg_engine.specs.declared.write.Write.{Write}
 use Rattle.txg_engine.specs.Boards.{has_seat, seats_of}
 use Rattle.txg_engine.specs.Freezing.{IsSigned}
 use Rattle.txg_engine.specs.Frozen.{FrozenGroup, KeysRise}
 use Rattle.txg_engine.specs.Items.{cell_of, place_of, places_of}
-use Rattle.txg_engine.specs.Logs.{IsReady, is_off}
+use Rattle.txg_engine.specs.Logs.{IsReady}
 use Rattle.txg_engine.specs.Writes.{is_written}
 use Rattle.txg_engine.proofs.Places.{cases_among, only_one, same_key_self, same_place}
 use Rattle.txg_history.specs.Pages.{Sum, sum_of}
 use Rattle.txg_history.specs.Records.{Cell, key}
 use Rattle.pool_moves.specs.FreezeRow.{IsAtPlace}
-use Rattle.pool_moves.specs.Moves.{Move, Widen, step}
 use Rattle.pool_moves.specs.Refusing.{count_below}
-use Rattle.pool_moves.specs.States.{sums, PoolSeen}
-use Rattle.pool_moves.specs.Widening.{AreWidens, ranges_together, seen_along}
+use Rattle.pool_moves.specs.States.{sums}
 use Rattle.txg_engine.proofs.TopsServed.{each_seated}
 use Rattle.open_pool.specs.Form.{IsPool, ArePlacesApart, HasPlaces, HasBoard, HasGroup, HasOpen, IsRecordable, all_leaves, config_of, is_dirty}
 use Rattle.open_pool.specs.Freezing.{FreezeParts, FreezesParts, group_at}
-use Rattle.open_pool.specs.Parts.{PoolParts, all_parts}
-use Rattle.open_pool.specs.State.{cells_of, leaves_from, leaves_under, seen_of, sums_of}
+use Rattle.open_pool.specs.Parts.{PoolParts}
+use Rattle.open_pool.specs.State.{cells_of, sums_of}
 use Rattle.open_pool.proofs.BoardKept.{AreSameLeaves, board_frozen}
 use Rattle.open_pool.proofs.CountsBelow.{count_same}
 use Rattle.open_pool.proofs.TurnSteps.{sectors_are}
-use Rattle.open_pool.proofs.FreezeBegins.{begun_parts, freezing, owes, same_leaves_then, sectors_same}
+use Rattle.open_pool.proofs.FreezeBegins.{begun_parts, form}
+use Rattle.open_pool.proofs.FreezeSteps as freeze_steps
+use Rattle.open_pool.proofs.TurnLeaves.{AreInForm}
 use Rattle.open_pool.proofs.FreezeRefused.{idle_parts}
 use Rattle.open_pool.proofs.GroupBlocks.{has_block}
 use Rattle.open_pool.proofs.KeysFound.{found_item}
-use Rattle.open_pool.proofs.LeavesByTops.{leaves_at, by_tops, tops_from, under_all, under_trees, HaveTops, have_tops}
 use Rattle.open_pool.proofs.LeavesInForm.{leaves_are, leaves_numbered, on_leaves}
-use Rattle.open_pool.proofs.LeavesKept.{AreKept, owing_kept, leaves_kept}
+use Rattle.open_pool.proofs.LeavesKept.{AreKept, leaves_kept}
 use Rattle.open_pool.proofs.LogsWidened.{IsWithin}
 use Rattle.open_pool.proofs.NumbersApart.{AreNumbered}
 use Rattle.open_pool.proofs.PlacesGiven.{are_given, behind_first, cells_apart, differ, keys_rise_on, rises_to}
-use Rattle.open_pool.proofs.RecordStill.{valid_still, placed_still, ranges_at}
+use Rattle.open_pool.proofs.RecordStill.{valid_still, placed_still}
 use Rattle.open_pool.proofs.TreesBuilt.{built_sizes}
-
--- Logs that were widened have few ranges together.
-ends_small : (s : PoolSeen) (vs : List Move) → AreWidens s vs → ranges_together (seen_along vs s).number (seen_along vs s).leaves ≤ 4096
-ends_small s [] are = are
-ends_small s (Widen m low high ∷ vs) are = ends_small (step (Widen m low high) s) vs are.2
-ends_small s (v ∷ vs) are = absurd are
-
-ranges_sum : (number : ℕ) (seats : List Seat) (tops : List ℕ) (leaves : List LeafVdev) → number ≤ 2 ^ 62 → HaveTops tops leaves
-    → AllByRecursion (IsWithin number) leaves
-    → ranges_together number (leaves_at seats tops leaves) ≡ sum (map log_length (map leaf_seen leaves))
-ranges_sum number seats [] [] high have within = refl
-ranges_sum number seats [] (leaf ∷ leaves) high have within = absurd have
-ranges_sum number seats (top ∷ tops) [] high have within = absurd have
-ranges_sum number seats (top ∷ tops) (leaf ∷ leaves) high have within =
-    let here = ap length (ranges_at number leaf high within.0) in
-    let rest = ranges_sum number seats tops leaves high have.1 within.1 in
-    let all = sum_cons (length (ranges_of leaf.log)) (map log_length (map leaf_seen leaves)) in
-    omega (arith, here, rest, all)
 
 -- The places of the keys.
 abbrev sum_seen : Item → Sum
@@ -164,8 +140,11 @@ module _ (r : PoolParts) (old new : FreezeParts) (group : FrozenGroup) (f : Free
   abbrev q : PoolParts
   q = begun_parts r new group
 
+  abbrev shape : AreInForm p
+  shape = form r old new group f pool more
+
   all_same : AreSameLeaves (all_leaves p) (all_leaves q)
-  all_same = on_leaves AreSameLeaves old.trees new.trees p q refl refl (same_leaves_then r old new group f pool more)
+  all_same = on_leaves AreSameLeaves old.trees new.trees p q refl refl (freeze_steps.same_leaves_then r old new group f shape more)
 
   free_or : (place : Place) → is_free old.map place ≡ false → is_free new.map place ≡ false
   free_or place shut = ⊎_elim (λ among. f.begins.freeze.takes.taken place among)
@@ -257,33 +236,13 @@ module _ (r : PoolParts) (old new : FreezeParts) (group : FrozenGroup) (f : Free
     few = pool.unfrozen.few;
   }
 
-  within_then : AllByRecursion (IsWithin (r.highest + 1)) (all_leaves q)
-  within_then = (owes r old new group f pool more []).within
-
-  few_then : sum (map log_length (map leaf_seen (leaves_of new.trees))) ≤ 4096
-  few_then =
-      let o = owes r old new group f pool more [] in
-      let unders = leaves_under (all_parts new.trees) in
-      let s = seen_of [] p in
-      let small : ranges_together (r.highest + 1) (leaves_from (seats_of 0 old.trees) 1 unders) ≤ 4096 =
-      subst (λ (t : PoolSeen). ranges_together t.number t.leaves ≤ 4096)
-      (ap (λ vs. seen_along vs s) (sym o.are.moves) ∙ o.leads) (ends_small (step (freezing r old new group f pool more []) s) o.are.widens o.are.are) in
-      subst (λ ls. sum (map log_length (map leaf_seen ls)) ≤ 4096) (under_trees new.trees)
-      (subst (λ n. n ≤ 4096)
-      (ap (ranges_together (r.highest + 1)) (by_tops (seats_of 0 old.trees) 1 unders)
-      ∙ ranges_sum (r.highest + 1) (seats_of 0 old.trees) (tops_from 1 unders) (under_all unders) more (have_tops 1 unders)
-      (subst (AllByRecursion (IsWithin (r.highest + 1))) (leaves_are new.trees q refl ∙ sym (under_trees new.trees)) within_then)) small)
-
-  kept : AreKept (leaves_of old.trees) (leaves_of new.trees)
-  kept = owing_kept (is_off (seats_of 0 old.trees)) (r.highest + 1) (leaves_of old.trees) (leaves_of new.trees) f.logs
-
   recordable_then : IsRecordable q
   recordable_then =
-      let same = same_leaves_then r old new group f pool more in
+      let same = freeze_steps.same_leaves_then r old new group f shape more in
       let c = config_of p (record { 0 = r.highest }) (pointer_at old.map root) in
-      let valid = valid_still old.trees new.trees f.built f.sectors same kept c (group_at (r.highest + 1)) (pointer_at old.map root) refl
+      let valid = valid_still old.trees new.trees f.built f.sectors same (freeze_steps.kept_then r old new group f shape more) c (group_at (r.highest + 1)) (pointer_at old.map root) refl
       pool.recordable (omega arith) more
-      (subst (AllByRecursion (IsWithin (r.highest + 1))) (leaves_are new.trees q refl) within_then) few_then
+      (subst (AllByRecursion (IsWithin (r.highest + 1))) (leaves_are new.trees q refl) (freeze_steps.within_then r old new group f shape more)) (freeze_steps.few_then r old new group f shape more)
       (placed_still old.trees new.trees (record { 0 = r.highest }) (group_at (r.highest + 1)) (pointer_at old.map root) f.sectors (omega arith)
       pool.recordable.root) in
       subst (λ blocks. IsValid (record (config_of q (group_at (r.highest + 1)) (pointer_at new.map root)) { blocks = blocks }))
@@ -299,12 +258,12 @@ module _ (r : PoolParts) (old new : FreezeParts) (group : FrozenGroup) (f : Free
   pub pool_then : IsPool q
   pool_then = record {
     recordable = recordable_then;
-    tops = f.begins.freeze.takes.volume.sectors ∙ pool.tops ∙ sectors_same r old new group f pool more;
+    tops = f.begins.freeze.takes.volume.sectors ∙ pool.tops ∙ freeze_steps.sectors_same r old new group f shape more;
     read = (let read = pool.read in omega (arith, read));
     births = λ k. subst (λ (pointer : Pointer). pointer.birth.0 ≤ r.read) (sym (f.begins.freeze.takes.keys k)) (pool.births k);
     places = places_then;
     apart = apart_then;
-    leaves = leaves_kept p q all_same (on_leaves AreKept old.trees new.trees p q refl refl kept) within_then (omega arith) pool.leaves;
+    leaves = leaves_kept p q all_same (on_leaves AreKept old.trees new.trees p q refl refl (freeze_steps.kept_then r old new group f shape more)) (freeze_steps.within_then r old new group f shape more) (omega arith) pool.leaves;
     board = board_then;
     group = group_then;
     unfrozen = open_then;

@@ -34,7 +34,8 @@ use Rattle.open_pool.specs.Parts.{PoolParts, all_parts}
 use Rattle.open_pool.specs.Resuming.{FreezesNone, IsLacking, lacking, unfrozen_as}
 use Rattle.open_pool.specs.State.{ArePinned, Stands, cells_of, leaves_from, leaves_under, state_of}
 use Rattle.open_pool.proofs.FreezeAnswered.{Starts, starts}
-use Rattle.open_pool.proofs.FreezeBegins.{begun_parts, owes, pins_then, steps_are, tops_count}
+use Rattle.open_pool.proofs.FreezeBegins.{begun_parts, owes, pins_then, steps_are}
+use Rattle.open_pool.proofs.FreezeSteps.{tops_count}
 use Rattle.open_pool.proofs.FreezeRefused.{idle_parts, with_parts}
 use Rattle.open_pool.proofs.LeavesByTops.{leaves_at, by_tops, tops_from, under_all, all_are_under}
 use Rattle.open_pool.proofs.LeavesInForm.{in_form}

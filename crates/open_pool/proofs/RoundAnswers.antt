@@ -44,6 +44,18 @@ use Rattle.open_pool.proofs.TurnLeaves.{TurnsLeaves}
 use Rattle.open_pool.proofs.TurnParts.{form, leavers, like_tops, same_leaves_there}
 use Rattle.open_pool.proofs.TurnSteps.{going, own_kept, room_kept, AreLikeTops}
 
+-- The moves of a whole round lead to the pool whose record is acknowledged.
+pub whole_leads : (size : ℕ → ℕ) (held : List Sums) (b : PoolParts) (group : FrozenGroup) (old new : List Top) (m : Map) (pins : PinsSeen)
+    (made : List Noted) → (pool : IsPool (going b group old)) (kept : IsGroup group) → (r : IsWholeRound size held b group old made)
+    → IsAdopted group.items b.pins.places b.map m → pins.places ≡ []
+    → marks_of new ≡ marks_of old → sectors_of new ≡ sectors_of old → AllZip IsSettled (leaves_of old) (leaves_of new)
+    → steps (r.moves ++ Commits r.draft ∷ []) (state_of held (going b group old)) ≡ state_of [] (acknowledged b group m pins new)
+whole_leads size held b group old new m pins made pool kept r adopted none built sectors settles =
+    let s = state_of held (going b group old) in
+    steps_more r.moves (Commits r.draft ∷ []) s ∙ ap (steps (Commits r.draft ∷ [])) r.leads
+    ∙ commit_steps held b group old new (like_tops old new built sectors (settled_same (leaves_of old) (leaves_of new) settles)) built m pins r.draft r.number_is
+    (adopted_sums b group old pool.places pool.apart kept.rise m pins new kept.low pool.group.signed adopted none) adopted.volume.blocks settles
+
 -- A whole round commits.
 pub round_commits : (size : ℕ → ℕ) (held : List Sums) (b : PoolParts) (group : FrozenGroup) (old new : List Top) (m : Map) (pins : PinsSeen)
     (made : List Noted) (from to : BankView) → (pool : IsPool (going b group old)) (kept : IsGroup group) → emptied_top (numbers_of old) group ≡ None
@@ -59,9 +71,7 @@ round_commits size held b group old new m pins made from to pool kept full r ado
     (subst (λ o. StartsBy o pool_codec size s (r.moves ++ Commits r.draft ∷ []) (Committed group.numbers.last.0))
     (sym (none_emptied b group old pool kept.low held full)) r.is_part)
     refl
-    (steps_more r.moves (Commits r.draft ∷ []) s ∙ ap (steps (Commits r.draft ∷ [])) r.leads
-    ∙ commit_steps held b group old new (like_tops old new built sectors (settled_same (leaves_of old) (leaves_of new) settles)) built m pins r.draft r.number_is
-    (adopted_sums b group old pool.places pool.apart kept.rise m pins new kept.low pool.group.signed adopted none) adopted.volume.blocks settles)
+    (whole_leads size held b group old new m pins made pool kept r adopted none built sectors settles)
     (adopted_pins b group old pool.places pool.apart kept.rise m pins new kept.low pool.group.signed adopted none)
     (subst (λ l. Makes l from to) (sym r.calls) calls)
 

@@ -23,7 +23,7 @@ use Rattle.pool_moves.specs.LineRows.{TurnReply, Round, Committed, EndsTurn, Sta
 use Rattle.pool_moves.specs.Moves.{Draft, Move, Starts, Copies, Commits, step, steps}
 use Rattle.pool_moves.specs.ReadRow.{made_in}
 use Rattle.pool_moves.specs.States.{Sums, PoolSeen, PoolState}
-use Rattle.pool_moves.specs.TurnRows.{round_moves, ended, IsThirdMoves, EndsRound, RowRound}
+use Rattle.pool_moves.specs.TurnRows.{round_moves, ended, FitsOwn, IsThirdMoves, EndsRound, RowRound}
 use Rattle.pool_moves.specs.Walking.{as_moves}
 use Rattle.pool_moves.specs.Widening.{AreLeaves, seen_along}
 use Rattle.pool_moves.proofs.FreeWalks.{steps_more}
@@ -33,7 +33,7 @@ use Rattle.pool_moves.proofs.ReadWalks.{made_calls}
 use Rattle.pool_moves.proofs.Widenings.{calls_seen}
 use Rattle.open_pool.specs.Form.{IsPool}
 use Rattle.open_pool.specs.Parts.{PoolParts}
-use Rattle.open_pool.specs.State.{group_of, leaves_from, leaves_under, seen_of, state_of}
+use Rattle.open_pool.specs.State.{group_of, leaves_from, leaves_under, own_state, seen_of, state_of}
 use Rattle.open_pool.specs.Turning.{Draws}
 use Rattle.open_pool.proofs.DraftFits.{drawn_of, fits_own, fits_state}
 use Rattle.open_pool.proofs.LeafLeaves.{seen_more}
@@ -155,6 +155,18 @@ pub record IsWholeRound (size : ℕ → ℕ) (held : List Sums) (b : PoolParts) 
       }
   pub calls : made_in (moves ++ Commits draft ∷ []) ≡ made
   pub is_part : StartsBy None pool_codec size (state_of held (going b group old)) (moves ++ Commits draft ∷ []) (Committed group.numbers.last.0)
+  pub row : RowRound pool_codec size (seen_of held (going b group old)) (moves ++ Commits draft ∷ []) true
+  pub own : FitsOwn pool_codec (own_state (going b group old)) row.draft
+  pub all : all_true row.results ≡ true
+
+-- A round with a leaf that failed, alone: who answered it, and its calls.
+pub record IsFailedRow (size : ℕ → ℕ) (held : List Sums) (b : PoolParts) (group : FrozenGroup) (old : List Top) (made : List Noted) (done : List Bool)
+    : Type 0 where
+  pub moves : List Move
+  pub row : RowRound pool_codec size (seen_of held (going b group old)) moves false
+  pub own : FitsOwn pool_codec (own_state (going b group old)) row.draft
+  pub results : row.results ≡ done
+  pub calls : made_in moves ≡ made
 
 module _ (size : ℕ → ℕ) (held : List Sums) (b : PoolParts) (group : FrozenGroup) (old : List Top) (pool : IsPool (going b group old)) (kept : IsGroup group)
     (flushed : group.flushed ≡ true) (full : emptied_top (numbers_of old) group ≡ None) (seated : AreSeated size (engine.board_of group.board))
@@ -231,6 +243,9 @@ module _ (size : ℕ → ℕ) (held : List Sums) (b : PoolParts) (group : Frozen
       ends = (refl, refl);
       moves = sym (append-nil (front ++ Commits draft ∷ []));
     }));
+    row = row true (sym whole) (Commits draft ∷ []) refl;
+    own = fits_own held b group old pool kept commit draws;
+    all = whole;
   }
 
   -- Leaves that left the board in it, and the leaves that it leaves.
@@ -298,4 +313,16 @@ module _ (size : ℕ → ℕ) (held : List Sums) (b : PoolParts) (group : Frozen
         ends = subst (λ u. EndsTurn u true (Round group.numbers.last.0) ending reply) (sym failed_leads) ends;
         moves = refl;
       }));
+    }
+
+    pub failed_row : all_true done ≡ false → made ≡ round.first ++ (round.second ++ round.third) → IsFailedRow size held b group old made done
+    unfolding front row row_left
+    failed_row failed all = record {
+      moves = front ++ left.leaving;
+      row = row_left failed;
+      own = fits_own held b group old pool kept commit draws;
+      results = refl;
+      calls = round_calls draft round.first round.second round.third thirds.moves left.leaving thirds.calls
+          (made_left (step (Starts draft) s.core) (engine.board_of group.board) done left.leaving left.are)
+          ∙ sym all;
     }

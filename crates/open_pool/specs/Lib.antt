@@ -2,6 +2,7 @@ pub mod Answering
 pub mod Committing
 pub mod Copies
 pub mod Counting
+pub mod Creating
 pub mod Finding
 pub mod Form
 pub mod Freezing

@@ -4,12 +4,14 @@
 
 mod copies;
 mod count;
+mod create;
 mod finding;
 mod form;
 mod freeze;
 mod laws;
 mod logs;
 mod named;
+mod new_tops;
 mod offline;
 mod pages;
 mod placing;
@@ -26,9 +28,11 @@ mod sync;
 mod turn;
 mod write;
 
+pub use create::CreateFault;
 pub use freeze::{FreezeFault, LAST_NUMBER};
 pub use laws::freezes_are_rows;
 pub use logs::LeafLog;
+pub use new_tops::NewLeaf;
 pub use offline::OfflineFault;
 pub use pages::{PageFault, Shown};
 pub use pool::Pool;

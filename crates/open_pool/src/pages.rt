@@ -143,7 +143,7 @@ pub(crate) fn read_map<B: Bank>(
 }
 
 // The sectors of each top, at the front.
-fn sectors_of(tops: &[Top]) -> [u64; MOST_TOPS]
+pub(crate) fn sectors_of(tops: &[Top]) -> [u64; MOST_TOPS]
     requires { length tops.now ≤ 8 }
     ensures { take (length tops.now) result ≡ sectors_of tops.now }
 {

@@ -136,7 +136,7 @@ impl Reopened {
 }
 
 // A buffer of a configuration part.
-fn part(alloc: Global) -> Result<Vec<u8>, MemFault>
+pub(crate) fn part(alloc: Global) -> Result<Vec<u8>, MemFault>
     ensures { IfOk result (λ part. length part.items ≡ 114688) }
 {
     Ok(vec![in alloc; 0; PART_BYTES]?)

@@ -81,6 +81,7 @@ impl Reopened {
             open,
             frozen: Some(frozen),
             dirty: 0,
+            scan: None,
             config,
         })
     }

@@ -99,7 +99,7 @@ pub(crate) struct Title<'a> {
 }
 
 // A round, as a pool answers it, of the record that is drawn up from the tops as they are.
-fn close_next<B: Bank>(
+pub(crate) fn close_next<B: Bank>(
     bank: &mut B,
     frozen: &mut Frozen,
     tops: &mut [Top],

@@ -1,5 +1,5 @@
 //! Frozen groups.
-ghost use Rattle.std.specs.Prelude.{◌≡◌, ◌≢◌, ℕ, ◌<◌, ◌≤◌, ◌==◌, length, nat_le, All, IfSome, IfNone};
+ghost use Rattle.std.specs.Prelude.{◌≡◌, ◌≢◌, ℕ, ◌<◌, ◌≤◌, ◌==◌, true, [], length, nat_le, All, IfSome, IfNone};
 ghost use Rattle.std.specs.Option.{option_copied};
 ghost use Rattle.block_map.specs.Map.{pointer_at};
 ghost use Rattle.block_map.specs.Keys.{root};
@@ -94,6 +94,14 @@ impl Frozen {
         ensures { result ≡ self.now.flushed }
     {
         self.flushed
+    }
+
+    /// Its flush turn is passed over: a group without keys has written nothing that is to be flushed.
+    pub fn skip_flush(&mut self)
+        requires { self.old.items ≡ [] }
+        ensures { self.new ≡ record (self.old) { flushed = true } }
+    {
+        self.flushed = true;
     }
 
     /// Its keys, in their order.
