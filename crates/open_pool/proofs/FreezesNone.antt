@@ -34,10 +34,11 @@ use Rattle.open_pool.specs.Parts.{PoolParts, all_parts}
 use Rattle.open_pool.specs.Resuming.{FreezesNone, IsLacking, lacking, unfrozen_as}
 use Rattle.open_pool.specs.State.{ArePinned, Stands, cells_of, leaves_from, leaves_under, state_of}
 use Rattle.open_pool.proofs.FreezeAnswered.{Starts, starts}
-use Rattle.open_pool.proofs.FreezeBegins.{begun_parts, owes, pins_then, steps_are}
-use Rattle.open_pool.proofs.FreezeSteps.{tops_count}
+use Rattle.open_pool.proofs.FreezeBegins.{begun_parts, pins_then}
+use Rattle.open_pool.proofs.FreezeSteps.{owes, steps_are, tops_count}
 use Rattle.open_pool.proofs.FreezeRefused.{idle_parts, with_parts}
 use Rattle.open_pool.proofs.LeavesByTops.{leaves_at, by_tops, tops_from, under_all, all_are_under}
+use Rattle.open_pool.proofs.TurnLeaves.{AreInForm}
 use Rattle.open_pool.proofs.LeavesInForm.{in_form}
 use Rattle.open_pool.proofs.StatesStand.{stands_there, by_state}
 use Rattle.open_pool.proofs.UnwritableTops.{unwritable_is, number_there}
@@ -165,6 +166,9 @@ module _ (p : PoolParts) (old new : FreezeParts) (start : Starts p old) (none : 
     more : p.highest + 1 ≤ 2 ^ 62
     more = let below = start.below in omega (arith, below)
 
+    form : AreInForm (idle_parts p old)
+    form = in_form old.trees (idle_parts p old) refl start.pool.recordable start.pool.leaves
+
     no_cells : cells_of group.items ≡ (λ k. None)
     no_cells =
         let keys = ap length f.begins.freeze.keys in
@@ -176,7 +180,7 @@ module _ (p : PoolParts) (old new : FreezeParts) (start : Starts p old) (none : 
         → FreezesNone (state_of held (idle_parts p old)) (opened_parts (begun_parts p new group))
     freezes_at held pins =
         let s = state_of held (idle_parts p old) in
-        let o = owes p old new group f start.pool more held in
+        let o = owes p old new group f form more held in
         let then = pins_then p old new group f start.pool more held pins in
         record {
           served = lacks held None f.begins.everywhere;
@@ -188,7 +192,7 @@ module _ (p : PoolParts) (old new : FreezeParts) (start : Starts p old) (none : 
             moves = subst (λ cells. IsWidened s.core (Freeze cells (up_devs s.core.leaves)) o.moves) no_cells o.are;
           };
           stands = subst (λ t. Stands (opened_parts (begun_parts p new group)) (record t { core = record (t.core) { opened = true } }))
-              (sym (steps_are p old new group f start.pool more held))
+              (sym (steps_are p old new group f form more held))
               (stands_there held (opened_parts (begun_parts p new group)) (record { pinned = then.pinned; held_places = then.held_places }));
         }
 

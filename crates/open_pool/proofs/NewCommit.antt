@@ -89,6 +89,7 @@ as_pool begun pool m pins number next tops spares = record {
   spares = spares;
   unfrozen = begun.unfrozen;
   frozen = None;
+  scan = None;
   dirty = 0;
 }
 

@@ -75,6 +75,7 @@ new_parts name pool next parts = record {
   spares = [];
   unfrozen = parts.unfrozen;
   frozen = None;
+  scan = None;
   dirty = 0;
 }
 

@@ -4,11 +4,11 @@ use Rattle.bank_core.specs.BankView.{BankView}
 use Rattle.bank_core.specs.Calls.{Makes}
 use Rattle.vdev_tree.specs.declared.vdev.LeafVdev.{LeafVdev}
 use Rattle.pool_codec.specs.Codecs.{pool_codec}
-use Rattle.pool_moves.specs.CommitRows.{RowReopen, no_counts}
+use Rattle.pool_moves.specs.CommitRows.{no_counts}
 use Rattle.pool_moves.specs.FreezeRow.{RowEmptyFreeze}
 use Rattle.pool_moves.specs.LineRows as rows
 use Rattle.pool_moves.specs.Moves.{Move, steps}
-use Rattle.pool_moves.specs.OpeningRow.{lacking_of}
+use Rattle.pool_moves.specs.OpeningRow.{lacking_of, RowResume}
 use Rattle.pool_moves.specs.ReadRow.{made_in}
 use Rattle.pool_moves.specs.States.{PoolState}
 use Rattle.open_pool.specs.declared.freeze.FreezeFault.{FreezeFault}
@@ -25,25 +25,17 @@ use Rattle.open_pool.specs.State.{Stands}
 abbrev pub lacking : PoolState → Option ℕ
 lacking s = lacking_of s.core.leaves s.core.leaves
 
--- The record is committed again. Where a top has no readable leaf nothing is drawn; that top is told then, with the number that would
--- be drawn, and no fault. What starts behind the acknowledgement comes behind these moves.
-abbrev pub ReopensUnless : Option ℕ → (size : ℕ → ℕ) → PoolState → List Move → rows.TurnReply → Type 0
-ReopensUnless (Some top) size s vs reply = (vs ≡ []) × (reply ≡ rows.Suspended (s.core.number + 1) (s.own.top_number top) 0)
-ReopensUnless None size s vs reply = RowReopen pool_codec size s vs reply
-
-abbrev pub ReopensBy : (size : ℕ → ℕ) → PoolState → List Move → rows.TurnReply → Type 0
-ReopensBy size s vs reply = ReopensUnless (lacking s) size s vs reply
-
 -- It answers the pool that stands behind the moves, once the record is acknowledged; else how the commit was suspended.
 abbrev pub IsResumedAs : (answer : Result PoolParts ResumeFault) → rows.TurnReply → (now : PoolState) → Type 0
 IsResumedAs (Ok pool) reply now = (reply ≡ rows.Committed pool.read) × Stands pool now
 IsResumedAs (Err (resumes.Suspended told)) reply now = turn_says reply ≡ Err told
 IsResumedAs (Err resumes.Memory) reply now = ⊥
 
+-- So it answers what its row says, with just its calls: the record is committed again under the next number, and a resilver may start behind it.
 pub record Recommits (answer : Result PoolParts ResumeFault) (s : PoolState) (old new : BankView) : Type 0 where
   pub moves : List Move
   pub reply : rows.TurnReply
-  pub row : ReopensBy old.size s moves reply
+  pub row : RowResume pool_codec old.size s moves reply
   pub answers : IsResumedAs answer reply (steps moves s)
   pub calls : Makes (made_in moves) old new
 

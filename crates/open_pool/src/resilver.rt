@@ -18,7 +18,9 @@ impl Pool {
     /// Where a readable leaf owes a group, a scan that runs ends, and a resilver starts: over the keys of the record that the pool
     /// reads, for its readable leaves. It takes no memory.
     pub(crate) fn start_resilver(&mut self)
-        ensures { (s : PoolState) → Stands self.old s → (vs : List Move) × Resilvers s.core vs × Stands self.new (steps vs s) }
+        ensures row { (s : PoolState) → Stands self.old s → (vs : List Move) × Resilvers s.core vs × Stands self.new (steps vs s) }
+        ensures tops { self.new.tops ≡ self.old.tops }
+        ensures read { self.new.read ≡ self.old.read }
     {
         self.keeps_its_form();
         if has_owing(&self.tops) {

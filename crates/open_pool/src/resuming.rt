@@ -25,8 +25,9 @@ pub enum ResumeFault {
 }
 
 impl Reopened {
-    /// Commits the record again under the next number, by a group without keys. At `Ok` it is acknowledged, and the counts of all
-    /// leaves begin anew. At `Err` the pool isn't opened, and another opening finds one of its records.
+    /// Commits the record again under the next number, by a group without keys. At `Ok` it is acknowledged, the counts of all
+    /// leaves begin anew, and a resilver has started where a readable leaf owes a group. At `Err` the pool isn't opened, and
+    /// another opening finds one of its records.
     pub fn resume<B: Bank>(self, bank: &mut B) -> Result<Pool, ResumeFault>
         requires { AreHere (B.view bank.old).size self.tops }
         ensures row { (s : PoolState) → Stands self s → RecommitsOrStops result s (B.view bank.old) (B.view bank.new) }
@@ -38,6 +39,7 @@ impl Reopened {
             return Err(why_unended(fault));
         }
         pool.begin_counts();
+        pool.start_resilver();
         Ok(pool)
     }
 

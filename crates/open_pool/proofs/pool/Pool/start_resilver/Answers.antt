@@ -25,8 +25,8 @@ start-requires c =
     few c.args.self.now c.deref-then-has_owing.result.now
     (ap (λ (q : PoolParts). q.tops) (sym c.self.view_is) ∙ ap all_parts (sym c.deref-then-has_owing.ensures.value)) c.keeps_its_form.ensures.pool
 
-pub returns-then-has_owing : goal.returns-then-has_owing
-returns-then-has_owing c = λ s stands.
+pub returns-then-has_owing-clause-row : goal.returns-then-has_owing-clause-row
+returns-then-has_owing-clause-row c = λ s stands.
     let scan = c.start.result in
     subst (λ q. (vs : List Move) × Resilvers s.core vs × Stands (with_scan q (Some scan)) (steps vs s)) (sym c.self.view_is)
     (resilvers c.args.self.now c.self.inside.tops.items (ap (λ (q : PoolParts). q.tops) (sym c.self.view_is)) scan (ap (λ (q : PoolParts). q.opened) (sym c.self.view_is))
@@ -34,7 +34,7 @@ returns-then-has_owing c = λ s stands.
     (c.start.ensures.leaves ∙ ap (λ (ts : List Top). scan_leaves (leaves_of ts)) c.deref-then-has_owing.ensures.value)
     (subst (λ (ts : List Top). HasOwing (leaves_of ts)) c.deref.ensures.value (c.has_owing.ensures.owing c.if-has_owing.true)) s stands)
 
-pub returns-else-has_owing : goal.returns-else-has_owing
-returns-else-has_owing c = λ s stands.
+pub returns-else-has_owing-clause-row : goal.returns-else-has_owing-clause-row
+returns-else-has_owing-clause-row c = λ s stands.
     rests c.args.self.now c.self.inside.tops.items (ap (λ (q : PoolParts). q.tops) (sym c.self.view_is))
     (λ has. c.has_owing.ensures.none c.if-has_owing.false (subst (λ (ts : List Top). HasOwing (leaves_of ts)) (sym c.deref.ensures.value) has)) s stands

@@ -1,6 +1,7 @@
-use Rattle.std.proofs.Common.{◌≡◌, Result, Ok, Err, refl, ap}
+use Rattle.std.proofs.Common.{◌≡◌, Result, Ok, Err, refl, sym, ap, ◌∙◌, subst}
 use Rattle.std.specs.Result.{IsErrAnd}
 use Rattle.open_pool.specs.declared.resuming.ResumeFault.{ResumeFault}
+use Rattle.open_pool.specs.Here.{AreHere}
 use Rattle.open_pool.specs.Parts.{PoolParts}
 use Rattle.open_pool.proofs.PoolResumed.{is_suspended, not_begun, resumed, suspended, suspended_tells}
 use Rattle.open_pool.proofs.reopening.Reopened.resume.Goals as goal
@@ -34,9 +35,9 @@ returns-in-Err-clause-told g c = λ s stands.
 pub returns-clause-row : goal.returns-clause-row
 returns-clause-row g c = λ s stands.
     resumed c.args.self c.in_ok-pool.pool c.end_group.new.self (g.B.Bank.view c.args.bank.now) (g.B.Bank.view c.end_group.new.bank) c.in_ok-pool.ensures.row
-    (Ok c.in_default.field-0) c.in_default.ensures.row s stands c.in_default.field-0 c.begin_counts.new.self refl c.begin_counts.ensures.counts
-    c.begin_counts.ensures.read
+    (Ok c.in_default.field-0) c.in_default.ensures.row s stands c.in_default.field-0 c.begin_counts.new.self c.start_resilver.new.self refl
+    c.begin_counts.ensures.counts c.start_resilver.ensures.row (c.start_resilver.ensures.read ∙ c.begin_counts.ensures.read)
 
 pub returns-clause-here : goal.returns-clause-here
 returns-clause-here g c = λ size here.
-    c.begin_counts.ensures.here size (c.in_default.ensures.here size (c.in_ok-pool.ensures.here size here))
+    subst (AreHere size) (sym c.start_resilver.ensures.tops) (c.begin_counts.ensures.here size (c.in_default.ensures.here size (c.in_ok-pool.ensures.here size here)))
