@@ -16,7 +16,7 @@ use Rattle.txg_engine.specs.Logs.{Counted, count_write, AreBehind}
 use Rattle.pool_moves.specs.Leaves.{LeafSeen, OwnLeaf}
 use Rattle.pool_moves.specs.LineRows.{write_failed, has_number, sets_failed, count_moves}
 use Rattle.pool_moves.specs.Moves.{Sets, leaf_step, state_step, steps}
-use Rattle.pool_moves.specs.States.{PoolState}
+use Rattle.pool_moves.specs.States.{ScanSeen, PoolState}
 use Rattle.open_pool.specs.State.{seat_in, faults_of, own_of, leaf_of}
 use Rattle.open_pool.proofs.BoardKept.{AreSameLeaves}
 use Rattle.open_pool.proofs.LeafLeaves.{half_of, halves_at, AreThree, left_seat}
@@ -137,17 +137,17 @@ found_number m (leaf ∷ leaves) found is = one (leaf.guid.0 == m.0) refl is (fo
     one false test e rest = rest e
 
 -- A count of one leaf changes no other.
-found_still : (m k : Guid) (own : OwnLeaf) (number first hi : ℕ) (leaves : List LeafSeen) → (k.0 == m.0) ≡ false
-    → own_found k (map (leaf_step (Sets m own) number first hi) leaves) ≡ own_found k leaves
-found_still m k own number first hi [] other = refl
-found_still m k own number first hi (leaf ∷ leaves) other = one (leaf.guid.0 == m.0) (leaf.guid.0 == k.0) refl refl
-    (found_still m k own number first hi leaves other)
+found_still : (m k : Guid) (own : OwnLeaf) (number first : ℕ) (scan : ScanSeen) (leaves : List LeafSeen) → (k.0 == m.0) ≡ false
+    → own_found k (map (leaf_step (Sets m own) number first scan) leaves) ≡ own_found k leaves
+found_still m k own number first scan [] other = refl
+found_still m k own number first scan (leaf ∷ leaves) other = one (leaf.guid.0 == m.0) (leaf.guid.0 == k.0) refl refl
+    (found_still m k own number first scan leaves other)
   where
     one : (t u : Bool) → (leaf.guid.0 == m.0) ≡ t → (leaf.guid.0 == k.0) ≡ u
-        → own_found k (map (leaf_step (Sets m own) number first hi) leaves) ≡ own_found k leaves
+        → own_found k (map (leaf_step (Sets m own) number first scan) leaves) ≡ own_found k leaves
         → option_map (λ (l : LeafSeen). l.own) (cond ((cond t (record leaf { own = own }) leaf).guid.0 == k.0)
         (Some (cond t (record leaf { own = own }) leaf))
-        (find (has_number k) (map (leaf_step (Sets m own) number first hi) leaves)))
+        (find (has_number k) (map (leaf_step (Sets m own) number first scan) leaves)))
         ≡ option_map (λ (l : LeafSeen). l.own) (cond (leaf.guid.0 == k.0) (Some leaf) (find (has_number k) leaves))
     one true true same here rest =
         absurd (true≢false (sym
@@ -155,25 +155,25 @@ found_still m k own number first hi (leaf ∷ leaves) other = one (leaf.guid.0 =
         let b : leaf.guid.0 ≡ k.0 = same_number leaf.guid.0 k.0 here in grind (arith, nat_tests)) in yes) ∙ other))
     one true false same here rest =
         ap (λ b. option_map (λ (l : LeafSeen). l.own) (cond b (Some (record leaf { own = own }))
-        (find (has_number k) (map (leaf_step (Sets m own) number first hi) leaves)))) here
+        (find (has_number k) (map (leaf_step (Sets m own) number first scan) leaves)))) here
         ∙ rest
         ∙ sym (ap (λ b. option_map (λ (l : LeafSeen). l.own) (cond b (Some leaf) (find (has_number k) leaves))) here)
     one false u same here rest = by (leaf.guid.0 == k.0)
       where
         by : (b : Bool)
             → option_map (λ (l : LeafSeen). l.own)
-            (cond b (Some leaf) (find (has_number k) (map (leaf_step (Sets m own) number first hi) leaves)))
+            (cond b (Some leaf) (find (has_number k) (map (leaf_step (Sets m own) number first scan) leaves)))
             ≡ option_map (λ (l : LeafSeen). l.own) (cond b (Some leaf) (find (has_number k) leaves))
         by true = refl
         by false = rest
 
 -- One leaf is counted, and the others aren't.
-half_counted : (m k : Guid) (X : OwnLeaf) (seats F : List Seat) (top number first hi : ℕ)
+half_counted : (m k : Guid) (X : OwnLeaf) (seats F : List Seat) (top number first : ℕ) (scan : ScanSeen)
     (old counted new final : LeafVdev) → k.0 ≡ m.0 → final.guid ≡ old.guid
     → ((final.guid.0 == m.0) ≡ true → own_of seats old ≡ X) → counted ≡ count_write m old → IsLikeIt counted new
-    → leaf_step (Sets k (write_failed X)) number first hi (half_of seats old F top final) ≡ half_of
+    → leaf_step (Sets k (write_failed X)) number first scan (half_of seats old F top final) ≡ half_of
     (left_seats m seats) new F top final
-half_counted m k X seats F top number first hi old counted new final same number_is own_is count like =
+half_counted m k X seats F top number first scan old counted new final same number_is own_is count like =
     ap (λ n. cond (final.guid.0 == n) (record (half_of seats old F top final) { own = write_failed X })
     (half_of seats old F top final)) same
     ∙ by (final.guid.0 == m.0) refl
@@ -196,24 +196,24 @@ half_uncounted m seats F top old counted new final number_is other count like =
     ∙ ap (λ b. cond b (write_failed (own_of seats old)) (own_of seats old))
     (ap (λ (g : Guid). g.0 == m.0) (sym number_is) ∙ other)))
 
-halves_counted : (m k : Guid) (X : OwnLeaf) (seats F : List Seat) (tops : List ℕ) (number first hi : ℕ)
+halves_counted : (m k : Guid) (X : OwnLeaf) (seats F : List Seat) (tops : List ℕ) (number first : ℕ) (scan : ScanSeen)
     (old counted new finals : List LeafVdev) → k.0 ≡ m.0 → AreThree tops old finals
     → AreSameLeaves old finals
     → AllByRecursion (λ leaf. (leaf.guid.0 == m.0) ≡ true → leaf.own ≡ X) (halves_at seats old F tops finals)
     → Counted m old counted → AreLikeThem counted new
-    → map (leaf_step (Sets k (write_failed X)) number first hi) (halves_at seats old F tops finals) ≡ halves_at
+    → map (leaf_step (Sets k (write_failed X)) number first scan) (halves_at seats old F tops finals) ≡ halves_at
     (left_seats m seats) new F tops finals
-halves_counted m k X seats F [] number first hi old counted new finals same three final own_is count like = refl
-halves_counted m k X seats F (top ∷ tops) number first hi [] counted new finals same three final own_is count like = absurd three
-halves_counted m k X seats F (top ∷ tops) number first hi (x ∷ old) [] new finals same three final own_is count like = absurd count
-halves_counted m k X seats F (top ∷ tops) number first hi (x ∷ old) (y ∷ counted) [] finals same three final own_is count like = absurd like
-halves_counted m k X seats F (top ∷ tops) number first hi (x ∷ old) (y ∷ counted) (z ∷ new) [] same three final own_is count like = absurd three
-halves_counted m k X seats F (top ∷ tops) number first hi (x ∷ old) (y ∷ counted) (z ∷ new)
+halves_counted m k X seats F [] number first scan old counted new finals same three final own_is count like = refl
+halves_counted m k X seats F (top ∷ tops) number first scan [] counted new finals same three final own_is count like = absurd three
+halves_counted m k X seats F (top ∷ tops) number first scan (x ∷ old) [] new finals same three final own_is count like = absurd count
+halves_counted m k X seats F (top ∷ tops) number first scan (x ∷ old) (y ∷ counted) [] finals same three final own_is count like = absurd like
+halves_counted m k X seats F (top ∷ tops) number first scan (x ∷ old) (y ∷ counted) (z ∷ new) [] same three final own_is count like = absurd three
+halves_counted m k X seats F (top ∷ tops) number first scan (x ∷ old) (y ∷ counted) (z ∷ new)
     (f ∷ finals) same three final own_is count like =
-    ap (λ l. l ∷ map (leaf_step (Sets k (write_failed X)) number first hi) (halves_at seats old F tops finals))
-    (half_counted m k X seats F top number first hi x y z f same final.0.guid own_is.0 count.0 like.0)
+    ap (λ l. l ∷ map (leaf_step (Sets k (write_failed X)) number first scan) (halves_at seats old F tops finals))
+    (half_counted m k X seats F top number first scan x y z f same final.0.guid own_is.0 count.0 like.0)
     ∙ ap (λ ls. half_of (left_seats m seats) z F top f ∷ ls)
-    (halves_counted m k X seats F tops number first hi old counted new finals same three final.1 own_is.1 count.1 like.1)
+    (halves_counted m k X seats F tops number first scan old counted new finals same three final.1 own_is.1 count.1 like.1)
 
 halves_uncounted : (m : Guid) (seats F : List Seat) (tops : List ℕ) (old counted new finals : List LeafVdev)
     → AreThree tops old finals → AreSameLeaves old finals
@@ -273,18 +273,18 @@ same_back (x ∷ old) (y ∷ new) same = (
   same_back old new same.1,
 )
 
-all_found_still : (found : Guid) (m : Member) (own : OwnLeaf) (number first hi : ℕ) (all leaves : List LeafSeen)
+all_found_still : (found : Guid) (m : Member) (own : OwnLeaf) (number first : ℕ) (scan : ScanSeen) (all leaves : List LeafSeen)
     (ms : List Member) → found.0 ≡ m.guid.0
     → AllByRecursion (λ k. (m.guid.0 == k) ≡ false) (member_numbers ms)
     → AllByRecursion (λ k. own_found k.guid all ≡ own_found k.guid leaves) ms
     → AllByRecursion (λ k. own_found k.guid all ≡ own_found k.guid
-    (map (leaf_step (Sets found own) number first hi) leaves)) ms
-all_found_still found m own number first hi all leaves [] same differ are = tt
-all_found_still found m own number first hi all leaves (k ∷ ms) same differ are = (
+    (map (leaf_step (Sets found own) number first scan) leaves)) ms
+all_found_still found m own number first scan all leaves [] same differ are = tt
+all_found_still found m own number first scan all leaves (k ∷ ms) same differ are = (
   are.0
-      ∙ sym (found_still found k.guid own number first hi leaves
+      ∙ sym (found_still found k.guid own number first scan leaves
       (ap (λ n. k.guid.0 == n) same ∙ turned_test m.guid.0 k.guid.0 differ.0)),
-  all_found_still found m own number first hi all leaves ms same differ.1 are.1,
+  all_found_still found m own number first scan all leaves ms same differ.1 are.1,
 )
 
 -- what counts do, from these leaves to those
@@ -345,8 +345,8 @@ counts_all (m ∷ ms) (false ∷ done) s all numbers seats F tops old new finals
         (one_found m.guid cur q (subst Differ (sym (halves_numbers seats F tops old finals three)) differ)
         (ap (find (has_number m.guid)) (sym seen) ∙ here)) in
         rest (state_step (Sets o.guid (write_failed o.own)) s)
-        (ap (map (leaf_step (Sets o.guid (write_failed o.own)) s.core.number s.core.group.first s.core.scan.hi)) seen
-        ∙ halves_counted m.guid o.guid o.own seats F tops s.core.number s.core.group.first s.core.scan.hi
+        (ap (map (leaf_step (Sets o.guid (write_failed o.own)) s.core.number s.core.group.first s.core.scan)) seen
+        ∙ halves_counted m.guid o.guid o.own seats F tops s.core.number s.core.group.first s.core.scan
         old are.1.counted are.0 finals number three final own_is are.1.count like)
         (all_found_still o.guid m
-        (write_failed o.own) s.core.number s.core.group.first s.core.scan.hi all s.core.leaves ms number apart.0 found.1)
+        (write_failed o.own) s.core.number s.core.group.first s.core.scan all s.core.leaves ms number apart.0 found.1)

@@ -9,7 +9,7 @@ use Rattle.vdev_tree.specs.declared.vdev.LeafVdev.{LeafVdev}
 use Rattle.txg_engine.specs.declared.seat.Seat.{Seat}
 use Rattle.pool_moves.specs.Leaves.{LeafSeen, OwnLeaf}
 use Rattle.pool_moves.specs.Moves.{Move, Leave, Widen, Sets, leaf_step, step, state_step, steps}
-use Rattle.pool_moves.specs.States.{PoolSeen, PoolState}
+use Rattle.pool_moves.specs.States.{ScanSeen, PoolSeen, PoolState}
 use Rattle.pool_moves.specs.Widening.{ranges_in, ranges_together, AreWidens, IsWidened, AreLeaves, seen_along}
 use Rattle.pool_moves.proofs.KindsOfMoves.{IsSet}
 use Rattle.open_pool.specs.Parts.{TopParts}
@@ -40,13 +40,13 @@ few_left s (m ∷ ms) (false ∷ done) vs are few =
     (few_left (seen_along are.0 s) ms done are.1 are.4 (few_behind (Leave m.dev) are.0 s are.3)))
 
 -- counts don't matter to it
-set_alike : (n number first hi : ℕ) (m : Guid) (own : OwnLeaf) (leaves : List LeafSeen)
-    → ranges_together n (map (leaf_step (Sets m own) number first hi) leaves) ≡ ranges_together n leaves
-set_alike n number first hi m own [] = refl
-set_alike n number first hi m own (leaf ∷ leaves) = by (leaf.guid.0 == m.0) (set_alike n number first hi m own leaves)
+set_alike : (n number first : ℕ) (scan : ScanSeen) (m : Guid) (own : OwnLeaf) (leaves : List LeafSeen)
+    → ranges_together n (map (leaf_step (Sets m own) number first scan) leaves) ≡ ranges_together n leaves
+set_alike n number first scan m own [] = refl
+set_alike n number first scan m own (leaf ∷ leaves) = by (leaf.guid.0 == m.0) (set_alike n number first scan m own leaves)
   where
-    by : (t : Bool) → ranges_together n (map (leaf_step (Sets m own) number first hi) leaves) ≡ ranges_together n leaves
-        → ranges_together n (cond t (record leaf { own = own }) leaf ∷ map (leaf_step (Sets m own) number first hi) leaves)
+    by : (t : Bool) → ranges_together n (map (leaf_step (Sets m own) number first scan) leaves) ≡ ranges_together n leaves
+        → ranges_together n (cond t (record leaf { own = own }) leaf ∷ map (leaf_step (Sets m own) number first scan) leaves)
         ≡ ranges_together n (leaf ∷ leaves)
     by true rest = ap (λ k. ranges_in n leaf + k) rest
     by false rest = ap (λ k. ranges_in n leaf + k) rest
@@ -54,7 +54,7 @@ set_alike n number first hi m own (leaf ∷ leaves) = by (leaf.guid.0 == m.0) (s
 pub few_counted : (vs : List Move) (s : PoolState) → AllByRecursion IsSet vs → HasFewRanges s.core → HasFewRanges (steps vs s).core
 few_counted [] s all few = few
 few_counted (Sets m own ∷ vs) s all few = few_counted vs (state_step (Sets m own) s) all.1
-    (subst (λ n. n ≤ 4096) (sym (set_alike s.core.number s.core.number s.core.group.first s.core.scan.hi m own s.core.leaves)) few)
+    (subst (λ n. n ≤ 4096) (sym (set_alike s.core.number s.core.number s.core.group.first s.core.scan m own s.core.leaves)) few)
 few_counted (v ∷ vs) s all few = absurd all.0
 
 together_at : (n : ℕ) (seats : List Seat) (tops : List ℕ) (leaves : List LeafVdev) → HaveTops tops leaves

@@ -1,5 +1,5 @@
 -- A freeze of an open pool without a frozen group: what it answers, and what it leaves.
-use Rattle.std.proofs.Common.{◌≡◌, ◌⊎◌, ◌+◌, ◌<◌, ◌≤◌, ◌^◌, true, length, get_or, None, Result, Ok, Err, sym, ap, ◌∙◌, subst, arith}
+use Rattle.std.proofs.Common.{◌≡◌, ◌⊎◌, ◌+◌, ◌<◌, ◌≤◌, ◌^◌, length, get_or, None, true, Result, Ok, Err, sym, ap, ◌∙◌, subst, arith}
 use Rattle.sha2.proofs.Facts256.{length-sha256}
 use Rattle.mp_base.specs.declared.number.Group.{Group}
 use Rattle.mp_base.specs.declared.place.Key.{Key}

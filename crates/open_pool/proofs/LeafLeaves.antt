@@ -17,7 +17,7 @@ use Rattle.txg_engine.specs.Boards.{on_board, without, failed, behind_turn, coun
 use Rattle.txg_engine.specs.Logs.{AreGrown, Grows, Counted, count_write, is_leaf, AreBehind}
 use Rattle.pool_moves.specs.Leaves.{LeafSeen}
 use Rattle.pool_moves.specs.Moves.{Move, Leave, leaf_step, step, on_dev, log_grown}
-use Rattle.pool_moves.specs.States.{PoolSeen}
+use Rattle.pool_moves.specs.States.{ScanSeen, PoolSeen}
 use Rattle.pool_moves.specs.Widening.{IsWidened, AreLeaves, seen_along}
 use Rattle.open_pool.specs.State.{seat_in, own_of, leaf_of}
 use Rattle.open_pool.proofs.BoardKept.{AreSameLeaves, IsSameLeaf, KeepsSeats, mapped_seat, leave_keeps, fault_keeps}
@@ -148,11 +148,11 @@ recounted m [] (y ∷ new) are = absurd are
 recounted m (x ∷ old) [] are = absurd are
 recounted m (x ∷ old) (y ∷ new) are = (recounted_leaf m x y are.0, recounted m old new are.1)
 
-half_leaves : (f : Seat → Seat) → KeepsOn f → (ws : List Seat) (w : LeafVdev) (seats : List Seat) (top : ℕ) (m : Member) (number first hi : ℕ)
+half_leaves : (f : Seat → Seat) → KeepsOn f → (ws : List Seat) (w : LeafVdev) (seats : List Seat) (top : ℕ) (m : Member) (number first : ℕ) (scan : ScanSeen)
     (old counted grown : LeafVdev) → Differ (seat_numbers seats)
     → Agrees m old → IsRecounted old counted → Grows (is_leaf m.guid) first number counted grown
-    → leaf_step (Leave m.dev) number first hi (half_of ws w seats top old) ≡ half_of ws w (map (without m.guid) (map f seats)) top grown
-half_leaves f keeps ws w seats top m number first hi old counted grown differ agrees count grow =
+    → leaf_step (Leave m.dev) number first scan (half_of ws w seats top old) ≡ half_of ws w (map (without m.guid) (map f seats)) top grown
+half_leaves f keeps ws w seats top m number first scan old counted grown differ agrees count grow =
     ap (λ t. record (half_of ws w seats top old) {
       owes = log_grown t first number (holds old.log);
       on = cond t false
@@ -175,24 +175,24 @@ half_leaves f keeps ws w seats top m number first hi old counted grown differ ag
         ∙ sym (grow.groups g)
 
 halves_leave : (f : Seat → Seat) → KeepsOn f → (ws : List Seat) (was : List LeafVdev) (seats : List Seat) (tops : List ℕ) (m : Member)
-    (number first hi : ℕ) (old counted grown : List LeafVdev) → Differ (seat_numbers seats)
+    (number first : ℕ) (scan : ScanSeen) (old counted grown : List LeafVdev) → Differ (seat_numbers seats)
     → AllByRecursion (Agrees m) old → AllZip IsRecounted old counted
     → AllZip (Grows (is_leaf m.guid) first number) counted grown
-    → map (leaf_step (Leave m.dev) number first hi) (halves_at ws was seats tops old)
+    → map (leaf_step (Leave m.dev) number first scan) (halves_at ws was seats tops old)
     ≡ halves_at ws was (map (without m.guid) (map f seats)) tops grown
-halves_leave f keeps ws was seats [] m number first hi old counted grown differ agree count grow = refl
-halves_leave f keeps ws [] seats (top ∷ tops) m number first hi old counted grown differ agree count grow = refl
-halves_leave f keeps ws (w ∷ was) seats (top ∷ tops) m number first hi [] [] [] differ agree count grow = refl
-halves_leave f keeps ws (w ∷ was) seats (top ∷ tops) m number first hi [] [] (z ∷ grown) differ agree count grow = absurd grow
-halves_leave f keeps ws (w ∷ was) seats (top ∷ tops) m number first hi [] (y ∷ counted) grown differ agree count grow = absurd count
-halves_leave f keeps ws (w ∷ was) seats (top ∷ tops) m number first hi (x ∷ old) [] grown differ agree count grow = absurd count
-halves_leave f keeps ws (w ∷ was) seats (top ∷ tops) m number first hi (x ∷ old) (y ∷ counted) [] differ agree count grow = absurd grow
-halves_leave f keeps ws (w ∷ was) seats (top ∷ tops) m number first hi (x ∷ old) (y ∷ counted)
+halves_leave f keeps ws was seats [] m number first scan old counted grown differ agree count grow = refl
+halves_leave f keeps ws [] seats (top ∷ tops) m number first scan old counted grown differ agree count grow = refl
+halves_leave f keeps ws (w ∷ was) seats (top ∷ tops) m number first scan [] [] [] differ agree count grow = refl
+halves_leave f keeps ws (w ∷ was) seats (top ∷ tops) m number first scan [] [] (z ∷ grown) differ agree count grow = absurd grow
+halves_leave f keeps ws (w ∷ was) seats (top ∷ tops) m number first scan [] (y ∷ counted) grown differ agree count grow = absurd count
+halves_leave f keeps ws (w ∷ was) seats (top ∷ tops) m number first scan (x ∷ old) [] grown differ agree count grow = absurd count
+halves_leave f keeps ws (w ∷ was) seats (top ∷ tops) m number first scan (x ∷ old) (y ∷ counted) [] differ agree count grow = absurd grow
+halves_leave f keeps ws (w ∷ was) seats (top ∷ tops) m number first scan (x ∷ old) (y ∷ counted)
     (z ∷ grown) differ agree count grow =
-    ap (λ l. l ∷ map (leaf_step (Leave m.dev) number first hi) (halves_at ws was seats tops old))
-    (half_leaves f keeps ws w seats top m number first hi x y z differ agree.0 count.0 grow.0)
+    ap (λ l. l ∷ map (leaf_step (Leave m.dev) number first scan) (halves_at ws was seats tops old))
+    (half_leaves f keeps ws w seats top m number first scan x y z differ agree.0 count.0 grow.0)
     ∙ ap (λ ls. half_of ws w (map (without m.guid) (map f seats)) top z ∷ ls)
-    (halves_leave f keeps ws was seats tops m number first hi old counted grown differ agree.1 count.1 grow.1)
+    (halves_leave f keeps ws was seats tops m number first scan old counted grown differ agree.1 count.1 grow.1)
 
 -- they have their logs, and with others they are others in these alone
 halves_logged : (ws : List Seat) (was : List LeafVdev) (seats : List Seat) (tops : List ℕ) (leaves : List LeafVdev)
@@ -313,8 +313,8 @@ one_leaves f keeps s ws was seats tops m old counted new seen three differ low h
     let like = grown_like (is_leaf m.guid) s.group.first s.number counted grown grows.grow in
     let all = same_twice old counted grown same (like_leaves counted grown like) in
     let stepped : (step (Leave m.dev) s).leaves ≡ halves_at ws was left tops grown =
-    ap (map (leaf_step (Leave m.dev) s.number s.group.first s.scan.hi)) seen
-    ∙ halves_leave f keeps ws was seats tops m s.number s.group.first s.scan.hi old counted grown differ agree count grows.grow in
+    ap (map (leaf_step (Leave m.dev) s.number s.group.first s.scan)) seen
+    ∙ halves_leave f keeps ws was seats tops m s.number s.group.first s.scan old counted grown differ agree count grows.grow in
     let three' = three_numbers tops was old grown all three in
     let widened = widens_to (step (Leave m.dev) s) grown new high
     (subst (λ ls. AreLogged ls grown) (sym stepped) (halves_logged ws was left tops grown three'))

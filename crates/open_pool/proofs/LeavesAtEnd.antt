@@ -12,7 +12,7 @@ use Rattle.txg_engine.specs.declared.seat.Seat.{Seat}
 use Rattle.txg_engine.specs.Logs.{IsSettled, IsCut}
 use Rattle.pool_moves.specs.Leaves.{LeafSeen}
 use Rattle.pool_moves.specs.Moves.{Draft, Burn, Commits, leaf_step, leaves_step, log_cleared}
-use Rattle.pool_moves.specs.States.{PoolSeen}
+use Rattle.pool_moves.specs.States.{ScanSeen, PoolSeen}
 use Rattle.open_pool.specs.Form.{all_leaves}
 use Rattle.open_pool.specs.Parts.{PoolParts}
 use Rattle.open_pool.specs.State.{leaf_of, leaves_from, leaves_under}
@@ -53,46 +53,46 @@ abbrev ended : (leaf : LeafVdev) (top : ℕ) (owes settled : ℕ → Bool) → L
 ended leaf top owes settled = record (leaf_of [] top leaf) { owes = owes; settled = settled }
 
 -- A suspended group.
-leaf_burns : (seats : List Seat) (top number first hi : ℕ) (old new : LeafVdev) → IsBelow number old
+leaf_burns : (seats : List Seat) (top number first : ℕ) (scan : ScanSeen) (old new : LeafVdev) → IsBelow number old
     → IsCut first old new
-    → leaf_step Burn number first hi (leaf_of seats top old) ≡ leaf_of [] top new
-leaf_burns seats top number first hi old new below cut =
+    → leaf_step Burn number first scan (leaf_of seats top old) ≡ leaf_of [] top new
+leaf_burns seats top number first scan old new below cut =
     ap (λ log. ended old top log (log_cleared first number (holds old.settled)))
     (fun_ext (λ g. cut_is first number g (holds old.log g) (below.log g) ∙ sym (cut.log g)))
     ∙ ap (λ settled. ended old top (holds new.log) settled)
     (fun_ext (λ g. cut_is first number g (holds old.settled g) (below.settled g) ∙ sym (cut.settled g)))
     ∙ ap (leaf_of [] top) (sym (cut.rest new.log new.settled))
 
-leaves_burn : (seats : List Seat) (tops : List ℕ) (number first hi : ℕ) (old new : List LeafVdev)
+leaves_burn : (seats : List Seat) (tops : List ℕ) (number first : ℕ) (scan : ScanSeen) (old new : List LeafVdev)
     → AllByRecursion (IsBelow number) old → AllZip (IsCut first) old new
-    → map (leaf_step Burn number first hi) (leaves_at seats tops old) ≡ leaves_at [] tops new
-leaves_burn seats [] number first hi old new below cut = refl
-leaves_burn seats (top ∷ tops) number first hi [] [] below cut = refl
-leaves_burn seats (top ∷ tops) number first hi [] (y ∷ new) below cut = absurd cut
-leaves_burn seats (top ∷ tops) number first hi (x ∷ old) [] below cut = absurd cut
-leaves_burn seats (top ∷ tops) number first hi (x ∷ old) (y ∷ new) below cut =
-    ap (λ l. l ∷ map (leaf_step Burn number first hi) (leaves_at seats tops old))
-    (leaf_burns seats top number first hi x y below.0 cut.0)
-    ∙ ap (λ ls. leaf_of [] top y ∷ ls) (leaves_burn seats tops number first hi old new below.1 cut.1)
+    → map (leaf_step Burn number first scan) (leaves_at seats tops old) ≡ leaves_at [] tops new
+leaves_burn seats [] number first scan old new below cut = refl
+leaves_burn seats (top ∷ tops) number first scan [] [] below cut = refl
+leaves_burn seats (top ∷ tops) number first scan [] (y ∷ new) below cut = absurd cut
+leaves_burn seats (top ∷ tops) number first scan (x ∷ old) [] below cut = absurd cut
+leaves_burn seats (top ∷ tops) number first scan (x ∷ old) (y ∷ new) below cut =
+    ap (λ l. l ∷ map (leaf_step Burn number first scan) (leaves_at seats tops old))
+    (leaf_burns seats top number first scan x y below.0 cut.0)
+    ∙ ap (λ ls. leaf_of [] top y ∷ ls) (leaves_burn seats tops number first scan old new below.1 cut.1)
 
 -- An acknowledged one.
-leaf_commits : (seats : List Seat) (draft : Draft) (top number first hi : ℕ) (old new : LeafVdev) → IsSettled old new
-    → leaf_step (Commits draft) number first hi (leaf_of seats top old) ≡ leaf_of [] top new
-leaf_commits seats draft top number first hi old new settles =
+leaf_commits : (seats : List Seat) (draft : Draft) (top number first : ℕ) (scan : ScanSeen) (old new : LeafVdev) → IsSettled old new
+    → leaf_step (Commits draft) number first scan (leaf_of seats top old) ≡ leaf_of [] top new
+leaf_commits seats draft top number first scan old new settles =
     ap (λ settled. ended old top (holds old.log) settled) (fun_ext (λ g. sym (settles.groups g)))
     ∙ ap (leaf_of [] top) (sym (settles.rest new.settled))
 
-leaves_commit : (seats : List Seat) (draft : Draft) (tops : List ℕ) (number first hi : ℕ) (old new : List LeafVdev)
+leaves_commit : (seats : List Seat) (draft : Draft) (tops : List ℕ) (number first : ℕ) (scan : ScanSeen) (old new : List LeafVdev)
     → AllZip IsSettled old new
-    → map (leaf_step (Commits draft) number first hi) (leaves_at seats tops old) ≡ leaves_at [] tops new
-leaves_commit seats draft [] number first hi old new settles = refl
-leaves_commit seats draft (top ∷ tops) number first hi [] [] settles = refl
-leaves_commit seats draft (top ∷ tops) number first hi [] (y ∷ new) settles = absurd settles
-leaves_commit seats draft (top ∷ tops) number first hi (x ∷ old) [] settles = absurd settles
-leaves_commit seats draft (top ∷ tops) number first hi (x ∷ old) (y ∷ new) settles =
-    ap (λ l. l ∷ map (leaf_step (Commits draft) number first hi) (leaves_at seats tops old))
-    (leaf_commits seats draft top number first hi x y settles.0)
-    ∙ ap (λ ls. leaf_of [] top y ∷ ls) (leaves_commit seats draft tops number first hi old new settles.1)
+    → map (leaf_step (Commits draft) number first scan) (leaves_at seats tops old) ≡ leaves_at [] tops new
+leaves_commit seats draft [] number first scan old new settles = refl
+leaves_commit seats draft (top ∷ tops) number first scan [] [] settles = refl
+leaves_commit seats draft (top ∷ tops) number first scan [] (y ∷ new) settles = absurd settles
+leaves_commit seats draft (top ∷ tops) number first scan (x ∷ old) [] settles = absurd settles
+leaves_commit seats draft (top ∷ tops) number first scan (x ∷ old) (y ∷ new) settles =
+    ap (λ l. l ∷ map (leaf_step (Commits draft) number first scan) (leaves_at seats tops old))
+    (leaf_commits seats draft top number first scan x y settles.0)
+    ∙ ap (λ ls. leaf_of [] top y ∷ ls) (leaves_commit seats draft tops number first scan old new settles.1)
 
 module _ (s : PoolSeen) (seats : List Seat) (p q : PoolParts)
     (seen : s.leaves ≡ leaves_from seats 1 (leaves_under p.tops))
@@ -112,16 +112,16 @@ module _ (s : PoolSeen) (seats : List Seat) (p q : PoolParts)
       → AllZip (IsCut s.group.first) (all_leaves p) (all_leaves q)
       → leaves_step Burn s ≡ leaves_from [] 1 (leaves_under q.tops)
   burns_leaves below cut =
-      ap (map (leaf_step Burn s.number s.group.first s.scan.hi)) was_at
-      ∙ leaves_burn seats (tops_from 1 (leaves_under p.tops)) s.number s.group.first s.scan.hi (all_leaves p)
+      ap (map (leaf_step Burn s.number s.group.first s.scan)) was_at
+      ∙ leaves_burn seats (tops_from 1 (leaves_under p.tops)) s.number s.group.first s.scan (all_leaves p)
       (all_leaves q) below cut ∙ now_at
 
   -- And of an acknowledged round: what it owes is settled.
   pub commits_leaves : (draft : Draft) → AllZip IsSettled (all_leaves p) (all_leaves q)
       → leaves_step (Commits draft) s ≡ leaves_from [] 1 (leaves_under q.tops)
   commits_leaves draft settles =
-      ap (map (leaf_step (Commits draft) s.number s.group.first s.scan.hi)) was_at
-      ∙ leaves_commit seats draft (tops_from 1 (leaves_under p.tops)) s.number s.group.first s.scan.hi (all_leaves p)
+      ap (map (leaf_step (Commits draft) s.number s.group.first s.scan)) was_at
+      ∙ leaves_commit seats draft (tops_from 1 (leaves_under p.tops)) s.number s.group.first s.scan (all_leaves p)
       (all_leaves q) settles ∙ now_at
 
 -- Logs are within the numbers still.

@@ -13,14 +13,15 @@ use Rattle.txg_engine.specs.Boards.{as_taken, is_on_as, on_board}
 use Rattle.pool_moves.specs.AwayRows.{gone}
 use Rattle.pool_moves.specs.Leaves.{OwnLeaf}
 use Rattle.pool_moves.specs.Moves.{Sets, leaf_step}
+use Rattle.pool_moves.specs.States.{ScanSeen}
 use Rattle.open_pool.specs.Offline.{IsNamedOwn}
 use Rattle.open_pool.specs.State.{faults_of, leaf_of, own_of, seat_in}
 use Rattle.open_pool.proofs.LeavesByTops.{leaves_at}
 
-leaf_set : (seats : List Seat) (top : ℕ) (m : Guid) (temporary : Bool) (own : OwnLeaf) (number first hi : ℕ) (leaf : LeafVdev)
+leaf_set : (seats : List Seat) (top : ℕ) (m : Guid) (temporary : Bool) (own : OwnLeaf) (number first : ℕ) (scan : ScanSeen) (leaf : LeafVdev)
     → IsNamedOwn seats m temporary own leaf
-    → leaf_step (Sets m own) number first hi (leaf_of seats top leaf) ≡ leaf_of seats top (with_state m Offline temporary leaf)
-leaf_set seats top m temporary own number first hi leaf is = one (leaf.guid.0 == m.0) is
+    → leaf_step (Sets m own) number first scan (leaf_of seats top leaf) ≡ leaf_of seats top (with_state m Offline temporary leaf)
+leaf_set seats top m temporary own number first scan leaf is = one (leaf.guid.0 == m.0) is
   where
     one : (b : Bool) → (b ≡ true → own ≡ gone temporary (own_of seats leaf))
         → cond b (record (leaf_of seats top leaf) { own = own }) (leaf_of seats top leaf)
@@ -28,17 +29,17 @@ leaf_set seats top m temporary own number first hi leaf is = one (leaf.guid.0 ==
     one true is = ap (λ o. record (leaf_of seats top leaf) { own = o }) (is refl)
     one false is = refl
 
-pub leaves_set : (seats : List Seat) (tops : List ℕ) (m : Guid) (temporary : Bool) (own : OwnLeaf) (number first hi : ℕ)
+pub leaves_set : (seats : List Seat) (tops : List ℕ) (m : Guid) (temporary : Bool) (own : OwnLeaf) (number first : ℕ) (scan : ScanSeen)
     (leaves : List LeafVdev) → AllByRecursion (IsNamedOwn seats m temporary own) leaves
-    → map (leaf_step (Sets m own) number first hi) (leaves_at seats tops leaves)
+    → map (leaf_step (Sets m own) number first scan) (leaves_at seats tops leaves)
     ≡ leaves_at seats tops (map (with_state m Offline temporary) leaves)
-leaves_set seats [] m temporary own number first hi leaves are = refl
-leaves_set seats (top ∷ tops) m temporary own number first hi [] are = refl
-leaves_set seats (top ∷ tops) m temporary own number first hi (leaf ∷ leaves) are =
-    ap (λ l. l ∷ map (leaf_step (Sets m own) number first hi) (leaves_at seats tops leaves))
-    (leaf_set seats top m temporary own number first hi leaf are.0)
+leaves_set seats [] m temporary own number first scan leaves are = refl
+leaves_set seats (top ∷ tops) m temporary own number first scan [] are = refl
+leaves_set seats (top ∷ tops) m temporary own number first scan (leaf ∷ leaves) are =
+    ap (λ l. l ∷ map (leaf_step (Sets m own) number first scan) (leaves_at seats tops leaves))
+    (leaf_set seats top m temporary own number first scan leaf are.0)
     ∙ ap (λ ls. leaf_of seats top (with_state m Offline temporary leaf) ∷ ls)
-    (leaves_set seats tops m temporary own number first hi leaves are.1)
+    (leaves_set seats tops m temporary own number first scan leaves are.1)
 
 -- That its pool took a leaf off is nothing that the state has.
 

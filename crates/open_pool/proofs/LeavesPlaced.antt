@@ -36,8 +36,6 @@ seen_with leaf top dev mode temporary counts owes settled = record {
   owes = owes;
   settled = settled;
   on = false;
-  eligible = false;
-  scrub = no_log 0;
 }
 
 abbrev counts_with : (reads writes mismatches : ℕ) → Counts

@@ -17,7 +17,7 @@ use Rattle.txg_engine.proofs.Ready.{nothing}
 use Rattle.txg_history.specs.Groups.{between}
 use Rattle.pool_moves.specs.Leaves.{LeafSeen}
 use Rattle.pool_moves.specs.Moves.{Move, Widen, leaf_step, step, log_grown}
-use Rattle.pool_moves.specs.States.{PoolSeen}
+use Rattle.pool_moves.specs.States.{ScanSeen, PoolSeen}
 use Rattle.pool_moves.specs.Widening.{ranges_in, ranges_together, widest_of, widest, IsSpanned, IsWidening, AreWidens, seen_along}
 use Rattle.open_pool.proofs.NumbersApart.{Differ, leaf_numbers, itself, turned_test}
 
@@ -350,52 +350,52 @@ others_behind [] behind vdev differ = behind_others vdev behind differ.0
 others_behind (x ∷ before) behind vdev differ = others_behind before behind vdev differ.1
 
 -- The move gives each leaf the log that it has behind it.
-other_stays : (m : Guid) (low high number first hi : ℕ) (leaf : LeafSeen) (vdev : LeafVdev) → IsLogged leaf vdev
+other_stays : (m : Guid) (low high number first : ℕ) (scan : ScanSeen) (leaf : LeafSeen) (vdev : LeafVdev) → IsLogged leaf vdev
     → IsOther m vdev
-    → leaf_step (Widen m low high) number first hi leaf ≡ with_log vdev leaf
-other_stays m low high number first hi leaf vdev is other =
+    → leaf_step (Widen m low high) number first scan leaf ≡ with_log vdev leaf
+other_stays m low high number first scan leaf vdev is other =
     let off : (leaf.guid.0 == m.0) ≡ false = ap (λ (g : Guid). g.0 == m.0) is.guid ∙ other in
     ap (λ b. record leaf { owes = log_grown b low high leaf.owes }) off ∙ ap (λ log. record leaf { owes = log }) is.owes
 
-others_stay : (m : Guid) (low high number first hi : ℕ) (leaves : List LeafSeen) (vdevs : List LeafVdev)
+others_stay : (m : Guid) (low high number first : ℕ) (scan : ScanSeen) (leaves : List LeafSeen) (vdevs : List LeafVdev)
     → AreLogged leaves vdevs → AllByRecursion (IsOther m) vdevs
-    → map (leaf_step (Widen m low high) number first hi) leaves ≡ with_logs vdevs leaves
-others_stay m low high number first hi [] [] logged others = refl
-others_stay m low high number first hi [] (vdev ∷ vdevs) logged others = absurd logged
-others_stay m low high number first hi (leaf ∷ leaves) [] logged others = absurd logged
-others_stay m low high number first hi (leaf ∷ leaves) (vdev ∷ vdevs) logged others =
-    ap (λ l. l ∷ map (leaf_step (Widen m low high) number first hi) leaves)
-    (other_stays m low high number first hi leaf vdev logged.0 others.0)
-    ∙ ap (λ ls. with_log vdev leaf ∷ ls) (others_stay m low high number first hi leaves vdevs logged.1 others.1)
+    → map (leaf_step (Widen m low high) number first scan) leaves ≡ with_logs vdevs leaves
+others_stay m low high number first scan [] [] logged others = refl
+others_stay m low high number first scan [] (vdev ∷ vdevs) logged others = absurd logged
+others_stay m low high number first scan (leaf ∷ leaves) [] logged others = absurd logged
+others_stay m low high number first scan (leaf ∷ leaves) (vdev ∷ vdevs) logged others =
+    ap (λ l. l ∷ map (leaf_step (Widen m low high) number first scan) leaves)
+    (other_stays m low high number first scan leaf vdev logged.0 others.0)
+    ∙ ap (λ ls. with_log vdev leaf ∷ ls) (others_stay m low high number first scan leaves vdevs logged.1 others.1)
 
-leaf_widens : (low high number first hi : ℕ) (leaf : LeafSeen) (old new : LeafVdev) → IsLogged leaf old
+leaf_widens : (low high number first : ℕ) (scan : ScanSeen) (leaf : LeafSeen) (old new : LeafVdev) → IsLogged leaf old
     → IsSpanned (holds old.log) low high → IsWidened old.log new.log
-    → leaf_step (Widen old.guid low high) number first hi leaf ≡ with_log new leaf
-leaf_widens low high number first hi leaf old new is spans widened =
+    → leaf_step (Widen old.guid low high) number first scan leaf ≡ with_log new leaf
+leaf_widens low high number first scan leaf old new is spans widened =
     let here : (leaf.guid.0 == old.guid.0) ≡ true = ap (λ (g : Guid). g.0 == old.guid.0) is.guid ∙ itself old.guid.0 in
     ap (λ b. record leaf { owes = log_grown b low high leaf.owes }) here
     ∙ ap (λ log. record leaf { owes = log_grown true low high log }) is.owes
     ∙ ap (λ log. record leaf { owes = log }) (fun_ext (grown_to old.log new.log low high spans widened))
 
-leaves_widen : (low high number first hi : ℕ) (before behind : List LeafVdev) (old new : LeafVdev)
+leaves_widen : (low high number first : ℕ) (scan : ScanSeen) (before behind : List LeafVdev) (old new : LeafVdev)
     (leaves : List LeafSeen) → AreLogged leaves (before ++ old ∷ behind)
     → IsSpanned (holds old.log) low high → IsWidened old.log new.log → AllByRecursion (IsOther old.guid) before
     → AllByRecursion (IsOther old.guid) behind
-    → map (leaf_step (Widen old.guid low high) number first hi) leaves ≡ with_logs (before ++ new ∷ behind) leaves
-leaves_widen low high number first hi [] behind old new [] logged spans widened others others_too = absurd logged
-leaves_widen low high number first hi [] behind old new
+    → map (leaf_step (Widen old.guid low high) number first scan) leaves ≡ with_logs (before ++ new ∷ behind) leaves
+leaves_widen low high number first scan [] behind old new [] logged spans widened others others_too = absurd logged
+leaves_widen low high number first scan [] behind old new
     (leaf ∷ leaves) logged spans widened others others_too =
-    ap (λ l. l ∷ map (leaf_step (Widen old.guid low high) number first hi) leaves)
-    (leaf_widens low high number first hi leaf old new logged.0 spans widened)
+    ap (λ l. l ∷ map (leaf_step (Widen old.guid low high) number first scan) leaves)
+    (leaf_widens low high number first scan leaf old new logged.0 spans widened)
     ∙ ap (λ ls. with_log new leaf ∷ ls)
-    (others_stay old.guid low high number first hi leaves behind logged.1 others_too)
-leaves_widen low high number first hi (x ∷ before) behind old new [] logged spans widened others others_too = absurd logged
-leaves_widen low high number first hi (x ∷ before) behind old new
+    (others_stay old.guid low high number first scan leaves behind logged.1 others_too)
+leaves_widen low high number first scan (x ∷ before) behind old new [] logged spans widened others others_too = absurd logged
+leaves_widen low high number first scan (x ∷ before) behind old new
     (leaf ∷ leaves) logged spans widened others others_too =
-    ap (λ l. l ∷ map (leaf_step (Widen old.guid low high) number first hi) leaves)
-    (other_stays old.guid low high number first hi leaf x logged.0 others.0)
+    ap (λ l. l ∷ map (leaf_step (Widen old.guid low high) number first scan) leaves)
+    (other_stays old.guid low high number first scan leaf x logged.0 others.0)
     ∙ ap (λ ls. with_log x leaf ∷ ls)
-    (leaves_widen low high number first hi before behind old new leaves logged.1 spans widened others.1 others_too)
+    (leaves_widen low high number first scan before behind old new leaves logged.1 spans widened others.1 others_too)
 
 -- What one widening keeps of leaves.
 ranged_widened : (number : ℕ) (before behind : List LeafVdev) (old new : LeafVdev)
@@ -522,7 +522,7 @@ one_widening s now new logged ranged differ few large w =
         spans = subst (λ log. IsSpanned log span.low span.high) (sym at.logged.owes) span.spans;
       };
       leads = ap (λ ls. record s { leaves = ls })
-          (leaves_widen span.low span.high s.number s.group.first s.scan.hi w.before w.behind w.leaf w.widened s.leaves logged'
+          (leaves_widen span.low span.high s.number s.group.first s.scan w.before w.behind w.leaf w.widened s.leaves logged'
           span.spans w.widens.groups (others_before w.before w.behind w.leaf differ')
           (others_behind w.before w.behind w.leaf differ')
           ∙ ap (λ vs. with_logs vs s.leaves) (sym w.is));

@@ -16,7 +16,7 @@ use Rattle.txg_engine.specs.Logs.{Grows, AreGrown, KeepsSets, AreOwing, is_off}
 use Rattle.pool_moves.specs.FreezeRow.{up_devs}
 use Rattle.pool_moves.specs.Leaves.{LeafSeen}
 use Rattle.pool_moves.specs.Moves.{Move, Freeze, Draw, leaf_step, step, on_dev, log_grown}
-use Rattle.pool_moves.specs.States.{PoolSeen}
+use Rattle.pool_moves.specs.States.{ScanSeen, PoolSeen}
 use Rattle.pool_moves.specs.Widening.{AreWidens, IsWidened, seen_along}
 use Rattle.open_pool.specs.State.{seat_in, faults_of, own_of, leaf_of}
 use Rattle.open_pool.proofs.BoardKept.{AreSameLeaves}
@@ -128,26 +128,26 @@ pub record Owes (s : PoolSeen) (v : Move) (seats : List Seat) (tops : List ℕ) 
   pub fit : IsFit (step v s).number new
 
 -- A further number is drawn: who isn't on the board owes it.
-leaf_draws : (seats : List Seat) (top number first hi : ℕ) (old grown : LeafVdev)
+leaf_draws : (seats : List Seat) (top number first : ℕ) (scan : ScanSeen) (old grown : LeafVdev)
     → Grows (is_off seats) (number + 1) (number + 1) old grown
-    → leaf_step Draw number first hi (leaf_of seats top old) ≡ leaf_of seats top grown
-leaf_draws seats top number first hi old grown grow =
+    → leaf_step Draw number first scan (leaf_of seats top old) ≡ leaf_of seats top grown
+leaf_draws seats top number first scan old grown grow =
     ap (λ log. record (leaf_of seats top old) { owes = log })
     (fun_ext (λ g. grown_log (not (on_board seats old.guid)) (between (number + 1) (number + 1) g)
     (holds old.log g) ∙ sym (grow.groups g)))
     ∙ ap (leaf_of seats top) (sym (grow.rest grown.log))
 
-leaves_draw : (seats : List Seat) (tops : List ℕ) (number first hi : ℕ) (old grown : List LeafVdev)
+leaves_draw : (seats : List Seat) (tops : List ℕ) (number first : ℕ) (scan : ScanSeen) (old grown : List LeafVdev)
     → AllZip (Grows (is_off seats) (number + 1) (number + 1)) old grown
-    → map (leaf_step Draw number first hi) (leaves_at seats tops old) ≡ leaves_at seats tops grown
-leaves_draw seats [] number first hi old grown grow = refl
-leaves_draw seats (top ∷ tops) number first hi [] [] grow = refl
-leaves_draw seats (top ∷ tops) number first hi [] (z ∷ grown) grow = absurd grow
-leaves_draw seats (top ∷ tops) number first hi (x ∷ old) [] grow = absurd grow
-leaves_draw seats (top ∷ tops) number first hi (x ∷ old) (z ∷ grown) grow =
-    ap (λ l. l ∷ map (leaf_step Draw number first hi) (leaves_at seats tops old))
-    (leaf_draws seats top number first hi x z grow.0)
-    ∙ ap (λ ls. leaf_of seats top z ∷ ls) (leaves_draw seats tops number first hi old grown grow.1)
+    → map (leaf_step Draw number first scan) (leaves_at seats tops old) ≡ leaves_at seats tops grown
+leaves_draw seats [] number first scan old grown grow = refl
+leaves_draw seats (top ∷ tops) number first scan [] [] grow = refl
+leaves_draw seats (top ∷ tops) number first scan [] (z ∷ grown) grow = absurd grow
+leaves_draw seats (top ∷ tops) number first scan (x ∷ old) [] grow = absurd grow
+leaves_draw seats (top ∷ tops) number first scan (x ∷ old) (z ∷ grown) grow =
+    ap (λ l. l ∷ map (leaf_step Draw number first scan) (leaves_at seats tops old))
+    (leaf_draws seats top number first scan x z grow.0)
+    ∙ ap (λ ls. leaf_of seats top z ∷ ls) (leaves_draw seats tops number first scan old grown grow.1)
 
 pub draws_owe : (s : PoolSeen) (seats : List Seat) (tops : List ℕ) (old new : List LeafVdev)
     → s.leaves ≡ leaves_at seats tops old → HaveTops tops old → s.number + 1 ≤ 2 ^ 62
@@ -155,7 +155,7 @@ pub draws_owe : (s : PoolSeen) (seats : List Seat) (tops : List ℕ) (old new : 
 draws_owe s seats tops old new seen have high fit g =
     let same = like_leaves old g.grown (grown_like (is_off seats) (s.number + 1) (s.number + 1) old g.grown g.grow) in
     let w = leaves_widen (step Draw s) seats tops g.grown new
-    (ap (map (leaf_step Draw s.number s.group.first s.scan.hi)) seen ∙ leaves_draw seats tops s.number s.group.first s.scan.hi old g.grown g.grow)
+    (ap (map (leaf_step Draw s.number s.group.first s.scan)) seen ∙ leaves_draw seats tops s.number s.group.first s.scan old g.grown g.grow)
     (have_same tops old g.grown same have) high
     (grown_fit (s.number + 1) old g.grown same fit.differ fit.few
     (within_more (is_off seats) s.number old g.grown g.grow fit.within)) g.counted g.widened g.small in
@@ -171,12 +171,12 @@ seen_frozen leaf top joined faults on owes settled = record (leaf_of [] top leaf
   on = on;
 }
 
-leaf_owes : (seats : List Seat) (all : List LeafSeen) (cells : Cells) (top number first hi : ℕ)
+leaf_owes : (seats : List Seat) (all : List LeafSeen) (cells : Cells) (top number first : ℕ) (scan : ScanSeen)
     (old roomy grown : LeafVdev) → IsOnIfUp seats old
     → on_dev (up_devs all) old.dev ≡ may_write old → KeepsSets old roomy
     → Grows (is_off seats) (number + 1) (number + 1) roomy grown
-    → leaf_step (Freeze cells (up_devs all)) number first hi (leaf_of [] top old) ≡ leaf_of seats top grown
-leaf_owes seats all cells top number first hi old roomy grown on up keeps grow =
+    → leaf_step (Freeze cells (up_devs all)) number first scan (leaf_of [] top old) ≡ leaf_of seats top grown
+leaf_owes seats all cells top number first scan old roomy grown on up keeps grow =
     ap (λ b. seen_frozen old top b 0 b (log_grown (not b) (number + 1) (number + 1) (holds old.log))
     (holds old.settled)) (up ∙ sym on.on)
     ∙ ap (λ b. seen_frozen old top b 0 (on_board seats old.guid)
@@ -205,22 +205,22 @@ leaf_owes seats all cells top number first hi old roomy grown on up keeps grow =
         ∙ ap (λ m. holds roomy.log g || (not (on_board seats m) && between (number + 1) (number + 1) g)) (sym guid)
         ∙ sym (grow.groups g)
 
-leaves_owe : (seats : List Seat) (all : List LeafSeen) (cells : Cells) (tops : List ℕ) (number first hi : ℕ)
+leaves_owe : (seats : List Seat) (all : List LeafSeen) (cells : Cells) (tops : List ℕ) (number first : ℕ) (scan : ScanSeen)
     (old roomy grown : List LeafVdev) → AllByRecursion (IsOnIfUp seats) old
     → AllByRecursion (λ leaf. on_dev (up_devs all) leaf.dev ≡ may_write leaf) old → AllZip KeepsSets old roomy
     → AllZip (Grows (is_off seats) (number + 1) (number + 1)) roomy grown
-    → map (leaf_step (Freeze cells (up_devs all)) number first hi) (leaves_at [] tops old) ≡ leaves_at seats tops grown
-leaves_owe seats all cells [] number first hi old roomy grown on up keeps grow = refl
-leaves_owe seats all cells (top ∷ tops) number first hi [] [] [] on up keeps grow = refl
-leaves_owe seats all cells (top ∷ tops) number first hi [] [] (z ∷ grown) on up keeps grow = absurd grow
-leaves_owe seats all cells (top ∷ tops) number first hi [] (y ∷ roomy) grown on up keeps grow = absurd keeps
-leaves_owe seats all cells (top ∷ tops) number first hi (x ∷ old) [] grown on up keeps grow = absurd keeps
-leaves_owe seats all cells (top ∷ tops) number first hi (x ∷ old) (y ∷ roomy) [] on up keeps grow = absurd grow
-leaves_owe seats all cells (top ∷ tops) number first hi (x ∷ old) (y ∷ roomy) (z ∷ grown) on up keeps grow =
-    ap (λ l. l ∷ map (leaf_step (Freeze cells (up_devs all)) number first hi) (leaves_at [] tops old))
-    (leaf_owes seats all cells top number first hi x y z on.0 up.0 keeps.0 grow.0)
+    → map (leaf_step (Freeze cells (up_devs all)) number first scan) (leaves_at [] tops old) ≡ leaves_at seats tops grown
+leaves_owe seats all cells [] number first scan old roomy grown on up keeps grow = refl
+leaves_owe seats all cells (top ∷ tops) number first scan [] [] [] on up keeps grow = refl
+leaves_owe seats all cells (top ∷ tops) number first scan [] [] (z ∷ grown) on up keeps grow = absurd grow
+leaves_owe seats all cells (top ∷ tops) number first scan [] (y ∷ roomy) grown on up keeps grow = absurd keeps
+leaves_owe seats all cells (top ∷ tops) number first scan (x ∷ old) [] grown on up keeps grow = absurd keeps
+leaves_owe seats all cells (top ∷ tops) number first scan (x ∷ old) (y ∷ roomy) [] on up keeps grow = absurd grow
+leaves_owe seats all cells (top ∷ tops) number first scan (x ∷ old) (y ∷ roomy) (z ∷ grown) on up keeps grow =
+    ap (λ l. l ∷ map (leaf_step (Freeze cells (up_devs all)) number first scan) (leaves_at [] tops old))
+    (leaf_owes seats all cells top number first scan x y z on.0 up.0 keeps.0 grow.0)
     ∙ ap (λ ls. leaf_of seats top z ∷ ls)
-    (leaves_owe seats all cells tops number first hi old roomy grown on.1 up.1 keeps.1 grow.1)
+    (leaves_owe seats all cells tops number first scan old roomy grown on.1 up.1 keeps.1 grow.1)
 
 pub within_kept : (number : ℕ) (old roomy : List LeafVdev) → AllZip KeepsSets old roomy
     → AllByRecursion (IsWithin number) old → AllByRecursion (IsWithin number) roomy
@@ -245,8 +245,8 @@ freezes_owe s seats cells tops old new seen have high fit on up owing =
     (like_leaves owing.roomy g.grown
     (grown_like (is_off seats) (s.number + 1) (s.number + 1) owing.roomy g.grown g.grow)) in
     let w = leaves_widen (step v s) seats tops g.grown new
-    (ap (map (leaf_step v s.number s.group.first s.scan.hi)) seen
-    ∙ leaves_owe seats s.leaves cells tops s.number s.group.first s.scan.hi old owing.roomy g.grown on up owing.room g.grow)
+    (ap (map (leaf_step v s.number s.group.first s.scan)) seen
+    ∙ leaves_owe seats s.leaves cells tops s.number s.group.first s.scan old owing.roomy g.grown on up owing.room g.grow)
     (have_same tops old g.grown same have) high
     (grown_fit (s.number + 1) old g.grown same fit.differ fit.few
     (within_more (is_off seats) s.number owing.roomy g.grown g.grow

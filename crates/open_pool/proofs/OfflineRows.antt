@@ -24,10 +24,11 @@ use Rattle.txg_engine.proofs.Places.{only_one}
 use Rattle.txg_engine.proofs.Seating.{got_inside, got_there}
 use Rattle.pool_codec.specs.Tops.{children_of}
 use Rattle.pool_moves.specs.AwayRows as rows
-use Rattle.pool_moves.specs.AwayRows.{GoesAway, IsRequired, LeaveIf, LeastOut, OfflineBy, OfflineHere, OfflineLeaf, OfflineReply, RowOffline, gone, is_listed, is_offline, is_spare, leaf_named, siblings, unnamed}
+use Rattle.pool_moves.specs.AwayRows.{GoesAway, IsRequired, LeaveIf, LeastOut, OfflineBy, OfflineHere, OfflineLeaf, OfflineReply, RowOffline, drop_if, drops_leaf, gone, is_listed, is_offline, is_spare, leaf_named, siblings, unnamed}
 use Rattle.pool_moves.specs.Leaves.{LeafSeen, OwnLeaf}
-use Rattle.pool_moves.specs.Moves.{Move, Sets, steps}
+use Rattle.pool_moves.specs.Moves.{Move, Sets, on_dev, steps}
 use Rattle.pool_moves.specs.States.{PoolState}
+use Rattle.pool_moves.specs.Widening.{seen_along}
 use Rattle.pool_moves.specs.Trees.{is_spare_leaf}
 use Rattle.pool_moves.proofs.FreeWalks.{steps_more}
 use Rattle.open_pool.specs.declared.named.Found.{Found}
@@ -128,6 +129,11 @@ among_all (t ∷ tops) zero top leaf at among =
     let same : t ≡ top = cc in
     Contains-append_left (leaves t.mirror) (leaves_of tops) leaf (subst (λ (x : Top). Contains (leaves x.mirror) leaf) (sym same) among)
 among_all (t ∷ tops) (suc i) top leaf at among = Contains-append_right (leaves t.mirror) (leaves_of tops) leaf (among_all tops i top leaf at among)
+
+-- where no scan runs no leaf is eligible
+no_drops : (dev : Option ℕ) → drop_if (on_dev (λ d. false) dev) dev ≡ []
+no_drops None = refl
+no_drops (Some d) = refl
 
 -- ---- the rows
 
@@ -311,14 +317,18 @@ module _ (p : PoolParts) (trees : List Top) (parts : p.tops ≡ all_parts trees)
                   (subst (IsRequired seen) (leaves_is s stands) needed)),
               record {
                 leaving = left.leaving;
-                leaves = subst (λ g. LeaveIf (on_board seats g) leaf.dev s.core left.leaving) (sym is.guid_is) (left.are leaf leaf_is_there is.guid_is);
-                moves = ap (λ g. left.leaving ++ (Sets g own ∷ [])) (sym is.guid_is);
+                leaves = subst (λ drops. LeaveIf seen.on leaf.dev (seen_along drops s.core) left.leaving) (sym none)
+                    (subst (λ g. LeaveIf (on_board seats g) leaf.dev s.core left.leaving) (sym is.guid_is) (left.are leaf leaf_is_there is.guid_is));
+                moves = ap (λ g. left.leaving ++ (Sets g own ∷ [])) (sym is.guid_is) ∙ ap (λ drops. drops ++ (left.leaving ++ (Sets leaf.guid own ∷ []))) (sym none);
               },
               refl,
             ));
             says_so = refl;
             leaves = subst (Stands q) (sym (steps_more left.leaving (sets ∷ []) s)) then;
           }
+            where
+              none : drops_leaf s.core.scan seen ≡ []
+              none = ap (λ (x : PoolState). drops_leaf x.core.scan seen) stands.is ∙ no_drops leaf.dev
 
 -- the top that was asked is the one that it stands under
 pub same_top : (tops : List Top) (i : ℕ) (under asked : Top) → slice_get tops i ≡ Some under → asked ≡ get_or tops i asked → under ≡ asked

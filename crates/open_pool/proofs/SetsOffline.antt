@@ -31,7 +31,7 @@ use Rattle.txg_engine.specs.Frozen.{FrozenGroup}
 use Rattle.txg_engine.specs.Logs.{IsReady}
 use Rattle.pool_moves.specs.Leaves.{OwnLeaf}
 use Rattle.pool_moves.specs.Moves.{Sets, leaf_step, steps}
-use Rattle.pool_moves.specs.States.{Sums, PoolState}
+use Rattle.pool_moves.specs.States.{ScanSeen, no_scan_seen, Sums, PoolState}
 use Rattle.open_pool.specs.Form.{IsPool, HasBoard, HasGroup, HasLeaves, IsRecordable, IsSeated, IsSeatOf, all_leaves, config_of}
 use Rattle.open_pool.specs.Offline.{IsNamedOwn}
 use Rattle.open_pool.specs.Parts.{PoolParts, TopParts, all_parts, top_parts}
@@ -356,15 +356,15 @@ module _ (m : Guid) (temporary : Bool) (r : PoolParts) (old new : List Top) (set
   }
 
   -- and what it stands for
-  seen_off : (own : OwnLeaf) (number first hi : ℕ) → AllByRecursion (IsNamedOwn (seats_in r.frozen) m temporary own) (all_leaves p)
-      → map (leaf_step (Sets m own) number first hi) (leaves_from (seats_in r.frozen) 1 (leaves_under (all_parts old)))
+  seen_off : (own : OwnLeaf) (number first : ℕ) (scan : ScanSeen) → AllByRecursion (IsNamedOwn (seats_in r.frozen) m temporary own) (all_leaves p)
+      → map (leaf_step (Sets m own) number first scan) (leaves_from (seats_in r.frozen) 1 (leaves_under (all_parts old)))
       ≡ leaves_from (seats_in r.frozen) 1 (leaves_under (all_parts new))
-  seen_off own number first hi are =
+  seen_off own number first scan are =
       let seats = seats_in r.frozen in
       let tops = tops_from 1 (leaves_under (all_parts old)) in
-      ap (map (leaf_step (Sets m own) number first hi))
+      ap (map (leaf_step (Sets m own) number first scan))
       (by_tops seats 1 (leaves_under (all_parts old)) ∙ ap (leaves_at seats tops) (under_trees old))
-      ∙ leaves_set seats tops m temporary own number first hi (leaves_of old)
+      ∙ leaves_set seats tops m temporary own number first scan (leaves_of old)
       (subst (AllByRecursion (IsNamedOwn seats m temporary own)) (leaves_are old p refl) are)
       ∙ ap (leaves_at seats tops) (sym set.leaves ∙ sym (under_trees new))
       ∙ ap (λ ts. leaves_at seats ts (under_all (leaves_under (all_parts new))))
@@ -378,7 +378,7 @@ module _ (m : Guid) (temporary : Bool) (r : PoolParts) (old new : List Top) (set
       let names = alike.numbers in
       let children = alike.children in
       let room : room_of (sectors_in (all_parts new)) ≡ room_of (sectors_in (all_parts old)) = ap room_of same_sectors in
-      let seen = seen_off own r.highest (group_of r.frozen).first 0 are in
+      let seen = seen_off own r.highest (group_of r.frozen).first no_scan_seen are in
       cc
 
   stands_then : (s : PoolState) (own : OwnLeaf) → Stands p s

@@ -8,7 +8,7 @@ use Rattle.group_set.specs.Groups.{holds}
 use Rattle.vdev_tree.specs.declared.vdev.LeafVdev.{LeafVdev}
 use Rattle.block_map.specs.Map.{Map, pointer_at, is_pinned}
 use Rattle.pool_config.specs.Seen.{VdevSeen}
-use Rattle.txg_history.specs.Groups.{no_log, same_key}
+use Rattle.txg_history.specs.Groups.{same_key}
 use Rattle.txg_history.specs.Records.{Cell, Cells}
 use Rattle.txg_engine.specs.declared.item.Item.{Item}
 use Rattle.txg_engine.specs.declared.seat.Seat.{Seat}
@@ -59,8 +59,6 @@ leaf_of seats top leaf = record {
   owes = holds leaf.log;
   settled = holds leaf.settled;
   on = on_board seats leaf.guid;
-  eligible = false;
-  scrub = no_log 0;
 }
 
 -- the leaves of tops that count from this number, in tree order

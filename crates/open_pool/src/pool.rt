@@ -32,7 +32,7 @@ pub struct Pool {
 }
 
 impl Model for Pool {
-    ghost use Rattle.std.specs.Prelude.{◌≡◌, true, length};
+    ghost use Rattle.std.specs.Prelude.{◌≡◌, length, true};
     ghost use Rattle.open_pool.specs.Parts.{PoolParts, all_parts};
     ghost use Rattle.open_pool.specs.Form.{IsPool};
 

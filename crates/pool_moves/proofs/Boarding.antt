@@ -20,10 +20,10 @@ use Rattle.pool_moves.proofs.Tests.{not_same, no_dev}
 
 -- a kind of members, as leaves of seats show it
 abbrev Shows : (which : LeafSeen → Bool) → Pool → (Which : ℕ → Type 0) → Type 0
-Shows which p Which = (d : ℕ) (own : OwnLeaf) → which (leaf_seen true p.scan.running (told p) (At d true own)) ≡ true → Which d
+Shows which p Which = (d : ℕ) (own : OwnLeaf) → which (leaf_seen true (told p) (At d true own)) ≡ true → Which d
 
 abbrev pub leaves_of : Pool → List Seat → List LeafSeen
-leaves_of p seats = map (leaf_seen true p.scan.running (told p)) seats
+leaves_of p seats = map (leaf_seen true (told p)) seats
 
 -- the list with this leaf is one of these, where the rest is, and with its device too
 pub before_all : (P : List Member → Type 0) (t : Bool) (dev : Option ℕ) (m : Guid) (ms : List Member) → P ms → ((d : ℕ) → t ≡ true → dev ≡ Some d → P (record { dev = d; guid = m } ∷ ms))
@@ -40,17 +40,17 @@ members_are : (which : LeafSeen → Bool) (p : Pool) (Which : ℕ → Type 0) �
     → AllByRecursion (λ m. (m ≡ seat p m.dev) × Which m.dev) (members_where which (leaves_of p seats))
 members_are which p Which shows [] away = tt
 members_are which p Which shows (At d found own ∷ seats) away =
-    before_all (AllByRecursion (λ m. (m ≡ seat p m.dev) × Which m.dev)) (which (leaf_seen true p.scan.running (told p) (At d found own))) (dev_if found d) (p.guid d)
+    before_all (AllByRecursion (λ m. (m ≡ seat p m.dev) × Which m.dev)) (which (leaf_seen true (told p) (At d found own))) (dev_if found d) (p.guid d)
     (members_where which (leaves_of p seats)) (members_are which p Which shows seats away.1)
     (λ e is dev. new e is (dev_is found d e dev) (members_are which p Which shows seats away.1))
   where
     rest : List Member
     rest = members_where which (leaves_of p seats)
 
-    new : (e : ℕ) → which (leaf_seen true p.scan.running (told p) (At d found own)) ≡ true → (found ≡ true) × (d ≡ e) → AllByRecursion (λ m. (m ≡ seat p m.dev) × Which m.dev) rest
+    new : (e : ℕ) → which (leaf_seen true (told p) (At d found own)) ≡ true → (found ≡ true) × (d ≡ e) → AllByRecursion (λ m. (m ≡ seat p m.dev) × Which m.dev) rest
         → AllByRecursion (λ m. (m ≡ seat p m.dev) × Which m.dev) (record { dev = e; guid = p.guid d } ∷ rest)
     new e is at others = subst (λ n. AllByRecursion (λ m. (m ≡ seat p m.dev) × Which m.dev) (record { dev = n; guid = p.guid d } ∷ rest)) at.1
-        ((refl, shows d own (subst (λ f. which (leaf_seen true p.scan.running (told p) (At d f own)) ≡ true) at.0 is)), others)
+        ((refl, shows d own (subst (λ f. which (leaf_seen true (told p) (At d f own)) ≡ true) at.0 is)), others)
 members_are which p Which shows (Adrift leaf ∷ seats) away =
     before_all (AllByRecursion (λ m. (m ≡ seat p m.dev) × Which m.dev)) (which leaf) leaf.dev leaf.guid (members_where which (leaves_of p seats))
     (members_are which p Which shows seats away.1) (λ d is dev. no_dev leaf.dev d away.0.0 dev)
@@ -61,22 +61,22 @@ later true (Some d) m ms n at = (suc at.0, at.1)
 later true None m ms n at = at
 later false dev m ms n at = at
 
-has_member : (which : LeafSeen → Bool) (p : Pool) (d : ℕ) → ((own : OwnLeaf) → which (leaf_seen true p.scan.running (told p) (At d true own)) ≡ true) → (seats : List Seat)
+has_member : (which : LeafSeen → Bool) (p : Pool) (d : ℕ) → ((own : OwnLeaf) → which (leaf_seen true (told p) (At d true own)) ≡ true) → (seats : List Seat)
     → HasFound d seats → (i : ℕ) × (slice_get (members_where which (leaves_of p seats)) i ≡ Some (seat p d))
 has_member which p d is [] has = absurd has
 has_member which p d is (At e found own ∷ seats) (inl here) = subst Found (same_device d e here.0) (subst Here (sym here.1) first)
   where
     Here : Bool → Type 0
-    Here f = (i : ℕ) × (slice_get (member_before (which (leaf_seen true p.scan.running (told p) (At d f own))) (dev_if f d) (p.guid d) (members_where which (leaves_of p seats))) i ≡ Some (seat p d))
+    Here f = (i : ℕ) × (slice_get (member_before (which (leaf_seen true (told p) (At d f own))) (dev_if f d) (p.guid d) (members_where which (leaves_of p seats))) i ≡ Some (seat p d))
 
     first : Here true
     first = subst (λ t. (i : ℕ) × (slice_get (member_before t (Some d) (p.guid d) (members_where which (leaves_of p seats))) i ≡ Some (seat p d))) (sym (is own)) (zero, refl)
 
     Found : ℕ → Type 0
-    Found n = (i : ℕ) × (slice_get (member_before (which (leaf_seen true p.scan.running (told p) (At n found own))) (dev_if found n) (p.guid n) (members_where which (leaves_of p seats))) i ≡ Some (seat p d))
+    Found n = (i : ℕ) × (slice_get (member_before (which (leaf_seen true (told p) (At n found own))) (dev_if found n) (p.guid n) (members_where which (leaves_of p seats))) i ≡ Some (seat p d))
 has_member which p d is (Adrift leaf ∷ seats) (inl here) = absurd here
 has_member which p d is (At e found own ∷ seats) (inr has) =
-    later (which (leaf_seen true p.scan.running (told p) (At e found own))) (dev_if found e) (p.guid e) (members_where which (leaves_of p seats)) (seat p d) (has_member which p d is seats has)
+    later (which (leaf_seen true (told p) (At e found own))) (dev_if found e) (p.guid e) (members_where which (leaves_of p seats)) (seat p d) (has_member which p d is seats has)
 has_member which p d is (Adrift leaf ∷ seats) (inr has) =
     later (which leaf) leaf.dev leaf.guid (members_where which (leaves_of p seats)) (seat p d) (has_member which p d is seats has)
 
@@ -85,7 +85,7 @@ others_apart : (which : LeafSeen → Bool) (p : Pool) (d : ℕ) (seats : List Se
     → AllByRecursion (λ n. d ≢ n.dev) (members_where which (leaves_of p seats))
 others_apart which p d [] away off = tt
 others_apart which p d (At e found own ∷ seats) away off =
-    before_all (AllByRecursion (λ n. d ≢ n.dev)) (which (leaf_seen true p.scan.running (told p) (At e found own))) (dev_if found e) (p.guid e) (members_where which (leaves_of p seats))
+    before_all (AllByRecursion (λ n. d ≢ n.dev)) (which (leaf_seen true (told p) (At e found own))) (dev_if found e) (p.guid e) (members_where which (leaves_of p seats))
     (others_apart which p d seats away.1 off.1)
     (λ x is dev. (
       subst (λ n. d ≢ n) (dev_is found e x dev).1 (not_same d e off.0),
@@ -105,7 +105,7 @@ apart_cons m ms others apart (suc i) (suc j) a b ea eb lt = apart i j a b ea eb 
 members_apart : (which : LeafSeen → Bool) (p : Pool) (seats : List Seat) → AllByRecursion IsAway seats → AreSeatsApart seats → AreApart (members_where which (leaves_of p seats))
 members_apart which p [] away apart = λ i j a b ea eb lt. absurd (cc)
 members_apart which p (At d found own ∷ seats) away apart =
-    before_all AreApart (which (leaf_seen true p.scan.running (told p) (At d found own))) (dev_if found d) (p.guid d) (members_where which (leaves_of p seats))
+    before_all AreApart (which (leaf_seen true (told p) (At d found own))) (dev_if found d) (p.guid d) (members_where which (leaves_of p seats))
     (members_apart which p seats away.1 apart.1)
     (λ e is dev. apart_cons (record { dev = e; guid = p.guid d }) (members_where which (leaves_of p seats))
     (subst (λ n. AllByRecursion (λ m. n ≢ m.dev) (members_where which (leaves_of p seats))) (dev_is found d e dev).1 (others_apart which p d seats away.1 apart.0)) (members_apart which p seats away.1 apart.1))
@@ -135,7 +135,7 @@ members_found : (which : LeafSeen → Bool) (p : Pool) (seats : List Seat) → A
     → AllByRecursion (λ m. AllByRecursion (IsOfFound (λ e. m.dev == e)) seats) (members_where which (leaves_of p seats))
 members_found which p [] away apart = tt
 members_found which p (At d found own ∷ seats) away apart =
-    before_all (AllByRecursion (λ m. AllByRecursion (IsOfFound (λ e. m.dev == e)) (At d found own ∷ seats))) (which (leaf_seen true p.scan.running (told p) (At d found own))) (dev_if found d) (p.guid d)
+    before_all (AllByRecursion (λ m. AllByRecursion (IsOfFound (λ e. m.dev == e)) (At d found own ∷ seats))) (which (leaf_seen true (told p) (At d found own))) (dev_if found d) (p.guid d)
     (members_where which (leaves_of p seats))
     (with_head seats d found own (members_where which (leaves_of p seats)) (others_apart which p d seats away.1 apart.0) (members_found which p seats away.1 apart.1))
     (λ e is dev. (

@@ -30,7 +30,6 @@ opened_kept c s t o = record {
   numbered = o.numbered;
   boarded = λ f. absurd (let no : false ≡ true = sym (ap (λ p. p.group.frozen) o.is) ∙ f in cc);
   topped = o.topped;
-  scanned = λ r. absurd (let no : false ≡ true = sym (ap (λ p. p.scan.running) o.is) ∙ r in cc);
   numbers = record {
     below = o.below;
     known = λ on. absurd (let no : false ≡ true = sym (ap (λ p. p.opened) o.is) ∙ on in cc);

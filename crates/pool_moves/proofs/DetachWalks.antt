@@ -1,10 +1,9 @@
 -- A leaf may be taken out: the walk of `detach` from its row.
-use Rattle.std.proofs.Common.{◌≡◌, ⊎_elim, inl, inr, ℕ, ◌≤◌, ◌==◌, ◌&&◌, Bool, true, false, cond, Option, Some, None, List, [], ◌∷◌, ◌++◌, refl, sym, ap, ◌∙◌, subst, append_assoc}
+use Rattle.std.proofs.Common.{◌≡◌, ⊎_elim, inl, inr, ℕ, ◌≤◌, ◌==◌, Bool, true, false, Option, Some, None, List, [], ◌∷◌, ◌++◌, refl, sym, ap, ◌∙◌, subst, append_assoc}
 use Rattle.std.specs.Prelude.{slice_get}
 use Rattle.std.specs.List.{AllByRecursion, remove}
 use Rattle.std.specs.Str.{bytes_eq}
 use Rattle.mp_base.specs.declared.number.Guid.{Guid}
-use Rattle.txg_history.specs.Groups.{no_log}
 use Rattle.txg_history.specs.Losses.{IsStampPlan, IsWipe, IsMark}
 use Rattle.txg_history.specs.Pages.{Codec}
 use Rattle.txg_history.specs.Pools.{Pool}
@@ -12,7 +11,7 @@ use Rattle.txg_history.specs.Survival.{Survives}
 use Rattle.txg_history.proofs.Logging.{by_bool, same_device, true_not_false}
 use Rattle.txg_history.proofs.Losing.{stamps_may}
 use Rattle.pool_moves.specs.AwayRows.{IsRequired, is_spare, leaf_named}
-use Rattle.pool_moves.specs.Keeping.{IsElsewhere, AreSeatsApart, IsAway, IsSeated, IsOwnNumber, HasOtherNumber, IsUnder, HasUnder, IsOfFound, IsNotFoundAt, MayReturn, MayGo, Kept, Walks}
+use Rattle.pool_moves.specs.Keeping.{IsElsewhere, AreSeatsApart, IsAway, IsSeated, IsOwnNumber, HasOtherNumber, IsUnder, HasUnder, IsNotFoundAt, MayReturn, MayGo, Kept, Walks}
 use Rattle.pool_moves.specs.Leaves.{OwnLeaf, LeafSeen, Seat, At, Adrift, dev_if, told, leaf_seen}
 use Rattle.pool_moves.specs.LineRows.{IsSized, TurnReply, Committed, Suspended, CommitsOpen}
 use Rattle.pool_moves.specs.Moves.{Move, Freeze, Burn, Lose, steps, after_move, after_moves, step}
@@ -37,15 +36,15 @@ use Rattle.pool_moves.proofs.Tests.{not_same}
 -- The leaf of a name, by the history: where it is in the list, and that it has a sibling.
 record IsThere (t : Side) (i : ℕ) (leaf : LeafSeen) (seat : Seat) : Type 0 where
   pub at : slice_get t.seats i ≡ Some seat
-  pub leaf_is : leaf ≡ leaf_seen t.pool.group.frozen t.pool.scan.running (told t.pool) seat
+  pub leaf_is : leaf ≡ leaf_seen t.pool.group.frozen (told t.pool) seat
   pub left : HasUnder t.pool.in_top leaf.top (remove t.seats i)
 
 there_is : (c : Codec) (s : PoolState) (t : Side) (name : List ℕ) (leaf : LeafSeen) (seat : Seat) → Kept c s t → leaf_named name s.core.leaves ≡ Some leaf
     → slice_get t.seats (place_named name s.core.leaves) ≡ Some seat → ¬ (IsRequired leaf s.core.leaves) → IsThere t (place_named name s.core.leaves) leaf seat
 there_is c s t name leaf seat kept = subst Goal (sym kept.core) (λ named at free. record {
   at = at;
-  leaf_is = leaf_there (λ leaf. bytes_eq leaf.own.name name) t.pool.group.frozen t.pool.scan.running t.pool t.seats leaf seat named at;
-  left = sibling_left (λ leaf. bytes_eq leaf.own.name name) t.pool.group.frozen t.pool.scan.running t.pool t.seats leaf named
+  leaf_is = leaf_there (λ leaf. bytes_eq leaf.own.name name) t.pool.group.frozen t.pool t.seats leaf seat named at;
+  left = sibling_left (λ leaf. bytes_eq leaf.own.name name) t.pool.group.frozen t.pool t.seats leaf named
       (not_required leaf (seen t).leaves free);
 })
   where
@@ -54,9 +53,9 @@ there_is c s t name leaf seat kept = subst Goal (sym kept.core) (λ named at fre
         → IsThere t (place_named name core.leaves) leaf seat
 
 -- the seat's top is the leaf's
-seat_top : (f r : Bool) (p : Pool) (top : ℕ) (seat : Seat) → IsUnder p.in_top top seat → (leaf_seen f r (told p) seat).top ≡ top
-seat_top f r p top (At d found own) is = is
-seat_top f r p top (Adrift leaf) is = is
+seat_top : (f : Bool) (p : Pool) (top : ℕ) (seat : Seat) → IsUnder p.in_top top seat → (leaf_seen f (told p) seat).top ≡ top
+seat_top f p top (At d found own) is = is
+seat_top f p top (Adrift leaf) is = is
 
 may_go : (c : Codec) (s : PoolState) (t : Side) (i : ℕ) (leaf : LeafSeen) (seat : Seat) → Kept c s t → t.pool.group.frozen ≡ false → IsThere t i leaf seat
     → MayGo t i
@@ -66,7 +65,7 @@ may_go c s t i leaf seat kept idle there = record {
       (λ same. subst (λ top. HasUnder t.pool.in_top top (remove t.seats i)) (sym (same_device (t.pool.in_top d) leaf.top same)) there.left)
       (λ off. under_kept t.pool.in_top (t.pool.in_top d) t.seats i seat there.at (kept.topped d mine one)
       (λ is. not_same (t.pool.in_top d) leaf.top off (sym (ap (λ x. x.top) there.leaf_is
-      ∙ seat_top t.pool.group.frozen t.pool.scan.running t.pool (t.pool.in_top d) seat is))));
+      ∙ seat_top t.pool.group.frozen t.pool (t.pool.in_top d) seat is))));
 }
 
 goes_walk : (c : Codec) (s : PoolState) (t : Side) (name : List ℕ) (leaf : LeafSeen) → MayGo t (place_named name s.core.leaves)
@@ -93,16 +92,16 @@ cleaned_walk c size true spare (Some d) t vs off (made, outcome, calls, moves) =
 cleaned_walk c size true spare None t vs off moves = subst (Walks c t) (sym moves) tt
 cleaned_walk c size false spare dev t vs off moves = subst (Walks c t) (sym moves) tt
 
-dev_found : (f r : Bool) (p : Pool) (seats : List Seat) (i : ℕ) (seat : Seat) (d : ℕ) → AllByRecursion IsAway seats → AreSeatsApart seats
+dev_found : (f : Bool) (p : Pool) (seats : List Seat) (i : ℕ) (seat : Seat) (d : ℕ) → AllByRecursion IsAway seats → AreSeatsApart seats
     → slice_get seats i ≡ Some seat
-    → (leaf_seen f r (told p) seat).dev ≡ Some d → AllByRecursion (IsElsewhere d) (remove seats i)
-dev_found f r p seats i (At e found own) d away apart at dev =
+    → (leaf_seen f (told p) seat).dev ≡ Some d → AllByRecursion (IsElsewhere d) (remove seats i)
+dev_found f p seats i (At e found own) d away apart at dev =
     subst (λ n. AllByRecursion (IsElsewhere n) (remove seats i)) (is_at found dev) (apart_others seats i e found own apart at)
   where
     is_at : (found : Bool) → dev_if found e ≡ Some d → e ≡ d
     is_at true is = cc
     is_at false is = absurd (cc)
-dev_found f r p seats i (Adrift leaf) d away apart at dev = absurd
+dev_found f p seats i (Adrift leaf) d away apart at dev = absurd
     (no_device leaf.dev (all_at _ seats i (Adrift leaf) away at).0 dev)
   where
     no_device : (o : Option ℕ) → o ≡ None → o ≡ Some d → ⊥
@@ -118,8 +117,6 @@ leaf_by a d found own owes settled = record {
   owes = owes;
   settled = settled;
   on = false;
-  eligible = cond a.scan.running (a.scan.eligible d) false;
-  scrub = cond (a.scan.running && a.scan.eligible d) (a.scan.scrub d) (no_log d);
 }
 
 -- The leaf comes back as it was, behind a suspended group.
@@ -127,13 +124,13 @@ seat_back : (c : Codec) (s : PoolState) (t : Side) (i : ℕ) (leaf : LeafSeen) (
     → IsThere t i leaf seat
     → aside behind ≡ aside t.pool → behind.group.frozen ≡ false → ((d : ℕ) (found : Bool) (own : OwnLeaf) → seat ≡ At d found own
     → (behind.owes d ≡ t.pool.owes d) × (behind.settled d ≡ t.pool.settled d))
-    → leaf ≡ leaf_seen behind.group.frozen behind.scan.running (told behind) seat
+    → leaf ≡ leaf_seen behind.group.frozen (told behind) seat
 seat_back c s t i leaf (At d found own) behind kept idle there same over logs =
-    there.leaf_is ∙ (ap (λ f. leaf_seen f t.pool.scan.running (told t.pool) (At d found own)) idle
+    there.leaf_is ∙ (ap (λ f. leaf_seen f (told t.pool) (At d found own)) idle
     ∙ (ap (λ a. leaf_by a d found own (t.pool.owes d) (t.pool.settled d)) (sym same)
     ∙ (ap (λ log. leaf_by (aside behind) d found own log (t.pool.settled d)) (sym (logs d found own refl).0)
     ∙ (ap (λ log. leaf_by (aside behind) d found own (behind.owes d) log) (sym (logs d found own refl).1)
-    ∙ sym (ap (λ f. leaf_seen f behind.scan.running (told behind) (At d found own)) over)))))
+    ∙ sym (ap (λ f. leaf_seen f (told behind) (At d found own)) over)))))
 seat_back c s t i leaf (Adrift other) behind kept idle there same over logs = there.leaf_is
 
 back_apart : (seat : Seat) (seats : List Seat) → ((d : ℕ) (found : Bool) (own : OwnLeaf) → seat ≡ At d found own → AllByRecursion (IsElsewhere d) seats)
@@ -159,8 +156,6 @@ may_return c s t behind i leaf seat kept idle there same over apart off logs = r
   away = all_at _ t.seats i seat kept.away there.at;
   numbered = subst (λ a. (d : ℕ) → a.member d ≡ true → IsOwnNumber a.guid d seat) (sym same)
       (back_numbered t.pool.guid t.pool.member t.seats i seat there.at kept.numbered);
-  scanned = subst (λ a. a.scan.running ≡ true → IsOfFound a.scan.eligible seat) (sym same)
-      (λ r. all_at _ t.seats i seat (kept.scanned r) there.at);
 }
 
 -- Behind the commit without the leaf.
@@ -254,9 +249,9 @@ kept_aside c t part sv walks are = let frozen = after_move (Freeze are.cells are
     })
 
 -- the leaf's own top
-own_top : (f r : Bool) (p : Pool) (leaf : LeafSeen) (d : ℕ) (found : Bool) (own : OwnLeaf) → leaf ≡ leaf_seen f r (told p) (At d found own)
+own_top : (f : Bool) (p : Pool) (leaf : LeafSeen) (d : ℕ) (found : Bool) (own : OwnLeaf) → leaf ≡ leaf_seen f (told p) (At d found own)
     → leaf.top ≡ p.in_top d
-own_top f r p leaf d found own is = ap (λ x. x.top) is
+own_top f p leaf d found own is = ap (λ x. x.top) is
 
 -- The row, where the leaf isn't required and the freeze isn't refused.
 commits_walk : (c : Codec) (size : ℕ → ℕ) (s : PoolState) (t : Side) (name : List ℕ) (leaf : LeafSeen) (seat : Seat) (vs : List Move) (reply : DetachReply)
@@ -297,7 +292,7 @@ commits_walk c size s t name leaf seat vs reply kept sized idle there row =
 
     off_dev : (d : ℕ) → leaf.dev ≡ Some d → AllByRecursion (IsElsewhere d) (after_moves row.part (after_moves (goes_out s name leaf) t)).seats
     off_dev d dev = elsewhere_along row.part without d calm
-        (dev_found t.pool.group.frozen t.pool.scan.running t.pool t.seats i seat d kept.away kept.apart there.at
+        (dev_found t.pool.group.frozen t.pool t.seats i seat d kept.away kept.apart there.at
         (sym (ap (λ x. x.dev) there.leaf_is) ∙ dev))
 
     off_seat : (d : ℕ) (found : Bool) (own : OwnLeaf) → seat ≡ At d found own
@@ -306,9 +301,9 @@ commits_walk c size s t name leaf seat vs reply kept sized idle there row =
         (apart_others t.seats i d found own kept.apart (there.at ∙ ap Some is))
 
     top_one : (d : ℕ) (found : Bool) (own : OwnLeaf) → seat ≡ At d found own → 1 ≤ t.pool.in_top d
-    top_one d found own is = subst (λ n. 1 ≤ n) (own_top t.pool.group.frozen t.pool.scan.running t.pool leaf d found own
-        (there.leaf_is ∙ ap (leaf_seen t.pool.group.frozen t.pool.scan.running (told t.pool)) is))
-        (top_is_one t.pool.group.frozen t.pool.scan.running t.pool leaf.top (remove t.seats i) there.left
+    top_one d found own is = subst (λ n. 1 ≤ n) (own_top t.pool.group.frozen t.pool leaf d found own
+        (there.leaf_is ∙ ap (leaf_seen t.pool.group.frozen (told t.pool)) is))
+        (top_is_one t.pool.group.frozen t.pool leaf.top (remove t.seats i) there.left
         (subst (λ core. AllByRecursion (λ leaf. 1 ≤ leaf.top) core.leaves) kept_without.core row.commit.freeze.tops))
 
     mine : (d : ℕ) (found : Bool) (own : OwnLeaf) → seat ≡ At d found own → t.pool.member d ≡ true

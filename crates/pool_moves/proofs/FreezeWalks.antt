@@ -22,8 +22,8 @@ use Rattle.pool_moves.specs.States.{sums, PoolSeen, PoolState, Side, seen, seen_
 use Rattle.pool_moves.proofs.Seeing.{laid_sum}
 
 -- The devices of readable leaves are those of leaves that the run has found.
-abbrev leaves_by : Bool → Pool → List Seat → List LeafSeen
-leaves_by f p seats = map (leaf_seen f p.scan.running (told p)) seats
+abbrev pub leaves_by : Bool → Pool → List Seat → List LeafSeen
+leaves_by f p seats = map (leaf_seen f (told p)) seats
 
 dev_at : (d e : ℕ) (found : Bool) → is_dev d (dev_if found e) ≡ true → ((d == e) ≡ true) × (found ≡ true)
 dev_at d e true is = (is, refl)

@@ -35,22 +35,22 @@ use Rattle.pool_moves.proofs.ScanEnds.{start_walk}
 use Rattle.pool_moves.proofs.Tests.{here, not_lt}
 
 -- No leaf that was found is on the device.
-not_found_at : (f r : Bool) (p : Pool) (d : ℕ) (seats : List Seat) → AllByRecursion (λ leaf. is_dev d leaf.dev ≡ false) (map (leaf_seen f r (told p)) seats)
+not_found_at : (f : Bool) (p : Pool) (d : ℕ) (seats : List Seat) → AllByRecursion (λ leaf. is_dev d leaf.dev ≡ false) (map (leaf_seen f (told p)) seats)
     → AllByRecursion (IsNotFoundAt d) seats
-not_found_at f r p d [] off = tt
-not_found_at f r p d (At e found own ∷ seats) off = ((λ same. of found same off.0), not_found_at f r p d seats off.1)
+not_found_at f p d [] off = tt
+not_found_at f p d (At e found own ∷ seats) off = ((λ same. of found same off.0), not_found_at f p d seats off.1)
   where
     of : (found : Bool) → (d == e) ≡ true → is_dev d (dev_if found e) ≡ false → found ≡ false
     of true same off = absurd (let never : true ≡ false = sym same ∙ off in cc)
     of false same off = refl
-not_found_at f r p d (Adrift leaf ∷ seats) off = (tt, not_found_at f r p d seats off.1)
+not_found_at f p d (Adrift leaf ∷ seats) off = (tt, not_found_at f p d seats off.1)
 
 -- behind its loss no leaf is at it
 lose_elsewhere : (p : Pool) (d : ℕ) (seats : List Seat) → AllByRecursion (IsElsewhere d) (map (seat_step (Lose d) p) seats)
 lose_elsewhere p d [] = tt
 lose_elsewhere p d (At e found own ∷ seats) = (by (d == e) refl, lose_elsewhere p d seats)
   where
-    by : (t : Bool) → (d == e) ≡ t → IsElsewhere d (cond t (Adrift (leaf_seen p.group.frozen p.scan.running (told p) (At e found own))) (At e found own))
+    by : (t : Bool) → (d == e) ≡ t → IsElsewhere d (cond t (Adrift (leaf_seen p.group.frozen (told p) (At e found own))) (At e found own))
     by true same = tt
     by false off = off
 lose_elsewhere p d (Adrift leaf ∷ seats) = (tt, lose_elsewhere p d seats)
@@ -71,7 +71,7 @@ stamp_walk : (c : Codec) (s : PoolState) (t : Side) (d size : ℕ) (pool m : Gui
 stamp_walk c s t d size pool m made outcome kept off calls = (
   (
     (tt, tt),
-    not_found_at t.pool.group.frozen t.pool.scan.running t.pool d t.seats
+    not_found_at t.pool.group.frozen t.pool d t.seats
         (subst (λ core. AllByRecursion (λ leaf. is_dev d leaf.dev ≡ false) core.leaves) kept.core off),
   ),
   calls_walk c made (after_move (Lose d) t) (stamps_may c t.pool d size (stamp_plan d size pool m) made outcome (IsStamp pool m) calls).0.1,

@@ -13,8 +13,8 @@ use Rattle.txg_history.proofs.Logging.{by_bool, same_device, true_not_false, not
 use Rattle.txg_history.proofs.Surviving.{history_survives}
 use Rattle.pool_moves.specs.Keeping.{IsElsewhere, AreSeatsApart, IsAway, IsSeated, IsOwnNumber, IsFoundAt, HasFound, IsUnder, HasUnder, IsDrafted, over, beneath, HasNumberBelow, KnowsBelow, AreNumbered, KnowsJust, Kept, IsOfFound, IsNotFoundAt, HasOtherNumber, MayCome, Admits, Walks}
 use Rattle.pool_moves.specs.Leaves.{OwnLeaf, LeafSeen, Seat, At, Adrift, dev_if, told, leaf_seen}
-use Rattle.pool_moves.specs.Moves.{Draft, Move, Makes, Puts, Freeze, Wrote_key, Flushed_all, Leave, Burn, Starts, Copies, Copied, Commits, Sets, Finds, Lose, Comes, Goes, Returns, Scan_from, Drop, Clear, Rest, Scrubs, Shapes, on_dev, leaf_cleared, leaf_step, step, burned, rec_of, state_step, steps, events_of, seat_step, seats_by, after_move, after_moves}
-use Rattle.pool_moves.specs.States.{group_seen, PoolSeen, Side, PoolState}
+use Rattle.pool_moves.specs.Moves.{Draft, Move, Makes, Puts, Freeze, Wrote_key, Flushed_all, Leave, Burn, Starts, Copies, Copied, Commits, Sets, Finds, Lose, Comes, Goes, Returns, Scan_from, Pass, Drop, Clear, Rest, Scrubs, Shapes, on_dev, leaf_cleared, leaf_step, step, burned, rec_of, state_step, steps, events_of, seat_step, seats_by, after_move, after_moves}
+use Rattle.pool_moves.specs.States.{group_seen, ScanSeen, scan_seen, PoolSeen, Side, PoolState}
 use Rattle.pool_moves.proofs.Lists.{either, AnyOf, each, of_both, all_map, all_insert, all_remove, one_map, one_each, one_insert, one_new, none_of}
 use Rattle.pool_moves.proofs.Seeing.{seen_step}
 use Rattle.pool_moves.proofs.Tests.{here, other_back, below_other}
@@ -23,15 +23,15 @@ use Rattle.pool_moves.proofs.Tests.{here, other_back, below_other}
 abbrev SameLeaf : LeafSeen → LeafSeen → Type 0
 SameLeaf a b = (a.guid ≡ b.guid) × (a.top ≡ b.top)
 
-pub leaf_stays : (v : Move) (number first hi : ℕ) (leaf : LeafSeen) → SameLeaf (leaf_step v number first hi leaf) leaf
-leaf_stays (Sets m own) number first hi leaf =
+pub leaf_stays : (v : Move) (number first : ℕ) (scan : ScanSeen) (leaf : LeafSeen) → SameLeaf (leaf_step v number first scan leaf) leaf
+leaf_stays (Sets m own) number first scan leaf =
     either (λ t. SameLeaf (cond t (record leaf { own = own }) leaf) leaf) (refl, refl) (refl, refl) (leaf.guid.0 == m.0)
-leaf_stays (Finds m d) number first hi leaf =
+leaf_stays (Finds m d) number first scan leaf =
     either (λ t. SameLeaf (cond t (record leaf { dev = Some d }) leaf) leaf) (refl, refl) (refl, refl)
     (leaf.guid.0 == m.0)
-leaf_stays (Clear d) number first hi leaf = either (λ t. SameLeaf (cond t (leaf_cleared hi leaf) leaf) leaf)
+leaf_stays (Clear d) number first scan leaf = either (λ t. SameLeaf (cond t (leaf_cleared scan.hi (scan.scrub d) leaf) leaf) leaf)
     (refl, refl) (refl, refl) (on_dev (λ e. d == e) leaf.dev)
-leaf_stays v number first hi leaf = (refl, refl)
+leaf_stays v number first scan leaf = (refl, refl)
 
 -- What is so of a seat, by where it is.
 pub seat_cases : (Q : Seat → Type 0) → ((d : ℕ) (found : Bool) (own : OwnLeaf) → Q (At d found own))
@@ -64,6 +64,10 @@ still_seats Flushed_all t is = stay Flushed_all t (λ d found own. refl) (λ lea
 still_seats (Starts draft) t is = stay (Starts draft) t (λ d found own. refl) (λ leaf. refl)
 still_seats (Copies draft d) t is = stay (Copies draft d) t (λ d found own. refl) (λ leaf. refl)
 still_seats (Copied draft d) t is = stay (Copied draft d) t (λ d found own. refl) (λ leaf. refl)
+still_seats (Scan_from hi eligible) t is = stay (Scan_from hi eligible) t (λ d found own. refl) (λ leaf. refl)
+still_seats (Pass k birth which) t is = stay (Pass k birth which) t (λ d found own. refl) (λ leaf. refl)
+still_seats (Drop d) t is = stay (Drop d) t (λ e found own. refl) (λ leaf. refl)
+still_seats Rest t is = stay Rest t (λ d found own. refl) (λ leaf. refl)
 still_seats Scrubs t is = stay Scrubs t (λ d found own. refl) (λ leaf. refl)
 still_seats (Shapes top children) t is = stay (Shapes top children) t (λ d found own. refl) (λ leaf. refl)
 still_seats (Comes i d m top own) t is = absurd is
@@ -73,23 +77,20 @@ still_seats v t is = refl
 
 -- so it takes each leaf one, in the state
 pub leaves_still : (v : Move) (s : PoolSeen) → IsStill v
-    → (step v s).leaves ≡ map (leaf_step v s.number s.group.first s.scan.hi) s.leaves
-leaves_still (Makes noted) s is = same_map (leaf_step (Makes noted) s.number s.group.first s.scan.hi) (λ leaf. refl)
-    s.leaves
-leaves_still (Puts a b) s is = same_map (leaf_step (Puts a b) s.number s.group.first s.scan.hi) (λ leaf. refl) s.leaves
-leaves_still (Wrote_key k) s is = same_map (leaf_step (Wrote_key k) s.number s.group.first s.scan.hi) (λ leaf. refl)
-    s.leaves
-leaves_still Flushed_all s is = same_map (leaf_step Flushed_all s.number s.group.first s.scan.hi) (λ leaf. refl)
-    s.leaves
-leaves_still (Starts draft) s is = same_map (leaf_step (Starts draft) s.number s.group.first s.scan.hi) (λ leaf. refl)
-    s.leaves
-leaves_still (Copies q d) s is = same_map (leaf_step (Copies q d) s.number s.group.first s.scan.hi) (λ leaf. refl)
-    s.leaves
-leaves_still (Copied q d) s is = same_map (leaf_step (Copied q d) s.number s.group.first s.scan.hi) (λ leaf. refl)
-    s.leaves
-leaves_still Scrubs s is = same_map (leaf_step Scrubs s.number s.group.first s.scan.hi) (λ leaf. refl) s.leaves
-leaves_still (Shapes top l) s is = same_map (leaf_step (Shapes top l) s.number s.group.first s.scan.hi) (λ leaf. refl)
-    s.leaves
+    → (step v s).leaves ≡ map (leaf_step v s.number s.group.first s.scan) s.leaves
+leaves_still (Makes noted) s is = same_map (leaf_step (Makes noted) s.number s.group.first s.scan) (λ leaf. refl) s.leaves
+leaves_still (Puts a b) s is = same_map (leaf_step (Puts a b) s.number s.group.first s.scan) (λ leaf. refl) s.leaves
+leaves_still (Wrote_key k) s is = same_map (leaf_step (Wrote_key k) s.number s.group.first s.scan) (λ leaf. refl) s.leaves
+leaves_still Flushed_all s is = same_map (leaf_step Flushed_all s.number s.group.first s.scan) (λ leaf. refl) s.leaves
+leaves_still (Starts draft) s is = same_map (leaf_step (Starts draft) s.number s.group.first s.scan) (λ leaf. refl) s.leaves
+leaves_still (Copies q d) s is = same_map (leaf_step (Copies q d) s.number s.group.first s.scan) (λ leaf. refl) s.leaves
+leaves_still (Copied q d) s is = same_map (leaf_step (Copied q d) s.number s.group.first s.scan) (λ leaf. refl) s.leaves
+leaves_still (Scan_from hi on) s is = same_map (leaf_step (Scan_from hi on) s.number s.group.first s.scan) (λ leaf. refl) s.leaves
+leaves_still (Pass k b on) s is = same_map (leaf_step (Pass k b on) s.number s.group.first s.scan) (λ leaf. refl) s.leaves
+leaves_still (Drop d) s is = same_map (leaf_step (Drop d) s.number s.group.first s.scan) (λ leaf. refl) s.leaves
+leaves_still Rest s is = same_map (leaf_step Rest s.number s.group.first s.scan) (λ leaf. refl) s.leaves
+leaves_still Scrubs s is = same_map (leaf_step Scrubs s.number s.group.first s.scan) (λ leaf. refl) s.leaves
+leaves_still (Shapes top l) s is = same_map (leaf_step (Shapes top l) s.number s.group.first s.scan) (λ leaf. refl) s.leaves
 leaves_still (Comes i d m top own) s is = absurd is
 leaves_still (Goes i) s is = absurd is
 leaves_still (Returns i seat leaf) s is = absurd is
@@ -109,7 +110,7 @@ module _ (v : Move) (t : Side) (is : IsStill v) (P Q : Seat → Type 0)
 
 -- a seat whose device may be lost
 pub lose_step : (Q : Seat → Type 0) (p : Pool) (e d : ℕ) (found : Bool) (own : OwnLeaf)
-    → ((e == d) ≡ true → Q (Adrift (leaf_seen p.group.frozen p.scan.running (told p) (At d found own))))
+    → ((e == d) ≡ true → Q (Adrift (leaf_seen p.group.frozen (told p) (At d found own))))
     → ((e == d) ≡ false → Q (At d found own)) → Q (seat_step (Lose e) p (At d found own))
 lose_step Q p e d found own lost there = cond_both (e == d) _ _ Q lost there
 
@@ -224,7 +225,7 @@ away_leaf : (v : Move) (p : Pool) (leaf : LeafSeen) → IsAway (Adrift leaf) →
 away_leaf (Sets m own) p leaf is never =
     either (λ t. IsAway (Adrift (cond t (record leaf { own = own }) leaf))) is is (leaf.guid.0 == m.0)
 away_leaf (Clear d) p leaf is never =
-    either (λ t. IsAway (Adrift (cond t (leaf_cleared p.scan.hi leaf) leaf))) is is (on_dev (λ e. d == e) leaf.dev)
+    either (λ t. IsAway (Adrift (cond t (leaf_cleared p.scan.hi (p.scan.scrub d) leaf) leaf))) is is (on_dev (λ e. d == e) leaf.dev)
 away_leaf (Finds m d) p leaf is never = absurd (never m d refl)
 away_leaf (Freeze cells board) p leaf is never = (is.0, ap (on_dev board) is.0)
 away_leaf (Leave d) p leaf is never = (is.0, ap (λ x. cond (on_dev (λ e. d == e) x) false leaf.on) is.0 ∙ is.1)
@@ -316,7 +317,7 @@ numbered_kept (Returns i seat leaf) t ok numbered d is = all_insert _ t.seats i 
 numbered_kept v t ok numbered d is =
     all_still v t tt (IsOwnNumber t.pool.guid d) (IsOwnNumber (after_move v t).pool.guid d) (λ e found own same. same)
     (λ leaf is. subst (λ n. (n.0 == (t.pool.guid d).0) ≡ false)
-    (sym (leaf_stays v t.pool.highest t.pool.group.first t.pool.scan.hi leaf).0) is) (numbered d is)
+    (sym (leaf_stays v t.pool.highest t.pool.group.first (scan_seen true t.pool.scan) leaf).0) is) (numbered d is)
 
 -- So it is with the number of any device.
 pub others_still : (d : ℕ) (v : Move) (t : Side) → IsStill v
@@ -332,7 +333,7 @@ others_still d (Lose e) t is all = all_still (Lose e) t tt (HasOtherNumber t.poo
 others_still d v t is all = all_still v t tt (HasOtherNumber t.pool.guid (t.pool.guid d))
     (HasOtherNumber (after_move v t).pool.guid ((after_move v t).pool.guid d)) (λ x found own is. is)
     (λ leaf is. subst (λ n. (n.0 == (t.pool.guid d).0) ≡ false)
-    (sym (leaf_stays v t.pool.highest t.pool.group.first t.pool.scan.hi leaf).0) is) all
+    (sym (leaf_stays v t.pool.highest t.pool.group.first (scan_seen true t.pool.scan) leaf).0) is) all
 
 -- Members on the board are leaves that the run has found.
 pub never_both : {A : Type 0} (t : Bool) → t ≡ false → t ≡ true → A
@@ -385,7 +386,7 @@ under_still : (v : Move) (t : Side) (in_top : ℕ → ℕ) (top : ℕ) → IsSti
     → IsUnder in_top top (seat_step v t.pool (At d found own)))
     → HasUnder t.pool.in_top top t.seats → HasUnder in_top top (seats_by v t)
 under_still v t in_top top is at has = one_still v t is (IsUnder t.pool.in_top top) (IsUnder in_top top) at
-    (λ leaf is. (leaf_stays v t.pool.highest t.pool.group.first t.pool.scan.hi leaf).1 ∙ is) has
+    (λ leaf is. (leaf_stays v t.pool.highest t.pool.group.first (scan_seen true t.pool.scan) leaf).1 ∙ is) has
 
 -- behind a record that is acknowledged: each seat has its top
 commit_under : (t : Side) (draft : Draft) (top : ℕ) → AllByRecursion (IsDrafted t.pool draft) t.seats
@@ -447,34 +448,11 @@ topped_kept c v s t may ok kept d is one =
     under_still v t (after_move v t).pool.in_top (t.pool.in_top d) tt (λ e found own under. under)
     (kept.topped d is one)
 
--- No leaf that the run has not found is eligible.
+-- What is of found leaves alone.
 pub of_found_still : (which : ℕ → Bool) (v : Move) (t : Side) → IsStill v → ((d : ℕ) (found : Bool) (own : OwnLeaf)
     → IsOfFound which (At d found own) → IsOfFound which (seat_step v t.pool (At d found own)))
     → AllByRecursion (IsOfFound which) t.seats → AllByRecursion (IsOfFound which) (seats_by v t)
 of_found_still which v t is at all = all_still v t is (IsOfFound which) (IsOfFound which) at (λ leaf is. tt) all
-
-drop_of_found : (which : ℕ → Bool) (e : ℕ) (seats : List Seat) → AllByRecursion (IsOfFound which) seats
-    → AllByRecursion (IsOfFound (at_device e false which)) seats
-drop_of_found which e seats all = each
-    (seat_cases (λ seat. IsOfFound which seat → IsOfFound (at_device e false which) seat)
-    (λ d found own is un. either (λ t. cond t false (which d) ≡ false) refl (is un) (e == d)) (λ leaf is. tt)) seats all
-
-scanned_kept : (v : Move) (t : Side) → Admits t v → (t.pool.scan.running ≡ true → AllByRecursion (IsOfFound t.pool.scan.eligible) t.seats)
-    → (after_move v t).pool.scan.running ≡ true → AllByRecursion (IsOfFound (after_move v t).pool.scan.eligible) (seats_by v t)
-scanned_kept (Finds m e) t ok all r = of_found_still t.pool.scan.eligible (Finds m e) t tt (λ d found own is.
-    either (λ x. cond x true found ≡ false → t.pool.scan.eligible d ≡ false) (λ un. absurd (cc)) is
-    ((t.pool.guid d).0 == m.0)) (all r)
-scanned_kept (Lose e) t ok all r = of_found_still t.pool.scan.eligible (Lose e) t tt (λ d found own is.
-    lose_step (IsOfFound t.pool.scan.eligible) t.pool e d found own (λ lost. tt) (λ there. is)) (all r)
-scanned_kept (Comes i e m top own) t ok all r = never_both t.pool.scan.running ok.at_rest r
-scanned_kept (Goes i) t ok all r = all_remove _ t.seats i (all r)
-scanned_kept (Returns i seat leaf) t ok all r = all_insert _ t.seats i seat (ok.scanned r) (all r)
-scanned_kept (Scan_from hi eligible) t ok all r = of_found_still eligible (Scan_from hi eligible) t tt
-    (λ d found own is. is) ok
-scanned_kept (Drop e) t ok all r = of_found_still (at_device e false t.pool.scan.eligible) (Drop e) t tt
-    (λ d found own is. is) (drop_of_found t.pool.scan.eligible e t.seats (all r))
-scanned_kept Rest t ok all r = never_both false refl r
-scanned_kept v t ok all r = of_found_still (after_move v t).pool.scan.eligible v t tt (λ d found own is. is) (all r)
 
 -- The next member number is above all others.
 below_more : (guid : ℕ → Guid) (n more : ℕ) → n ≤ more → (seats : List Seat) → AllByRecursion (HasNumberBelow guid n) seats
@@ -497,7 +475,7 @@ below_still : (v : Move) (t : Side) (n : ℕ) → IsStill v
     → AllByRecursion (HasNumberBelow t.pool.guid n) t.seats → AllByRecursion (HasNumberBelow t.pool.guid n)
     (seats_by v t)
 below_still v t n is at all = all_still v t is (HasNumberBelow t.pool.guid n) (HasNumberBelow t.pool.guid n) at
-    (λ leaf is. subst (λ m. m.0 < n) (sym (leaf_stays v t.pool.highest t.pool.group.first t.pool.scan.hi leaf).0) is)
+    (λ leaf is. subst (λ m. m.0 < n) (sym (leaf_stays v t.pool.highest t.pool.group.first (scan_seen true t.pool.scan) leaf).0) is)
     all
 
 come_below : (p : Pool) (n e : ℕ) (m : Guid) (seats : List Seat) → AllByRecursion (IsElsewhere e) seats
@@ -530,7 +508,7 @@ draft_below p n draft seats just below m low = let known = just m (other_numbers
 first_same : (q r : Rec) (a b : List Rec) → q ∷ a ≡ r ∷ b → q ≡ r
 first_same q r a b e = cc
 
-returned_below : (t : Side) (n : ℕ) (seat : Seat) (leaf : LeafSeen) → leaf ≡ leaf_seen t.pool.group.frozen t.pool.scan.running (told t.pool) seat
+returned_below : (t : Side) (n : ℕ) (seat : Seat) (leaf : LeafSeen) → leaf ≡ leaf_seen t.pool.group.frozen (told t.pool) seat
     → leaf.guid.0 < n → HasNumberBelow t.pool.guid n seat
 returned_below t n (At d found own) leaf is low = subst (λ x. x.guid.0 < n) is low
 returned_below t n (Adrift other) leaf is low = subst (λ x. x.guid.0 < n) is low
@@ -634,7 +612,6 @@ move_keeps c v s t may ok kept = record {
   numbered = numbered_kept v t ok kept.numbered;
   boarded = boarded_kept v t ok kept.boarded;
   topped = topped_kept c v s t may ok kept;
-  scanned = scanned_kept v t ok kept.scanned;
   numbers = numbers_kept c v s t may ok kept;
   written = written_kept c v s t kept ok;
   survives = history_survives c (events_of v t.pool) t.pool kept.survives may;

@@ -25,22 +25,22 @@ use Rattle.pool_moves.proofs.Keeping.{IsStill, elsewhere_still, others_still}
 use Rattle.pool_moves.proofs.KindsOfMoves.{IsWithin}
 use Rattle.pool_moves.proofs.Tests.{other_back, some_same}
 
-abbrev seen_as : Bool → Bool → Pool → List Seat → List LeafSeen
-seen_as f r p seats = map (leaf_seen f r (told p)) seats
+abbrev seen_as : Bool → Pool → List Seat → List LeafSeen
+seen_as f p seats = map (leaf_seen f (told p)) seats
 
 -- The leaf that is found by a test is the one at the seat of its place.
-pub leaf_there : (test : LeafSeen → Bool) (f r : Bool) (p : Pool) (seats : List Seat) (leaf : LeafSeen) (seat : Seat)
-    → find test (seen_as f r p seats) ≡ Some leaf
-    → slice_get seats (place_where test (seen_as f r p seats)) ≡ Some seat → leaf ≡ leaf_seen f r (told p) seat
-leaf_there test f r p [] leaf seat found at = absurd (cc)
-leaf_there test f r p (x ∷ seats) leaf seat found at = by_bool (test (leaf_seen f r (told p) x))
-    (λ is. sym (some_same (leaf_seen f r (told p) x) leaf
-    (sym (ap (λ t. cond t (Some (leaf_seen f r (told p) x)) (find test (seen_as f r p seats))) is) ∙ found))
-    ∙ ap (leaf_seen f r (told p))
-    (some_same x seat (sym (ap (λ t. slice_get (x ∷ seats) (cond t 0 (suc (place_where test (seen_as f r p seats)))))
+pub leaf_there : (test : LeafSeen → Bool) (f : Bool) (p : Pool) (seats : List Seat) (leaf : LeafSeen) (seat : Seat)
+    → find test (seen_as f p seats) ≡ Some leaf
+    → slice_get seats (place_where test (seen_as f p seats)) ≡ Some seat → leaf ≡ leaf_seen f (told p) seat
+leaf_there test f p [] leaf seat found at = absurd (cc)
+leaf_there test f p (x ∷ seats) leaf seat found at = by_bool (test (leaf_seen f (told p) x))
+    (λ is. sym (some_same (leaf_seen f (told p) x) leaf
+    (sym (ap (λ t. cond t (Some (leaf_seen f (told p) x)) (find test (seen_as f p seats))) is) ∙ found))
+    ∙ ap (leaf_seen f (told p))
+    (some_same x seat (sym (ap (λ t. slice_get (x ∷ seats) (cond t 0 (suc (place_where test (seen_as f p seats)))))
     is) ∙ at)))
-    (λ off. leaf_there test f r p seats leaf seat (sym (ap (λ t. cond t (Some (leaf_seen f r (told p) x)) (find test (seen_as f r p seats))) off) ∙ found)
-    (sym (ap (λ t. slice_get (x ∷ seats) (cond t 0 (suc (place_where test (seen_as f r p seats))))) off) ∙ at))
+    (λ off. leaf_there test f p seats leaf seat (sym (ap (λ t. cond t (Some (leaf_seen f (told p) x)) (find test (seen_as f p seats))) off) ∙ found)
+    (sym (ap (λ t. slice_get (x ∷ seats) (cond t 0 (suc (place_where test (seen_as f p seats))))) off) ∙ at))
 
 -- A leaf that isn't required has a sibling, and it is still there without the leaf.
 abbrev HasSibling : LeafSeen → List LeafSeen → Type 0
@@ -49,15 +49,15 @@ HasSibling leaf leaves = siblings leaf leaves ≡ [] → ⊥
 pub not_required : (leaf : LeafSeen) (leaves : List LeafSeen) → ¬ (IsRequired leaf leaves) → HasSibling leaf leaves
 not_required leaf leaves free none = free (1, omega arith, ap (λ l. all_out l 1) none)
 
-sibling_under : (f r : Bool) (p : Pool) (leaf : LeafSeen) (seat : Seat) → is_sibling leaf (leaf_seen f r (told p) seat) ≡ true → IsUnder p.in_top leaf.top seat
-sibling_under f r p leaf (At d found own) is = same_device (p.in_top d) leaf.top (and_parts (p.in_top d == leaf.top) (not ((p.guid d).0 == leaf.guid.0)) is).0
-sibling_under f r p leaf (Adrift other) is = same_device other.top leaf.top (and_parts (other.top == leaf.top) (not (other.guid.0 == leaf.guid.0)) is).0
+sibling_under : (f : Bool) (p : Pool) (leaf : LeafSeen) (seat : Seat) → is_sibling leaf (leaf_seen f (told p) seat) ≡ true → IsUnder p.in_top leaf.top seat
+sibling_under f p leaf (At d found own) is = same_device (p.in_top d) leaf.top (and_parts (p.in_top d == leaf.top) (not ((p.guid d).0 == leaf.guid.0)) is).0
+sibling_under f p leaf (Adrift other) is = same_device other.top leaf.top (and_parts (other.top == leaf.top) (not (other.guid.0 == leaf.guid.0)) is).0
 
-any_under : (f r : Bool) (p : Pool) (leaf : LeafSeen) (seats : List Seat) → HasSibling leaf (seen_as f r p seats) → HasUnder p.in_top leaf.top seats
-any_under f r p leaf [] has = absurd (has refl)
-any_under f r p leaf (seat ∷ seats) has = by_bool (is_sibling leaf (leaf_seen f r (told p) seat)) (λ is. inl (sibling_under f r p leaf seat is))
-    (λ off. inr (any_under f r p leaf seats
-    (λ none. has (ap (λ t. cond t (leaf_seen f r (told p) seat ∷ siblings leaf (seen_as f r p seats)) (siblings leaf (seen_as f r p seats))) off ∙ none))))
+any_under : (f : Bool) (p : Pool) (leaf : LeafSeen) (seats : List Seat) → HasSibling leaf (seen_as f p seats) → HasUnder p.in_top leaf.top seats
+any_under f p leaf [] has = absurd (has refl)
+any_under f p leaf (seat ∷ seats) has = by_bool (is_sibling leaf (leaf_seen f (told p) seat)) (λ is. inl (sibling_under f p leaf seat is))
+    (λ off. inr (any_under f p leaf seats
+    (λ none. has (ap (λ t. cond t (leaf_seen f (told p) seat ∷ siblings leaf (seen_as f p seats)) (siblings leaf (seen_as f p seats))) off ∙ none))))
 
 no_sibling : (leaf : LeafSeen) → is_sibling leaf leaf ≡ false
 no_sibling leaf = both (leaf.top == leaf.top) (leaf.guid.0 == leaf.guid.0) (here leaf.guid.0)
@@ -69,23 +69,23 @@ no_sibling leaf = both (leaf.top == leaf.top) (leaf.guid.0 == leaf.guid.0) (here
     both true u is = ap not is
     both false u is = refl
 
-pub sibling_left : (test : LeafSeen → Bool) (f r : Bool) (p : Pool) (seats : List Seat) (leaf : LeafSeen) → find test (seen_as f r p seats) ≡ Some leaf
-    → HasSibling leaf (seen_as f r p seats)
-    → HasUnder p.in_top leaf.top (remove seats (place_where test (seen_as f r p seats)))
-sibling_left test f r p [] leaf found has = absurd (has refl)
-sibling_left test f r p (x ∷ seats) leaf found has = by_bool (test (leaf_seen f r (told p) x))
-    (λ is. subst (λ t. HasUnder p.in_top leaf.top (remove (x ∷ seats) (cond t 0 (suc (place_where test (seen_as f r p seats)))))) (sym is)
-    (any_under f r p leaf seats (λ none. has (ap (λ t. cond t (leaf_seen f r (told p) x ∷ siblings leaf (seen_as f r p seats))
-    (siblings leaf (seen_as f r p seats)))
-    (subst (λ y. is_sibling leaf y ≡ false) (sym (some_same (leaf_seen f r (told p) x) leaf
-    (sym (ap (λ t. cond t (Some (leaf_seen f r (told p) x)) (find test (seen_as f r p seats))) is) ∙ found))) (no_sibling leaf)) ∙ none))))
-    (λ off. subst (λ t. HasUnder p.in_top leaf.top (remove (x ∷ seats) (cond t 0 (suc (place_where test (seen_as f r p seats)))))) (sym off) (deeper
-    (sibling_left test f r p seats leaf (sym (ap (λ t. cond t (Some (leaf_seen f r (told p) x)) (find test (seen_as f r p seats))) off) ∙ found))))
+pub sibling_left : (test : LeafSeen → Bool) (f : Bool) (p : Pool) (seats : List Seat) (leaf : LeafSeen) → find test (seen_as f p seats) ≡ Some leaf
+    → HasSibling leaf (seen_as f p seats)
+    → HasUnder p.in_top leaf.top (remove seats (place_where test (seen_as f p seats)))
+sibling_left test f p [] leaf found has = absurd (has refl)
+sibling_left test f p (x ∷ seats) leaf found has = by_bool (test (leaf_seen f (told p) x))
+    (λ is. subst (λ t. HasUnder p.in_top leaf.top (remove (x ∷ seats) (cond t 0 (suc (place_where test (seen_as f p seats)))))) (sym is)
+    (any_under f p leaf seats (λ none. has (ap (λ t. cond t (leaf_seen f (told p) x ∷ siblings leaf (seen_as f p seats))
+    (siblings leaf (seen_as f p seats)))
+    (subst (λ y. is_sibling leaf y ≡ false) (sym (some_same (leaf_seen f (told p) x) leaf
+    (sym (ap (λ t. cond t (Some (leaf_seen f (told p) x)) (find test (seen_as f p seats))) is) ∙ found))) (no_sibling leaf)) ∙ none))))
+    (λ off. subst (λ t. HasUnder p.in_top leaf.top (remove (x ∷ seats) (cond t 0 (suc (place_where test (seen_as f p seats)))))) (sym off) (deeper
+    (sibling_left test f p seats leaf (sym (ap (λ t. cond t (Some (leaf_seen f (told p) x)) (find test (seen_as f p seats))) off) ∙ found))))
   where
-    deeper : (HasSibling leaf (seen_as f r p seats) → HasUnder p.in_top leaf.top (remove seats (place_where test (seen_as f r p seats))))
-        → HasUnder p.in_top leaf.top (x ∷ remove seats (place_where test (seen_as f r p seats)))
-    deeper rest = by_bool (is_sibling leaf (leaf_seen f r (told p) x)) (λ is. inl (sibling_under f r p leaf x is))
-        (λ off. inr (rest (λ none. has (ap (λ t. cond t (leaf_seen f r (told p) x ∷ siblings leaf (seen_as f r p seats)) (siblings leaf (seen_as f r p seats)))
+    deeper : (HasSibling leaf (seen_as f p seats) → HasUnder p.in_top leaf.top (remove seats (place_where test (seen_as f p seats))))
+        → HasUnder p.in_top leaf.top (x ∷ remove seats (place_where test (seen_as f p seats)))
+    deeper rest = by_bool (is_sibling leaf (leaf_seen f (told p) x)) (λ is. inl (sibling_under f p leaf x is))
+        (λ off. inr (rest (λ none. has (ap (λ t. cond t (leaf_seen f (told p) x ∷ siblings leaf (seen_as f p seats)) (siblings leaf (seen_as f p seats)))
         off ∙ none))))
 
 -- Each other top that had a leaf has one without the leaf at a place.
@@ -99,13 +99,13 @@ under_kept in_top top (x ∷ seats) (suc i) seat at (inl is) other = inl is
 under_kept in_top top (x ∷ seats) (suc i) seat at (inr has) other = inr (under_kept in_top top seats i seat at has other)
 
 -- a leaf's top is one of the tops that the others stand under
-pub top_is_one : (f r : Bool) (p : Pool) (top : ℕ) (seats : List Seat) → HasUnder p.in_top top seats
-    → AllByRecursion (λ leaf. 1 ≤ leaf.top) (seen_as f r p seats) → 1 ≤ top
-top_is_one f r p top [] has ones = absurd has
-top_is_one f r p top (At d found own ∷ seats) (inl is) ones = subst (λ n. 1 ≤ n) is ones.0
-top_is_one f r p top (Adrift leaf ∷ seats) (inl is) ones = subst (λ n. 1 ≤ n) is ones.0
-top_is_one f r p top (At d found own ∷ seats) (inr has) ones = top_is_one f r p top seats has ones.1
-top_is_one f r p top (Adrift leaf ∷ seats) (inr has) ones = top_is_one f r p top seats has ones.1
+pub top_is_one : (f : Bool) (p : Pool) (top : ℕ) (seats : List Seat) → HasUnder p.in_top top seats
+    → AllByRecursion (λ leaf. 1 ≤ leaf.top) (seen_as f p seats) → 1 ≤ top
+top_is_one f p top [] has ones = absurd has
+top_is_one f p top (At d found own ∷ seats) (inl is) ones = subst (λ n. 1 ≤ n) is ones.0
+top_is_one f p top (Adrift leaf ∷ seats) (inl is) ones = subst (λ n. 1 ≤ n) is ones.0
+top_is_one f p top (At d found own ∷ seats) (inr has) ones = top_is_one f p top seats has ones.1
+top_is_one f p top (Adrift leaf ∷ seats) (inr has) ones = top_is_one f p top seats has ones.1
 
 -- The others are at other devices, and stay so through a commit.
 others_off : (d e : ℕ) (seats : List Seat) (i : ℕ) (found : Bool) (own : OwnLeaf) → slice_get seats i ≡ Some (At e found own)

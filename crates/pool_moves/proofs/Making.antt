@@ -41,7 +41,6 @@ made_kept c s t made = record {
   boarded = λ f. absurd (let no : false ≡ true = sym (ap (λ p. p.group.frozen) made.is) ∙ f in cc);
   topped = subst (λ p. (d : ℕ) → p.member d ≡ true → 1 ≤ p.in_top d → HasUnder p.in_top (p.in_top d) t.seats) (sym made.is)
       (λ d mine one. under_seat made.home d t.seats (made.each d mine));
-  scanned = λ r. absurd (let no : false ≡ true = sym (ap (λ p. p.scan.running) made.is) ∙ r in cc);
   numbers = subst (λ p. AreNumbered s.own.next_member p.guid p.opened p.live p.group.frozen p.group.begun t.seats) (sym made.is) (record {
     below = made.below;
     known = λ on. absurd (let no : false ≡ true = on in cc);

@@ -136,7 +136,7 @@ exhausted_copies c s t a cell vs kept at answers row = let sum = sum_of_cell cel
     subst (λ made. AllMissed (Some sum) made (run made t.pool.sectors) (seen t).leaves) (sym calls)
     (missed_leaves sum row.reads (run row.reads t.pool.sectors) (seen t).leaves
     (none_served c t.pool (key 0 a) cell (tries (copies_of sum (seen t).leaves)) row.reads row.wrong kept.survives at
-    (tried_all t.pool cell (copies_of sum (seen t).leaves) (copies_on t.pool cell t.pool.group.frozen t.pool.scan.running t.seats kept.away kept.seated))
+    (tried_all t.pool cell (copies_of sum (seen t).leaves) (copies_on t.pool cell t.pool.group.frozen t.seats kept.away kept.seated))
     (subst (AllAnswer t.pool.sectors) calls answers) row.is_read).each)
 
 exhausted_record : (c : Codec) (s : PoolState) (t : Side) (a : ℕ) (sum : Option Sum) (vs : List Move) (shown : List LeafShown) → Kept c s t → sum ≡ sum_of (t.pool.reads.cells (key 0 a))

@@ -192,43 +192,41 @@ opened_topped p r leaves seats d all tops are low =
     opened_under p r leaves seats d all are (has_kept leaves (p.guid d) (subst (λ f. 1 ≤ f (p.guid d)) (sym tops) low))
 
 -- The leaves are what is seen at the seats.
-abbrev opened_told : Pool → Rec → (board eligible : ℕ → Bool) → (scrub : ℕ → ℕ → Bool) → Told
-opened_told p r board eligible scrub = record {
+abbrev opened_told : Pool → Rec → (board : ℕ → Bool) → Told
+opened_told p r board = record {
   guid = p.guid;
   top = λ d. r.tops (p.guid d);
   owes = λ d. r.owes (p.guid d);
   settled = no_log;
   board = board;
-  eligible = eligible;
-  scrub = scrub;
 }
 
 abbrev shape : Guid → Option ℕ → OwnLeaf → ℕ → (ℕ → Bool) → LeafSeen
-shape m dev own top log = record { guid = m; dev = dev; own = own; top = top; owes = log; settled = no_log 0; on = false; eligible = false; scrub = no_log 0 }
+shape m dev own top log = record { guid = m; dev = dev; own = own; top = top; owes = log; settled = no_log 0; on = false }
 
 seen_at : (r : Rec) (leaf : LeafKept) (m : Guid) (dev : Option ℕ) (own : OwnLeaf) → IsIn r.tops r.owes leaf → m ≡ leaf.guid
     → shape m dev own (r.tops m) (r.owes m) ≡ shape leaf.guid dev own leaf.top leaf.owes
 seen_at r leaf m dev own is same = ap (λ m. shape m dev own (r.tops m) (r.owes m)) same
     ∙ (ap (λ top. shape leaf.guid dev own top (r.owes leaf.guid)) is.top_is ∙ ap (λ log. shape leaf.guid dev own leaf.top log) is.log_is)
 
-seat_seen : (p : Pool) (r : Rec) (roster : List ℕ) (board eligible : ℕ → Bool) (scrub : ℕ → ℕ → Bool) (leaf : LeafKept) (dev : Option ℕ)
+seat_seen : (p : Pool) (r : Rec) (roster : List ℕ) (board : ℕ → Bool) (leaf : LeafKept) (dev : Option ℕ)
     → IsIn r.tops r.owes leaf → IsSeatOf p leaf (opened_seat p roster leaf dev)
-    → leaf_seen false false (opened_told p r board eligible scrub) (opened_seat p roster leaf dev) ≡ opened_leaf leaf dev
-seat_seen p r roster board eligible scrub leaf (Some d) is seat = seen_at r leaf (p.guid d) (Some d) (opened_own leaf (Some d)) is seat.1
-seat_seen p r roster board eligible scrub leaf None is seat = by (member_of p roster leaf.guid) seat
+    → leaf_seen false (opened_told p r board) (opened_seat p roster leaf dev) ≡ opened_leaf leaf dev
+seat_seen p r roster board leaf (Some d) is seat = seen_at r leaf (p.guid d) (Some d) (opened_own leaf (Some d)) is seat.1
+seat_seen p r roster board leaf None is seat = by (member_of p roster leaf.guid) seat
   where
     by : (found : Option ℕ) → IsSeatOf p leaf (seat_unfound found leaf)
-        → leaf_seen false false (opened_told p r board eligible scrub) (seat_unfound found leaf) ≡ opened_leaf leaf None
+        → leaf_seen false (opened_told p r board) (seat_unfound found leaf) ≡ opened_leaf leaf None
     by (Some d) seat = seen_at r leaf (p.guid d) None (opened_own leaf None) is seat.1
     by None seat = refl
 
-pub seats_seen : (p : Pool) (r : Rec) (roster : List ℕ) (board eligible : ℕ → Bool) (scrub : ℕ → ℕ → Bool) (leaves : List LeafKept)
+pub seats_seen : (p : Pool) (r : Rec) (roster : List ℕ) (board : ℕ → Bool) (leaves : List LeafKept)
     (devs : List (Option ℕ)) → AllByRecursion (IsIn r.tops r.owes) leaves
     → AreSeatsOf p leaves (opened_seats p roster leaves devs)
-    → map (leaf_seen false false (opened_told p r board eligible scrub)) (opened_seats p roster leaves devs) ≡ opened_leaves leaves devs
-seats_seen p r roster board eligible scrub [] devs all are = refl
-seats_seen p r roster board eligible scrub (leaf ∷ leaves) [] all are = refl
-seats_seen p r roster board eligible scrub (leaf ∷ leaves) (dev ∷ devs) all are =
-    ap (λ x. x ∷ map (leaf_seen false false (opened_told p r board eligible scrub)) (opened_seats p roster leaves devs))
-    (seat_seen p r roster board eligible scrub leaf dev all.0 are.0)
-    ∙ ap (λ xs. opened_leaf leaf dev ∷ xs) (seats_seen p r roster board eligible scrub leaves devs all.1 are.1)
+    → map (leaf_seen false (opened_told p r board)) (opened_seats p roster leaves devs) ≡ opened_leaves leaves devs
+seats_seen p r roster board [] devs all are = refl
+seats_seen p r roster board (leaf ∷ leaves) [] all are = refl
+seats_seen p r roster board (leaf ∷ leaves) (dev ∷ devs) all are =
+    ap (λ x. x ∷ map (leaf_seen false (opened_told p r board)) (opened_seats p roster leaves devs))
+    (seat_seen p r roster board leaf dev all.0 are.0)
+    ∙ ap (λ xs. opened_leaf leaf dev ∷ xs) (seats_seen p r roster board leaves devs all.1 are.1)

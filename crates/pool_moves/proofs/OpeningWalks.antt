@@ -238,7 +238,7 @@ module _ (c : Codec) (size : ℕ → ℕ) (handed : List ℕ → Option ℕ) (na
       ∙ (ap (λ g. core_of p.name p.pool (number_of r) g (c.room config) (opened_leaves leaves o.row.devs)) (fun_ext right)
       ∙ (ap (λ f. core_of p.name p.pool (number_of r) (sums r.cells) f (opened_leaves leaves o.row.devs)) room_is
       ∙ ap (core_of p.name p.pool (number_of r) (sums r.cells) p.room)
-      (sym (seats_seen p r roster p.group.board p.scan.eligible p.scan.scrub leaves o.row.devs kept (seated roster ros)))))))
+      (sym (seats_seen p r roster p.group.board leaves o.row.devs kept (seated roster ros)))))))
 
   opened_at : (roster : List ℕ) (s : PoolState) → IsRoster p roster → s ≡ opened_state c name found o.row.devs o.row.got
       → ((k : Key) → x.got k ≡ sum_of (r.cells k)) → IsOpened c s (side roster)

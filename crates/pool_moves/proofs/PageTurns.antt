@@ -33,7 +33,7 @@ use Rattle.pool_moves.specs.ReadRow.{copy_at, copy_of, stands_under, copies_of}
 use Rattle.pool_moves.proofs.PagesBack.{same_bytes_or, IsReadOf, page_here}
 use Rattle.pool_moves.proofs.ReadWalks.{IsCopy, IsHurt, IsReadOrWrite, none_heals, AreRead, read_one, plain_one, heals_may, sum_of_cell, sum_cell}
 use Rattle.pool_moves.proofs.Lists.{all_append, all_filter}
-use Rattle.pool_moves.proofs.Tests.{same_test, some_same}
+use Rattle.pool_moves.proofs.Tests.{same_test}
 use Rattle.txg_history.proofs.LookedParts.{answer_first, answer_second}
 
 -- Reads of copies, by what bytes are good: the record's own block always is.

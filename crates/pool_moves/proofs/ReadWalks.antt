@@ -176,22 +176,22 @@ heals_may c p k cell (copy ∷ wrong) made sv at are hurt asks = by_bool copy.la
 abbrev pub IsReadable : Pool → Cell → CopyOf → Type 0
 IsReadable p cell copy = copy.readable ≡ true → IsCopy p.member p.in_top p.owes cell copy
 
-pub copy_at_seat : (p : Pool) (cell : Cell) (f r : Bool) (seat : Seat) → IsAway seat → IsSeated p.member seat → stands_under cell.top (leaf_seen f r (told p) seat) ≡ true
-    → IsReadable p cell (copy_of cell.birth (leaf_seen f r (told p) seat))
-copy_at_seat p cell f r (At d true own) away seated under readable = record { is_member = seated; top_is = same_device (p.in_top d) cell.top under; lacks_is = refl }
-copy_at_seat p cell f r (At d false own) away seated under readable = absurd (let no : false ≡ true = readable in cc)
-copy_at_seat p cell f r (Adrift leaf) away seated under readable =
+pub copy_at_seat : (p : Pool) (cell : Cell) (f : Bool) (seat : Seat) → IsAway seat → IsSeated p.member seat → stands_under cell.top (leaf_seen f (told p) seat) ≡ true
+    → IsReadable p cell (copy_of cell.birth (leaf_seen f (told p) seat))
+copy_at_seat p cell f (At d true own) away seated under readable = record { is_member = seated; top_is = same_device (p.in_top d) cell.top under; lacks_is = refl }
+copy_at_seat p cell f (At d false own) away seated under readable = absurd (let no : false ≡ true = readable in cc)
+copy_at_seat p cell f (Adrift leaf) away seated under readable =
     absurd (let no : false ≡ true = sym (ap (λ dev. (copy_at (is_up leaf.own.mode) dev (leaf.owes cell.birth)).readable) away.0) ∙ readable in cc)
 
-pub copies_on : (p : Pool) (cell : Cell) (f r : Bool) (seats : List Seat) → AllByRecursion IsAway seats → AllByRecursion (IsSeated p.member) seats
-    → AllByRecursion (IsReadable p cell) (map (copy_of cell.birth) (filter (stands_under cell.top) (map (leaf_seen f r (told p)) seats)))
-copies_on p cell f r [] away seated = tt
-copies_on p cell f r (seat ∷ seats) away seated = step (copies_on p cell f r seats away.1 seated.1) (stands_under cell.top (leaf_seen f r (told p) seat)) refl
+pub copies_on : (p : Pool) (cell : Cell) (f : Bool) (seats : List Seat) → AllByRecursion IsAway seats → AllByRecursion (IsSeated p.member) seats
+    → AllByRecursion (IsReadable p cell) (map (copy_of cell.birth) (filter (stands_under cell.top) (map (leaf_seen f (told p)) seats)))
+copies_on p cell f [] away seated = tt
+copies_on p cell f (seat ∷ seats) away seated = step (copies_on p cell f seats away.1 seated.1) (stands_under cell.top (leaf_seen f (told p) seat)) refl
   where
-    step : AllByRecursion (IsReadable p cell) (map (copy_of cell.birth) (filter (stands_under cell.top) (map (leaf_seen f r (told p)) seats)))
-        → (t : Bool) → stands_under cell.top (leaf_seen f r (told p) seat) ≡ t
-        → AllByRecursion (IsReadable p cell) (map (copy_of cell.birth) (cond t (leaf_seen f r (told p) seat ∷ filter (stands_under cell.top) (map (leaf_seen f r (told p)) seats)) (filter (stands_under cell.top) (map (leaf_seen f r (told p)) seats))))
-    step rest true is = (copy_at_seat p cell f r seat away.0 seated.0 is, rest)
+    step : AllByRecursion (IsReadable p cell) (map (copy_of cell.birth) (filter (stands_under cell.top) (map (leaf_seen f (told p)) seats)))
+        → (t : Bool) → stands_under cell.top (leaf_seen f (told p) seat) ≡ t
+        → AllByRecursion (IsReadable p cell) (map (copy_of cell.birth) (cond t (leaf_seen f (told p) seat ∷ filter (stands_under cell.top) (map (leaf_seen f (told p)) seats)) (filter (stands_under cell.top) (map (leaf_seen f (told p)) seats))))
+    step rest true is = (copy_at_seat p cell f seat away.0 seated.0 is, rest)
     step rest false is = rest
 
 pub tried_all : (p : Pool) (cell : Cell) (copies : List CopyOf) → AllByRecursion (IsReadable p cell) copies → AllByRecursion (IsCopy p.member p.in_top p.owes cell) (tries copies)
@@ -238,7 +238,7 @@ copies_at c t k cell sum vs outcome s kept at is row answers = subst Goal (some_
       where
         are : AreRead c t.pool cell row.reads row.wrong
         are = copies_read c t.pool k cell (tries (copies_of (sum_of_cell cell) (seen t).leaves)) row.reads row.wrong outcome kept.survives at
-            (tried_all t.pool cell (copies_of (sum_of_cell cell) (seen t).leaves) (copies_on t.pool cell t.pool.group.frozen t.pool.scan.running t.seats kept.away kept.seated)) answers row.is_read
+            (tried_all t.pool cell (copies_of (sum_of_cell cell) (seen t).leaves) (copies_on t.pool cell t.pool.group.frozen t.seats kept.away kept.seated)) answers row.is_read
 
         walk : Mays c t.pool (as_events (row.reads ++ row.rewrites)) → Walks c t vs
         walk may = subst (Walks c t) (sym row.moves) (walks_more c (as_moves (row.reads ++ row.rewrites)) (count_reads (sum_of_cell cell).sum (row.reads ++ row.rewrites) (filter (stands_under cell.top) (seen t).leaves)) t

@@ -1,47 +1,34 @@
 -- A resilver may start by itself, and an opening may be committed.
 use Rattle.std.proofs.Common.{◌≡◌, inl, inr, ℕ, Bool, true, false, Option, Some, None, List, [], ◌∷◌, ◌++◌, refl, sym, subst, arith}
-use Rattle.std.specs.List.{AllByRecursion}
 use Rattle.txg_history.specs.Moves.{MayScan}
 use Rattle.txg_history.specs.Pages.{Codec}
 use Rattle.txg_history.specs.Pools.{Pool}
 use Rattle.txg_history.specs.Records.{number_of}
 use Rattle.txg_history.specs.Scans.{Scan}
 use Rattle.pool_moves.specs.FreezeRow.{up_devs}
-use Rattle.pool_moves.specs.Keeping.{IsOfFound, Kept, Walks}
+use Rattle.pool_moves.specs.Keeping.{Kept, Walks}
 use Rattle.pool_moves.specs.LineRows.{IsSized, TurnReply, Committed}
-use Rattle.pool_moves.specs.Moves.{Move, Scan_from, Rest, seat_step, steps, after_move, after_moves}
+use Rattle.pool_moves.specs.Moves.{Move, Scan_from, Rest, steps, after_move, after_moves}
 use Rattle.pool_moves.specs.OpeningRow.{ResumesBy, ResumesUnless, RowResume, lacking_of}
 use Rattle.pool_moves.specs.Resilvers.{rest_if, StartsResilver, Resilvers}
 use Rattle.pool_moves.specs.States.{scan_seen, PoolState, Side, seen}
 use Rattle.pool_moves.proofs.LineWalks.{reopen_walks}
 use Rattle.pool_moves.proofs.FreeWalks.{walks_more}
-use Rattle.pool_moves.proofs.FreezeWalks.{up_of_found}
-use Rattle.pool_moves.proofs.Keeping.{seat_cases, walk_keeps}
-use Rattle.pool_moves.proofs.Lists.{all_map}
+use Rattle.pool_moves.proofs.Keeping.{walk_keeps}
 
 may_scan : (p : Pool) → p.opened ≡ true → MayScan p (number_of p.reads)
 may_scan p opened = record { opened = opened; hi_low = omega arith }
 
-scan_at : (c : Codec) (t : Side) (running : Bool) (eligible : ℕ → Bool) → t.pool.opened ≡ true → AllByRecursion (IsOfFound eligible) t.seats
+scan_at : (c : Codec) (t : Side) (running : Bool) (eligible : ℕ → Bool) → t.pool.opened ≡ true
     → Walks c t (rest_if running ++ (Scan_from (number_of t.pool.reads) eligible ∷ []))
-scan_at c t false eligible opened all = (((may_scan t.pool opened, tt), all), tt)
-scan_at c t true eligible opened all = (
-  ((tt, tt), tt),
-  (
-    (
-      (may_scan (after_move Rest t).pool opened, tt),
-      all_map _ (seat_step Rest t.pool)
-          (seat_cases (λ seat. IsOfFound eligible seat → IsOfFound eligible (seat_step Rest t.pool seat)) (λ d found own is. is) (λ leaf is. tt)) t.seats all,
-    ),
-    tt,
-  ),
-)
+scan_at c t false eligible opened = (((may_scan t.pool opened, tt), tt), tt)
+scan_at c t true eligible opened = (((tt, tt), tt), (((may_scan (after_move Rest t).pool opened, tt), tt), tt))
 
 starts_at : (c : Codec) (s : PoolState) (t : Side) (vs : List Move) → Kept c s t → StartsResilver (seen t) vs → Walks c t vs
 starts_at c s t vs kept row = subst (Walks c t) (sym row.moves)
     (subst (λ b. Walks c t (rest_if b ++ (Scan_from (number_of t.pool.reads) (up_devs (seen t).leaves) ∷ [])))
     (sym (running_seen t.pool.scan.running t.pool.scan))
-    (scan_at c t t.pool.scan.running (up_devs (seen t).leaves) row.opened (up_of_found t.pool.group.frozen t.pool t.seats kept.away kept.apart)))
+    (scan_at c t t.pool.scan.running (up_devs (seen t).leaves) row.opened))
   where
     running_seen : (b : Bool) (scan : Scan) → (scan_seen b scan).running ≡ b
     running_seen true scan = refl

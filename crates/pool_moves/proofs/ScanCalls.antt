@@ -28,9 +28,10 @@ use Rattle.txg_history.proofs.Moving.{event_survives}
 use Rattle.txg_history.proofs.Writing.{heal_sparing, copy_sparing}
 use Rattle.pool_moves.specs.FreezeRow.{is_dev}
 use Rattle.pool_moves.specs.Keeping.{IsElsewhere, AreSeatsApart, IsAway, IsSeated}
-use Rattle.pool_moves.specs.Leaves.{LeafSeen, Seat, At, Adrift, told, leaf_seen}
+use Rattle.pool_moves.specs.Leaves.{Seat, At, Adrift, told, leaf_seen}
 use Rattle.pool_moves.specs.ReadRow.{copy_at, copy_of}
 use Rattle.pool_moves.specs.ScanRows.{is_read_call, first_reads, is_settled_under, targets, AreLooked, has_copied, WereRead}
+use Rattle.pool_moves.proofs.FreezeWalks.{leaves_by}
 use Rattle.pool_moves.proofs.ReadWalks.{IsCopy, hurt_one, read_one, write_call}
 use Rattle.pool_moves.proofs.Tests.{other_back, some_same}
 
@@ -235,62 +236,59 @@ filter_step P test g due x xs rest new = by_bool (test x)
     (λ off. subst (λ u. P (cond u (g x ∷ filter due (map g (filter test xs))) (filter due (map g (filter test xs))))) (sym off) rest)))
     (λ off. subst (λ t. P (filter due (map g (cond t (x ∷ filter test xs) (filter test xs))))) (sym off) rest)
 
-abbrev leaves_by : Bool → Bool → Pool → List Seat → List LeafSeen
-leaves_by f r p seats = map (leaf_seen f r (told p)) seats
-
 no_copy : {A : Type 0} (readable lacks : Bool) (dev : Option ℕ) → dev ≡ None → is_due true (copy_at readable dev lacks) ≡ true → A
 no_copy readable lacks dev none due = absurd (let never : false ≡ true = sym (ap (λ dev. is_due true (copy_at readable dev lacks)) none) ∙ due in cc)
 
-target_at : (p : Pool) (cell : Cell) (sum : Sum) (f r : Bool) (seat : Seat) → sum.birth ≡ cell.birth → sum.top ≡ cell.top → IsAway seat → IsSeated p.member seat
-    → is_settled_under sum (leaf_seen f r (told p) seat) ≡ true → is_due true (copy_of sum.birth (leaf_seen f r (told p) seat)) ≡ true
-    → IsTarget p.member p.in_top p.owes p.settled cell (copy_of sum.birth (leaf_seen f r (told p) seat))
-target_at p cell sum f r (At d true own) birth top away seated under due =
+target_at : (p : Pool) (cell : Cell) (sum : Sum) (f : Bool) (seat : Seat) → sum.birth ≡ cell.birth → sum.top ≡ cell.top → IsAway seat → IsSeated p.member seat
+    → is_settled_under sum (leaf_seen f (told p) seat) ≡ true → is_due true (copy_of sum.birth (leaf_seen f (told p) seat)) ≡ true
+    → IsTarget p.member p.in_top p.owes p.settled cell (copy_of sum.birth (leaf_seen f (told p) seat))
+target_at p cell sum f (At d true own) birth top away seated under due =
     let parts = and_parts (p.in_top d == sum.top) (p.settled d sum.birth) under in record {
       is_copy = record { is_member = seated; top_is = same_device (p.in_top d) sum.top parts.0 ∙ top; lacks_is = ap (p.owes d) (sym birth) };
       is_settled = ap (p.settled d) (sym birth) ∙ parts.1;
     }
-target_at p cell sum f r (At d false own) birth top away seated under due = absurd (let never : false ≡ true = due in cc)
-target_at p cell sum f r (Adrift leaf) birth top away seated under due = no_copy _ (leaf.owes sum.birth) leaf.dev away.0 due
+target_at p cell sum f (At d false own) birth top away seated under due = absurd (let never : false ≡ true = due in cc)
+target_at p cell sum f (Adrift leaf) birth top away seated under due = no_copy _ (leaf.owes sum.birth) leaf.dev away.0 due
 
-pub targets_are : (p : Pool) (cell : Cell) (sum : Sum) (f r : Bool) (seats : List Seat) → sum.birth ≡ cell.birth → sum.top ≡ cell.top
+pub targets_are : (p : Pool) (cell : Cell) (sum : Sum) (f : Bool) (seats : List Seat) → sum.birth ≡ cell.birth → sum.top ≡ cell.top
     → AllByRecursion IsAway seats → AllByRecursion (IsSeated p.member) seats
-    → AllByRecursion (IsTarget p.member p.in_top p.owes p.settled cell) (targets sum (leaves_by f r p seats))
-targets_are p cell sum f r [] birth top away seated = tt
-targets_are p cell sum f r (seat ∷ seats) birth top away seated =
+    → AllByRecursion (IsTarget p.member p.in_top p.owes p.settled cell) (targets sum (leaves_by f p seats))
+targets_are p cell sum f [] birth top away seated = tt
+targets_are p cell sum f (seat ∷ seats) birth top away seated =
     filter_step (AllByRecursion (IsTarget p.member p.in_top p.owes p.settled cell)) (is_settled_under sum) (copy_of sum.birth) (is_due true)
-    (leaf_seen f r (told p) seat) (leaves_by f r p seats) (targets_are p cell sum f r seats birth top away.1 seated.1)
-    (λ under due. (target_at p cell sum f r seat birth top away.0 seated.0 under due, targets_are p cell sum f r seats birth top away.1 seated.1))
+    (leaf_seen f (told p) seat) (leaves_by f p seats) (targets_are p cell sum f seats birth top away.1 seated.1)
+    (λ under due. (target_at p cell sum f seat birth top away.0 seated.0 under due, targets_are p cell sum f seats birth top away.1 seated.1))
 
-other_target : (p : Pool) (sum : Sum) (f r : Bool) (d : ℕ) (seat : Seat) → IsAway seat → IsElsewhere d seat
-    → is_due true (copy_of sum.birth (leaf_seen f r (told p) seat)) ≡ true
-    → ((copy_of sum.birth (leaf_seen f r (told p) seat)).dev == d) ≡ false
-other_target p sum f r d (At e true own) away off due = other_back d e off
-other_target p sum f r d (At e false own) away off due = absurd (let never : false ≡ true = due in cc)
-other_target p sum f r d (Adrift leaf) away off due = no_copy _ (leaf.owes sum.birth) leaf.dev away.0 due
+other_target : (p : Pool) (sum : Sum) (f : Bool) (d : ℕ) (seat : Seat) → IsAway seat → IsElsewhere d seat
+    → is_due true (copy_of sum.birth (leaf_seen f (told p) seat)) ≡ true
+    → ((copy_of sum.birth (leaf_seen f (told p) seat)).dev == d) ≡ false
+other_target p sum f d (At e true own) away off due = other_back d e off
+other_target p sum f d (At e false own) away off due = absurd (let never : false ≡ true = due in cc)
+other_target p sum f d (Adrift leaf) away off due = no_copy _ (leaf.owes sum.birth) leaf.dev away.0 due
 
-other_targets : (p : Pool) (sum : Sum) (f r : Bool) (d : ℕ) (seats : List Seat) → AllByRecursion IsAway seats → AllByRecursion (IsElsewhere d) seats
-    → AreOthers d (targets sum (leaves_by f r p seats))
-other_targets p sum f r d [] away off = tt
-other_targets p sum f r d (seat ∷ seats) away off =
-    filter_step (AreOthers d) (is_settled_under sum) (copy_of sum.birth) (is_due true) (leaf_seen f r (told p) seat) (leaves_by f r p seats)
-    (other_targets p sum f r d seats away.1 off.1)
-    (λ under due. (other_target p sum f r d seat away.0 off.0 due, other_targets p sum f r d seats away.1 off.1))
+other_targets : (p : Pool) (sum : Sum) (f : Bool) (d : ℕ) (seats : List Seat) → AllByRecursion IsAway seats → AllByRecursion (IsElsewhere d) seats
+    → AreOthers d (targets sum (leaves_by f p seats))
+other_targets p sum f d [] away off = tt
+other_targets p sum f d (seat ∷ seats) away off =
+    filter_step (AreOthers d) (is_settled_under sum) (copy_of sum.birth) (is_due true) (leaf_seen f (told p) seat) (leaves_by f p seats)
+    (other_targets p sum f d seats away.1 off.1)
+    (λ under due. (other_target p sum f d seat away.0 off.0 due, other_targets p sum f d seats away.1 off.1))
 
-apart_target : (p : Pool) (sum : Sum) (f r : Bool) (seat : Seat) (seats : List Seat) → AllByRecursion IsAway (seat ∷ seats) → AreSeatsApart (seat ∷ seats)
-    → is_due true (copy_of sum.birth (leaf_seen f r (told p) seat)) ≡ true
-    → AreOthers (copy_of sum.birth (leaf_seen f r (told p) seat)).dev (targets sum (leaves_by f r p seats))
-apart_target p sum f r (At e true own) seats away apart due = other_targets p sum f r e seats away.1 apart.0
-apart_target p sum f r (At e false own) seats away apart due = absurd (let never : false ≡ true = due in cc)
-apart_target p sum f r (Adrift leaf) seats away apart due = no_copy _ (leaf.owes sum.birth) leaf.dev away.0.0 due
+apart_target : (p : Pool) (sum : Sum) (f : Bool) (seat : Seat) (seats : List Seat) → AllByRecursion IsAway (seat ∷ seats) → AreSeatsApart (seat ∷ seats)
+    → is_due true (copy_of sum.birth (leaf_seen f (told p) seat)) ≡ true
+    → AreOthers (copy_of sum.birth (leaf_seen f (told p) seat)).dev (targets sum (leaves_by f p seats))
+apart_target p sum f (At e true own) seats away apart due = other_targets p sum f e seats away.1 apart.0
+apart_target p sum f (At e false own) seats away apart due = absurd (let never : false ≡ true = due in cc)
+apart_target p sum f (Adrift leaf) seats away apart due = no_copy _ (leaf.owes sum.birth) leaf.dev away.0.0 due
 
 rest_apart : (seat : Seat) (seats : List Seat) → AreSeatsApart (seat ∷ seats) → AreSeatsApart seats
 rest_apart (At d found own) seats apart = apart.1
 rest_apart (Adrift leaf) seats apart = apart
 
-pub targets_apart : (p : Pool) (sum : Sum) (f r : Bool) (seats : List Seat) → AllByRecursion IsAway seats → AreSeatsApart seats
-    → AreTargetsApart (targets sum (leaves_by f r p seats))
-targets_apart p sum f r [] away apart = tt
-targets_apart p sum f r (seat ∷ seats) away apart =
-    filter_step AreTargetsApart (is_settled_under sum) (copy_of sum.birth) (is_due true) (leaf_seen f r (told p) seat) (leaves_by f r p seats)
-    (targets_apart p sum f r seats away.1 (rest_apart seat seats apart))
-    (λ under due. (apart_target p sum f r seat seats away apart due, targets_apart p sum f r seats away.1 (rest_apart seat seats apart)))
+pub targets_apart : (p : Pool) (sum : Sum) (f : Bool) (seats : List Seat) → AllByRecursion IsAway seats → AreSeatsApart seats
+    → AreTargetsApart (targets sum (leaves_by f p seats))
+targets_apart p sum f [] away apart = tt
+targets_apart p sum f (seat ∷ seats) away apart =
+    filter_step AreTargetsApart (is_settled_under sum) (copy_of sum.birth) (is_due true) (leaf_seen f (told p) seat) (leaves_by f p seats)
+    (targets_apart p sum f seats away.1 (rest_apart seat seats apart))
+    (λ under due. (apart_target p sum f seat seats away apart due, targets_apart p sum f seats away.1 (rest_apart seat seats apart)))

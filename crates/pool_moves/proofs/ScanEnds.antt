@@ -19,15 +19,14 @@ use Rattle.pool_moves.specs.Boards.{members_where}
 use Rattle.pool_moves.specs.Keeping.{IsElsewhere, AreSeatsApart, IsAway, HasFound, IsOfFound, Kept, Walks}
 use Rattle.pool_moves.specs.Leaves.{LeafSeen, Seat, At, Adrift, dev_if, told, leaf_seen}
 use Rattle.pool_moves.specs.LineRows.{has_number, write_failed, sets_failed}
-use Rattle.pool_moves.specs.Moves.{Move, Makes, Sets, Drop, Clear, Rest, Scrubs, step, steps, state_step, after_move, after_moves}
+use Rattle.pool_moves.specs.Moves.{Move, Makes, Sets, Drop, Clear, Rest, Scrubs, on_dev, step, steps, state_step, after_move, after_moves}
 use Rattle.pool_moves.specs.ReadRow.{made_in}
 use Rattle.pool_moves.specs.ScanRows.{first_reads, FlushEnds, AreFlushed, is_eligible, RowScanEnd, StepReply, StepBy, RowStep, FoundClash, starts_scan, ScrubReply, ScrubBy, RowScrub, StopReply, StopBy, RowStopScrub}
-use Rattle.pool_moves.specs.States.{PoolSeen, PoolState, Side}
+use Rattle.pool_moves.specs.States.{scan_seen, PoolSeen, PoolState, Side}
 use Rattle.pool_moves.specs.Widening.{IsWidened, seen_along}
 use Rattle.pool_moves.proofs.AwayWalks.{only_found}
 use Rattle.pool_moves.proofs.Boarding.{before_all, dev_is}
 use Rattle.pool_moves.proofs.FreeWalks.{walks_more}
-use Rattle.pool_moves.proofs.FreezeWalks.{up_of_found}
 use Rattle.pool_moves.proofs.Keeping.{of_found_still, move_keeps, walk_keeps}
 use Rattle.pool_moves.proofs.Widenings.{IsLike, widened_walk, widens_like, widens_found, seen_of}
 use Rattle.pool_moves.proofs.ReadWalks.{sum_of_cell}
@@ -41,7 +40,7 @@ AreDevicesApart [] = Unit {0}
 AreDevicesApart (m ∷ ms) = AllByRecursion (λ n. (m.dev == n.dev) ≡ false) ms × AreDevicesApart ms
 
 abbrev eligible_of : Bool → Pool → List Seat → List Member
-eligible_of f p seats = members_where is_eligible (map (leaf_seen f true (told p)) seats)
+eligible_of f p seats = members_where (is_eligible (scan_seen true p.scan)) (map (leaf_seen f (told p)) seats)
 
 abbrev IsEligible : Pool → List Seat → Member → Type 0
 IsEligible p seats m = (p.scan.eligible m.dev ≡ true) × HasFound m.dev seats
@@ -50,35 +49,35 @@ eligible_are : (f : Bool) (p : Pool) (all seats : List Seat) → AllByRecursion 
     → AllByRecursion (IsEligible p all) (eligible_of f p seats)
 eligible_are f p all [] away up = tt
 eligible_are f p all (At d found own ∷ seats) away up =
-    before_all (AllByRecursion (IsEligible p all)) (p.scan.eligible d) (dev_if found d) (p.guid d) (eligible_of f p seats)
+    before_all (AllByRecursion (IsEligible p all)) (on_dev p.scan.eligible (dev_if found d)) (dev_if found d) (p.guid d) (eligible_of f p seats)
     (eligible_are f p all seats away.1 (λ e has. up e (inr has)))
     (λ e on dev. let at = dev_is found d e dev in (
-      (subst (λ n. p.scan.eligible n ≡ true) at.1 on, up e (inl (same_test e d (sym at.1), at.0))),
+      (subst (λ x. on_dev p.scan.eligible x ≡ true) dev on, up e (inl (same_test e d (sym at.1), at.0))),
       eligible_are f p all seats away.1 (λ e has. up e (inr has)),
     ))
-eligible_are f p all (Adrift leaf ∷ seats) away up = before_all (AllByRecursion (IsEligible p all)) leaf.eligible leaf.dev leaf.guid (eligible_of f p seats)
+eligible_are f p all (Adrift leaf ∷ seats) away up = before_all (AllByRecursion (IsEligible p all)) (on_dev p.scan.eligible leaf.dev) leaf.dev leaf.guid (eligible_of f p seats)
     (eligible_are f p all seats away.1 (λ e has. up e (inr has))) (λ e on dev. no_dev leaf.dev e away.0.0 dev)
 
 eligible_off : (f : Bool) (p : Pool) (d : ℕ) (seats : List Seat) → AllByRecursion IsAway seats → AllByRecursion (IsElsewhere d) seats
     → AllByRecursion (λ n. (d == n.dev) ≡ false) (eligible_of f p seats)
 eligible_off f p d [] away off = tt
 eligible_off f p d (At e found own ∷ seats) away off =
-    before_all (AllByRecursion (λ n. (d == n.dev) ≡ false)) (p.scan.eligible e) (dev_if found e) (p.guid e) (eligible_of f p seats)
+    before_all (AllByRecursion (λ n. (d == n.dev) ≡ false)) (on_dev p.scan.eligible (dev_if found e)) (dev_if found e) (p.guid e) (eligible_of f p seats)
     (eligible_off f p d seats away.1 off.1) (λ x on dev. (subst (λ n. (d == n) ≡ false) (dev_is found e x dev).1 off.0, eligible_off f p d seats away.1 off.1))
 eligible_off f p d (Adrift leaf ∷ seats) away off =
-    before_all (AllByRecursion (λ n. (d == n.dev) ≡ false)) leaf.eligible leaf.dev leaf.guid (eligible_of f p seats)
+    before_all (AllByRecursion (λ n. (d == n.dev) ≡ false)) (on_dev p.scan.eligible leaf.dev) leaf.dev leaf.guid (eligible_of f p seats)
     (eligible_off f p d seats away.1 off.1) (λ x on dev. no_dev leaf.dev x away.0.0 dev)
 
 eligible_apart : (f : Bool) (p : Pool) (seats : List Seat) → AllByRecursion IsAway seats → AreSeatsApart seats → AreDevicesApart (eligible_of f p seats)
 eligible_apart f p [] away apart = tt
-eligible_apart f p (At d found own ∷ seats) away apart = before_all AreDevicesApart (p.scan.eligible d) (dev_if found d) (p.guid d) (eligible_of f p seats)
+eligible_apart f p (At d found own ∷ seats) away apart = before_all AreDevicesApart (on_dev p.scan.eligible (dev_if found d)) (dev_if found d) (p.guid d) (eligible_of f p seats)
     (eligible_apart f p seats away.1 apart.1)
     (λ e on dev. (
       subst (λ n. AllByRecursion (λ x. (n == x.dev) ≡ false) (eligible_of f p seats)) (dev_is found d e dev).1
           (eligible_off f p d seats away.1 apart.0),
       eligible_apart f p seats away.1 apart.1,
     ))
-eligible_apart f p (Adrift leaf ∷ seats) away apart = before_all AreDevicesApart leaf.eligible leaf.dev leaf.guid (eligible_of f p seats)
+eligible_apart f p (Adrift leaf ∷ seats) away apart = before_all AreDevicesApart (on_dev p.scan.eligible leaf.dev) leaf.dev leaf.guid (eligible_of f p seats)
     (eligible_apart f p seats away.1 apart) (λ e on dev. no_dev leaf.dev e away.0.0 dev)
 
 -- What stands while leaves are flushed, one after another: each key was passed, and those that are left are eligible.
@@ -121,7 +120,7 @@ cleared_walk c s t m ms noted ending rest left call is next =
     let behind = after_move (Makes noted) t in
     let kept = move_keeps c (Makes noted) s t (may.0, tt) tt left.kept in
     let walk = widened_walk c (Clear m.dev) ending s behind kept
-    (((may.1.0, tt), (left.running, left.found.0, left.eligible.0)), tt) is in
+    (((may.1.0, tt), (left.running, left.found.0)), tt) is in
     let like : IsLike (after (Clears m.dev) (after (Calls noted) t.pool)) (after_moves ending behind).pool = subst
     (λ l. IsLike (after (Clears m.dev) (after (Calls noted) t.pool)) (after_moves l behind).pool) (sym is.moves)
     (widens_like is.widens (step (Clear m.dev) s.core) (after_move (Clear m.dev) behind)
@@ -171,16 +170,15 @@ dropped_walk c s t m ms noted fault leaf rest left ask fails next =
     let dropped = after_move (Drop m.dev) behind in (
       ((may, tt)),
       (
-        ((tt, tt), (left.running, left.found.0)),
+        ((tt, tt), left.running),
         failed_walk c (state_step (Drop m.dev) s) dropped ms leaf rest (record {
-          kept = move_keeps c (Drop m.dev) s behind (tt, tt) (left.running, left.found.0)
+          kept = move_keeps c (Drop m.dev) s behind (tt, tt) left.running
               (move_keeps c (Makes noted) s t may tt left.kept);
           running = left.running;
           passed = left.passed;
           eligible = still_eligible m.dev t.pool.scan.eligible ms left.apart.0 left.eligible.1;
           apart = left.apart.1;
-          found = found_mapped (Drop m.dev) t ms dropped.seats
-              (λ which all. of_found_still which (Drop m.dev) behind tt (λ d found own is. is) all) left.found.1;
+          found = left.found.1;
         }) next,
       ),
     )
@@ -231,7 +229,7 @@ step_walks c s t vs reply kept answers row = step_by c s.core.scan.running s t v
 -- A scan starts for the readable leaves, over the record that the pool reads.
 pub start_walk : (c : Codec) (s : PoolState) (t : Side) → Kept c s t → s.core.opened ≡ true → Walks c t (starts_scan s ∷ [])
 start_walk c s t kept opened = subst (λ core. core.opened ≡ true → Walks c t (starts_scan (record { own = s.own; core = core }) ∷ [])) (sym kept.core)
-    (λ on. (((record { opened = on; hi_low = omega arith }, tt), up_of_found t.pool.group.frozen t.pool t.seats kept.away kept.apart), tt)) opened
+    (λ on. (((record { opened = on; hi_low = omega arith }, tt), tt), tt)) opened
 
 -- `scrub` and `scrub -s`
 scrub_by : (c : Codec) (running : Bool) (s : PoolState) (t : Side) (vs : List Move) (reply : ScrubReply) → Kept c s t → ScrubBy running s vs reply

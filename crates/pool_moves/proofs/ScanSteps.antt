@@ -83,7 +83,7 @@ behind_calls c made p sv may = subst (Survives c) (calls_after made p) (history_
 
 -- The scan may come past the key.
 abbrev IsBrought : Pool → Cell → (behind : Pool) → (which : ℕ → Bool) → Type 0
-IsBrought p cell behind which = (d : ℕ) → p.in_top d ≡ cell.top → which d ≡ false → (p.owes d cell.birth ≡ false) ⊎ WasCopied behind d cell
+IsBrought p cell behind which = (d : ℕ) → p.scan.eligible d ≡ true → p.in_top d ≡ cell.top → which d ≡ false → (p.owes d cell.birth ≡ false) ⊎ WasCopied behind d cell
 
 between_one : (b g : ℕ) → b ≤ g → g ≤ b → g ≡ b
 between_one b g low high = omega (arith, low, high)
@@ -103,7 +103,7 @@ may_pass c p made k cell which running at low ahead least brought = record {
   only = λ d g is. ⊎_elim (λ new. inr (between_one cell.birth g new.1 new.2)) (λ old. inl old) (grown_of which cell.birth cell.birth p.scan.scrub d g is);
   each = λ d mine eligible top. by_bool (which d)
       (λ on. inr (inl (grown_in which cell.birth cell.birth p.scan.scrub d cell.birth on (omega arith) (omega arith))))
-      (λ off. ⊎_elim (λ has. inl has) (λ copied. inr (inr copied)) (brought d top off));
+      (λ off. ⊎_elim (λ has. inl has) (λ copied. inr (inr copied)) (brought d eligible top off));
 }
 
 -- the moves of a step, where its calls may be made
@@ -137,9 +137,10 @@ key_walk c s t calls k cell leaves which running at next may brought =
     Passing p = (MayPass p k (grown which cell.birth cell.birth p.scan.scrub) × Unit {0}) × (p.scan.running ≡ true)
 
 -- Leaves that are spared have the key or got it.
-not_cases : (t : Bool) → not t ≡ false → t ≡ true
-not_cases true is = refl
-not_cases false is = absurd (cc)
+not_cases : (eligible t : Bool) → eligible ≡ true → (eligible && not t) ≡ false → t ≡ true
+not_cases true true on is = refl
+not_cases true false on is = absurd (cc)
+not_cases false t on is = absurd (cc)
 
 has_or_copied : (owes copied : Bool) → cond owes copied true ≡ true → (owes ≡ false) ⊎ (copied ≡ true)
 has_or_copied true copied is = inr is
@@ -152,39 +153,39 @@ spared_here owes copied rest a b same is = has_or_copied owes copied (and_parts 
 abbrev HasOrGot : Pool → Cell → (copied : List Noted) → (d : ℕ) → Type 0
 HasOrGot p cell copied d = (p.owes d cell.birth ≡ false) ⊎ (has_copied (Some d) copied ≡ true)
 
-spared_seat : (p : Pool) (cell : Cell) (f r scrubs : Bool) (calls copied : List Noted) (d : ℕ) (seat : Seat) → IsAway seat → p.in_top d ≡ cell.top
-    → (is_dev d (leaf_seen f r (told p) seat).dev && is_spared scrubs (sum_of_cell cell) calls copied (leaf_seen f r (told p) seat)) ≡ true
+spared_seat : (p : Pool) (cell : Cell) (f scrubs : Bool) (calls copied : List Noted) (d : ℕ) (seat : Seat) → IsAway seat → p.in_top d ≡ cell.top
+    → (is_dev d (leaf_seen f (told p) seat).dev && is_spared scrubs (sum_of_cell cell) calls copied (leaf_seen f (told p) seat)) ≡ true
     → HasOrGot p cell copied d
-spared_seat p cell f r scrubs calls copied d (At e true own) away top is =
-    let parts = and_parts (d == e) (is_spared scrubs (sum_of_cell cell) calls copied (leaf_seen f r (told p) (At e true own))) is in
+spared_seat p cell f scrubs calls copied d (At e true own) away top is =
+    let parts = and_parts (d == e) (is_spared scrubs (sum_of_cell cell) calls copied (leaf_seen f (told p) (At e true own))) is in
     let same = same_device d e parts.0 in
     subst (HasOrGot p cell copied) (sym same)
     (spared_here (p.owes e cell.birth) (has_copied (Some e) copied) _ (p.in_top e) cell.top (subst (λ n. p.in_top n ≡ cell.top) same top) parts.1)
-spared_seat p cell f r scrubs calls copied d (At e false own) away top is = absurd (let never : false ≡ true = is in cc)
-spared_seat p cell f r scrubs calls copied d (Adrift leaf) away top is =
+spared_seat p cell f scrubs calls copied d (At e false own) away top is = absurd (let never : false ≡ true = is in cc)
+spared_seat p cell f scrubs calls copied d (Adrift leaf) away top is =
     absurd (let never : false ≡ true = sym (ap (is_dev d) away.0) ∙ (and_parts (is_dev d leaf.dev)
     (is_spared scrubs (sum_of_cell cell) calls copied leaf) is).0 in cc)
 
-spared_at : (p : Pool) (cell : Cell) (f r scrubs : Bool) (calls copied : List Noted) (d : ℕ) (seats : List Seat) → AllByRecursion IsAway seats
+spared_at : (p : Pool) (cell : Cell) (f scrubs : Bool) (calls copied : List Noted) (d : ℕ) (seats : List Seat) → AllByRecursion IsAway seats
     → p.in_top d ≡ cell.top
-    → list_any (λ leaf. is_dev d leaf.dev && is_spared scrubs (sum_of_cell cell) calls copied leaf) (map (leaf_seen f r (told p)) seats) ≡ true
+    → list_any (λ leaf. is_dev d leaf.dev && is_spared scrubs (sum_of_cell cell) calls copied leaf) (map (leaf_seen f (told p)) seats) ≡ true
     → HasOrGot p cell copied d
-spared_at p cell f r scrubs calls copied d [] away top is = absurd (cc)
-spared_at p cell f r scrubs calls copied d (seat ∷ seats) away top is = ⊎_elim (λ here. spared_seat p cell f r scrubs calls copied d seat away.0 top here)
-    (λ more. spared_at p cell f r scrubs calls copied d seats away.1 top more)
-    (or_cases (is_dev d (leaf_seen f r (told p) seat).dev && is_spared scrubs (sum_of_cell cell) calls copied
-    (leaf_seen f r (told p) seat))
-    (list_any (λ leaf. is_dev d leaf.dev && is_spared scrubs (sum_of_cell cell) calls copied leaf) (map (leaf_seen f r (told p)) seats)) is)
+spared_at p cell f scrubs calls copied d [] away top is = absurd (cc)
+spared_at p cell f scrubs calls copied d (seat ∷ seats) away top is = ⊎_elim (λ here. spared_seat p cell f scrubs calls copied d seat away.0 top here)
+    (λ more. spared_at p cell f scrubs calls copied d seats away.1 top more)
+    (or_cases (is_dev d (leaf_seen f (told p) seat).dev && is_spared scrubs (sum_of_cell cell) calls copied
+    (leaf_seen f (told p) seat))
+    (list_any (λ leaf. is_dev d leaf.dev && is_spared scrubs (sum_of_cell cell) calls copied leaf) (map (leaf_seen f (told p)) seats)) is)
 
 -- A step that makes no call.
 no_copies : (d : ℕ) (copied : List Noted) → copied ≡ [] → has_copied (Some d) copied ≡ false
 no_copies d copied none = ap (has_copied (Some d)) none
 
 quiet_brought : (t : Side) (cell : Cell) (scrubs : Bool) (calls copied : List Noted) → AllByRecursion IsAway t.seats → copied ≡ []
-    → IsBrought t.pool cell (with_calls calls t.pool) (is_scrubbed scrubs (sum_of_cell cell) calls copied (scan_core t).leaves)
-quiet_brought t cell scrubs calls copied away none d top off =
+    → IsBrought t.pool cell (with_calls calls t.pool) (is_scrubbed scrubs (scan_core t) (sum_of_cell cell) calls copied)
+quiet_brought t cell scrubs calls copied away none d on top off =
     ⊎_elim (λ has. inl has) (λ got. true_not_false (has_copied (Some d) copied) got (no_copies d copied none))
-    (spared_at t.pool cell t.pool.group.frozen true scrubs calls copied d t.seats away top (not_cases _ off))
+    (spared_at t.pool cell t.pool.group.frozen scrubs calls copied d t.seats away top (not_cases _ _ on off))
 
 -- A step that reads its key.
 all_drop : {A : Type 0} (P : A → Type 0) (n : ℕ) (xs : List A) → AllByRecursion P xs → AllByRecursion P (drop n xs)
@@ -225,10 +226,10 @@ record IsGood (c : Codec) (t : Side) (cell : Cell) (calls copied : List Noted) :
   pub got : (d : ℕ) → t.pool.owes d cell.birth ≡ true → has_copied (Some d) copied ≡ true → WasCopied (with_calls calls t.pool) d cell
 
 good_brought : (c : Codec) (t : Side) (cell : Cell) (scrubs : Bool) (calls copied : List Noted) → AllByRecursion IsAway t.seats → IsGood c t cell calls copied
-    → IsBrought t.pool cell (with_calls calls t.pool) (is_scrubbed scrubs (sum_of_cell cell) calls copied (scan_core t).leaves)
-good_brought c t cell scrubs calls copied away good d top off = by_bool (t.pool.owes d cell.birth)
+    → IsBrought t.pool cell (with_calls calls t.pool) (is_scrubbed scrubs (scan_core t) (sum_of_cell cell) calls copied)
+good_brought c t cell scrubs calls copied away good d on top off = by_bool (t.pool.owes d cell.birth)
     (λ owes. ⊎_elim (λ has. inl has) (λ got. inr (good.got d owes got))
-    (spared_at t.pool cell t.pool.group.frozen true scrubs calls copied d t.seats away top (not_cases _ off)))
+    (spared_at t.pool cell t.pool.group.frozen scrubs calls copied d t.seats away top (not_cases _ _ on off)))
     (λ has. inl has)
 
 looks_by : (c : Codec) (p : Pool) (k : Key) (cell : Cell) (scrubs : Bool) (copies : List CopyOf) (looks : List Noted) → Survives c p
@@ -258,7 +259,7 @@ found_good c s t k cell scrubs reads rewritten copied looks wrong kept at ahead 
     let p : Pool = t.pool in
     let sum = sum_of_cell cell in
     let tried = tried_all t.pool cell (copies_of sum (scan_core t).leaves)
-    (copies_on t.pool cell t.pool.group.frozen true t.seats kept.away kept.seated) in
+    (copies_on t.pool cell t.pool.group.frozen t.seats kept.away kept.seated) in
     let are : AreRead c t.pool cell reads wrong = copies_read c t.pool k cell
     (tries (copies_of sum (scan_core t).leaves)) reads wrong (Some cell.block) kept.survives at tried
     (answer_first reads (rewritten ++ (copied ++ looks)) t.pool.sectors answers) is_read in
@@ -268,7 +269,7 @@ found_good c s t k cell scrubs reads rewritten copied looks wrong kept at ahead 
     let copies : Mays c (with_calls rewritten (with_calls reads t.pool)) (as_events copied) = copies_may c
     (with_calls rewritten (with_calls reads t.pool)) k cell (targets sum (scan_core t).leaves) copied second at
     ahead
-    (targets_are t.pool cell sum t.pool.group.frozen true t.seats refl refl kept.away kept.seated) is_copied in
+    (targets_are t.pool cell sum t.pool.group.frozen t.seats refl refl kept.away kept.seated) is_copied in
     let behind : with_calls (reads ++ (rewritten ++ (copied ++ looks))) t.pool
     ≡ pool_after (as_events (copied ++ looks)) (with_calls rewritten (with_calls reads t.pool)) = sym
     (calls_after (reads ++ (rewritten ++ (copied ++ looks))) t.pool)
@@ -289,7 +290,7 @@ found_good c s t k cell scrubs reads rewritten copied looks wrong kept at ahead 
       got = λ d owes ok. subst (λ q. WasCopied q d cell) (sym behind)
           (copied_at (with_calls rewritten (with_calls reads p)) cell d (targets sum (scan_core t).leaves) copied looks
           (kept.survives.one_key.mapped t.pool.reads k cell kept.survives.order.reads_live at).long
-          (targets_apart p sum t.pool.group.frozen true t.seats kept.away kept.apart) is_copied ok
+          (targets_apart p sum t.pool.group.frozen t.seats kept.away kept.apart) is_copied ok
           (looks_off cell scrubs (untried (copies_of sum (scan_core t).leaves) reads) looks d
           (others_of p cell d (untried (copies_of sum (scan_core t).leaves) reads) owes
           (untried_are p cell (copies_of sum (scan_core t).leaves) reads tried)
@@ -303,7 +304,7 @@ none_good : (c : Codec) (s : PoolState) (t : Side) (k : Key) (cell : Cell) (read
     (tries (copies_of (sum_of_cell cell) (scan_core t).leaves)) reads wrong None → Mays c t.pool (as_events reads)
 none_good c s t k cell reads wrong kept at answers is_read =
     (copies_read c t.pool k cell (tries (copies_of (sum_of_cell cell) (scan_core t).leaves)) reads wrong None kept.survives at
-    (tried_all t.pool cell (copies_of (sum_of_cell cell) (scan_core t).leaves) (copies_on t.pool cell t.pool.group.frozen true t.seats kept.away kept.seated))
+    (tried_all t.pool cell (copies_of (sum_of_cell cell) (scan_core t).leaves) (copies_on t.pool cell t.pool.group.frozen t.seats kept.away kept.seated))
     answers is_read).may
 
 no_looks : (scrubs : Bool) (at : ℕ) (sum : List ℕ) (copies : List CopyOf) (looks : List Noted) → LooksBy scrubs at sum None copies looks → looks ≡ []
@@ -371,22 +372,22 @@ key_at : (c : Codec) (s : PoolState) (t : Side) (scrubs : Bool) (k : Key) (cell 
     → t.pool.reads.cells k ≡ Some cell → AllAnswer t.pool.sectors (made_in vs) → IsNextKey (scan_core t) k (sum_of_cell cell)
     → (reading : Bool) → StepCalls reading scrubs (scan_core t) (sum_of_cell cell) calls copied
     → vs ≡ as_moves calls ++ (count_reads (sha256 cell.block) calls (filter (stands_under cell.top) (scan_core t).leaves)
-    ++ (Pass k cell.birth (is_scrubbed scrubs (sum_of_cell cell) calls copied (scan_core t).leaves) ∷ []))
+    ++ (Pass k cell.birth (is_scrubbed scrubs (scan_core t) (sum_of_cell cell) calls copied) ∷ []))
     → Walks c t vs ⊎ FoundClash t.pool (first_reads (made_in vs))
 key_at c s t scrubs k cell calls copied vs kept running at answers next false row moves = inl (subst (Walks c t) (sym moves)
     (key_walk c s t calls k cell (filter (stands_under cell.top) (scan_core t).leaves)
-    (is_scrubbed scrubs (sum_of_cell cell) calls copied (scan_core t).leaves) running at next
+    (is_scrubbed scrubs (scan_core t) (sum_of_cell cell) calls copied) running at next
     (subst (λ made. Mays c t.pool (as_events made)) (sym row.0) tt) (quiet_brought t cell scrubs calls copied kept.away row.1)))
 key_at c s t scrubs k cell calls copied vs kept running at answers next true row moves =
     let rest : List Noted = made_in
     (count_reads (sha256 cell.block) calls (filter (stands_under cell.top) (scan_core t).leaves)
-    ++ (Pass k cell.birth (is_scrubbed scrubs (sum_of_cell cell) calls copied (scan_core t).leaves) ∷ [])) in
+    ++ (Pass k cell.birth (is_scrubbed scrubs (scan_core t) (sum_of_cell cell) calls copied) ∷ [])) in
     let made_is : made_in vs ≡ calls ++ rest = ap made_in moves
     ∙ made_calls calls (count_reads (sha256 cell.block) calls (filter (stands_under cell.top) (scan_core t).leaves)
-    ++ (Pass k cell.birth (is_scrubbed scrubs (sum_of_cell cell) calls copied (scan_core t).leaves) ∷ [])) in
+    ++ (Pass k cell.birth (is_scrubbed scrubs (scan_core t) (sum_of_cell cell) calls copied) ∷ [])) in
     ⊎_elim (λ good. inl (subst (Walks c t) (sym moves)
     (key_walk c s t calls k cell (filter (stands_under cell.top) (scan_core t).leaves)
-    (is_scrubbed scrubs (sum_of_cell cell) calls copied (scan_core t).leaves) running at next
+    (is_scrubbed scrubs (scan_core t) (sum_of_cell cell) calls copied) running at next
     good.may (good_brought c t cell scrubs calls copied kept.away good))))
     (λ clash. inr (record {
       k = clash.k;
@@ -408,7 +409,7 @@ key_row c s t scrubs vs kept running answers row = let is = sum_cell (t.pool.rea
     Goal : Sum → Type 0
     Goal sum = IsNextKey (scan_core t) row.k sum → StepCalls (reads_key scrubs (scan_core t) sum) scrubs (scan_core t) sum row.calls row.copied
         → vs ≡ as_moves row.calls ++ (count_reads sum.sum row.calls (filter (stands_under sum.top) (scan_core t).leaves)
-        ++ (Pass row.k sum.birth (is_scrubbed scrubs sum row.calls row.copied (scan_core t).leaves) ∷ []))
+        ++ (Pass row.k sum.birth (is_scrubbed scrubs (scan_core t) sum row.calls row.copied) ∷ []))
         → Walks c t vs ⊎ FoundClash t.pool (first_reads (made_in vs))
 
 pub key_walks : (c : Codec) (s : PoolState) (t : Side) (scrubs : Bool) (vs : List Move) → Kept c s t → s.core.scan.running ≡ true

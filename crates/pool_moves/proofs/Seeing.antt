@@ -5,9 +5,7 @@ use Rattle.std.specs.List.{AllByRecursion, insert, remove}
 use Rattle.std.proofs.lemmas.Bool.Decides.{nat_tests}
 use Rattle.std.proofs.lemmas.List.{map-append, take-map, drop-map}
 use Rattle.mp_base.specs.declared.number.Guid.{Guid}
-use Rattle.mp_base.specs.declared.place.Key.{Key}
 use Rattle.txg_history.specs.Events.{Burns, Acks, Joins}
-use Rattle.txg_history.specs.Groups.{grown, no_log}
 use Rattle.txg_history.specs.Pages.{Codec, sum_of}
 use Rattle.txg_history.specs.Pools.{Pool, after, pool_after, kept_in, whole_log}
 use Rattle.txg_history.specs.Records.{Cell, Cells, cell_over, laid_over}
@@ -15,7 +13,7 @@ use Rattle.txg_history.specs.Scans.{scanned_log}
 use Rattle.txg_history.proofs.Logging.{same_device}
 use Rattle.pool_moves.specs.Keeping.{IsElsewhere, IsSeated, IsOwnNumber, IsOfFound, IsDrafted, MayCome, MayReturn, Admits, Kept}
 use Rattle.pool_moves.specs.Leaves.{OwnLeaf, LeafSeen, Seat, At, Adrift, dev_if, told, leaf_seen}
-use Rattle.pool_moves.specs.Moves.{Draft, Move, Makes, Puts, Freeze, Wrote_key, Flushed_all, Draw, Leave, Widen, Burn, Starts, Commits, Sets, Finds, Lose, Comes, Goes, Returns, Scan_from, Pass, Drop, Clear, Rest, joined_own, log_grown, log_scanned, leaf_cleared, leaf_step, step, sum_over, sums_over, rec_of, events_of, seat_step, seats_by, after_move, new_leaf}
+use Rattle.pool_moves.specs.Moves.{Draft, Move, Makes, Puts, Freeze, Wrote_key, Flushed_all, Draw, Leave, Widen, Burn, Starts, Commits, Sets, Finds, Lose, Comes, Goes, Returns, Pass, Drop, Clear, joined_own, log_grown, leaf_cleared, leaf_step, step, sum_over, sums_over, rec_of, events_of, seat_step, seats_by, after_move, new_leaf}
 use Rattle.pool_moves.specs.States.{sums, group_seen, scan_seen, seen_by, PoolSeen, Side, seen, PoolState}
 use Rattle.pool_moves.proofs.Lists.{either}
 
@@ -26,30 +24,30 @@ any_seat : (seats : List Seat) → AllByRecursion (λ seat. Unit {0}) seats
 any_seat [] = tt
 any_seat (seat ∷ seats) = (tt, any_seat seats)
 
--- What is seen at the seats behind a move is the move's step, by whether a group is frozen and a scan runs, before it (f and
--- r) and behind it (g and q): from what is so of each seat.
-module _ (v : Move) (t : Side) (f r g q : Bool) where
+-- What is seen at the seats behind a move is the move's step, by whether a group is frozen before it and behind it (f and g)
+-- and a scan runs before it (r): from what is so of each seat.
+module _ (v : Move) (t : Side) (f r g : Bool) where
   abbrev before : Seat → LeafSeen
-  before seat = leaf_seen f r (told t.pool) seat
+  before seat = leaf_seen f (told t.pool) seat
 
   abbrev behind : Seat → LeafSeen
-  behind seat = leaf_seen g q (told (pool_after (events_of v t.pool) t.pool)) (seat_step v t.pool seat)
+  behind seat = leaf_seen g (told (pool_after (events_of v t.pool) t.pool)) (seat_step v t.pool seat)
 
   abbrev on_leaf : LeafSeen → LeafSeen
-  on_leaf leaf = leaf_step v t.pool.highest (group_seen f t.pool.group).first (scan_seen r t.pool.scan).hi leaf
+  on_leaf leaf = leaf_step v t.pool.highest (group_seen f t.pool.group).first (scan_seen r t.pool.scan) leaf
 
   abbrev IsStepped : Seat → Type 0
   IsStepped seat = behind seat ≡ on_leaf (before seat)
 
   abbrev AreStepped : List Seat → Type 0
-  AreStepped seats = map (leaf_seen g q (told (pool_after (events_of v t.pool) t.pool)))
+  AreStepped seats = map (leaf_seen g (told (pool_after (events_of v t.pool) t.pool)))
       (map (seat_step v t.pool) seats) ≡ map on_leaf (map before seats)
 
   each_seat : (Fits : Seat → Type 0) → ((seat : Seat) → Fits seat → IsStepped seat) → (seats : List Seat)
       → AllByRecursion Fits seats → AreStepped seats
   each_seat Fits one [] all = refl
   each_seat Fits one (seat ∷ seats) all =
-      ap (λ x. x ∷ map (leaf_seen g q (told (pool_after (events_of v t.pool) t.pool))) (map (seat_step v t.pool) seats))
+      ap (λ x. x ∷ map (leaf_seen g (told (pool_after (events_of v t.pool) t.pool))) (map (seat_step v t.pool) seats))
       (one seat all.0) ∙ ap (λ l. on_leaf (before seat) ∷ l) (each_seat Fits one seats all.1)
 
   by_seats : (Fits : Seat → Type 0)
@@ -104,10 +102,6 @@ one_at t m d is (At e found own ∷ seats) all = ((λ same. of same all.0), one_
         (let no : ((t.pool.guid e).0 == m.0) ≡ false = subst (λ n. ((t.pool.guid e).0 == n.0) ≡ false) is other in cc)
 one_at t m d is (Adrift leaf ∷ seats) all = (tt, one_at t m d is seats all.1)
 
-same_log : (t : Bool) (d : ℕ) → cond t (no_log d) (no_log d) ≡ no_log 0
-same_log true d = refl
-same_log false d = refl
-
 -- A leaf comes into the list, or goes.
 map_insert : (f : Seat → LeafSeen) (seats : List Seat) (i : ℕ) (seat : Seat) → map f (insert seats i seat) ≡ insert (map f seats) i (f seat)
 map_insert f seats i seat = map-append f (take i seats) (seat ∷ drop i seats)
@@ -118,11 +112,11 @@ map_remove f seats i = map-append f (take i seats) (drop (suc i) seats)
     ∙ (ap (λ l. l ++ map f (drop (suc i) seats)) (sym (take-map f i seats)) ∙ ap (λ l. take i (map f seats) ++ l) (sym (drop-map f (suc i) seats)))
 
 -- the leaf that was brought in, and the others
-others_stay : (f r : Bool) (p : Pool) (d : ℕ) (m : Guid) (top : ℕ) (seats : List Seat) → AllByRecursion (IsElsewhere d) seats
-    → map (leaf_seen f r (told (after (Joins d m top) p))) seats ≡ map (leaf_seen f r (told p)) seats
-others_stay f r p d m top [] all = refl
-others_stay f r p d m top (At e found own ∷ seats) all =
-    ap (λ l. leaf_seen f r (told (after (Joins d m top) p)) (At e found own) ∷ l) (others_stay f r p d m top seats all.1)
+others_stay : (f : Bool) (p : Pool) (d : ℕ) (m : Guid) (top : ℕ) (seats : List Seat) → AllByRecursion (IsElsewhere d) seats
+    → map (leaf_seen f (told (after (Joins d m top) p))) seats ≡ map (leaf_seen f (told p)) seats
+others_stay f p d m top [] all = refl
+others_stay f p d m top (At e found own ∷ seats) all =
+    ap (λ l. leaf_seen f (told (after (Joins d m top) p)) (At e found own) ∷ l) (others_stay f p d m top seats all.1)
     ∙ ap (λ t. record {
       guid = cond t m (p.guid e);
       dev = dev_if found e;
@@ -131,18 +125,16 @@ others_stay f r p d m top (At e found own ∷ seats) all =
       owes = cond t (whole_log p.highest) (p.owes e);
       settled = cond t (whole_log p.highest) (p.settled e);
       on = cond f (cond t false (p.group.board e)) false;
-      eligible = cond r (cond t false (p.scan.eligible e)) false;
-      scrub = cond (r && cond t false (p.scan.eligible e)) (p.scan.scrub e) (no_log e);
-    } ∷ map (leaf_seen f r (told p)) seats) all.0
-others_stay f r p d m top (Adrift leaf ∷ seats) all = ap (λ l. leaf ∷ l) (others_stay f r p d m top seats all.1)
+    } ∷ map (leaf_seen f (told p)) seats) all.0
+others_stay f p d m top (Adrift leaf ∷ seats) all = ap (λ l. leaf ∷ l) (others_stay f p d m top seats all.1)
 
 new_comes : (f : Bool) (p : Pool) (d : ℕ) (m : Guid) (top : ℕ) (own : OwnLeaf)
-    → leaf_seen f false (told (after (Joins d m top) p)) (At d true own) ≡ new_leaf d m top p.highest own
+    → leaf_seen f (told (after (Joins d m top) p)) (At d true own) ≡ new_leaf d m top p.highest own
 new_comes f p d m top own = ap (λ t. New (cond t m (p.guid d)) (cond t top (p.in_top d)) (cond t (whole_log p.highest) (p.owes d)) (cond t (whole_log p.highest) (p.settled d))
     (cond f (cond t false (p.group.board d)) false)) here ∙ ap (λ on. New m top (whole_log p.highest) (whole_log p.highest) on) (off f)
   where
     New : Guid → ℕ → (ℕ → Bool) → (ℕ → Bool) → Bool → LeafSeen
-    New guid top owes settled on = record { guid = guid; dev = Some d; own = own; top = top; owes = owes; settled = settled; on = on; eligible = false; scrub = no_log 0 }
+    New guid top owes settled on = record { guid = guid; dev = Some d; own = own; top = top; owes = owes; settled = settled; on = on }
 
     here : (d == d) ≡ true
     here = grind (arith, nat_tests)
@@ -163,8 +155,8 @@ module _ (t : Side) where
   r = t.pool.scan.running
 
   -- the leaf of a seat
-  abbrev leaf_at : (frozen running : Bool) (d : ℕ) (found : Bool) (own : OwnLeaf) → LeafSeen
-  leaf_at frozen running d found own = leaf_seen frozen running (told t.pool) (At d found own)
+  abbrev leaf_at : (frozen : Bool) (d : ℕ) (found : Bool) (own : OwnLeaf) → LeafSeen
+  leaf_at frozen d found own = leaf_seen frozen (told t.pool) (At d found own)
 
   abbrev IsSeen : Move → (f r g q : Bool) → Type 0
   IsSeen v f r g q = seen_by g q (seats_by v t) (pool_after (events_of v t.pool) t.pool)
@@ -173,8 +165,8 @@ module _ (t : Side) where
   freezes : (cells : Cells) (board : ℕ → Bool) → AllByRecursion (IsOfFound board) t.seats
       → IsSeen (Freeze cells board) f r true r
   freezes cells board fits = ap (with_leaves (step (Freeze cells board) (seen t)))
-      (by_found (Freeze cells board) t f r true r board (λ d own. refl)
-      (λ d own off. ap (λ x. record (leaf_at f r d false own) {
+      (by_found (Freeze cells board) t f r true board (λ d own. refl)
+      (λ d own off. ap (λ x. record (leaf_at f d false own) {
         own = joined_own false own;
         owes = log_grown (not x) (p.highest + 1) (p.highest + 1) (p.owes d);
         on = x;
@@ -182,131 +174,89 @@ module _ (t : Side) where
 
   draws : f ≡ true → IsSeen Draw f r f r
   draws is = subst (λ f. IsSeen Draw f r f r) (sym is) (ap (with_leaves (step Draw (seen_by true r t.seats p)))
-      (by_any Draw t true r true r (λ d found own. refl) (λ leaf. refl)))
+      (by_any Draw t true r true (λ d found own. refl) (λ leaf. refl)))
 
   leaves_board : (d : ℕ) → f ≡ true → AllByRecursion (IsOfFound (λ e. d == e)) t.seats → IsSeen (Leave d) f r f r
   leaves_board d is fits = subst (λ f. IsSeen (Leave d) f r f r) (sym is)
       (ap (with_leaves (step (Leave d) (seen_by true r t.seats p)))
-      (by_found (Leave d) t true r true r (λ e. d == e) (λ e own. refl)
-      (λ e own off. ap (λ x. record (leaf_at true r e false own) {
+      (by_found (Leave d) t true r true (λ e. d == e) (λ e own. refl)
+      (λ e own off. ap (λ x. record (leaf_at true e false own) {
         owes = log_grown x p.group.first p.highest (p.owes e);
         on = cond x false (p.group.board e);
       }) off) (λ leaf. refl) fits))
 
   widens : (m : Guid) (low high : ℕ) → AllByRecursion (IsSeated p.member) t.seats → IsSeen (Widen m low high) f r f r
-  widens m low high fits = ap (with_leaves (seen t)) (by_seats (Widen m low high) t f r f r (IsSeated p.member)
-      (λ d found own is. ap (λ x. record (leaf_at f r d found own) {
+  widens m low high fits = ap (with_leaves (seen t)) (by_seats (Widen m low high) t f r f (IsSeated p.member)
+      (λ d found own is. ap (λ x. record (leaf_at f d found own) {
         owes = log_grown (x && ((p.guid d).0 == m.0)) low high (p.owes d);
       }) is) (λ leaf is. refl) fits)
 
   burns : f ≡ true → IsSeen Burn f r false r
   burns is = subst (λ f. IsSeen Burn f r false r) (sym is)
       (ap (with_leaves (seen_by false r (seats_by Burn t) (after Burns p)))
-      (by_any Burn t true r false r (λ d found own. refl) (λ leaf. refl))
+      (by_any Burn t true r false (λ d found own. refl) (λ leaf. refl))
       ∙ ap (λ pins. record (step Burn (seen_by true r t.seats p)) { pinned = pins })
       (burnt p.group.begun p.group.cells p.pinned))
 
   commits : (draft : Draft) → f ≡ true → AllByRecursion (IsDrafted p draft) t.seats → IsSeen (Commits draft) f r false r
   commits draft is fits = subst (λ f. IsSeen (Commits draft) f r false r) (sym is)
       (ap (with_leaves (seen_by false r (seats_by (Commits draft) t) (after (Acks (rec_of p draft)) p)))
-      (by_seats (Commits draft) t true r false r (IsDrafted p draft)
+      (by_seats (Commits draft) t true r false (IsDrafted p draft)
       (λ d found own fits. ap (λ log. ended d found own (draft.tops (p.guid d)) log) fits.0
       ∙ ap (λ top. ended d found own top (p.owes d)) fits.1) (λ leaf fits. refl) fits)
       ∙ ap (λ c. record (step (Commits draft) (seen_by true r t.seats p)) { committed = c })
       (laid_sums p.group.cells p.reads.cells))
     where
       ended : (d : ℕ) (found : Bool) (own : OwnLeaf) (top : ℕ) (log : ℕ → Bool) → LeafSeen
-      ended d found own top log = record (leaf_at false r d found own)
+      ended d found own top log = record (leaf_at false d found own)
           { own = joined_own false own; top = top; settled = log }
 
   sets : (m : Guid) (own : OwnLeaf) → IsSeen (Sets m own) f r f r
-  sets m own = ap (with_leaves (seen t)) (by_any (Sets m own) t f r f r (λ d found was. either
-      (λ x. leaf_at f r d found (cond x own was) ≡ cond x (record (leaf_at f r d found was) { own = own })
-      (leaf_at f r d found was)) refl refl ((p.guid d).0 == m.0)) (λ leaf. refl))
+  sets m own = ap (with_leaves (seen t)) (by_any (Sets m own) t f r f (λ d found was. either
+      (λ x. leaf_at f d found (cond x own was) ≡ cond x (record (leaf_at f d found was) { own = own })
+      (leaf_at f d found was)) refl refl ((p.guid d).0 == m.0)) (λ leaf. refl))
 
   finds : (m : Guid) (e : ℕ) → AllByRecursion (IsOneAt p.guid m e) t.seats → IsSeen (Finds m e) f r f r
-  finds m e fits = ap (with_leaves (seen t)) (by_seats (Finds m e) t f r f r (IsOneAt p.guid m e) (λ d found own. either
-      (λ x. (x ≡ true → d ≡ e) → leaf_at f r d (cond x true found) own
-      ≡ cond x (record (leaf_at f r d found own) { dev = Some e }) (leaf_at f r d found own))
-      (λ is. ap (λ y. record (leaf_at f r d true own) { dev = Some y }) (is refl)) (λ is. refl) ((p.guid d).0 == m.0))
+  finds m e fits = ap (with_leaves (seen t)) (by_seats (Finds m e) t f r f (IsOneAt p.guid m e) (λ d found own. either
+      (λ x. (x ≡ true → d ≡ e) → leaf_at f d (cond x true found) own
+      ≡ cond x (record (leaf_at f d found own) { dev = Some e }) (leaf_at f d found own))
+      (λ is. ap (λ y. record (leaf_at f d true own) { dev = Some y }) (is refl)) (λ is. refl) ((p.guid d).0 == m.0))
       (λ leaf fits. refl) fits)
 
   loses : (e : ℕ) → IsSeen (Lose e) f r f r
-  loses e = ap (with_leaves (seen t)) (by_any (Lose e) t f r f r (λ d found own. either
-      (λ x. leaf_seen f r (told p) (cond x (Adrift (leaf_at f r d found own)) (At d found own))
-      ≡ leaf_at f r d found own) refl refl (e == d)) (λ leaf. refl))
+  loses e = ap (with_leaves (seen t)) (by_any (Lose e) t f r f (λ d found own. either
+      (λ x. leaf_seen f (told p) (cond x (Adrift (leaf_at f d found own)) (At d found own))
+      ≡ leaf_at f d found own) refl refl (e == d)) (λ leaf. refl))
 
-  scans : (high : ℕ) (eligible : ℕ → Bool) → AllByRecursion (IsOfFound eligible) t.seats
-      → IsSeen (Scan_from high eligible) f r f true
-  scans high eligible fits = ap (with_leaves (step (Scan_from high eligible) (seen t)))
-      (by_found (Scan_from high eligible) t f r f true eligible
-      (λ d own. ap (λ log. record (leaf_at f false d true own) { eligible = eligible d; scrub = log })
-      (same_log (eligible d) d)) (λ d own off. ap (λ x. record (leaf_at f false d false own)
-      { eligible = x; scrub = cond x (no_log d) (no_log d) }) off) (λ leaf. refl) fits)
-
-  passes : (k : Key) (birth : ℕ) (which : ℕ → Bool) → r ≡ true → AllByRecursion (IsOfFound p.scan.eligible) t.seats
-      → IsSeen (Pass k birth which) f r f r
-  passes k birth which is fits = subst (λ r. IsSeen (Pass k birth which) f r f r) (sym is)
-      (ap (with_leaves (step (Pass k birth which) (seen_by f true t.seats p)))
-      (by_found (Pass k birth which) t f true f true p.scan.eligible
-      (λ d own. either (Passed d true own) refl refl (p.scan.eligible d))
-      (λ d own off. subst (Passed d false own) (sym off) refl) (λ leaf. refl) fits))
-    where
-      Passed : (d : ℕ) (found : Bool) (own : OwnLeaf) → Bool → Type 0
-      Passed d found own x = record (leaf_at f false d found own)
-          { eligible = x; scrub = cond x (grown which birth birth p.scan.scrub d) (no_log d) }
-          ≡ leaf_step (Pass k birth which) p.highest 0 p.scan.hi
-          (record (leaf_at f false d found own) { eligible = x; scrub = cond x (p.scan.scrub d) (no_log d) })
-
-  drops : (d : ℕ) → r ≡ true → AllByRecursion (IsOfFound (λ e. d == e)) t.seats → IsSeen (Drop d) f r f r
-  drops d is fits = subst (λ r. IsSeen (Drop d) f r f r) (sym is)
-      (ap (with_leaves (step (Drop d) (seen_by f true t.seats p))) (by_found (Drop d) t f true f true (λ e. d == e)
-      (λ e own. either (λ x. dropped e true own x ≡ record (leaf_at f true e true own) {
-        eligible = cond x false (p.scan.eligible e);
-        scrub = cond x (no_log 0) (cond (p.scan.eligible e) (p.scan.scrub e) (no_log e));
-      }) refl refl (d == e)) (λ e own off. ap (dropped e false own) off) (λ leaf. refl) fits))
-    where
-      dropped : (e : ℕ) (found : Bool) (own : OwnLeaf) → Bool → LeafSeen
-      dropped e found own x = record (leaf_at f true e found own) {
-        eligible = cond x false (p.scan.eligible e);
-        scrub = cond (cond x false (p.scan.eligible e)) (p.scan.scrub e) (no_log e);
-      }
-
-  clears : (d : ℕ) → r ≡ true → AllByRecursion (IsOfFound (λ e. d == e)) t.seats → p.scan.eligible d ≡ true
-      → IsSeen (Clear d) f r f r
-  clears d is fits on = subst (λ r. IsSeen (Clear d) f r f r) (sym is)
-      (ap (with_leaves (step (Clear d) (seen_by f true t.seats p))) (by_found (Clear d) t f true f true (λ e. d == e)
+  clears : (d : ℕ) → r ≡ true → AllByRecursion (IsOfFound (λ e. d == e)) t.seats → IsSeen (Clear d) f r f r
+  clears d is fits = subst (λ r. IsSeen (Clear d) f r f r) (sym is)
+      (ap (with_leaves (step (Clear d) (seen_by f true t.seats p))) (by_found (Clear d) t f true f (λ e. d == e)
       (λ e own. either (λ x. (x ≡ true → d ≡ e) → cleared e true own x
-      ≡ cond x (leaf_cleared p.scan.hi (leaf_at f true e true own)) (leaf_at f true e true own))
+      ≡ cond x (leaf_cleared p.scan.hi (p.scan.scrub d) (leaf_at f e true own)) (leaf_at f e true own))
       (λ same. subst (λ x. scanned e own (scanned_log p.scan x (p.owes x)) (p.settled x)
-      ≡ leaf_cleared p.scan.hi (leaf_at f true e true own))
-      (sym (same refl)) (ap (λ scrub. scanned e own (log_scanned p.scan.hi scrub (p.owes e)) (p.settled e))
-      (sym (ap (λ u. cond u (p.scan.scrub e) (no_log e)) (subst (λ x. p.scan.eligible x ≡ true) (same refl) on)))))
+      ≡ leaf_cleared p.scan.hi (p.scan.scrub x) (leaf_at f e true own)) (sym (same refl)) refl)
       (λ same. refl) (d == e) (same_device d e)) (λ e own off. ap (cleared e false own) off) (λ leaf. refl) fits))
     where
       scanned : (e : ℕ) (own : OwnLeaf) (owes settled : ℕ → Bool) → LeafSeen
-      scanned e own owes settled = record (leaf_at f true e true own) { owes = owes; settled = kept_in owes settled }
+      scanned e own owes settled = record (leaf_at f e true own) { owes = owes; settled = kept_in owes settled }
 
       cleared : (e : ℕ) (found : Bool) (own : OwnLeaf) → Bool → LeafSeen
-      cleared e found own x = record (leaf_at f true e found own) {
+      cleared e found own x = record (leaf_at f e found own) {
         owes = cond x (scanned_log p.scan d (p.owes d)) (p.owes e);
         settled = cond x (kept_in (scanned_log p.scan d (p.owes d)) (p.settled d)) (p.settled e);
       }
 
-  rests : IsSeen Rest f r f false
-  rests = ap (with_leaves (step Rest (seen t))) (by_any Rest t f r f false (λ d found own. refl) (λ leaf. refl))
-
   comes : (i d : ℕ) (m : Guid) (top : ℕ) (own : OwnLeaf) → MayCome t d m → IsSeen (Comes i d m top own) f r f r
   comes i d m top own may = subst (λ r. IsSeen (Comes i d m top own) f r f r) (sym may.at_rest)
       (ap (with_leaves (seen_by f false t.seats p))
-      (map_insert (leaf_seen f false (told (after (Joins d m top) p))) t.seats i (At d true own)
-      ∙ (ap (λ l. insert l i (leaf_seen f false (told (after (Joins d m top) p)) (At d true own)))
-      (others_stay f false p d m top t.seats may.elsewhere)
-      ∙ ap (λ leaf. insert (map (leaf_seen f false (told p)) t.seats) i leaf) (new_comes f p d m top own))))
+      (map_insert (leaf_seen f (told (after (Joins d m top) p))) t.seats i (At d true own)
+      ∙ (ap (λ l. insert l i (leaf_seen f (told (after (Joins d m top) p)) (At d true own)))
+      (others_stay f p d m top t.seats may.elsewhere)
+      ∙ ap (λ leaf. insert (map (leaf_seen f (told p)) t.seats) i leaf) (new_comes f p d m top own))))
 
   returns : (i : ℕ) (seat : Seat) (leaf : LeafSeen) → MayReturn t seat leaf → IsSeen (Returns i seat leaf) f r f r
-  returns i seat leaf may = ap (with_leaves (seen t)) (map_insert (leaf_seen f r (told p)) t.seats i seat
-      ∙ ap (λ l. insert (map (leaf_seen f r (told p)) t.seats) i l) (sym may.leaf_is))
+  returns i seat leaf may = ap (with_leaves (seen t)) (map_insert (leaf_seen f (told p)) t.seats i seat
+      ∙ ap (λ l. insert (map (leaf_seen f (told p)) t.seats) i l) (sym may.leaf_is))
 
 -- The law of all moves.
 pub seen_step : (c : Codec) (v : Move) (s : PoolState) (t : Side) → Kept c s t → Admits t v → seen (after_move v t) ≡ step v (seen t)
@@ -326,11 +276,9 @@ seen_step c (Finds m d) s t kept ok = finds t m d (one_at t m d ok.1 t.seats (ke
 seen_step c (Lose d) s t kept ok = loses t d
 seen_step c (Comes i d m top own) s t kept ok = comes t i d m top own ok
 seen_step c (Goes i) s t kept ok = ap (with_leaves (seen t))
-    (map_remove (leaf_seen (f t) (r t) (told t.pool)) t.seats i)
+    (map_remove (leaf_seen (f t) (told t.pool)) t.seats i)
 seen_step c (Returns i seat leaf) s t kept ok = returns t i seat leaf ok
-seen_step c (Scan_from hi eligible) s t kept ok = scans t hi eligible ok
-seen_step c (Pass k birth which) s t kept ok = passes t k birth which ok (kept.scanned ok)
-seen_step c (Drop d) s t kept ok = drops t d ok.0 ok.1
-seen_step c (Clear d) s t kept ok = clears t d ok.0 ok.1 ok.2
-seen_step c Rest s t kept ok = rests t
+seen_step c (Pass k birth which) s t kept ok = subst (λ r. IsSeen t (Pass k birth which) (f t) r (f t) r) (sym ok) refl
+seen_step c (Drop d) s t kept ok = subst (λ r. IsSeen t (Drop d) (f t) r (f t) r) (sym ok) refl
+seen_step c (Clear d) s t kept ok = clears t d ok.0 ok.1
 seen_step c v s t kept ok = refl

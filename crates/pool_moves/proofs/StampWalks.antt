@@ -264,7 +264,7 @@ seats_has (first ∷ leaves) leaf (inr more) = inr (seats_has leaves leaf more)
 
 leaves_seen : (size : ℕ → ℕ) (name : List ℕ) (pool : Guid) (all leaves : List NewLeaf) (sectors : Sectors) → AreDevicesApart all
     → AllByRecursion (λ leaf. IsOneOf leaf all) leaves
-    → map new_leaf_seen leaves ≡ map (leaf_seen false false (told (new_pool size name pool all sectors))) (map new_seat leaves)
+    → map new_leaf_seen leaves ≡ map (leaf_seen false (told (new_pool size name pool all sectors))) (map new_seat leaves)
 leaves_seen size name pool all [] sectors apart are = refl
 leaves_seen size name pool all (leaf ∷ leaves) sectors apart are =
     ap (λ x. x ∷ map new_leaf_seen leaves) (sym (ap shape (leaf_is_at all leaf apart are.0)))
@@ -279,8 +279,6 @@ leaves_seen size name pool all (leaf ∷ leaves) sectors apart are =
       owes = no_log 0;
       settled = no_log 0;
       on = false;
-      eligible = false;
-      scrub = no_log 0;
     }
 
 -- A create whose stamps all answered makes a pool.

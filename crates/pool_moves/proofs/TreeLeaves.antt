@@ -16,7 +16,7 @@ use Rattle.pool_moves.specs.LineRows.{TurnReply, Committed, Suspended}
 use Rattle.pool_moves.specs.Moves.{Move, Widen, Lose, Comes, Goes, Returns, Rest, Shapes, leaf_step, step, state_step, steps}
 use Rattle.pool_moves.specs.Refusing.{FreezeRefusal}
 use Rattle.pool_moves.specs.ScanRows.{starts_scan}
-use Rattle.pool_moves.specs.States.{PoolSeen, PoolState, Side}
+use Rattle.pool_moves.specs.States.{ScanSeen, PoolSeen, PoolState, Side}
 use Rattle.pool_moves.specs.TreeLeaves.{numbers_under, AreDifferent, AreTreeLeaves, IsCalm}
 use Rattle.pool_moves.specs.TreeRows.{Graft, Attach, Replace, graft_moves, TreeRefusal, has_place, graft_limits, refusal_at, graft_refusal, numbered, new_number, grafted, place_where, place_named, behind_top, new_place, new_own, GraftReply, comes_in, graft_first, GraftEnds, GraftOn, GraftAt, GraftFor, RowGraft, DetachReply, goes_out, is_there, IsCleaned, DetachBehind, CommitsWithout, DetachFor, DetachLeaf, DetachBy, RowDetach}
 use Rattle.pool_moves.specs.Trees.{Child, same_number, tree_leaves, pruned}
@@ -72,13 +72,13 @@ of_shape : (s : PoolState) → IsTree (shape_of s) → AreTreeLeaves s
 of_shape s is = record { tree = λ top. is.tree top ∙ under_is top s.core.leaves; different = subst AreDifferent (firsts_are s.core.leaves) is.different }
 
 -- Moves that bring no leaf, take none, and change no tree.
-faces_map : (v : Move) (number first hi : ℕ) (leaves : List LeafSeen) → map face (map (leaf_step v number first hi) leaves) ≡ map face leaves
-faces_map v number first hi [] = refl
-faces_map v number first hi (leaf ∷ leaves) =
-    ap (λ g. (g, (leaf_step v number first hi leaf).top) ∷ map face (map (leaf_step v number first hi) leaves))
-    (leaf_stays v number first hi leaf).0
-    ∙ (ap (λ t. (leaf.guid, t) ∷ map face (map (leaf_step v number first hi) leaves))
-    (leaf_stays v number first hi leaf).1 ∙ ap (λ l. face leaf ∷ l) (faces_map v number first hi leaves))
+faces_map : (v : Move) (number first : ℕ) (scan : ScanSeen) (leaves : List LeafSeen) → map face (map (leaf_step v number first scan) leaves) ≡ map face leaves
+faces_map v number first scan [] = refl
+faces_map v number first scan (leaf ∷ leaves) =
+    ap (λ g. (g, (leaf_step v number first scan leaf).top) ∷ map face (map (leaf_step v number first scan) leaves))
+    (leaf_stays v number first scan leaf).0
+    ∙ (ap (λ t. (leaf.guid, t) ∷ map face (map (leaf_step v number first scan) leaves))
+    (leaf_stays v number first scan leaf).1 ∙ ap (λ l. face leaf ∷ l) (faces_map v number first scan leaves))
 
 abbrev with_faces : PoolState → List Face → Shape
 with_faces s fs = record { faces = fs; children = s.own.children }
@@ -89,7 +89,7 @@ shape_step (Comes i d m top own) s is = absurd is
 shape_step (Goes i) s is = absurd is
 shape_step (Returns i seat leaf) s is = absurd is
 shape_step v s is = ap (with_faces s) (ap (map face) (leaves_still v s.core tt)
-    ∙ faces_map v s.core.number s.core.group.first s.core.scan.hi s.core.leaves)
+    ∙ faces_map v s.core.number s.core.group.first s.core.scan s.core.leaves)
 
 shape_along : (vs : List Move) (s : PoolState) → AllByRecursion IsCalm vs → shape_of (steps vs s) ≡ shape_of s
 shape_along [] s all = refl
@@ -288,7 +288,7 @@ with_leaf i m top children sh = record { faces = insert sh.faces i (m, top); chi
 came_shape : (s : PoolState) (i d : ℕ) (m : Guid) (top : ℕ) (own : OwnLeaf) (children : List Child)
     → shape_of (steps (Comes i d m top own ∷ (Shapes top children ∷ [])) s) ≡ with_leaf i m top children (shape_of s)
 came_shape s i d m top own children = ap (λ fs. record { faces = fs; children = λ x. cond (top == x) children (s.own.children x) })
-    (faces_insert s.core.leaves i (record { guid = m; dev = Some d; own = own; top = top; owes = _; settled = _; on = false; eligible = false; scrub = _ }))
+    (faces_insert s.core.leaves i (record { guid = m; dev = Some d; own = own; top = top; owes = _; settled = _; on = false }))
 
 graft_shape : (graft : Graft) (s : PoolState) (name : List ℕ) (leaf : LeafSeen) (new : List ℕ) (d : ℕ) (made : List Noted) (scan : Move) → IsCalm scan
     → shape_of (steps (graft_first graft s name leaf new d made ++ (scan ∷ [])) s)
@@ -336,23 +336,23 @@ graft_tree graft s name leaf is named placed new =
     }
 
 -- the new number is none of the leaves'
-firsts_below : (f r : Bool) (p : Pool) (n : ℕ) (m : Guid) → n ≤ m.0 → (seats : List Seat) → AllByRecursion (HasNumberBelow p.guid n) seats
-    → HasNot m (firsts (map face (map (leaf_seen f r (told p)) seats)))
-firsts_below f r p n m low [] below = tt
-firsts_below f r p n m low (At d found own ∷ seats) below =
-    (differ (p.guid d).0 m.0 (let less = below.0 in omega (arith, less, low)), firsts_below f r p n m low seats below.1)
+firsts_below : (f : Bool) (p : Pool) (n : ℕ) (m : Guid) → n ≤ m.0 → (seats : List Seat) → AllByRecursion (HasNumberBelow p.guid n) seats
+    → HasNot m (firsts (map face (map (leaf_seen f (told p)) seats)))
+firsts_below f p n m low [] below = tt
+firsts_below f p n m low (At d found own ∷ seats) below =
+    (differ (p.guid d).0 m.0 (let less = below.0 in omega (arith, less, low)), firsts_below f p n m low seats below.1)
   where
     differ : (a b : ℕ) → a < b → (b == a) ≡ false
     differ a b less = grind (arith, nat_tests)
-firsts_below f r p n m low (Adrift leaf ∷ seats) below =
-    (differ leaf.guid.0 m.0 (let less = below.0 in omega (arith, less, low)), firsts_below f r p n m low seats below.1)
+firsts_below f p n m low (Adrift leaf ∷ seats) below =
+    (differ leaf.guid.0 m.0 (let less = below.0 in omega (arith, less, low)), firsts_below f p n m low seats below.1)
   where
     differ : (a b : ℕ) → a < b → (b == a) ≡ false
     differ a b less = grind (arith, nat_tests)
 
 new_differs : (c : Codec) (graft : Graft) (s : PoolState) (t : Side) → Kept c s t → HasNot (new_number graft s) (firsts (map face s.core.leaves))
 new_differs c graft s t kept = subst (λ core. HasNot (new_number graft s) (firsts (map face core.leaves))) (sym kept.core)
-    (firsts_below t.pool.group.frozen t.pool.scan.running t.pool s.own.next_member (new_number graft s) (new_above graft s) t.seats kept.numbers.below)
+    (firsts_below t.pool.group.frozen t.pool s.own.next_member (new_number graft s) (new_above graft s) t.seats kept.numbers.below)
 
 is_placed : (placed : Bool) (limits : Option TreeRefusal) → refusal_at placed limits ≡ None → placed ≡ true
 is_placed true limits is = refl

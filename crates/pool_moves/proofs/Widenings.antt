@@ -30,19 +30,19 @@ use Rattle.pool_moves.proofs.Lists.{all_map, each}
 abbrev IsLogOf : Pool → LeafSeen → Type 0
 IsLogOf p leaf = (d g : ℕ) → p.member d ≡ true → (p.guid d).0 ≡ leaf.guid.0 → leaf.owes g ≡ p.owes d g
 
-log_at : (f r : Bool) (p : Pool) (seat : Seat) → ((d : ℕ) → p.member d ≡ true → IsOwnNumber p.guid d seat) → IsLogOf p (leaf_seen f r (told p) seat)
-log_at f r p (At e found own) n d g is same = of (n d is)
+log_at : (f : Bool) (p : Pool) (seat : Seat) → ((d : ℕ) → p.member d ≡ true → IsOwnNumber p.guid d seat) → IsLogOf p (leaf_seen f (told p) seat)
+log_at f p (At e found own) n d g is same = of (n d is)
   where
     of : ((d == e) ≡ true) ⊎ (((p.guid e).0 == (p.guid d).0) ≡ false) → p.owes e g ≡ p.owes d g
     of (inl one) = ap (λ x. p.owes x g) (let back : e ≡ d = grind (arith, nat_tests) in back)
     of (inr other) = absurd (let yes : ((p.guid e).0 == (p.guid d).0) ≡ true = grind (arith, nat_tests) in cc)
-log_at f r p (Adrift leaf) n d g is same = absurd (let other = n d is in
+log_at f p (Adrift leaf) n d g is same = absurd (let other = n d is in
     let yes : (leaf.guid.0 == (p.guid d).0) ≡ true = grind (arith, nat_tests) in cc)
 
-logs_at : (f r : Bool) (p : Pool) (seats : List Seat) → ((d : ℕ) → p.member d ≡ true → AllByRecursion (IsOwnNumber p.guid d) seats)
-    → AllByRecursion (IsLogOf p) (map (leaf_seen f r (told p)) seats)
-logs_at f r p [] n = tt
-logs_at f r p (seat ∷ seats) n = (log_at f r p seat (λ d is. (n d is).0), logs_at f r p seats (λ d is. (n d is).1))
+logs_at : (f : Bool) (p : Pool) (seats : List Seat) → ((d : ℕ) → p.member d ≡ true → AllByRecursion (IsOwnNumber p.guid d) seats)
+    → AllByRecursion (IsLogOf p) (map (leaf_seen f (told p)) seats)
+logs_at f p [] n = tt
+logs_at f p (seat ∷ seats) n = (log_at f p seat (λ d is. (n d is).0), logs_at f p seats (λ d is. (n d is).1))
 
 -- What all leaves have, the widest has.
 either : (P : LeafSeen → Type 0) (t : Bool) (a b : LeafSeen) → P a → P b → P (cond t a b)
@@ -86,19 +86,19 @@ grows p m low high leaf is number spans = record { more = λ d g old. more (of_n
         (low, high, sym (is d low who.0 same) ∙ spans.low_in, sym (is d high who.0 same) ∙ spans.high_in, above, below)
 
 -- Each leaf of the list has its number there.
-numbered_at : (f r : Bool) (p : Pool) (all seats : List Seat) → ((m : Guid) → HasNumbered p.guid m seats → HasNumbered p.guid m all)
-    → AllByRecursion (λ leaf. HasNumbered p.guid leaf.guid all) (map (leaf_seen f r (told p)) seats)
-numbered_at f r p all [] up = tt
-numbered_at f r p all (At d found own ∷ seats) up = (up (p.guid d) (inl (let same : ((p.guid d).0 == (p.guid d).0) ≡ true = grind (arith, nat_tests) in same)), numbered_at f r p all seats (λ m has. up m (inr has)))
-numbered_at f r p all (Adrift leaf ∷ seats) up = (up leaf.guid (inl (let same : (leaf.guid.0 == leaf.guid.0) ≡ true = grind (arith, nat_tests) in same)), numbered_at f r p all seats (λ m has. up m (inr has)))
+numbered_at : (f : Bool) (p : Pool) (all seats : List Seat) → ((m : Guid) → HasNumbered p.guid m seats → HasNumbered p.guid m all)
+    → AllByRecursion (λ leaf. HasNumbered p.guid leaf.guid all) (map (leaf_seen f (told p)) seats)
+numbered_at f p all [] up = tt
+numbered_at f p all (At d found own ∷ seats) up = (up (p.guid d) (inl (let same : ((p.guid d).0 == (p.guid d).0) ≡ true = grind (arith, nat_tests) in same)), numbered_at f p all seats (λ m has. up m (inr has)))
+numbered_at f p all (Adrift leaf ∷ seats) up = (up leaf.guid (inl (let same : (leaf.guid.0 == leaf.guid.0) ≡ true = grind (arith, nat_tests) in same)), numbered_at f p all seats (λ m has. up m (inr has)))
 
 -- One widening, and all.
 widen_walk : (c : Codec) (s : PoolState) (t : Side) (m : Guid) (low high : ℕ) → Kept c s t → IsWidening s.core m low high → Walks c t (Widen m low high ∷ [])
 widen_walk c s t m low high kept is = (
   (
-    (grows t.pool m low high is.leaf (has (IsLogOf t.pool) (logs_at t.pool.group.frozen t.pool.scan.running t.pool t.seats kept.numbered)) is.number_is is.spans, tt),
+    (grows t.pool m low high is.leaf (has (IsLogOf t.pool) (logs_at t.pool.group.frozen t.pool t.seats kept.numbered)) is.number_is is.spans, tt),
     subst (λ n. HasNumbered t.pool.guid n t.seats) is.number_is
-        (has (λ leaf. HasNumbered t.pool.guid leaf.guid t.seats) (numbered_at t.pool.group.frozen t.pool.scan.running t.pool t.seats t.seats (λ n found. found))),
+        (has (λ leaf. HasNumbered t.pool.guid leaf.guid t.seats) (numbered_at t.pool.group.frozen t.pool t.seats t.seats (λ n found. found))),
   ),
   tt,
 )

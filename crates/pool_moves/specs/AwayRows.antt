@@ -8,9 +8,9 @@ use Rattle.vdev_tree.specs.Leaf.{is_up}
 use Rattle.vdev_tree.specs.declared.vdev.State.{State}
 use Rattle.vdev_tree.specs.declared.vdev.State.TheVariants.{Offline}
 use Rattle.pool_moves.specs.Leaves.{OwnLeaf, LeafSeen}
-use Rattle.pool_moves.specs.Moves.{Move, Puts, Leave, Drop, Sets}
+use Rattle.pool_moves.specs.Moves.{Move, Puts, Leave, Drop, Sets, on_dev}
 use Rattle.pool_moves.specs.Refusing.{count_below, keys_needed, written_with, dirty_with, CountsOpen}
-use Rattle.pool_moves.specs.States.{PoolSeen, PoolState}
+use Rattle.pool_moves.specs.States.{ScanSeen, PoolSeen, PoolState}
 use Rattle.pool_moves.specs.Widening.{IsWidened, seen_along}
 use Rattle.pool_moves.specs.Trees.{is_spare_leaf}
 
@@ -88,6 +88,9 @@ drop_if true (Some d) = Drop d ∷ []
 drop_if true None = []
 drop_if false dev = []
 
+abbrev pub drops_leaf : ScanSeen → LeafSeen → List Move
+drops_leaf scan leaf = drop_if (on_dev scan.eligible leaf.dev) leaf.dev
+
 abbrev pub LeaveIf : Bool → Option ℕ → PoolSeen → List Move → Type 0
 LeaveIf true (Some d) s vs = IsWidened s (Leave d) vs
 LeaveIf true None s vs = vs ≡ []
@@ -99,8 +102,8 @@ gone temporary own = record own { mode = Offline; temporary = temporary }
 -- A leaf goes: the scan and the board lose it, and it is OFFLINE.
 pub record GoesAway (s : PoolState) (leaf : LeafSeen) (temporary : Bool) (vs : List Move) : Type 0 where
   pub leaving : List Move
-  pub leaves : LeaveIf leaf.on leaf.dev (seen_along (drop_if leaf.eligible leaf.dev) s.core) leaving
-  pub moves : vs ≡ drop_if leaf.eligible leaf.dev ++ (leaving ++ (Sets leaf.guid (gone temporary leaf.own) ∷ []))
+  pub leaves : LeaveIf leaf.on leaf.dev (seen_along (drops_leaf s.core.scan leaf) s.core) leaving
+  pub moves : vs ≡ drops_leaf s.core.scan leaf ++ (leaving ++ (Sets leaf.guid (gone temporary leaf.own) ∷ []))
 
 -- A leaf that is OFFLINE already stays so, and only how long changes. Another one goes, unless some group could be read from no
 -- other leaf of its top: then it is required, for the least such group.

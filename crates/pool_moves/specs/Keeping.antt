@@ -9,7 +9,7 @@ use Rattle.txg_history.specs.Pools.{Pool}
 use Rattle.txg_history.specs.Records.{Rec, IsIn, IsNoLeaf, block_in}
 use Rattle.txg_history.specs.Survival.{Survives}
 use Rattle.pool_moves.specs.Leaves.{LeafSeen, Seat, At, Adrift, told, leaf_seen}
-use Rattle.pool_moves.specs.Moves.{Draft, Move, Freeze, Wrote_key, Flushed_all, Draw, Leave, Widen, Burn, Starts, Commits, Finds, Lose, Comes, Goes, Returns, Scan_from, Pass, Drop, Clear, after_move, events_of}
+use Rattle.pool_moves.specs.Moves.{Draft, Move, Freeze, Wrote_key, Flushed_all, Draw, Leave, Widen, Burn, Starts, Commits, Finds, Lose, Comes, Goes, Returns, Pass, Drop, Clear, after_move, events_of}
 use Rattle.pool_moves.specs.States.{Side, seen, PoolState}
 
 -- the seat is at no device that is this one
@@ -87,8 +87,7 @@ IsOfFound which (Adrift leaf) = Unit {0}
 
 -- The state is what is seen of the pool's history at its seats. No two leaves are at one device, each at a device is a
 -- member, and no leaf has another member's number; all members on a frozen group's board are leaves that the run has
--- found, no other leaf is eligible in a scan, and where a member stands under a top some leaf does. The next member number is
--- above all others. A read answers the open write, else the frozen group's block, else the record's; and the history has its invariant.
+-- found, and where a member stands under a top some leaf does. The next member number is above all others. A read answers the open write, else the frozen group's block, else the record's; and the history has its invariant.
 pub record Kept (c : Codec) (s : PoolState) (t : Side) : Type 0 where
   pub core : s.core ≡ seen t
   pub apart : AreSeatsApart t.seats
@@ -97,7 +96,6 @@ pub record Kept (c : Codec) (s : PoolState) (t : Side) : Type 0 where
   pub numbered : (d : ℕ) → t.pool.member d ≡ true → AllByRecursion (IsOwnNumber t.pool.guid d) t.seats
   pub boarded : t.pool.group.frozen ≡ true → (d : ℕ) → t.pool.member d ≡ true → t.pool.group.board d ≡ true → HasFound d t.seats
   pub topped : (d : ℕ) → t.pool.member d ≡ true → 1 ≤ t.pool.in_top d → HasUnder t.pool.in_top (t.pool.in_top d) t.seats
-  pub scanned : t.pool.scan.running ≡ true → AllByRecursion (IsOfFound t.pool.scan.eligible) t.seats
   pub numbers : AreNumbered s.own.next_member t.pool.guid t.pool.opened t.pool.live t.pool.group.frozen t.pool.group.begun t.seats
   pub written : (a : ℕ) → t.pool.written a ≡ over (s.own.writes a) (beneath t.pool a)
   pub survives : Survives c t.pool
@@ -136,12 +134,11 @@ KnowsJust guid seats draft = (m : Guid) → AllByRecursion (HasOtherNumber guid 
 -- A seat may come back into the list: it is at no other seat's device, at a member, with no other member's number.
 pub record MayReturn (t : Side) (seat : Seat) (leaf : LeafSeen) : Type 0 where
   pub idle : t.pool.group.frozen ≡ false
-  pub leaf_is : leaf ≡ leaf_seen t.pool.group.frozen t.pool.scan.running (told t.pool) seat
+  pub leaf_is : leaf ≡ leaf_seen t.pool.group.frozen (told t.pool) seat
   pub apart : AreSeatsApart (seat ∷ t.seats)
   pub seated : IsSeated t.pool.member seat
   pub away : IsAway seat
   pub numbered : (d : ℕ) → t.pool.member d ≡ true → IsOwnNumber t.pool.guid d seat
-  pub scanned : t.pool.scan.running ≡ true → IsOfFound t.pool.scan.eligible seat
 
 -- A leaf may come in at this device under this number: neither is another leaf's, and no scan runs.
 pub record MayCome (t : Side) (d : ℕ) (m : Guid) : Type 0 where
@@ -155,7 +152,7 @@ pub record MayGo (t : Side) (i : ℕ) : Type 0 where
   pub topped : (d : ℕ) → t.pool.member d ≡ true → 1 ≤ t.pool.in_top d → HasUnder t.pool.in_top (t.pool.in_top d) (remove t.seats i)
 
 -- The moves of a frozen group come while one is frozen, and those of a scan while one runs. A record knows the leaves of the
--- list alone. Moves name no device of a leaf that the run has not found, and a scan's end clears the logs of eligible leaves. A
+-- list alone. A board, and what leaves it or is cleared by a scan's end, has no device of a leaf that the run has not found. A
 -- leaf is found where the history has it; a device that is lost is no found leaf's; one that comes in is no leaf's, under a
 -- number of its own; and a leaf comes back as the history has it.
 abbrev pub Admits : Side → Move → Type 0
@@ -174,10 +171,9 @@ Admits t (Lose d) = AllByRecursion (IsNotFoundAt d) t.seats
 Admits t (Comes i d m top own) = MayCome t d m
 Admits t (Goes i) = MayGo t i
 Admits t (Returns i seat leaf) = MayReturn t seat leaf
-Admits t (Scan_from hi eligible) = AllByRecursion (IsOfFound eligible) t.seats
 Admits t (Pass k birth which) = t.pool.scan.running ≡ true
-Admits t (Drop d) = (t.pool.scan.running ≡ true) × AllByRecursion (IsOfFound (λ e. d == e)) t.seats
-Admits t (Clear d) = (t.pool.scan.running ≡ true) × AllByRecursion (IsOfFound (λ e. d == e)) t.seats × (t.pool.scan.eligible d ≡ true)
+Admits t (Drop d) = t.pool.scan.running ≡ true
+Admits t (Clear d) = (t.pool.scan.running ≡ true) × AllByRecursion (IsOfFound (λ e. d == e)) t.seats
 Admits t v = Unit {0}
 
 -- Each of these moves is one that the history allows and the state admits, one after another.

@@ -1,9 +1,9 @@
 -- The leaves of a pool as the code has them, and where the history has each of them.
-use Rattle.std.specs.Prelude.{ℕ, ◌&&◌, Bool, false, cond, Option, Some, None, List}
+use Rattle.std.specs.Prelude.{ℕ, Bool, false, cond, Option, Some, None, List}
 use Rattle.mp_base.specs.declared.number.Guid.{Guid}
 use Rattle.vdev_tree.specs.declared.vdev.Counts.{Counts}
 use Rattle.vdev_tree.specs.declared.vdev.State.{State}
-use Rattle.txg_history.specs.Groups.{Logs, no_log}
+use Rattle.txg_history.specs.Groups.{Logs}
 use Rattle.txg_history.specs.Pools.{Pool}
 
 -- What the code knows of a leaf and no event tells: its name, its state, whether it is OFFLINE only until the next opening,
@@ -19,8 +19,7 @@ pub record OwnLeaf : Type 0 where
   pub faults : ℕ
 
 -- A leaf: its member number, its device in this run, if it was found, its top, from 1 on, its log and what of it is
--- settled, whether it is on the board of a frozen group, and, of the scan that runs, whether it is eligible, and then its SCRUB
--- log.
+-- settled, and whether it is on the board of a frozen group.
 pub record LeafSeen : Type 0 where
   pub guid : Guid
   pub dev : Option ℕ
@@ -29,8 +28,6 @@ pub record LeafSeen : Type 0 where
   pub owes : ℕ → Bool
   pub settled : ℕ → Bool
   pub on : Bool
-  pub eligible : Bool
-  pub scrub : ℕ → Bool
 
 -- Where the history has a leaf: at a device, which this run has found or not; or at none any more, since that device is now
 -- another leaf's or another pool's.
@@ -48,8 +45,6 @@ pub record Told : Type 0 where
   pub owes : Logs
   pub settled : Logs
   pub board : ℕ → Bool
-  pub eligible : ℕ → Bool
-  pub scrub : Logs
 
 abbrev pub told : Pool → Told
 told p = record {
@@ -58,13 +53,11 @@ told p = record {
   owes = p.owes;
   settled = p.settled;
   board = p.group.board;
-  eligible = p.scan.eligible;
-  scrub = p.scan.scrub;
 }
 
--- The leaf of a seat, by whether a group is frozen and whether a scan runs.
-abbrev pub leaf_seen : (frozen running : Bool) → Told → Seat → LeafSeen
-leaf_seen frozen running tells (At d found own) = record {
+-- The leaf of a seat, by whether a group is frozen.
+abbrev pub leaf_seen : (frozen : Bool) → Told → Seat → LeafSeen
+leaf_seen frozen tells (At d found own) = record {
   guid = tells.guid d;
   dev = dev_if found d;
   own = own;
@@ -72,7 +65,5 @@ leaf_seen frozen running tells (At d found own) = record {
   owes = tells.owes d;
   settled = tells.settled d;
   on = cond frozen (tells.board d) false;
-  eligible = cond running (tells.eligible d) false;
-  scrub = cond (running && tells.eligible d) (tells.scrub d) (no_log d);
 }
-leaf_seen frozen running tells (Adrift leaf) = leaf
+leaf_seen frozen tells (Adrift leaf) = leaf

@@ -7,14 +7,14 @@ use Rattle.mp_base.specs.declared.place.Key.{Key}
 use Rattle.bank_core.specs.Disk.{Noted}
 use Rattle.label_store.specs.Rounds.{Commit}
 use Rattle.txg_history.specs.Events.{Event, Calls, Accepts, Freezes, Wrote, Flushed, Draws, Leaves, Grows, Burns, Begins, Third, Ends, Acks, Joins, Loses, Scans, Passes, Drops, Clears, Rests}
-use Rattle.txg_history.specs.Groups.{same_key, between, grown, no_log}
+use Rattle.txg_history.specs.Groups.{same_key, at_device, between, grown}
 use Rattle.txg_history.specs.Pages.{Sum, sum_of}
 use Rattle.txg_history.specs.Pools.{Pool, pool_after, kept_in, whole_log}
 use Rattle.txg_history.specs.Records.{Rec, Cell, Cells, laid_over, key}
 use Rattle.txg_history.specs.Scans.{up_to}
 use Rattle.pool_moves.specs.Leaves.{OwnLeaf, LeafSeen, Seat, At, Adrift, told, leaf_seen, dev_if}
 use Rattle.txg_history.specs.Trees.{Child}
-use Rattle.pool_moves.specs.States.{Sums, sums, frozen_seen, no_group_seen, started_seen, no_scan_seen, PoolSeen, Side, Own, PoolState}
+use Rattle.pool_moves.specs.States.{Sums, sums, frozen_seen, no_group_seen, ScanSeen, started_seen, no_scan_seen, scan_seen, PoolSeen, Side, Own, PoolState}
 use Rattle.pool_moves.specs.Trees.{Child}
 
 -- What the code knows of a record that it draws up: its commit, and the top and the log of each member number.
@@ -89,48 +89,41 @@ log_scanned hi scrub log g = cond (nat_le g hi) (scrub g) (log g)
 abbrev pub joined_own : Bool → OwnLeaf → OwnLeaf
 joined_own on own = record own { joined = on; faults = 0 }
 
--- a leaf whose log was cleared by a scan's end
-abbrev pub leaf_cleared : (hi : ℕ) → LeafSeen → LeafSeen
-leaf_cleared hi leaf = record leaf {
-  owes = log_scanned hi leaf.scrub leaf.owes;
-  settled = kept_in (log_scanned hi leaf.scrub leaf.owes) leaf.settled;
+-- a leaf whose log was cleared by a scan's end, by its SCRUB log
+abbrev pub leaf_cleared : (hi : ℕ) → (scrub : ℕ → Bool) → LeafSeen → LeafSeen
+leaf_cleared hi scrub leaf = record leaf {
+  owes = log_scanned hi scrub leaf.owes;
+  settled = kept_in (log_scanned hi scrub leaf.owes) leaf.settled;
 }
 
--- What a move does to a leaf, by the highest number drawn, the group's first number and the scan's hi before it.
-abbrev pub leaf_step : Move → (number first hi : ℕ) → LeafSeen → LeafSeen
-leaf_step (Freeze cells board) number first hi leaf = record leaf {
+-- What a move does to a leaf, by the highest number drawn, the group's first number and the scan before it.
+abbrev pub leaf_step : Move → (number first : ℕ) → ScanSeen → LeafSeen → LeafSeen
+leaf_step (Freeze cells board) number first scan leaf = record leaf {
   own = joined_own (on_dev board leaf.dev) leaf.own;
   owes = log_grown (not (on_dev board leaf.dev)) (number + 1) (number + 1) leaf.owes;
   on = on_dev board leaf.dev;
 }
-leaf_step Draw number first hi leaf = record leaf { owes = log_grown (not leaf.on) (number + 1) (number + 1) leaf.owes }
-leaf_step (Leave d) number first hi leaf = record leaf {
+leaf_step Draw number first scan leaf = record leaf { owes = log_grown (not leaf.on) (number + 1) (number + 1) leaf.owes }
+leaf_step (Leave d) number first scan leaf = record leaf {
   owes = log_grown (on_dev (λ e. d == e) leaf.dev) first number leaf.owes;
   on = cond (on_dev (λ e. d == e) leaf.dev) false leaf.on;
 }
-leaf_step (Widen m low high) number first hi leaf = record leaf { owes = log_grown (leaf.guid.0 == m.0) low high leaf.owes }
-leaf_step Burn number first hi leaf = record leaf {
+leaf_step (Widen m low high) number first scan leaf = record leaf { owes = log_grown (leaf.guid.0 == m.0) low high leaf.owes }
+leaf_step Burn number first scan leaf = record leaf {
   own = joined_own false leaf.own;
   owes = log_cleared first number leaf.owes;
   settled = log_cleared first number leaf.settled;
   on = false;
 }
-leaf_step (Commits draft) number first hi leaf = record leaf { own = joined_own false leaf.own; settled = leaf.owes; on = false }
-leaf_step (Sets m own) number first hi leaf = cond (leaf.guid.0 == m.0) (record leaf { own = own }) leaf
-leaf_step (Finds m d) number first hi leaf = cond (leaf.guid.0 == m.0) (record leaf { dev = Some d }) leaf
-leaf_step (Scan_from high eligible) number first hi leaf = record leaf { eligible = on_dev eligible leaf.dev; scrub = no_log 0 }
-leaf_step (Pass k birth which) number first hi leaf = record leaf { scrub = log_grown (leaf.eligible && on_dev which leaf.dev) birth birth leaf.scrub }
-leaf_step (Drop d) number first hi leaf = record leaf {
-  eligible = cond (on_dev (λ e. d == e) leaf.dev) false leaf.eligible;
-  scrub = cond (on_dev (λ e. d == e) leaf.dev) (no_log 0) leaf.scrub;
-}
-leaf_step (Clear d) number first hi leaf = cond (on_dev (λ e. d == e) leaf.dev) (leaf_cleared hi leaf) leaf
-leaf_step Rest number first hi leaf = record leaf { eligible = false; scrub = no_log 0 }
-leaf_step v number first hi leaf = leaf
+leaf_step (Commits draft) number first scan leaf = record leaf { own = joined_own false leaf.own; settled = leaf.owes; on = false }
+leaf_step (Sets m own) number first scan leaf = cond (leaf.guid.0 == m.0) (record leaf { own = own }) leaf
+leaf_step (Finds m d) number first scan leaf = cond (leaf.guid.0 == m.0) (record leaf { dev = Some d }) leaf
+leaf_step (Clear d) number first scan leaf = cond (on_dev (λ e. d == e) leaf.dev) (leaf_cleared scan.hi (scan.scrub d) leaf) leaf
+leaf_step v number first scan leaf = leaf
 
 -- each leaf's step
 abbrev pub leaves_step : Move → PoolSeen → List LeafSeen
-leaves_step v s = map (leaf_step v s.number s.group.first s.scan.hi) s.leaves
+leaves_step v s = map (leaf_step v s.number s.group.first s.scan) s.leaves
 
 -- A leaf that is brought in: it owes each group so far, and so long as it owes them they are settled there.
 abbrev pub new_leaf : (d : ℕ) → Guid → (top number : ℕ) → OwnLeaf → LeafSeen
@@ -142,8 +135,6 @@ new_leaf d m top number own = record {
   owes = whole_log number;
   settled = whole_log number;
   on = false;
-  eligible = false;
-  scrub = no_log 0;
 }
 
 -- a key's sum where it is among the group's, else the record's
@@ -177,9 +168,10 @@ step (Commits draft) s = record s {
 step (Comes i d m top own) s = record s { leaves = insert s.leaves i (new_leaf d m top s.number own) }
 step (Goes i) s = record s { leaves = remove s.leaves i }
 step (Returns i seat leaf) s = record s { leaves = insert s.leaves i leaf }
-step (Scan_from hi eligible) s = record s { leaves = leaves_step (Scan_from hi eligible) s; scan = started_seen hi }
-step (Pass k birth which) s = record s { leaves = leaves_step (Pass k birth which) s; scan = record (s.scan) { passed = up_to k } }
-step Rest s = record s { leaves = leaves_step Rest s; scan = no_scan_seen }
+step (Scan_from hi eligible) s = record s { scan = started_seen hi eligible }
+step (Pass k birth which) s = record s { scan = record (s.scan) { passed = up_to k; scrub = grown which birth birth s.scan.scrub } }
+step (Drop d) s = record s { scan = record (s.scan) { eligible = at_device d false s.scan.eligible } }
+step Rest s = record s { scan = no_scan_seen }
 step Scrubs s = s
 step (Shapes top children) s = s
 step v s = record s { leaves = leaves_step v s }
@@ -245,13 +237,13 @@ events_of (Shapes top children) p = []
 
 -- What a move does to a seat: one that is at no device has its leaf's step, and one whose device the pool loses gets to be so.
 abbrev pub seat_step : Move → Pool → Seat → Seat
-seat_step v p (Adrift leaf) = Adrift (leaf_step v p.highest p.group.first p.scan.hi leaf)
+seat_step v p (Adrift leaf) = Adrift (leaf_step v p.highest p.group.first (scan_seen true p.scan) leaf)
 seat_step (Freeze cells board) p (At d found own) = At d found (joined_own (on_dev board (dev_if found d)) own)
 seat_step Burn p (At d found own) = At d found (joined_own false own)
 seat_step (Commits draft) p (At d found own) = At d found (joined_own false own)
 seat_step (Sets m own) p (At d found was) = At d found (cond ((p.guid d).0 == m.0) own was)
 seat_step (Finds m e) p (At d found own) = At d (cond ((p.guid d).0 == m.0) true found) own
-seat_step (Lose e) p (At d found own) = cond (e == d) (Adrift (leaf_seen p.group.frozen p.scan.running (told p) (At d found own))) (At d found own)
+seat_step (Lose e) p (At d found own) = cond (e == d) (Adrift (leaf_seen p.group.frozen (told p) (At d found own))) (At d found own)
 seat_step v p (At d found own) = At d found own
 
 abbrev pub seats_by : Move → Side → List Seat
@@ -265,6 +257,10 @@ seats_by (Copied draft d) t = t.seats
 seats_by (Comes i d m top own) t = insert t.seats i (At d true own)
 seats_by (Goes i) t = remove t.seats i
 seats_by (Returns i seat leaf) t = insert t.seats i seat
+seats_by (Scan_from hi eligible) t = t.seats
+seats_by (Pass k birth which) t = t.seats
+seats_by (Drop d) t = t.seats
+seats_by Rest t = t.seats
 seats_by Scrubs t = t.seats
 seats_by (Shapes top children) t = t.seats
 seats_by v t = map (seat_step v t.pool) t.seats

@@ -61,8 +61,6 @@ opened_leaf leaf dev = record {
   owes = leaf.owes;
   settled = no_log 0;
   on = false;
-  eligible = false;
-  scrub = no_log 0;
 }
 
 abbrev pub opened_leaves : List LeafKept → (devs : List (Option ℕ)) → List LeafSeen

@@ -19,9 +19,9 @@ use Rattle.pool_moves.specs.Boards.{members_where}
 use Rattle.pool_moves.specs.FreezeRow.{IsBefore, is_dev, up_devs}
 use Rattle.pool_moves.specs.Leaves.{LeafSeen}
 use Rattle.pool_moves.specs.LineRows.{has_number, sets_failed}
-use Rattle.pool_moves.specs.Moves.{Move, Makes, Scan_from, Pass, Drop, Clear, Rest, Scrubs}
+use Rattle.pool_moves.specs.Moves.{Move, Makes, Scan_from, Pass, Drop, Clear, Rest, Scrubs, on_dev}
 use Rattle.pool_moves.specs.ReadRow.{copy_of, stands_under, copies_of, count_reads}
-use Rattle.pool_moves.specs.States.{PoolSeen, PoolState}
+use Rattle.pool_moves.specs.States.{ScanSeen, PoolSeen, PoolState}
 use Rattle.pool_moves.specs.Walking.{as_moves}
 use Rattle.pool_moves.specs.Widening.{IsWidened, seen_along}
 
@@ -106,9 +106,10 @@ is_brought scrubs sum calls copied leaf = cond (leaf.owes sum.birth) (has_copied
 abbrev pub is_spared : (scrubs : Bool) → Sum → (calls copied : List Noted) → LeafSeen → Bool
 is_spared scrubs sum calls copied leaf = not (stands_under sum.top leaf) || is_brought scrubs sum calls copied leaf
 
--- the device is none of a leaf that is spared: the key's birth goes into its SCRUB log, where it has one
-abbrev pub is_scrubbed : (scrubs : Bool) → Sum → (calls copied : List Noted) → List LeafSeen → (d : ℕ) → Bool
-is_scrubbed scrubs sum calls copied leaves d = not (list_any (λ leaf. is_dev d leaf.dev && is_spared scrubs sum calls copied leaf) leaves)
+-- the device is eligible, and none of a leaf that is spared: the key's birth goes into its SCRUB log
+abbrev pub is_scrubbed : (scrubs : Bool) → PoolSeen → Sum → (calls copied : List Noted) → (d : ℕ) → Bool
+is_scrubbed scrubs s sum calls copied d =
+    s.scan.eligible d && not (list_any (λ leaf. is_dev d leaf.dev && is_spared scrubs sum calls copied leaf) s.leaves)
 
 -- A step on one key: its calls, the counts of the leaves of its top, and the scan has come past it.
 pub record RowKey (scrubs : Bool) (s : PoolSeen) (vs : List Move) : Type 0 where
@@ -119,7 +120,7 @@ pub record RowKey (scrubs : Bool) (s : PoolSeen) (vs : List Move) : Type 0 where
   pub copied : List Noted
   pub made : StepCalls (reads_key scrubs s sum) scrubs s sum calls copied
   pub moves : vs ≡ as_moves calls ++ (count_reads sum.sum calls (filter (stands_under sum.top) s.leaves)
-      ++ (Pass k sum.birth (is_scrubbed scrubs sum calls copied s.leaves) ∷ []))
+      ++ (Pass k sum.birth (is_scrubbed scrubs s sum calls copied) ∷ []))
 
 -- behind an eligible leaf's flush its log is cleared, and logs are widened; or it isn't eligible any more
 abbrev pub FlushEnds : Option Fault → PoolSeen → Member → List Move → Type 0
@@ -131,14 +132,14 @@ AreFlushed s [] vs = vs ≡ []
 AreFlushed s (m ∷ ms) vs = (noted : Noted) × (ending : List Move) × (rest : List Move) × (ask_of noted.call ≡ Flushes m.dev)
     × (vs ≡ Makes noted ∷ (ending ++ rest)) × FlushEnds (fault_of noted.call) s m ending × AreFlushed (seen_along ending s) ms rest
 
-abbrev pub is_eligible : LeafSeen → Bool
-is_eligible leaf = leaf.eligible
+abbrev pub is_eligible : ScanSeen → LeafSeen → Bool
+is_eligible scan leaf = on_dev scan.eligible leaf.dev
 
 -- The scan's end: no key is left, and leaf by leaf each eligible one is flushed, and cleared where its flush answered Ok.
 pub record RowScanEnd (s : PoolSeen) (vs : List Move) : Type 0 where
   pub none : HasNoKey s
   pub part : List Move
-  pub flushed : AreFlushed s (members_where is_eligible s.leaves) part
+  pub flushed : AreFlushed s (members_where (is_eligible s.scan) s.leaves) part
   pub moves : vs ≡ part ++ (Rest ∷ [])
 
 pub data StepReply : Type 0 where

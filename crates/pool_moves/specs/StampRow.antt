@@ -165,8 +165,6 @@ new_leaf_seen leaf = record {
   owes = no_log 0;
   settled = no_log 0;
   on = false;
-  eligible = false;
-  scrub = no_log 0;
 }
 
 abbrev pub new_seat : NewLeaf → Seat

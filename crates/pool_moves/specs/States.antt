@@ -2,7 +2,7 @@
 use Rattle.std.specs.Prelude.{ℕ, Bool, true, false, cond, Option, None, List, map}
 use Rattle.mp_base.specs.declared.number.Guid.{Guid}
 use Rattle.mp_base.specs.declared.place.Key.{Key}
-use Rattle.txg_history.specs.Groups.{Group}
+use Rattle.txg_history.specs.Groups.{Group, Logs, no_log}
 use Rattle.txg_history.specs.Pages.{Sum, sum_of}
 use Rattle.txg_history.specs.Pools.{Pool}
 use Rattle.txg_history.specs.Records.{Cells, number_of}
@@ -45,20 +45,29 @@ group_seen frozen group = cond frozen (record {
   begun = group.begun;
 }) no_group_seen
 
--- The scan that runs: keys born up to hi, and those that it has come past.
+-- The scan that runs: keys born up to hi, and those that it has come past; and, by their devices, which leaves are eligible, and
+-- the SCRUB logs.
 pub record ScanSeen : Type 0 where
   pub running : Bool
   pub hi : ℕ
   pub passed : Key → Bool
+  pub eligible : ℕ → Bool
+  pub scrub : Logs
 
-abbrev pub started_seen : (hi : ℕ) → ScanSeen
-started_seen hi = record { running = true; hi = hi; passed = λ k. false }
+abbrev pub started_seen : (hi : ℕ) → (eligible : ℕ → Bool) → ScanSeen
+started_seen hi eligible = record { running = true; hi = hi; passed = λ k. false; eligible = eligible; scrub = no_log }
 
 abbrev pub no_scan_seen : ScanSeen
-no_scan_seen = record { running = false; hi = 0; passed = λ k. false }
+no_scan_seen = record (started_seen 0 (λ d. false)) { running = false }
 
 abbrev pub scan_seen : (running : Bool) → Scan → ScanSeen
-scan_seen running scan = cond running (record { running = true; hi = scan.hi; passed = scan.passed }) no_scan_seen
+scan_seen running scan = cond running (record {
+  running = true;
+  hi = scan.hi;
+  passed = scan.passed;
+  eligible = scan.eligible;
+  scrub = scan.scrub;
+}) no_scan_seen
 
 -- A pool as its code has it: the highest number drawn, the number of the record that it reads, whether it has acknowledged
 -- one since its opening, that record's pointers, the data sectors of its tops, its leaves in tree order, the frozen group, the running scan,
@@ -86,7 +95,7 @@ seen_by frozen running seats p = record {
   opened = p.opened;
   committed = sums p.reads.cells;
   room = p.room;
-  leaves = map (leaf_seen frozen running (told p)) seats;
+  leaves = map (leaf_seen frozen (told p)) seats;
   group = group_seen frozen p.group;
   scan = scan_seen running p.scan;
   pinned = map sums p.pinned;

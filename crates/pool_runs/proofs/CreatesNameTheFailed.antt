@@ -152,7 +152,7 @@ create_from c h name blocks tops acts reply device row says = by (first_failed m
         (all_append _ w.freeze.moves.widens (Flushed_all ∷ [])
         (just_widens (λ d. ⊥) AnySet ⊥ (step v s.core) w.freeze.moves.widens w.freeze.moves.are) (tt, tt))
         (map_forth (λ leaf. Seen leaf.guid leaf.dev)
-        (leaf_step v s.core.number s.core.group.first s.core.scan.hi) s.core.leaves at_first))
+        (leaf_step v s.core.number s.core.group.first s.core.scan) s.core.leaves at_first))
 
     fails : IsCaught (λ d. FailedOn d (made_in row.moves)) w.round
     fails = caught_second (λ d. FailedOn d (made_in row.moves)) (w.first ++ (Flushed_all ∷ [])) w.round

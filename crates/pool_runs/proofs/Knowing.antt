@@ -26,7 +26,7 @@ use Rattle.pool_moves.specs.Leaves.{LeafSeen, Seat, At, Adrift, told, leaf_seen}
 use Rattle.pool_moves.specs.Moves.{Move, Makes, Lose, Comes, events_of, leaf_step, state_step, after_move}
 use Rattle.pool_moves.specs.ReadRow.{made_in}
 use Rattle.pool_moves.specs.Rosters.{roster_after}
-use Rattle.pool_moves.specs.States.{PoolState, Side}
+use Rattle.pool_moves.specs.States.{ScanSeen, PoolState, Side}
 use Rattle.pool_moves.proofs.Keeping.{move_keeps}
 use Rattle.pool_moves.proofs.Rosters.{roster_goes_on}
 use Rattle.pool_runs.specs.Acts.{Act, Hears, Bare, Does, Looked, Shows, Reads_as, Enters, Takes, Bears, Closes, does, read_by, events_for, pool_by, pool_along}
@@ -212,24 +212,24 @@ shown_other c h p g d known knows torn shown off = not_true (p.member d) (λ is.
     (ap (λ n. known d (place_at n shown.place)) (knows.sizes d shown.here) ∙ shown.is_read) shown.correct)))
 
 -- A device that another pool stamps is lost.
-same_leaves : (d number first hi : ℕ) (leaves : List LeafSeen) → map (leaf_step (Lose d) number first hi) leaves ≡ leaves
-same_leaves d number first hi [] = refl
-same_leaves d number first hi (leaf ∷ leaves) = ap (λ more. leaf ∷ more) (same_leaves d number first hi leaves)
+same_leaves : (d number first : ℕ) (scan : ScanSeen) (leaves : List LeafSeen) → map (leaf_step (Lose d) number first scan) leaves ≡ leaves
+same_leaves d number first scan [] = refl
+same_leaves d number first scan (leaf ∷ leaves) = ap (λ more. leaf ∷ more) (same_leaves d number first scan leaves)
 
 lose_state : (d : ℕ) (s : PoolState) → state_step (Lose d) s ≡ s
-lose_state d s = ap (λ leaves. record s { core = record (s.core) { leaves = leaves } }) (same_leaves d s.core.number s.core.group.first s.core.scan.hi s.core.leaves)
+lose_state d s = ap (λ leaves. record s { core = record (s.core) { leaves = leaves } }) (same_leaves d s.core.number s.core.group.first s.core.scan s.core.leaves)
 
-not_found : (d : ℕ) (frozen running : Bool) (p : Pool) (seats : List Seat) → AllByRecursion (λ leaf. is_dev d leaf.dev ≡ false) (map (leaf_seen frozen running (told p)) seats)
+not_found : (d : ℕ) (frozen : Bool) (p : Pool) (seats : List Seat) → AllByRecursion (λ leaf. is_dev d leaf.dev ≡ false) (map (leaf_seen frozen (told p)) seats)
     → AllByRecursion (IsNotFoundAt d) seats
-not_found d frozen running p [] none = tt
-not_found d frozen running p (At e found own ∷ seats) none = ((λ same. not_true found (λ is. true_not_false (d == e) same (sym (ap (λ t. is_dev d (cond t (Some e) None)) is) ∙ none.0))), not_found d frozen running p seats none.1)
-not_found d frozen running p (Adrift leaf ∷ seats) none = (tt, not_found d frozen running p seats none.1)
+not_found d frozen p [] none = tt
+not_found d frozen p (At e found own ∷ seats) none = ((λ same. not_true found (λ is. true_not_false (d == e) same (sym (ap (λ t. is_dev d (cond t (Some e) None)) is) ∙ none.0))), not_found d frozen p seats none.1)
+not_found d frozen p (Adrift leaf ∷ seats) none = (tt, not_found d frozen p seats none.1)
 
 lost_seats : (c : Codec) (s : PoolState) (p : Pool) (d : ℕ) → HasNoLeafAt d s → HasSeats c s p → HasSeats c s (after (Loses d) p)
 lost_seats c s p d none has = let t : Side = record { pool = p; seats = has.0 } in (
   (after_move (Lose d) t).seats,
   subst (λ x. Kept c x (after_move (Lose d) t)) (lose_state d s)
-      (move_keeps c (Lose d) s t (tt, tt) (not_found d p.group.frozen p.scan.running p has.0 (subst (λ core. AllByRecursion (λ leaf. is_dev d leaf.dev ≡ false) core.leaves) has.1.core none)) has.1),
+      (move_keeps c (Lose d) s t (tt, tt) (not_found d p.group.frozen p has.0 (subst (λ core. AllByRecursion (λ leaf. is_dev d leaf.dev ≡ false) core.leaves) has.1.core none)) has.1),
 )
 
 lost_known : (c : Codec) (h : Host) (p : Pool) (g d : ℕ) → g ≢ p.pool.0 → ((s : PoolState) → IsOpen s h.pools → s.core.pool.0 ≢ g → HasNoLeafAt d s) → Knows c h p

@@ -10,13 +10,13 @@ use Rattle.txg_history.specs.Events.{Known}
 use Rattle.txg_history.specs.Pages.{Codec, Sum}
 use Rattle.txg_history.specs.Records.{Cell, Cells}
 use Rattle.mp_base.specs.declared.place.Key.{Key}
-use Rattle.pool_moves.specs.AwayRows.{OfflineReply, is_listed, is_offline, is_spare, LeaveIf, drop_if, gone, OfflineLeaf, OfflineHere, OfflineBy, leaf_named, RowOffline}
+use Rattle.pool_moves.specs.AwayRows.{OfflineReply, is_listed, is_offline, is_spare, LeaveIf, drop_if, drops_leaf, gone, OfflineLeaf, OfflineHere, OfflineBy, leaf_named, RowOffline}
 use Rattle.pool_moves.specs.Boards.{members_where}
 use Rattle.pool_moves.specs.CommitRows.{RowLogs}
 use Rattle.pool_moves.specs.FreezeRow.{up_devs}
 use Rattle.pool_moves.specs.Leaves.{LeafSeen}
 use Rattle.pool_moves.specs.LineRows.{TurnReply, sets_failed, has_number, RowTurn, Committed, FreezeReply, FreezeFor, FreezeBy, RowFreezeLine, RowSync}
-use Rattle.pool_moves.specs.Moves.{Move, Freeze, Leave, Burn, Sets, Finds, Drop, Clear, Pass, Scan_from, Scrubs, Rest, steps}
+use Rattle.pool_moves.specs.Moves.{Move, Freeze, Leave, Burn, Sets, Finds, Drop, Clear, Pass, Scan_from, Scrubs, Rest, on_dev, steps}
 use Rattle.pool_moves.specs.OnlineRow.{HostDevice, Handed, OnlineReply, Stands, is_away, marked_own, brought_own, searched_own, SearchEnds, ScansBehind, OnlineRoomy, OnlineAway, OnlineOn, OnlineBy}
 use Rattle.pool_moves.specs.OpeningRow.{ResumesBy, ResumesUnless}
 use Rattle.pool_moves.specs.ReadRow.{ReadReply, count_reads, stands_under, ReadRecord, ReadGroup, ReadOpen, RowRead, made_in}
@@ -95,8 +95,8 @@ module _ (P : Move → Type 0) (k : IsLineKind P) where
   line_offline_leaf true s leaf temporary vs reply row = subst All (sym row.0) (k.kind.set _ _, tt)
   line_offline_leaf false s leaf temporary vs reply (inl row) = subst All (sym row.2) tt
   line_offline_leaf false s leaf temporary vs reply (inr row) = let goes = row.1 in subst All (sym goes.moves)
-      (more P (drop_if leaf.eligible leaf.dev) (goes.leaving ++ (Sets leaf.guid (gone temporary leaf.own) ∷ [])) (line_drop_if leaf.eligible leaf.dev)
-      (more P goes.leaving (Sets leaf.guid (gone temporary leaf.own) ∷ []) (line_leave_if leaf.on leaf.dev (seen_along (drop_if leaf.eligible leaf.dev) s.core) goes.leaving goes.leaves) (k.kind.set _ _, tt)))
+      (more P (drops_leaf s.core.scan leaf) (goes.leaving ++ (Sets leaf.guid (gone temporary leaf.own) ∷ [])) (line_drop_if (on_dev s.core.scan.eligible leaf.dev) leaf.dev)
+      (more P goes.leaving (Sets leaf.guid (gone temporary leaf.own) ∷ []) (line_leave_if leaf.on leaf.dev (seen_along (drops_leaf s.core.scan leaf) s.core) goes.leaving goes.leaves) (k.kind.set _ _, tt)))
 
   line_offline_here : (spare : Bool) (s : PoolState) (leaf : LeafSeen) (temporary : Bool) (vs : List Move) (reply : OfflineReply)
       → OfflineHere spare s leaf temporary vs reply → All vs
@@ -188,7 +188,7 @@ module _ (P : Move → Type 0) (k : IsLineKind P) where
       (more P (as_moves key.calls) (count_reads key.sum.sum key.calls (filter (stands_under key.sum.top) s.core.leaves) ++ (Pass key.k key.sum.birth _ ∷ []))
       (line_calls key.calls) (more P (count_reads key.sum.sum key.calls (filter (stands_under key.sum.top) s.core.leaves)) (Pass key.k key.sum.birth _ ∷ [])
       (line_reads key.sum.sum key.calls (filter (stands_under key.sum.top) s.core.leaves)) (k.passes _ _ _, tt)))
-  line_step true s vs reply (inr row) = subst All (sym row.0.moves) (more P row.0.part (Rest ∷ []) (line_flushes s.core (members_where is_eligible s.core.leaves) row.0.part row.0.flushed) (k.rests, tt))
+  line_step true s vs reply (inr row) = subst All (sym row.0.moves) (more P row.0.part (Rest ∷ []) (line_flushes s.core (members_where (is_eligible s.core.scan) s.core.leaves) row.0.part row.0.flushed) (k.rests, tt))
 
   line_scrub : (running : Bool) (s : PoolState) (vs : List Move) (reply : ScrubReply) → ScrubBy running s vs reply → All vs
   line_scrub true s vs reply row = subst All (sym row.0) tt

@@ -15,7 +15,7 @@ use Rattle.pool_moves.specs.Leaves.{LeafSeen}
 use Rattle.pool_moves.specs.LineRows.{Suspended, RowTurn, TurnBy, EndsGroup, CommitsOpen}
 use Rattle.pool_moves.specs.Moves.{Move, Freeze, Leave, Sets, on_dev, leaf_step, step, state_step, steps, Commits, Finds, Clear, Burn}
 use Rattle.pool_moves.specs.Refusing.{RefusedBy, is_writable, is_writable_under, unwritable_of, unwritable}
-use Rattle.pool_moves.specs.States.{PoolState}
+use Rattle.pool_moves.specs.States.{ScanSeen, PoolState}
 use Rattle.pool_moves.specs.Widening.{IsWidened}
 use Rattle.pool_runs.specs.Counting.{is_under, IsLostBy, LosesTop, LosesBoard, LosesFreeze}
 use Rattle.pool_runs.proofs.Failing.{IsCaught, caught_second}
@@ -103,18 +103,18 @@ module _ (Fails : ℕ → Type 0) where
       by_bool (d == e) (λ here. (e, refl, subst Fails (same_device d e here) fails))
       (λ away. lost at (ap (λ t. cond t false on) away ∙ is))
 
-  leaf_back : (top : ℕ) (v : Move) (number first hi : ℕ) (leaf : LeafSeen) → IsJust Fails AnySet ⊥ v
-      → IsLostBy is_on Fails top (leaf_step v number first hi leaf) → IsLostBy is_on Fails top leaf
-  leaf_back top (Leave d) number first hi leaf just lost = leave_back d just leaf.dev leaf.on (leaf.top ≡ top) lost
-  leaf_back top (Sets m own) number first hi leaf just lost = either (λ t. IsLostBy is_on Fails top
+  leaf_back : (top : ℕ) (v : Move) (number first : ℕ) (scan : ScanSeen) (leaf : LeafSeen) → IsJust Fails AnySet ⊥ v
+      → IsLostBy is_on Fails top (leaf_step v number first scan leaf) → IsLostBy is_on Fails top leaf
+  leaf_back top (Leave d) number first scan leaf just lost = leave_back d just leaf.dev leaf.on (leaf.top ≡ top) lost
+  leaf_back top (Sets m own) number first scan leaf just lost = either (λ t. IsLostBy is_on Fails top
       (cond t (record leaf { own = own }) leaf) → IsLostBy is_on Fails top leaf) (λ lost. lost) (λ lost. lost)
       (leaf.guid.0 == m.0) lost
-  leaf_back top (Freeze cells board) number first hi leaf just lost = absurd just
-  leaf_back top Burn number first hi leaf just lost = absurd just
-  leaf_back top (Commits draft) number first hi leaf just lost = absurd just
-  leaf_back top (Finds m d) number first hi leaf just lost = absurd just
-  leaf_back top (Clear d) number first hi leaf just lost = absurd just
-  leaf_back top v number first hi leaf just lost = lost
+  leaf_back top (Freeze cells board) number first scan leaf just lost = absurd just
+  leaf_back top Burn number first scan leaf just lost = absurd just
+  leaf_back top (Commits draft) number first scan leaf just lost = absurd just
+  leaf_back top (Finds m d) number first scan leaf just lost = absurd just
+  leaf_back top (Clear d) number first scan leaf just lost = absurd just
+  leaf_back top v number first scan leaf just lost = lost
 
   steps_back : (top : ℕ) (vs : List Move) (s : PoolState) → AreJust Fails AnySet ⊥ vs
       → AllByRecursion (IsLostBy is_on Fails top) (steps vs s).core.leaves
@@ -122,8 +122,8 @@ module _ (Fails : ℕ → Type 0) where
   steps_back top [] s just lost = lost
   steps_back top (v ∷ vs) s just lost = step_leaves Fails AnySet ⊥
       (λ l. AllByRecursion (IsLostBy is_on Fails top) l → AllByRecursion (IsLostBy is_on Fails top) s.core.leaves)
-      v s just.0 (map_back _ (leaf_step v s.core.number s.core.group.first s.core.scan.hi)
-      (λ leaf lost. leaf_back top v s.core.number s.core.group.first s.core.scan.hi leaf just.0 lost) s.core.leaves)
+      v s just.0 (map_back _ (leaf_step v s.core.number s.core.group.first s.core.scan)
+      (λ leaf lost. leaf_back top v s.core.number s.core.group.first s.core.scan leaf just.0 lost) s.core.leaves)
       (steps_back top vs (state_step v s) just.1 lost)
 
   step_first : (v : Move) (s : PoolState) → IsJust Fails AnySet ⊥ v
@@ -202,13 +202,13 @@ module _ (Fails : ℕ → Type 0) where
       board_loses s group top faults frozen (group_lost c size s vs group top faults caught ends)
 
   -- A freeze puts each leaf that could be written on the board.
-  up_back : (top : ℕ) (cells : Cells) (board : ℕ → Bool) (number first hi : ℕ) (leaves : List LeafSeen)
+  up_back : (top : ℕ) (cells : Cells) (board : ℕ → Bool) (number first : ℕ) (scan : ScanSeen) (leaves : List LeafSeen)
       → AllByRecursion (IsUp board) leaves
-      → AllByRecursion (IsLostBy is_on Fails top) (map (leaf_step (Freeze cells board) number first hi) leaves)
+      → AllByRecursion (IsLostBy is_on Fails top) (map (leaf_step (Freeze cells board) number first scan) leaves)
       → AllByRecursion (IsLostBy is_writable Fails top) leaves
-  up_back top cells board number first hi [] up lost = tt
-  up_back top cells board number first hi (leaf ∷ leaves) up lost =
-      ((λ under writable. lost.0 under (up.0 writable)), up_back top cells board number first hi leaves up.1 lost.1)
+  up_back top cells board number first scan [] up lost = tt
+  up_back top cells board number first scan (leaf ∷ leaves) up lost =
+      ((λ under writable. lost.0 under (up.0 writable)), up_back top cells board number first scan leaves up.1 lost.1)
 
   above : (n group : ℕ) → n + 1 ≡ group → n < group
   above n group is = omega (arith, is)
@@ -227,10 +227,10 @@ module _ (Fails : ℕ → Type 0) where
         record {
           at = one.1.at;
           number_is = one.1.number_is;
-          some = sym (any_map (is_under one.1.at) (leaf_step v s.core.number s.core.group.first s.core.scan.hi)
+          some = sym (any_map (is_under one.1.at) (leaf_step v s.core.number s.core.group.first s.core.scan)
               (λ leaf. refl) s.core.leaves) ∙ one.1.some;
           lost = up_back one.1.at cells
-              (up_devs s.core.leaves) s.core.number s.core.group.first s.core.scan.hi s.core.leaves
+              (up_devs s.core.leaves) s.core.number s.core.group.first s.core.scan s.core.leaves
               (all_up (up_devs s.core.leaves) s.core.leaves (λ d is. is)) one.1.lost;
         },
       )

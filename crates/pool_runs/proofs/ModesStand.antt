@@ -13,7 +13,7 @@ use Rattle.pool_moves.specs.Leaves.{OwnLeaf, LeafSeen, Seat, At, Adrift, told, l
 use Rattle.pool_moves.specs.LineRows.{Committed, EndsGroup, write_failed}
 use Rattle.pool_moves.specs.Moves.{Move, Sets, leaf_step, state_step, steps, Freeze, Finds, Clear, Burn}
 use Rattle.pool_moves.specs.Refusing.{is_writable}
-use Rattle.pool_moves.specs.States.{PoolState}
+use Rattle.pool_moves.specs.States.{ScanSeen, PoolState}
 use Rattle.pool_runs.specs.Knowing.{HasSeats}
 use Rattle.pool_runs.proofs.OnlyFailedLeave.{IsJust, AreJust, Comes, KeepsMay, group_comes, step_leaves, steps_tops, steps_places}
 use Rattle.pool_moves.proofs.KindsOfMoves.{AnyLeaf, MaySet}
@@ -70,23 +70,23 @@ module _ (leaves : List LeafSeen) where
   abbrev pub Mild : Guid → OwnLeaf → Type 0
   Mild m own = IsMild m.0 own
 
-  leaf_mild : (v : Move) (number first hi : ℕ) (leaf : LeafSeen) → IsJust AnyLeaf Mild (Unit {0}) v
+  leaf_mild : (v : Move) (number first : ℕ) (scan : ScanSeen) (leaf : LeafSeen) → IsJust AnyLeaf Mild (Unit {0}) v
       → Mild leaf.guid (write_failed leaf.own)
-      → Mild (leaf_step v number first hi leaf).guid (write_failed (leaf_step v number first hi leaf).own)
-  leaf_mild (Sets m own) number first hi leaf just mild = cond_both (leaf.guid.0 == m.0) (record leaf { own = own })
+      → Mild (leaf_step v number first scan leaf).guid (write_failed (leaf_step v number first scan leaf).own)
+  leaf_mild (Sets m own) number first scan leaf just mild = cond_both (leaf.guid.0 == m.0) (record leaf { own = own })
       leaf (λ x. Mild x.guid (write_failed x.own))
       (λ same. subst (λ n. IsMild n own) (sym (same_device leaf.guid.0 m.0 same)) just) (λ away. mild)
-  leaf_mild (Freeze cells board) number first hi leaf just mild = absurd just
-  leaf_mild Burn number first hi leaf just mild = absurd just
-  leaf_mild (Finds m d) number first hi leaf just mild = absurd just
-  leaf_mild (Clear d) number first hi leaf just mild = absurd just
-  leaf_mild v number first hi leaf just mild = mild
+  leaf_mild (Freeze cells board) number first scan leaf just mild = absurd just
+  leaf_mild Burn number first scan leaf just mild = absurd just
+  leaf_mild (Finds m d) number first scan leaf just mild = absurd just
+  leaf_mild (Clear d) number first scan leaf just mild = absurd just
+  leaf_mild v number first scan leaf just mild = mild
 
   step_mild : (v : Move) (s : PoolState) → IsJust AnyLeaf Mild (Unit {0}) v → MaySet Mild s.core.leaves
       → MaySet Mild (state_step v s).core.leaves
   step_mild v s just all = step_leaves AnyLeaf Mild (Unit {0}) (MaySet Mild) v s just
-      (all_map _ (leaf_step v s.core.number s.core.group.first s.core.scan.hi)
-      (λ leaf mild. leaf_mild v s.core.number s.core.group.first s.core.scan.hi leaf just mild) s.core.leaves all)
+      (all_map _ (leaf_step v s.core.number s.core.group.first s.core.scan)
+      (λ leaf mild. leaf_mild v s.core.number s.core.group.first s.core.scan leaf just mild) s.core.leaves all)
 
   steps_mild : KeepsMay AnyLeaf Mild (Unit {0})
   steps_mild [] s just all = all
@@ -118,10 +118,10 @@ module _ (leaves : List LeafSeen) where
   none_and false true = refl
   none_and false false = refl
 
-  leaf_written : (v : Move) (number first hi : ℕ) (leaf : LeafSeen) → IsJust AnyLeaf Mild (Unit {0}) v
+  leaf_written : (v : Move) (number first : ℕ) (scan : ScanSeen) (leaf : LeafSeen) → IsJust AnyLeaf Mild (Unit {0}) v
       → Mild leaf.guid (write_failed leaf.own) → IsCarried leaf
-      → written_as (leaf_step v number first hi leaf) ≡ written_as leaf
-  leaf_written (Sets m own) number first hi leaf just mild carried = cond_both (leaf.guid.0 == m.0)
+      → written_as (leaf_step v number first scan leaf) ≡ written_as leaf
+  leaf_written (Sets m own) number first scan leaf just mild carried = cond_both (leaf.guid.0 == m.0)
       (record leaf { own = own }) leaf (λ x. written_as x ≡ written_as leaf)
       (λ same. ap (λ t. (t, leaf.dev, leaf.top)) (writable (same_device leaf.guid.0 m.0 same))) (λ away. refl)
     where
@@ -130,11 +130,11 @@ module _ (leaves : List LeafSeen) where
           (one_mode leaf.guid.0 own leaf.own leaves (carried some) (subst (λ n. IsMild n own) (sym same) just) mild))
           (λ none. ap (λ t. is_up own.mode && t) none
           ∙ (none_and (is_up own.mode) (is_up leaf.own.mode) ∙ ap (λ t. is_up leaf.own.mode && t) (sym none)))
-  leaf_written (Freeze cells board) number first hi leaf just mild carried = absurd just
-  leaf_written Burn number first hi leaf just mild carried = absurd just
-  leaf_written (Finds m d) number first hi leaf just mild carried = absurd just
-  leaf_written (Clear d) number first hi leaf just mild carried = absurd just
-  leaf_written v number first hi leaf just mild carried = refl
+  leaf_written (Freeze cells board) number first scan leaf just mild carried = absurd just
+  leaf_written Burn number first scan leaf just mild carried = absurd just
+  leaf_written (Finds m d) number first scan leaf just mild carried = absurd just
+  leaf_written (Clear d) number first scan leaf just mild carried = absurd just
+  leaf_written v number first scan leaf just mild carried = refl
 
   all_written : (f : LeafSeen → LeafSeen) → ((leaf : LeafSeen) → Mild leaf.guid (write_failed leaf.own) → IsCarried leaf
       → written_as (f leaf) ≡ written_as leaf) → (xs : List LeafSeen) → MaySet Mild xs → AllByRecursion IsCarried xs
@@ -148,8 +148,8 @@ module _ (leaves : List LeafSeen) where
       → map written_as (state_step v s).core.leaves ≡ map written_as s.core.leaves
   step_written v s just mild carried =
       step_leaves AnyLeaf Mild (Unit {0}) (λ l. map written_as l ≡ map written_as s.core.leaves) v s just
-      (all_written (leaf_step v s.core.number s.core.group.first s.core.scan.hi)
-      (λ leaf. leaf_written v s.core.number s.core.group.first s.core.scan.hi leaf just) s.core.leaves mild carried)
+      (all_written (leaf_step v s.core.number s.core.group.first s.core.scan)
+      (λ leaf. leaf_written v s.core.number s.core.group.first s.core.scan leaf just) s.core.leaves mild carried)
 
   steps_written : (vs : List Move) (s : PoolState) → AreJust AnyLeaf Mild (Unit {0}) vs → MaySet Mild s.core.leaves
       → AllByRecursion IsCarried s.core.leaves → map written_as (steps vs s).core.leaves ≡ map written_as s.core.leaves
@@ -178,42 +178,42 @@ carried_all (leaf ∷ leaves) = (carried_here leaf leaves, carried_up leaf leave
 abbrev IsAlone : (leaf other : LeafSeen) → Type 0
 IsAlone leaf other = is_some leaf.dev ≡ true → (leaf.guid.0 == other.guid.0) ≡ true → other.own.mode ≡ leaf.own.mode
 
-at_alone : (f r : Bool) (p : Pool) (d : ℕ) (found : Bool) (own : OwnLeaf) (other : Seat) → IsOwnNumber p.guid d other
-    → IsSameAt d own other → IsAlone (leaf_seen f r (told p) (At d found own)) (leaf_seen f r (told p) other)
-at_alone f r p d found own (At e was mine) (inl here) same = λ some number. ap (λ x. x.mode) (same here)
-at_alone f r p d found own (At e was mine) (inr off) same = λ some number. true_not_false ((p.guid e).0 == (p.guid d).0)
+at_alone : (f : Bool) (p : Pool) (d : ℕ) (found : Bool) (own : OwnLeaf) (other : Seat) → IsOwnNumber p.guid d other
+    → IsSameAt d own other → IsAlone (leaf_seen f (told p) (At d found own)) (leaf_seen f (told p) other)
+at_alone f p d found own (At e was mine) (inl here) same = λ some number. ap (λ x. x.mode) (same here)
+at_alone f p d found own (At e was mine) (inr off) same = λ some number. true_not_false ((p.guid e).0 == (p.guid d).0)
     (same_test (p.guid e).0 (p.guid d).0 (sym (same_device (p.guid d).0 (p.guid e).0 number))) off
-at_alone f r p d found own (Adrift leaf) off same = λ some number. true_not_false (leaf.guid.0 == (p.guid d).0)
+at_alone f p d found own (Adrift leaf) off same = λ some number. true_not_false (leaf.guid.0 == (p.guid d).0)
     (same_test leaf.guid.0 (p.guid d).0 (sym (same_device (p.guid d).0 leaf.guid.0 number))) off
 
-seat_alone : (f r : Bool) (p : Pool) (seats : List Seat)
+seat_alone : (f : Bool) (p : Pool) (seats : List Seat)
     → ((d : ℕ) → p.member d ≡ true → AllByRecursion (IsOwnNumber p.guid d) seats) → (seat : Seat)
     → AllByRecursion (IsSameAs seat) seats → IsSeated p.member seat → IsAway seat
-    → AllByRecursion (λ other. IsAlone (leaf_seen f r (told p) seat) (leaf_seen f r (told p) other)) seats
-seat_alone f r p seats numbered (At d found own) same seated away =
-    of_both (at_alone f r p d found own) seats (numbered d seated) same
-seat_alone f r p seats numbered (Adrift leaf) same seated away =
+    → AllByRecursion (λ other. IsAlone (leaf_seen f (told p) seat) (leaf_seen f (told p) other)) seats
+seat_alone f p seats numbered (At d found own) same seated away =
+    of_both (at_alone f p d found own) seats (numbered d seated) same
+seat_alone f p seats numbered (Adrift leaf) same seated away =
     of_all (λ other some number. absurd (let no : true ≡ false = sym some ∙ ap is_some away.0 in cc)) seats
 
-kept_mild : (f r : Bool) (p : Pool) (seats : List Seat)
+kept_mild : (f : Bool) (p : Pool) (seats : List Seat)
     → ((d : ℕ) → p.member d ≡ true → AllByRecursion (IsOwnNumber p.guid d) seats) → AreSeatsApart seats
     → AllByRecursion (IsSeated p.member) seats → AllByRecursion IsAway seats
-    → MaySet (Mild (map (leaf_seen f r (told p)) seats)) (map (leaf_seen f r (told p)) seats)
-kept_mild f r p seats numbered apart seated away =
+    → MaySet (Mild (map (leaf_seen f (told p)) seats)) (map (leaf_seen f (told p)) seats)
+kept_mild f p seats numbered apart seated away =
     map_forth (λ other. AllByRecursion (λ leaf. IsAlone leaf other) (map see seats)) see seats
     (each (λ other alone. map_forth (λ leaf. IsAlone leaf (see other)) see seats alone) seats
     (swap (λ seat other. IsAlone (see seat) (see other)) seats seats
     (of_both {Q = λ seat. IsSeated p.member seat × IsAway seat}
-    (λ seat same more. seat_alone f r p seats numbered seat same more.0 more.1) seats (all_same seats apart)
+    (λ seat same more. seat_alone f p seats numbered seat same more.0 more.1) seats (all_same seats apart)
     (of_both (λ seat a b. (a, b)) seats seated away))))
   where
     see : Seat → LeafSeen
-    see seat = leaf_seen f r (told p) seat
+    see seat = leaf_seen f (told p) seat
 
 state_mild : (c : Codec) (s : PoolState) (p : Pool) → HasSeats c s p → MaySet (Mild s.core.leaves) s.core.leaves
 state_mild c s p (seats, kept) =
     subst (λ leaves. MaySet (Mild leaves) leaves) (ap (λ core. core.leaves) (sym kept.core))
-    (kept_mild p.group.frozen p.scan.running p seats kept.numbered kept.apart kept.seated kept.away)
+    (kept_mild p.group.frozen p seats kept.numbered kept.apart kept.seated kept.away)
 
 -- A frozen group that was acknowledged: each leaf may be written as before, on its device and under its top.
 pub record IsLeftWritable (s behind : PoolState) : Type 0 where

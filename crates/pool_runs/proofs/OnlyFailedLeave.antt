@@ -14,7 +14,7 @@ use Rattle.pool_moves.specs.Leaves.{OwnLeaf, LeafSeen}
 use Rattle.pool_moves.specs.LineRows.{TurnReply, count_moves, suspended_by, RowTurn, EndsGroup}
 use Rattle.pool_moves.specs.Moves.{Move, Makes, Freeze, Wrote_key, Flushed_all, Draw, Leave, Widen, Burn, Starts, Copies, Copied, Commits, Sets, Finds, Comes as Comes_in, Goes, Returns, Clear, leaf_step, state_step, steps}
 use Rattle.pool_moves.specs.ReadRow.{made_in}
-use Rattle.pool_moves.specs.States.{PoolSeen, PoolState}
+use Rattle.pool_moves.specs.States.{ScanSeen, PoolSeen, PoolState}
 use Rattle.pool_moves.specs.TurnRows.{turn_moves, round_moves, RowRound}
 use Rattle.pool_moves.specs.Walking.{as_moves}
 use Rattle.pool_moves.specs.Widening.{AreWidens}
@@ -179,21 +179,21 @@ module _ (Fails : ℕ → Type 0) (May : Guid → OwnLeaf → Type 0) (Ack : Typ
   just_still v just = tt
 
   pub step_leaves : (P : List LeafSeen → Type 0) (v : Move) (s : PoolState) → IsJust v
-      → P (map (leaf_step v s.core.number s.core.group.first s.core.scan.hi) s.core.leaves)
+      → P (map (leaf_step v s.core.number s.core.group.first s.core.scan) s.core.leaves)
       → P (state_step v s).core.leaves
   step_leaves P v s just is = subst P (sym (leaves_still v s.core (just_still v just))) is
 
-  leaf_stays : (v : Move) (number first hi : ℕ) (leaf : LeafSeen) → IsJust v
-      → ((leaf_step v number first hi leaf).guid ≡ leaf.guid) × ((leaf_step v number first hi leaf).dev ≡ leaf.dev)
-      × ((leaf_step v number first hi leaf).top ≡ leaf.top)
-  leaf_stays (Finds m d) number first hi leaf just = absurd just
-  leaf_stays (Clear d) number first hi leaf just = absurd just
-  leaf_stays (Sets m own) number first hi leaf just = either
+  leaf_stays : (v : Move) (number first : ℕ) (scan : ScanSeen) (leaf : LeafSeen) → IsJust v
+      → ((leaf_step v number first scan leaf).guid ≡ leaf.guid) × ((leaf_step v number first scan leaf).dev ≡ leaf.dev)
+      × ((leaf_step v number first scan leaf).top ≡ leaf.top)
+  leaf_stays (Finds m d) number first scan leaf just = absurd just
+  leaf_stays (Clear d) number first scan leaf just = absurd just
+  leaf_stays (Sets m own) number first scan leaf just = either
       (λ t. ((cond t (record leaf { own = own }) leaf).guid ≡ leaf.guid)
       × ((cond t (record leaf { own = own }) leaf).dev ≡ leaf.dev)
       × ((cond t (record leaf { own = own }) leaf).top ≡ leaf.top))
       (refl, refl, refl) (refl, refl, refl) (leaf.guid.0 == m.0)
-  leaf_stays v number first hi leaf just = (refl, refl, refl)
+  leaf_stays v number first scan leaf just = (refl, refl, refl)
 
   -- So what is so of some leaf by its number, its device and its top stays so, and what is so of each.
   pub steps_any : (test : Guid → Option ℕ → ℕ → Bool) (vs : List Move) (s : PoolState) → AreJust vs
@@ -203,8 +203,8 @@ module _ (Fails : ℕ → Type 0) (May : Guid → OwnLeaf → Type 0) (Ack : Typ
   steps_any test (v ∷ vs) s just = steps_any test vs (state_step v s) just.1
       ∙ step_leaves (λ l. list_any (λ leaf. test leaf.guid leaf.dev leaf.top) l
       ≡ list_any (λ leaf. test leaf.guid leaf.dev leaf.top) s.core.leaves) v s just.0
-      (any_map (λ leaf. test leaf.guid leaf.dev leaf.top) (leaf_step v s.core.number s.core.group.first s.core.scan.hi)
-      (λ leaf. let same = leaf_stays v s.core.number s.core.group.first s.core.scan.hi leaf just.0 in
+      (any_map (λ leaf. test leaf.guid leaf.dev leaf.top) (leaf_step v s.core.number s.core.group.first s.core.scan)
+      (λ leaf. let same = leaf_stays v s.core.number s.core.group.first s.core.scan leaf just.0 in
       rw (same.0, same.1, same.2) refl) s.core.leaves)
 
   pub steps_places : (Q : Guid → Option ℕ → Type 0) (vs : List Move) (s : PoolState) → AreJust vs
@@ -213,8 +213,8 @@ module _ (Fails : ℕ → Type 0) (May : Guid → OwnLeaf → Type 0) (Ack : Typ
   steps_places Q [] s just all = all
   steps_places Q (v ∷ vs) s just all = steps_places Q vs (state_step v s) just.1
       (step_leaves (AllByRecursion (λ leaf. Q leaf.guid leaf.dev)) v s just.0
-      (all_map (λ leaf. Q leaf.guid leaf.dev) (leaf_step v s.core.number s.core.group.first s.core.scan.hi)
-      (λ leaf is. let same = leaf_stays v s.core.number s.core.group.first s.core.scan.hi leaf just.0 in
+      (all_map (λ leaf. Q leaf.guid leaf.dev) (leaf_step v s.core.number s.core.group.first s.core.scan)
+      (λ leaf is. let same = leaf_stays v s.core.number s.core.group.first s.core.scan leaf just.0 in
       rw (same.0, same.1) is) s.core.leaves all))
 
 -- Tops keep their numbers, and the number that was drawn never falls.

@@ -144,8 +144,8 @@ some_seat c s t name other kept = of (leaf_named name s.core.leaves) refl
     of : (found : Option LeafSeen) → leaf_named name s.core.leaves ≡ found → (seat : Seat) × IsSeatOf s t name seat
     of None none = (other, λ leaf is. absurd (let no = sym none ∙ is in cc))
     of (Some leaf) is =
-        let leaves : s.core.leaves ≡ map (leaf_seen t.pool.group.frozen t.pool.scan.running (told t.pool)) t.seats = ap (λ core. core.leaves) kept.core in
-        let found = seat_at (leaf_seen t.pool.group.frozen t.pool.scan.running (told t.pool)) (λ x. bytes_eq x.own.name name) t.seats leaf
+        let leaves : s.core.leaves ≡ map (leaf_seen t.pool.group.frozen (told t.pool)) t.seats = ap (λ core. core.leaves) kept.core in
+        let found = seat_at (leaf_seen t.pool.group.frozen (told t.pool)) (λ x. bytes_eq x.own.name name) t.seats leaf
         (subst (λ l. leaf_named name l ≡ Some leaf) leaves is) in
         (found.0, λ x same. subst (λ l. slice_get t.seats (place_named name l) ≡ Some found.0) (sym leaves) found.1)
 

@@ -20,6 +20,8 @@ mod groups;
 #[cfg(test)]
 mod labels;
 #[cfg(test)]
+mod lines;
+#[cfg(test)]
 mod maps;
 #[cfg(test)]
 mod mirrors;
