@@ -14,15 +14,15 @@ use Rattle.label_store.specs.Rounds.{uberblock_of, first_plan, second_plan, thir
 use Rattle.label_store.specs.Uberblock.{uberblock_bytes}
 use Rattle.txg_history.specs.Pages.{Codec}
 use Rattle.txg_history.specs.Turns.{write_plan, flush_plan}
-use Rattle.pool_moves.specs.AwayRows.{WriteReply, WriteFits, WriteBy, RowWrite, OfflineReply, LeaveIf, drop_if, gone, is_offline, is_spare, leaf_named, OfflineLeaf, OfflineHere, OfflineBy, RowOffline}
+use Rattle.pool_moves.specs.AwayRows.{WriteReply, WriteFits, WriteBy, RowWrite, OfflineReply, LeaveIf, drop_if, drops_leaf, gone, is_offline, is_spare, leaf_named, OfflineLeaf, OfflineHere, OfflineBy, RowOffline}
 use Rattle.pool_moves.specs.Boards.{member_before, members_where, is_on, is_on_under, board_of, board_under}
 use Rattle.pool_moves.specs.FreezeRow.{up_devs, RowFreeze}
 use Rattle.pool_moves.specs.Leaves.{LeafSeen}
 use Rattle.pool_moves.specs.LineRows.{TurnReply, RowTurn, FreezeReply, FreezeFor, FreezeBy, RowFreezeLine, SyncReply, RowSync, EndsGroup, has_number, sets_failed, count_moves}
-use Rattle.pool_moves.specs.Moves.{Draft, Move, Makes, Puts, Freeze, Wrote_key, Flushed_all, Draw, Leave, Widen, Burn, Starts, Copies, Copied, Sets, Finds, Clear, Comes, Goes, Returns, Scrubs, Shapes, on_dev, leaf_step, leaf_cleared, leaves_step, step, state_step, steps}
+use Rattle.pool_moves.specs.Moves.{Draft, Move, Makes, Puts, Freeze, Wrote_key, Flushed_all, Draw, Leave, Widen, Burn, Starts, Copies, Copied, Sets, Finds, Clear, Comes, Goes, Returns, Scrubs, Shapes, on_dev, leaf_step, leaf_cleared, leaves_step, step, state_step, steps, Scan_from, Pass, Drop, Rest}
 use Rattle.pool_moves.specs.ReadRow.{made_in}
 use Rattle.pool_moves.specs.Refusing.{FreezeRefusal, count_below, keys_needed, written_with, dirty_with}
-use Rattle.pool_moves.specs.States.{PoolSeen, PoolState}
+use Rattle.pool_moves.specs.States.{ScanSeen, PoolSeen, PoolState}
 use Rattle.pool_moves.specs.TurnRows.{turn_moves, round_moves, ended, IsThirdMoves, EndsRound, RowWriteTurn, RowFlushTurn, RowRound}
 use Rattle.pool_moves.specs.Walking.{as_moves}
 use Rattle.pool_moves.specs.Widening.{AreWidens, IsWidened, AreLeaves, seen_along}
@@ -61,15 +61,19 @@ module _ (P : ℕ → Type 0) (Q : Option ℕ → ℕ → Type 0) where
   abbrev Sits : LeafSeen → Type 0
   Sits leaf = Q leaf.dev leaf.top
 
-  still_leaf : (v : Move) (number first hi : ℕ) (leaf : LeafSeen) → IsOn P v → Sits leaf → Sits (leaf_step v number first hi leaf)
-  still_leaf (Sets m own) number first hi leaf on q = either (λ t. Sits (cond t (record leaf { own = own }) leaf)) q q (leaf.guid.0 == m.0)
-  still_leaf (Finds m d) number first hi leaf on q = absurd on
-  still_leaf (Clear d) number first hi leaf on q = either (λ t. Sits (cond t (leaf_cleared hi leaf) leaf)) q q (on_dev (λ e. d == e) leaf.dev)
-  still_leaf v number first hi leaf on q = q
+  still_leaf : (v : Move) (number first : ℕ) (scan : ScanSeen) (leaf : LeafSeen) → IsOn P v → Sits leaf
+      → Sits (leaf_step v number first scan leaf)
+  still_leaf (Sets m own) number first scan leaf on q =
+      either (λ t. Sits (cond t (record leaf { own = own }) leaf)) q q (leaf.guid.0 == m.0)
+  still_leaf (Finds m d) number first scan leaf on q = absurd on
+  still_leaf (Clear d) number first scan leaf on q =
+      either (λ t. Sits (cond t (leaf_cleared scan.hi (scan.scrub d) leaf) leaf)) q q (on_dev (λ e. d == e) leaf.dev)
+  still_leaf v number first scan leaf on q = q
 
-  still_leaves : (v : Move) (s : PoolSeen) → IsOn P v → AllByRecursion Sits s.leaves → AllByRecursion Sits (leaves_step v s)
-  still_leaves v s on all = all_map Sits (leaf_step v s.number s.group.first s.scan.hi)
-      (λ leaf q. still_leaf v s.number s.group.first s.scan.hi leaf on q) s.leaves all
+  still_leaves : (v : Move) (s : PoolSeen) → IsOn P v → AllByRecursion Sits s.leaves
+      → AllByRecursion Sits (leaves_step v s)
+  still_leaves v s on all = all_map Sits (leaf_step v s.number s.group.first s.scan)
+      (λ leaf q. still_leaf v s.number s.group.first s.scan leaf on q) s.leaves all
 
   still_step : (v : Move) (s : PoolSeen) → IsOn P v → AllByRecursion Sits s.leaves → AllByRecursion Sits (step v s).leaves
   still_step (Makes noted) s on all = all
@@ -85,6 +89,10 @@ module _ (P : ℕ → Type 0) (Q : Option ℕ → ℕ → Type 0) where
   still_step (Comes i d m top own) s on all = absurd on
   still_step (Goes i) s on all = absurd on
   still_step (Returns i seat leaf) s on all = absurd on
+  still_step (Scan_from hi eligible) s on all = all
+  still_step (Pass k birth which) s on all = all
+  still_step (Drop d) s on all = all
+  still_step Rest s on all = all
   still_step v s on all = still_leaves v s on all
 
   pub still_steps : (vs : List Move) (s : PoolState) → AllByRecursion (IsOn P) vs → AllByRecursion Sits s.core.leaves
@@ -324,9 +332,9 @@ module _ (P : ℕ → Type 0) where
       leaf_by true leaf row = subst On (sym row.0) (tt, tt)
       leaf_by false leaf (inl row) = subst On (sym row.2) tt
       leaf_by false leaf (inr row) = let goes = row.1 in subst On (sym goes.moves)
-          (all_append (IsOn P) (drop_if leaf.eligible leaf.dev) (goes.leaving ++ (Sets leaf.guid (gone temporary leaf.own) ∷ [])) (on_drop_if leaf.eligible leaf.dev)
+          (all_append (IsOn P) (drops_leaf s.core.scan leaf) (goes.leaving ++ (Sets leaf.guid (gone temporary leaf.own) ∷ [])) (on_drop_if (on_dev s.core.scan.eligible leaf.dev) leaf.dev)
           (all_append (IsOn P) goes.leaving (Sets leaf.guid (gone temporary leaf.own) ∷ [])
-          (on_leave_if leaf.on leaf.dev (seen_along (drop_if leaf.eligible leaf.dev) s.core) goes.leaving goes.leaves) (tt, tt)))
+          (on_leave_if leaf.on leaf.dev (seen_along (drops_leaf s.core.scan leaf) s.core) goes.leaving goes.leaves) (tt, tt)))
 
       here_by : (spare : Bool) (leaf : LeafSeen) → OfflineHere spare s leaf temporary vs reply → On vs
       here_by true leaf row = subst On (sym row.0) tt
