@@ -4,6 +4,7 @@ use Rattle.std.specs.Prelude.{is_some}
 use Rattle.std.specs.List.{AllByRecursion, AllZip}
 use Rattle.bank_core.specs.BankView.{BankView, tells}
 use Rattle.bank_core.specs.Calls.{Makes}
+use Rattle.bank_core.proofs.Framing.{makes_none, makes_more}
 use Rattle.bank_core.specs.Disk.{Noted, AllAnswer}
 use Rattle.bank_core.specs.Story.{Story}
 use Rattle.open_pool.specs.State.{Stands}
@@ -13,7 +14,8 @@ use Rattle.pool_runs.specs.Devices.{Device}
 use Rattle.pool_runs.specs.HostRows.{RowOf, RunsOut, HostRow, acts_of, acts_in, IsRun}
 use Rattle.pool_runs.specs.Hosts.{Host, host_by, host_along}
 use Rattle.pool_runs.specs.Lines.{Asked, Reply, Entry}
-use Rattle.host_core.specs.Answering.{AnswersLine}
+use Rattle.pool_runs.proofs.Midway.{calls_more}
+use Rattle.host_core.specs.Answering.{IsLine, AnswersLine}
 use Rattle.host_core.specs.Parts.{HostParts}
 use Rattle.host_core.specs.Scripts.{AreLines}
 use Rattle.host_core.specs.Standing.{AreNumbered, HasOwnDevices, HostStands, IsSeated, BeginsWith}
@@ -50,16 +52,36 @@ answered : (host : HostParts) (h : Host) (from to : BankView) (made : List Noted
 answered host h from to made was makes told = let at = story_of to.told told in
     let later = makes.calls.told at.0 at.1 in subst (λ sectors. AllAnswer sectors made) (sym (was.disk later.story later.before)) later.answers
 
+along_more : (first second : List Act) (h : Host) → host_along second (host_along first h) ≡ host_along (first ++ second) h
+along_more [] second h = refl
+along_more (act ∷ first) second h = along_more first second (host_by act h)
+
+-- the device calls of all of them
+pub lines_make : (h : Host) (entries : List Entry) (old new : HostParts) (from to : BankView) → AreLines h entries old new from to
+    → Makes (calls_along (acts_in entries)) from to
+lines_make h [] old new from to lines = subst (Makes [] from) (sym lines.1) makes_none
+lines_make h (e ∷ entries) old new from to (mid, host, line, more) = subst (λ made. Makes made from to) (sym (calls_more (acts_of e) (acts_in entries)))
+    (makes_more line.calls (lines_make (host_along (acts_of e) h) entries host new mid to more))
+
+-- and one more line
+pub one_more_line : (h : Host) (entries : List Entry) (e : Entry) (old mid new : HostParts) (from now to : BankView) → AreLines h entries old mid from now
+    → IsLine (host_by (Hears e.second) (host_along (acts_in entries) h)) e new now to → AreLines h (entries ++ (e ∷ [])) old new from to
+one_more_line h [] e old mid new from now to lines line =
+    (to, new, subst (λ b. IsLine (host_by (Hears e.second) h) e new b to) lines.1 line, (refl, refl))
+one_more_line h (first ∷ entries) e old mid new from now to (between, host, line, more) next = (
+  between,
+  host,
+  line,
+  one_more_line (host_along (acts_of first) h) entries e host mid new between now to more
+      (subst (λ x. IsLine (host_by (Hears e.second) x) e new now to) (sym (along_more (acts_of first) (acts_in entries) h)) next),
+)
+
 pub lines_stand : (h : Host) (entries : List Entry) (old new : HostParts) (from to : BankView) → HostStands old from h → AreLines h entries old new from to
     → HostStands new to (host_along (acts_in entries) h)
 lines_stand h [] old new from to was lines = subst₂ (λ x b. HostStands x b h) (sym lines.0) (sym lines.1) was
 lines_stand h (e ∷ entries) old new from to was (mid, host, line, more) =
     subst (HostStands new to) (along_more (acts_of e) (acts_in entries) h)
     (lines_stand (host_along (acts_of e) h) entries host new mid to line.stands more)
-  where
-    along_more : (first second : List Act) (h : Host) → host_along second (host_along first h) ≡ host_along (first ++ second) h
-    along_more [] second h = refl
-    along_more (act ∷ first) second h = along_more first second (host_by act h)
 
 pub lines_run : (h : Host) (entries : List Entry) (old new : HostParts) (from to : BankView) → HostStands old from h → AreLines h entries old new from to
     → tells to ≡ true → IsRun pool_codec h entries
