@@ -39,18 +39,20 @@ abbrev pub of_pool : {A E : Type 0} → Result A E → Result A (Refused E)
 of_pool (Ok x) = Ok x
 of_pool (Err why) = Err (refused.Pool why)
 
--- The answer is the pool's reply, or there is no pool of the name, or there was no memory, where that is an answer.
+-- The answer is the pool's reply.
 pub record IsReplyOf {R A E : Type 0} (to : R → Reply) (says : R → Result A E) (answer : Result A (Refused E)) (reply : Reply) : Type 0 where
   pub of : R
   pub reply_is : reply ≡ to of
   pub answer_is : answer ≡ of_pool (says of)
 
+-- There was no memory, where that may be an answer.
 pub record IsWantOf {A E : Type 0} (want : Option (Result A E)) (answer : Result A (Refused E)) (reply : Reply) : Type 0 where
   pub of : Result A E
   pub may : want ≡ Some of
   pub reply_is : reply ≡ No_memory
   pub answer_is : answer ≡ of_pool of
 
+-- so it is, or there is no pool of the name
 abbrev pub Says : {R A E : Type 0} → (to : R → Reply) → (says : R → Result A E) → (want : Option (Result A E)) → (answer : Result A (Refused E)) → Reply → Type 0
 Says to says want answer reply = IsReplyOf to says answer reply
     ⊎ (((reply ≡ No_pool) × (answer ≡ Err refused.NoPool)) ⊎ IsWantOf want answer reply)

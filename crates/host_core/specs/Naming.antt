@@ -4,6 +4,7 @@ use Rattle.std.specs.List.{find}
 use Rattle.std.specs.Str.{bytes_eq}
 use Rattle.open_pool.specs.Parts.{PoolParts}
 
+-- the pool has this name
 abbrev pub is_called : List ℕ → PoolParts → Bool
 is_called name p = bytes_eq p.name name
 

@@ -14,6 +14,7 @@ use std::marker::Model;
 pub struct Host {
     pub(crate) alloc: Global,
     pub(crate) table: Vec<HostDevice>,
+    /// Those that are open, the youngest first.
     pub(crate) pools: Vec<Pool>,
 }
 
