@@ -56,6 +56,7 @@ pub mod MapsNeeded
 pub mod MapsRead
 pub mod MembersAgree
 pub mod NamesFound
+pub mod NamesUnder
 pub mod NeedCounted
 pub mod NumbersApart
 pub mod NumbersOwed

@@ -10,6 +10,7 @@ mod freeze;
 mod laws;
 mod logs;
 mod named;
+mod names;
 mod offline;
 mod pages;
 mod placing;
