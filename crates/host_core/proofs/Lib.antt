@@ -1,0 +1,10 @@
+pub mod CallsOnLeaves
+pub mod LinesAnswered
+pub mod LinesAreRuns
+pub mod LinesOfHosts
+pub mod MarkedActs
+pub mod PoolsAreHere
+pub mod PoolsFound
+pub mod PoolsOfHosts
+pub mod ReadsOnLeaves
+pub mod SizesOfLeaves

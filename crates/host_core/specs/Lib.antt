@@ -1,0 +1,6 @@
+pub mod Answering
+pub mod Naming
+pub mod Parts
+pub mod Scripts
+pub mod Standing
+pub mod Telling
