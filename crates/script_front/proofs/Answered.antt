@@ -1,5 +1,5 @@
 -- A line is answered as it is asked.
-use Rattle.std.proofs.Common.{◌≡◌, inl, inr, ℕ, List, [], Option, Some, None, Result, Ok, Err, refl, sym, subst}
+use Rattle.std.proofs.Common.{◌≡◌, ◌⊎◌, inl, inr, ℕ, List, [], Some, None, Result, Ok, refl, sym, ap, subst}
 use Rattle.mp_base.specs.declared.fault.MemFault.{MemFault}
 use Rattle.bank_core.specs.BankView.{BankView}
 use Rattle.bank_core.proofs.Framing.{makes_none}
@@ -11,8 +11,10 @@ use Rattle.pool_lines.specs.declared.refusal.Refusal.TheVariants as refusals
 use Rattle.pool_lines.specs.declared.reply.Reply.{Reply}
 use Rattle.pool_lines.specs.declared.reply.Reply.TheVariants as replies
 use Rattle.pool_lines.specs.declared.request.Request.{Request}
+use Rattle.pool_lines.specs.declared.request.Request.TheVariants.{Create, Import, Online}
+use Rattle.mp_base.specs.declared.name.Name.{Name}
 use Rattle.pool_runs.specs.Hosts.{Host, host_along}
-use Rattle.pool_runs.specs.Lines.{Asked, Asks_nothing, To_nothing, Entry}
+use Rattle.pool_runs.specs.Lines.{Asked, Asks_nothing, To_nothing}
 use Rattle.script_front.specs.Answering.{MayTell, Replies, AnswersLine}
 use Rattle.script_front.specs.Asking.{asked_of}
 use Rattle.script_front.specs.Telling.{Tells, refused}
@@ -103,3 +105,14 @@ still_seated answers seated = let a = answers seated.h seated.stands in record {
 pub of_request : (request is : Request) → request ≡ is → {h : Host} {new : HostParts} {from to : BankView} {answer : Result Reply MemFault} → Replies (asked_of is) h new from to answer
     → Replies (asked_of request) h new from to answer
 of_request request is same {h} {new} {from} {to} {answer} r = subst (λ x. Replies (asked_of x) h new from to answer) (sym same) r
+
+pub of_none : (request : Request) → asked_of request ≡ None → {h : Host} {new : HostParts} {from to : BankView} {answer : Result Reply MemFault} → Replies None h new from to answer
+    → Replies (asked_of request) h new from to answer
+of_none request none {h} {new} {from} {to} {answer} r = subst (λ x. Replies x h new from to answer) (sym none) r
+
+-- these aren't built yet
+pub unbuilt : (request : Request) → ((pool : Name) × (blocks : ℕ) × (tops : List (List (List ℕ))) × (request ≡ Create pool blocks tops))
+    ⊎ (((pool : Name) × (request ≡ Import pool)) ⊎ ((pool : Name) × (device : Name) × (request ≡ Online pool device))) → asked_of request ≡ None
+unbuilt request (inl (pool, blocks, tops, is)) = ap asked_of is
+unbuilt request (inr (inl (pool, is))) = ap asked_of is
+unbuilt request (inr (inr (pool, device, is))) = ap asked_of is

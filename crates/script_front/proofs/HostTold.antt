@@ -3,13 +3,11 @@ use Rattle.std.proofs.Common.{◌≡◌, ◌⊎◌, inl, inr, ℕ, Bool, List, [
 use Rattle.std.specs.Prelude.{All, IfOk}
 use Rattle.std.proofs.lemmas.Option.{none-some, same_Some}
 use Rattle.mp_base.specs.declared.fault.MemFault.{MemFault}
-use Rattle.mp_base.specs.declared.number.Group.{Group}
 use Rattle.mp_base.specs.declared.refusal.Seen.TheVariants as seen
 use Rattle.bank_core.specs.BankView.{BankView}
-use Rattle.bank_core.proofs.Framing.{makes_none}
 use Rattle.host_core.specs.declared.host.Refused.{Refused}
 use Rattle.host_core.specs.declared.host.Refused.TheVariants as host_refused
-use Rattle.host_core.specs.Answering.{Answers, AnswersLine, of_pool, Says}
+use Rattle.host_core.specs.Answering.{Answers, of_pool, Says}
 use Rattle.host_core.specs.BlockNames.{names_of_block}
 use Rattle.host_core.specs.Parts.{HostParts}
 use Rattle.host_core.specs.Standing.{HostStands}
@@ -30,24 +28,22 @@ use Rattle.open_pool.specs.Syncing.{sync_says}
 use Rattle.open_pool.specs.Telling as pool
 use Rattle.open_pool.specs.Writing.{write_says}
 use Rattle.mirror_io.specs.declared.copies.CopySeen.{CopySeen}
-use Rattle.pool_lines.specs.declared.leaves.LeafLog.{LeafLog}
 use Rattle.pool_lines.specs.declared.leaves.NamedLeaf.{NamedLeaf}
 use Rattle.pool_lines.specs.declared.refusal.Refusal.TheVariants as refusals
 use Rattle.pool_lines.specs.declared.reply.Reply.{Reply}
 use Rattle.pool_lines.specs.declared.reply.Reply.TheVariants as replies
 use Rattle.pool_moves.specs.AwayRows.{WriteReply, Taken, BadAddress, Full, NoSpace, OfflineReply, Gone, NoVdev, Misplaced, Required}
-use Rattle.pool_moves.specs.CommitRows.{NamedLog}
 use Rattle.pool_moves.specs.LineRows as rows
 use Rattle.pool_moves.specs.ReadRow.{ReadReply, Gives, Exhausted, NoAddress}
-use Rattle.pool_moves.specs.Refusing.{FreezeRefusal, NoNumber, NoBoard, NoRoom}
+use Rattle.pool_moves.specs.Refusing.{NoNumber, NoBoard, NoRoom}
 use Rattle.pool_moves.specs.Showing.{LeafShown, Unreadable, ReadFailed, Mismatched}
 use Rattle.pool_runs.specs.HostRows.{ReadLine, LogsLine}
 use Rattle.pool_runs.specs.Hosts.{Host}
 use Rattle.pool_runs.specs.Lines as lines
 use Rattle.pool_runs.specs.Lines.{Asked, Asks_write, Asks_read, Asks_freeze, Asks_turn, Asks_sync, Asks_offline, Asks_logs, To_write, To_read, To_freeze, To_turn, To_sync, To_offline, To_logs, No_pool, No_memory}
-use Rattle.script_front.specs.Answering.{AnswersBy, MayTell, MayAnswer}
+use Rattle.script_front.specs.Answering.{MayTell}
 use Rattle.script_front.specs.Converting.{write_reply, freeze_reply, turn_reply, sync_reply, offline_reply, read_reply, shown_leaves, told_log, IsLogsReply, seen_as as copy_seen}
-use Rattle.script_front.specs.Telling.{Tells, TellsLogs, told_leaves, log_of, IsRising, refused}
+use Rattle.script_front.specs.Telling.{Tells, told_leaves, log_of, IsRising, refused}
 
 -- An answer that says something of the reply says all that follows.
 pub says_more : {asked : Asked} {P Q : lines.Reply → Type 0} {h : Host} {new : HostParts} {from to : BankView} → ((reply : lines.Reply) → P reply → Q reply)

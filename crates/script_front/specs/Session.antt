@@ -1,5 +1,5 @@
 -- What a run did with its input, its output and its bank.
-use Rattle.std.specs.Prelude.{◌≡◌, ℕ, ◌<◌, ◌≤◌, Bool, true, List, [], ◌∷◌, ◌++◌, map, take, length, Option, Some}
+use Rattle.std.specs.Prelude.{◌≡◌, ℕ, ◌<◌, ◌≤◌, true, List, [], ◌∷◌, ◌++◌, map, take, length, Option, Some}
 use Rattle.mp_base.specs.Outside.{Given, Taken}
 use Rattle.bank_core.specs.BankView.{BankView, tells}
 use Rattle.bank_core.specs.Story.{Story, now}

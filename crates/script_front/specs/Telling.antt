@@ -1,5 +1,5 @@
 -- How a reply of a host is told: the reply line.
-use Rattle.std.specs.Prelude.{◌≡◌, ℕ, ◌^◌, List, [], ◌∷◌, map, All, Option, Some, None}
+use Rattle.std.specs.Prelude.{◌≡◌, ℕ, ◌^◌, List, [], ◌∷◌, map, All}
 use Rattle.mp_base.specs.declared.number.Group.{Group}
 use Rattle.mp_base.specs.declared.number.Guid.{Guid}
 use Rattle.mp_base.specs.declared.refusal.Seen.{Seen}

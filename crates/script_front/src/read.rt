@@ -72,11 +72,7 @@ fn read_reply(
 }
 
 // Leaf by leaf its name and what it showed.
-fn shown_leaves(
-    alloc: Global,
-    names: &[Name],
-    shown: &[CopySeen],
-) -> Result<NamedLeaves, MemFault>
+fn shown_leaves(alloc: Global, names: &[Name], shown: &[CopySeen]) -> Result<NamedLeaves, MemFault>
     ensures { IfOk result (λ leaves. leaves ≡ shown_leaves names.now shown.now) }
 {
     let mut leaves = NamedLeaves::new(alloc);

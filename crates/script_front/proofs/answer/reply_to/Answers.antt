@@ -1,4 +1,4 @@
-use Rattle.script_front.proofs.Answered.{nothing_asked, not_built, of_request, replied, may_replied}
+use Rattle.script_front.proofs.Answered.{nothing_asked, not_built, of_none, of_request, unbuilt, replied, may_replied}
 use Rattle.script_front.proofs.answer.reply_to.Goals as goal
 
 pub returns-in-Nothing : goal.returns-in-Nothing
@@ -20,7 +20,7 @@ pub returns-in-Logs : goal.returns-in-Logs
 returns-in-Logs g c = λ h was. of_request c.args.request.now _ c.in-Logs.is (replied c.logs.result (c.logs.ensures (g.B.Bank.view c.args.bank.now) h was))
 
 pub returns-in-Create : goal.returns-in-Create
-returns-in-Create g c = λ h was. of_request c.args.request.now _ c.in-Create.is (not_built c.args.host.now (g.B.Bank.view c.args.bank.now) h was)
+returns-in-Create g c = λ h was. of_none c.args.request.now (unbuilt c.args.request.now c.in-Create.is) (not_built c.args.host.now (g.B.Bank.view c.args.bank.now) h was)
 
 pub returns-in-Read : goal.returns-in-Read
 returns-in-Read g c = λ h was. of_request c.args.request.now _ c.in-Read.is (may_replied c.read.result (c.read.ensures h was))

@@ -1,4 +1,4 @@
-use Rattle.std.proofs.Common.{refl, sym, ap, ◌∙◌}
+use Rattle.std.proofs.Common.{sym, ap, ◌∙◌}
 use Rattle.pool_runs.specs.Devices.{Device}
 use Rattle.script_front.proofs.found.look_up.Goals as goal
 
