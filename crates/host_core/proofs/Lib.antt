@@ -1,3 +1,4 @@
+pub mod BlocksNamed
 pub mod CallsOnLeaves
 pub mod LinesAnswered
 pub mod LinesAreRuns

@@ -21,7 +21,7 @@ use Rattle.host_core.specs.Scripts.{AreLines}
 use Rattle.host_core.specs.Standing.{AreNumbered, HasOwnDevices, HostStands, IsSeated, BeginsWith}
 
 -- the clock changes nothing that the code keeps
-heard : (host : HostParts) (bank : BankView) (h : Host) (second : ℕ) → HostStands host bank h → HostStands host bank (host_by (Hears second) h)
+pub heard : (host : HostParts) (bank : BankView) (h : Host) (second : ℕ) → HostStands host bank h → HostStands host bank (host_by (Hears second) h)
 heard host bank h second was = record {
   table = was.table;
   apart = was.apart;

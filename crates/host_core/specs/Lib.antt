@@ -1,4 +1,5 @@
 pub mod Answering
+pub mod BlockNames
 pub mod Naming
 pub mod Parts
 pub mod Scripts

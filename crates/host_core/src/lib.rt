@@ -6,6 +6,7 @@ mod freeze;
 mod host;
 mod laws;
 mod logs;
+mod names;
 mod offline;
 mod read;
 mod sync;

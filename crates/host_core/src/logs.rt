@@ -1,5 +1,6 @@
 //! The line `logs`.
-ghost use Rattle.open_pool.specs.Telling.{logs_told};
+ghost use Rattle.std.specs.Prelude.{All, IfOk};
+ghost use Rattle.open_pool.specs.Telling.{IsRising, logs_told};
 ghost use Rattle.pool_runs.specs.Lines.{Asks_logs};
 
 use crate::host::of_pool;
@@ -14,7 +15,8 @@ impl Host {
 
     /// The log of each leaf of the pool of this name, in tree order. It makes no device call.
     pub fn logs(&self, name: &Name) -> Result<Vec<LeafLog>, Refused<MemFault>>
-        ensures { (bank : BankView) → AnswersLine (Asks_logs name.now) (TellsLogs (λ logs. logs_told logs.items) result) self.now self.now bank bank }
+        ensures answers { (bank : BankView) → AnswersLine (Asks_logs name.now) (TellsLogs (λ logs. logs_told logs.items) result) self.now self.now bank bank }
+        ensures rise { IfOk result (λ logs. All IsRising logs.items) }
     {
         let Some(place) = self.place_of(name) else {
             return Err(Refused::NoPool);

@@ -60,6 +60,7 @@ pub mod MapsRead
 pub mod MembersAgree
 pub mod NamesAsked
 pub mod NamesFound
+pub mod NamesUnder
 pub mod NeedCounted
 pub mod NewAsked
 pub mod NewCommit

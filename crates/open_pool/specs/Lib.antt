@@ -1,4 +1,5 @@
 pub mod Answering
+pub mod BlockNames
 pub mod Committing
 pub mod Copies
 pub mod Counting

@@ -11,6 +11,7 @@ mod freeze;
 mod laws;
 mod logs;
 mod named;
+mod names;
 mod new_tops;
 mod offline;
 mod pages;

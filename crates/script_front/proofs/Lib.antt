@@ -1,0 +1,9 @@
+mod Answered
+mod Feedings
+mod FoundDevices
+mod Handling
+mod HostTold
+mod LineEnds
+mod RunLaws
+mod Scripts
+mod Taking

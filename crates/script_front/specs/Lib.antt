@@ -1,0 +1,15 @@
+pub mod Answering
+pub mod Asking
+pub mod Codes
+pub mod Converting
+pub mod Feeding
+pub mod Finishing
+pub mod FixedHost
+pub mod Lines
+pub mod LookingUp
+pub mod Session
+pub mod SoFar
+pub mod Telling
+pub mod Told
+pub mod Words
+pub mod Writing

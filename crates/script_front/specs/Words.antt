@@ -1,0 +1,9 @@
+-- The words behind the program's name.
+use Rattle.std.specs.Prelude.{ℕ, Bool, false, List, [], ◌∷◌, codes}
+use Rattle.std.specs.Str.{bytes_eq}
+
+-- `script` alone
+abbrev pub is_script : List (List ℕ) → Bool
+is_script [] = false
+is_script (word ∷ []) = bytes_eq word (codes "script")
+is_script (word ∷ other ∷ more) = false
